@@ -1,0 +1,3 @@
+pub mod FrameText
+pub mod Access
+pub mod FrameExamples

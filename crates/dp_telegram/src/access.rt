@@ -1,0 +1,107 @@
+//! The service access points that a telegram names.
+
+ghost use Rattle.std.specs.Prelude.{◌≡◌, ◌+◌, ◌<◌, ◌≤◌, ◌↔◌, ◌++◌, length, Some, option_to_list, option_map};
+ghost use Rattle.std.specs.Option.{ForSome};
+ghost use Rattle.dp_telegram.specs.Access.{HasParts, parts_of, request_of, request_parts, extension_of, announces, address_octet as address_octet_of};
+ghost use Rattle.dp_telegram.specs.declared.access.Parts.{Parts};
+
+use crate::frame::{Frame, Telegram};
+use arrayvec::ArrayVec;
+
+/// A data unit taken apart (IEC 61158-4-3, address extension).
+#[derive(Clone, Debug, Drop, PartialEq, Eq)]
+pub struct Parts {
+    /// Destination service access point, 0 to 63; none is the default point.
+    pub dsap: Option<u8>,
+    /// Source service access point, 0 to 63.
+    pub ssap: Option<u8>,
+    /// The octets behind the extension octets, 0 to 246.
+    pub payload: ArrayVec<u8, 246>,
+}
+
+impl Telegram {
+    /// The access points and the payload: the DSAP octet stands first where bit 7 of DA is set,
+    /// and then the SSAP octet where bit 7 of SA is set.
+    ///
+    /// None exactly where an announced extension octet is missing, or has bit 7 or 6 set (own).
+    pub fn parts(&self) -> Option<Parts>
+        ensures computed { result ≡ parts_of self.now }
+        ensures parts { (parts : Parts) → (result ≡ Some parts) ↔ HasParts self.now parts }
+    {
+        let (dsap, rest) = extension(self.da, &self.du)?;
+        let (ssap, rest) = extension(self.sa, rest)?;
+        let mut payload = ArrayVec::new();
+        payload.try_extend_from_slice(rest).unwrap();
+        Some(Parts {
+            dsap,
+            ssap,
+            payload,
+        })
+    }
+}
+
+/// The point that an address octet announces at the front of the octets, and what follows it.
+fn extension(address: u8, octets: &[u8]) -> Option<(Option<u8>, &[u8])>
+    ensures { option_map (λ x. (x.0, x.1.now)) result ≡ extension_of (announces address) octets.now }
+{
+    if address < ANNOUNCES {
+        return Some((None, octets));
+    }
+    let (point, rest) = octets.split_first()?;
+    if *point > LAST_POINT {
+        return None;
+    }
+    Some((Some(*point), rest))
+}
+
+/// Bit 7 of an address octet.
+const ANNOUNCES: u8 = 0x80;
+
+/// The last service access point.
+const LAST_POINT: u8 = 63;
+
+/// The telegram of a request with these addresses, this function code, these access points and this
+/// payload (IEC 61158-4-3, address extension). Bit 7 of an address octet tells whether there is an
+/// extension octet; points and payload have at most 246 octets together.
+pub fn request(da: u8, sa: u8, fc: u8, dsap: Option<u8>, ssap: Option<u8>, payload: &[u8]) -> Frame
+    requires da { da ≤ 127 }
+    requires sa { sa ≤ 127 }
+    requires dsap { ForSome dsap (λ point. point < 64) }
+    requires ssap { ForSome ssap (λ point. point < 64) }
+    requires room { length (option_to_list dsap) + length (option_to_list ssap) + length payload.now ≤ 246 }
+    ensures frame { result ≡ Frame.Telegram (request_of da sa fc dsap ssap payload.now) }
+    ensures parts { parts_of (request_of da sa fc dsap ssap payload.now) ≡ Some (request_parts dsap ssap payload.now) }
+{
+    let mut du = ArrayVec::new();
+    push_point(&mut du, dsap);
+    push_point(&mut du, ssap);
+    du.try_extend_from_slice(payload).unwrap();
+    Frame::Telegram(Telegram {
+        da: address_octet(da, dsap),
+        sa: address_octet(sa, ssap),
+        fc,
+        du,
+    })
+}
+
+/// An extension octet, where there is a point.
+fn push_point(du: &mut ArrayVec<u8, 246>, point: Option<u8>)
+    requires { length du.old.items ≤ 1 }
+    ensures { du.new.items ≡ du.old.items ++ option_to_list point }
+{
+    if let Some(number) = point {
+        du.push(number);
+    }
+}
+
+/// An address with bit 7 set where a point is announced.
+fn address_octet(address: u8, point: Option<u8>) -> u8
+    requires { address ≤ 127 }
+    ensures { result ≡ address_octet_of address point }
+{
+    if point.is_some() {
+        address + ANNOUNCES
+    } else {
+        address
+    }
+}

@@ -1,0 +1,60 @@
+//! Frames into octets.
+
+ghost use Rattle.std.specs.Prelude.{◌≡◌, ◌+◌, ◌≤◌, ◌++◌, [], length};
+ghost use Rattle.dp_telegram.specs.FrameText.{Spells, text_of, head_text, checked, body_of, reading_of};
+
+use crate::delimiter::{ED, SC, SD1, SD2, SD4, check_sum};
+use crate::frame::{Frame, Octets, Telegram};
+use arrayvec::ArrayVec;
+
+/// The text of a frame, at most 255 octets: SD1 for a telegram without a data unit, SD2 for one
+/// with a data unit. It always succeeds.
+pub fn encode(frame: &Frame) -> Octets
+    ensures text { result.items ≡ text_of frame.now }
+    ensures spells { Spells result.items frame.now }
+    ensures reads_back { reading_of result.items ≡ Ok frame.now }
+{
+    let mut text = ArrayVec::new();
+    match frame {
+        Frame::Token { da, sa } => {
+            text.push(SD4);
+            text.push(*da);
+            text.push(*sa);
+        }
+        Frame::Ack => text.push(SC),
+        Frame::Telegram(telegram) => {
+            push_head(&mut text, telegram.du.len());
+            push_checked(&mut text, telegram);
+        }
+    }
+    text
+}
+
+/// The start delimiter of a telegram, with the lengths that follow it in SD2.
+fn push_head(text: &mut Octets, data_length: usize)
+    requires empty { text.old.items ≡ [] }
+    requires most { data_length ≤ 246 }
+    ensures { text.new.items ≡ head_text data_length }
+{
+    if data_length == 0 {
+        text.push(SD1);
+    } else {
+        let le = (data_length + 3) as u8;
+        text.try_extend_from_slice(&[SD2, le, le, SD2]).unwrap();
+    }
+}
+
+/// DA to the end of the data unit, the check sequence and the end delimiter.
+fn push_checked(text: &mut Octets, telegram: &Telegram)
+    requires { length text.old.items ≤ 4 }
+    ensures { text.new.items ≡ text.old.items ++ checked (body_of telegram.now) }
+{
+    let head = text.len();
+    text.push(telegram.da);
+    text.push(telegram.sa);
+    text.push(telegram.fc);
+    text.try_extend_from_slice(&telegram.du).unwrap();
+    let check_sequence = check_sum(&text[head..]);
+    text.push(check_sequence);
+    text.push(ED);
+}

@@ -1,0 +1,44 @@
+//! Why octets are no frame.
+
+ghost use Rattle.std.specs.Prelude.{◌≡◌};
+ghost use Rattle.dp_telegram.specs.FrameText.{fault_code};
+
+use thiserror::Error;
+
+/// Why octets are no frame. The first that applies is told: no octet at all is `Short`; then
+/// `NoStart`, `Short` for want of a whole head, `BadHead`, `Short` for want of a whole frame,
+/// `BadEnd`, `Long`.
+#[derive(Clone, Copy, Debug, PartialEq, Eq, Error)]
+pub enum FrameFault {
+    /// The first octet is no start delimiter (IEC 61158-4-3, start delimiters).
+    #[error("no start delimiter")]
+    NoStart,
+    /// The head of an SD2 telegram is wrong: LE and LEr differ, LE is not 4 to 249, or the second
+    /// start delimiter is another octet (IEC 61158-4-3, length octets).
+    #[error("wrong head")]
+    BadHead,
+    /// The check sequence or the end delimiter is wrong (IEC 61158-4-3, frame check sequence).
+    #[error("wrong check sequence or end delimiter")]
+    BadEnd,
+    /// The octets end before the frame does.
+    #[error("octets are missing")]
+    Short,
+    /// Octets stand behind the frame.
+    #[error("octets behind the frame")]
+    Long,
+}
+
+impl FrameFault {
+    /// The number of the fault, 1 to 5 (own).
+    pub const fn code(self) -> u8
+        ensures { result ≡ fault_code self }
+    {
+        match self {
+            FrameFault::NoStart => 1,
+            FrameFault::BadHead => 2,
+            FrameFault::BadEnd => 3,
+            FrameFault::Short => 4,
+            FrameFault::Long => 5,
+        }
+    }
+}
