@@ -1,0 +1,3 @@
+pub mod AccessTable
+pub mod AccessTableExamples
+pub mod SapFault

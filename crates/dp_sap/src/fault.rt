@@ -1,0 +1,25 @@
+//! Why a busy mark is refused.
+
+ghost use Rattle.std.specs.Prelude.{◌≡◌};
+ghost use Rattle.dp_sap.specs.SapFault.{fault_code};
+
+use thiserror::Error;
+
+/// Why a busy mark is refused.
+#[derive(Clone, Copy, Debug, PartialEq, Eq, Error)]
+pub enum SapFault {
+    /// The point is not in the access table (own).
+    #[error("no such point")]
+    UnknownPoint,
+}
+
+impl SapFault {
+    /// The number of the fault (own).
+    pub const fn code(self) -> u8
+        ensures { result ≡ fault_code self }
+    {
+        match self {
+            SapFault::UnknownPoint => 1,
+        }
+    }
+}

@@ -1,0 +1,21 @@
+//! Service access points of a DP slave: which point is open in which state, to whom, by which
+//! service and with how many data octets (IEC 61158-6-3, service access points), and which points
+//! are marked busy.
+//!
+//! [`Points`] holds what decides this: the slave's [`State`], its holder, its output length and
+//! the busy marks. [`Points::find`] tells the [`Point`] of a number.
+#![tactic(auto)]
+
+mod fault;
+pub mod laws;
+mod point;
+mod points;
+mod state;
+
+pub use fault::SapFault;
+pub use point::{Access, Point, Service};
+pub use points::Points;
+pub use state::State;
+
+#[cfg(test)]
+mod tests;

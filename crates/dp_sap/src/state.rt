@@ -1,0 +1,12 @@
+//! The states of a DP slave.
+
+/// The state of a DP slave (IEC 61158-6-3, slave state machine).
+#[derive(Clone, Copy, Debug, PartialEq, Eq)]
+pub enum State {
+    /// Wait_Prm: no master holds the slave, and it waits for its parameters.
+    WaitPrm,
+    /// Wait_Cfg: a master holds the slave, and it waits for its configuration.
+    WaitCfg,
+    /// Data_Exch: a master holds the slave and exchanges process data with it.
+    DataExch,
+}
