@@ -1,5 +1,6 @@
 -- The texts of frames, and what they are read as.
 use Rattle.std.proofs.Common.{◌≡◌, ℕ, ◌+◌, ◌-◌, ◌≤◌, ◌⊎◌, inl, inr, Bool, true, false, not, ◌&&◌, eqb, ltb, leb, List, [], ◌∷◌, ◌++◌, length, take, drop, get_or, Option, Some, None, Ok, Err, ◌↔◌, refl, sym, ap, subst, ◌∙◌, arith}
+use Rattle.std.specs.Result.{result_ok}
 use Rattle.std.specs.Prelude.{slice_range, is_none, if◌then◌else◌}
 use Rattle.std.proofs.lemmas.Grind.{common_steps}
 use Rattle.std.proofs.lemmas.Bool.{ltb-false, eqb-true, not-false, and_parts, leb-true, cases_eq, eq-eqb, ne_eqb}
@@ -77,6 +78,14 @@ sound (Some fault) x y e = absurd cc
 verdict_is : (verdict : Option FrameFault) (x : Frame) (fault : FrameFault) → (unless_faulty verdict x ≡ Err fault) ↔ (verdict ≡ Some fault)
 verdict_is None x fault = (λ e. absurd cc, λ e. absurd cc)
 verdict_is (Some other) x fault = (λ e. cc, λ e. cc)
+
+verdict_ok : (verdict : Option FrameFault) (x : Frame) → result_ok (unless_faulty verdict x) ≡ (if is_none verdict then Some x else None)
+verdict_ok None x = refl
+verdict_ok (Some fault) x = refl
+
+-- what is read is the frame that the octets spell
+pub result_ok-reading_of : (octets : List ℕ) → result_ok (reading_of octets) ≡ frame_of octets
+result_ok-reading_of octets = verdict_ok (fault_of octets) (frame_at octets)
 
 -- what is refused is refused for the fault
 pub fault_is : (octets : List ℕ) (fault : FrameFault) → (reading_of octets ≡ Err fault) ↔ (fault_of octets ≡ Some fault)

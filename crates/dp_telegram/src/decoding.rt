@@ -1,9 +1,10 @@
 //! Octets into frames.
 
 ghost use Rattle.std.specs.Prelude.{◌≡◌, ◌≤◌, ◌&&◌, ◌↔◌, length, IsTrue, Some};
+ghost use Rattle.std.specs.Result.{result_ok};
 ghost use Rattle.dp_telegram.specs.declared.fault.FrameFault.{FrameFault};
 ghost use Rattle.dp_telegram.specs.declared.frame.Frame.{Frame};
-ghost use Rattle.dp_telegram.specs.FrameText.{Spells, reading_of, fault_of, telegram_in, is_start, is_checked, delimiter, head_length, head_is_right, frame_length, sd2, sd4, sc};
+ghost use Rattle.dp_telegram.specs.FrameText.{Spells, frame_of, reading_of, fault_of, telegram_in, is_start, is_checked, delimiter, head_length, head_is_right, frame_length, sd2, sd4, sc};
 
 use crate::delimiter::{ED, SC, SD1, SD2, SD3, SD4, check_sum};
 use crate::fault::FrameFault;
@@ -15,6 +16,7 @@ use arrayvec::ArrayVec;
 /// Every slice has an answer: an error is the first fault in the order that [`FrameFault`] states.
 pub fn decode(octets: &[u8]) -> Result<Frame, FrameFault>
     ensures reading { result ≡ reading_of octets.now }
+    ensures found { result_ok result ≡ frame_of octets.now }
     ensures frame { (frame : Frame) → (result ≡ Ok frame) ↔ Spells octets.now frame }
     ensures fault { (fault : FrameFault) → (result ≡ Err fault) ↔ (fault_of octets.now ≡ Some fault) }
 {
