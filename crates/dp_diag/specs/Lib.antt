@@ -1,0 +1,3 @@
+pub mod Diagnosis
+pub mod DiagnosisText
+pub mod DiagnosisTextExamples

@@ -1,0 +1,65 @@
+//! What a slave keeps of its diagnosis.
+
+ghost use Rattle.std.specs.Prelude.{◌≡◌, ◌||◌, true};
+ghost use Rattle.dp_diag.specs.Diagnosis.{no_diagnosis};
+
+use arrayvec::ArrayVec;
+
+/// What a slave keeps of its diagnosis: what its application reported last, and its faults.
+#[derive(Clone, Debug, Default, Drop, PartialEq, Eq)]
+pub struct Diag {
+    /// Ext_Diag: the extended octets tell of a fault, and not only of a state.
+    pub ext: bool,
+    /// Stat_Diag: the application has no valid data to give, and the master asks for the diagnosis
+    /// until this is false.
+    pub stat: bool,
+    /// Ext_Diag_Overflow: there was more to tell than the extended octets hold.
+    pub overflow: bool,
+    /// Extended diagnosis, 0 to 238 octets.
+    pub octets: ArrayVec<u8, 238>,
+    /// The holder has not asked for the diagnosis since it was reported (own).
+    pub unread: bool,
+    /// Prm_Fault: the last parameters were refused.
+    pub prm_fault: bool,
+    /// Cfg_Fault: the last configuration was refused.
+    pub cfg_fault: bool,
+    /// Not_Supported: the master asked for a function that the slave does not have.
+    pub not_supported: bool,
+}
+
+impl Diag {
+    /// No fault, no diagnosis, and nothing unread: what a slave starts with (own).
+    pub fn new() -> Diag
+        ensures { result ≡ no_diagnosis }
+    {
+        Diag::default()
+    }
+
+    /// The application reports Ext_Diag, Stat_Diag, Ext_Diag_Overflow and the extended octets (IEC
+    /// 61158-6-3, Slave_Diag response). The diagnosis is unread then, and the three faults stay
+    /// (own).
+    pub fn update(&mut self, ext: bool, stat: bool, overflow: bool, octets: &ArrayVec<u8, 238>)
+        ensures { self.new ≡ record self.old {
+          ext = ext;
+          stat = stat;
+          overflow = overflow;
+          octets = octets.now;
+          unread = true;
+        } }
+    {
+        self.ext = ext;
+        self.stat = stat;
+        self.overflow = overflow;
+        self.octets.clear();
+        self.octets.try_extend_from_slice(octets).unwrap();
+        self.unread = true;
+    }
+
+    /// Whether the next reply to Data_Exchange is of high priority, so that the master asks for the
+    /// diagnosis: exactly while it is unread or Stat_Diag is set (own).
+    pub const fn due_high(&self) -> bool
+        ensures { result ≡ (self.now.unread || self.now.stat) }
+    {
+        self.unread || self.stat
+    }
+}

@@ -1,0 +1,89 @@
+//! What a diagnosis tells, and its octets.
+
+ghost use Rattle.std.specs.Prelude.{◌≡◌, ◌<◌};
+ghost use Rattle.dp_diag.specs.DiagnosisText.{diagnosis_text, station_status_1, station_status_2, station_status_3, bit_weight};
+
+use crate::diag::Diag;
+use arrayvec::ArrayVec;
+use dp_sap::State;
+
+/// The address that stands for no master (IEC 61158-6-3, Slave_Diag response, Master_Add).
+const NO_MASTER: u8 = 255;
+
+/// All that the diagnosis of a slave tells (IEC 61158-6-3, Slave_Diag response).
+#[derive(Clone, Debug, Drop, PartialEq, Eq)]
+pub struct DiagFacts {
+    /// The slave's state.
+    pub state: State,
+    /// The address of the master that holds the slave, 0 to 126, if one does.
+    pub holder: Option<u8>,
+    /// The slave's ident number.
+    pub ident: u16,
+    /// A watchdog runs.
+    pub wd_on: bool,
+    /// The slave is in freeze mode.
+    pub freeze_mode: bool,
+    /// The slave is in sync mode.
+    pub sync_mode: bool,
+    /// What the slave keeps of its diagnosis; whether it is unread is not told.
+    pub diag: Diag,
+}
+
+/// The octets of the diagnosis, 6 to 244 of them (IEC 61158-6-3, Slave_Diag response).
+pub fn octets(facts: &DiagFacts) -> ArrayVec<u8, 244>
+    ensures { result.items ≡ diagnosis_text facts.now }
+{
+    let [ident_high, ident_low] = facts.ident.to_be_bytes();
+    let head = [
+        octet_1(facts),
+        octet_2(facts),
+        octet_3(facts),
+        facts.holder.unwrap_or(NO_MASTER),
+        ident_high,
+        ident_low,
+    ];
+    let mut octets = ArrayVec::new();
+    octets.try_extend_from_slice(&head).unwrap();
+    octets.try_extend_from_slice(&facts.diag.octets).unwrap();
+    octets
+}
+
+/// Station_status_1 (IEC 61158-6-3, Slave_Diag response).
+#[tactic(auto, using(crate::proofs::Bits::or_station_status_1))]
+fn octet_1(facts: &DiagFacts) -> u8
+    ensures { result ≡ station_status_1 facts.now }
+{
+    bit(1, facts.state != State::DataExch)
+        | bit(2, facts.diag.cfg_fault)
+        | bit(3, facts.diag.ext)
+        | bit(4, facts.diag.not_supported)
+        | bit(6, facts.diag.prm_fault)
+}
+
+/// Station_status_2 (IEC 61158-6-3, Slave_Diag response).
+#[tactic(auto, using(crate::proofs::Bits::or_station_status_2))]
+fn octet_2(facts: &DiagFacts) -> u8
+    ensures { result ≡ station_status_2 facts.now }
+{
+    bit(0, facts.state == State::WaitPrm)
+        | bit(1, facts.diag.stat)
+        | bit(2, true)
+        | bit(3, facts.wd_on)
+        | bit(4, facts.freeze_mode)
+        | bit(5, facts.sync_mode)
+}
+
+/// Station_status_3 (IEC 61158-6-3, Slave_Diag response).
+fn octet_3(facts: &DiagFacts) -> u8
+    ensures { result ≡ station_status_3 facts.now }
+{
+    bit(7, facts.diag.overflow)
+}
+
+/// An octet in which this bit alone is 1, where the flag is set, and else no bit.
+fn bit(number: u32, flag: bool) -> u8
+    requires { number < 8 }
+    ensures { result ≡ bit_weight (number, flag) }
+{
+    u8::from(flag) << number
+}

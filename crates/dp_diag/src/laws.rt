@@ -1,0 +1,18 @@
+//! Laws of the diagnosis text.
+
+ghost use Rattle.std.specs.Prelude.{◌≡◌, ◌≤◌, length};
+ghost use Rattle.dp_diag.specs.declared.facts.DiagFacts.{DiagFacts};
+ghost use Rattle.dp_diag.specs.DiagnosisText.{diagnosis_text, shown, HolderIsStation};
+
+/// A diagnosis has 6 to 244 octets, where its extended octets are at most 238.
+pub fn diagnosis_text_has_6_to_244_octets()
+    ensures { (facts : DiagFacts) → length facts.diag.octets.items ≤ 238
+        → (6 ≤ length (diagnosis_text facts)) × (length (diagnosis_text facts) ≤ 244) }
+{}
+
+/// From the octets of a diagnosis each fact can be read back, but for whether it is unread: equal
+/// octets of two slaves, each held by a station or by nobody, tell the same facts.
+pub fn diagnosis_text_shows_its_facts()
+    ensures { (one another : DiagFacts) → HolderIsStation one → HolderIsStation another
+        → diagnosis_text one ≡ diagnosis_text another → shown one ≡ shown another }
+{}

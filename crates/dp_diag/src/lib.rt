@@ -1,0 +1,16 @@
+//! Diagnosis of a DP slave (IEC 61158-6-3, Slave_Diag response): what a slave keeps about itself,
+//! and the octets that tell a master of it.
+//!
+//! A [`Diag`] is the part of a slave's state that its application and its faults set, and
+//! [`DiagFacts`] is all that a diagnosis tells; [`octets`] writes it.
+#![tactic(auto)]
+
+mod diag;
+mod facts;
+pub mod laws;
+
+pub use diag::Diag;
+pub use facts::{DiagFacts, octets};
+
+#[cfg(test)]
+mod tests;
