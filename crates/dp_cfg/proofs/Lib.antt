@@ -1,0 +1,3 @@
+pub mod Splits
+pub mod RunningSums
+pub mod Readings

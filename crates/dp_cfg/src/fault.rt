@@ -1,0 +1,29 @@
+//! Why octets are no configuration.
+
+ghost use Rattle.std.specs.Prelude.{◌≡◌};
+ghost use Rattle.dp_cfg.specs.Reading.{fault_code};
+
+use thiserror::Error;
+
+/// Why octets are no configuration. `Cut` goes first: octets that are cut have no sums.
+#[derive(Clone, Copy, Debug, PartialEq, Eq, Error)]
+pub enum CfgFault {
+    /// The octets end within an identifier (IEC 61158-6-3, configuration identifiers).
+    #[error("an identifier is cut")]
+    Cut,
+    /// The inputs or the outputs are more than 244 octets (IEC 61158-6-3, Data_Exchange).
+    #[error("more than 244 octets of inputs or of outputs")]
+    TooLong,
+}
+
+impl CfgFault {
+    /// The number of the fault, 1 or 2 (own).
+    pub const fn code(self) -> u8
+        ensures { result ≡ fault_code self }
+    {
+        match self {
+            CfgFault::Cut => 1,
+            CfgFault::TooLong => 2,
+        }
+    }
+}

@@ -1,0 +1,25 @@
+//! What holds of every configuration, as contracts of functions that do nothing.
+
+ghost use Rattle.std.specs.Prelude.{◌≡◌, ℕ, List, Some, ◌↔◌};
+ghost use Rattle.dp_cfg.specs.Identifiers.{Identifier, IsSplit, input_sum, output_sum};
+ghost use Rattle.dp_cfg.specs.Reading.{split_of, input_octets, output_octets};
+
+/// Octets split into identifiers in at most one way (IEC 61158-6-3, configuration identifiers).
+pub fn split_is_unique()
+    ensures { (octets : List ℕ) (these those : List Identifier)
+        → IsSplit octets these → IsSplit octets those → these ≡ those }
+{}
+
+/// Reading from left to right finds the split exactly where there is one (own).
+pub fn split_is_found()
+    ensures { (octets : List ℕ) (identifiers : List Identifier)
+        → IsSplit octets identifiers ↔ (split_of octets ≡ Some identifiers) }
+{}
+
+/// The lengths that reading computes are the sums over the split (own).
+pub fn lengths_are_sums()
+    ensures inputs { (octets : List ℕ) (identifiers : List Identifier)
+        → IsSplit octets identifiers → input_octets octets ≡ input_sum identifiers }
+    ensures outputs { (octets : List ℕ) (identifiers : List Identifier)
+        → IsSplit octets identifiers → output_octets octets ≡ output_sum identifiers }
+{}

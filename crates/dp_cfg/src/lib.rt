@@ -1,0 +1,18 @@
+//! Configuration identifiers of PROFIBUS DP (IEC 61158-6-3): how many octets of inputs and of
+//! outputs a configuration announces.
+//!
+//! A configuration is identifiers one after another, in the general format of one octet or in the
+//! special format with length octets and octets of the maker. [`CfgIds::parse`] reads one.
+#![tactic(auto)]
+
+mod fault;
+mod identifier;
+mod ids;
+pub mod laws;
+mod sums;
+
+pub use fault::CfgFault;
+pub use ids::CfgIds;
+
+#[cfg(test)]
+mod tests;

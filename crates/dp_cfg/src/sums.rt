@@ -1,0 +1,41 @@
+//! Inputs and outputs of all identifiers together.
+
+ghost use Rattle.std.specs.Prelude.{◌≡◌, ◌≤◌, length};
+ghost use Rattle.std.specs.Option.{option_map};
+ghost use Rattle.dp_cfg.specs.Reading.{split_of, sums_of, unless_faulty, fault_of, input_octets, output_octets};
+
+use crate::fault::CfgFault;
+use crate::identifier::{Lengths, first_identifier};
+
+/// The most octets of inputs, and of outputs (IEC 61158-6-3, Data_Exchange).
+const MOST: u32 = 244;
+
+/// Inputs and outputs of a configuration, or why it is none.
+pub fn lengths_of(octets: &[u8]) -> Result<Lengths, CfgFault>
+    requires { length octets.now ≤ 244 }
+    ensures { result ≡ unless_faulty (fault_of octets.now)
+        (record { inputs = input_octets octets.now; outputs = output_octets octets.now }) }
+{
+    let (inputs, outputs) = sums(octets).ok_or(CfgFault::Cut)?;
+    if inputs > MOST || outputs > MOST {
+        return Err(CfgFault::TooLong);
+    }
+    Ok(Lengths::new(inputs as u8, outputs as u8))
+}
+
+/// The sums of inputs and of outputs over the identifiers; `None` where the last is cut.
+fn sums(octets: &[u8]) -> Option<(u32, u32)>
+    requires { length octets.now ≤ 244 }
+    ensures { result ≡ option_map sums_of (split_of octets.now) }
+{
+    let mut inputs = 0;
+    let mut outputs = 0;
+    let mut rest = octets;
+    while !rest.is_empty() {
+        let (lengths, behind) = first_identifier(rest)?;
+        inputs += u32::from(lengths.inputs);
+        outputs += u32::from(lengths.outputs);
+        rest = behind;
+    }
+    Some((inputs, outputs))
+}
