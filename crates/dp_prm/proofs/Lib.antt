@@ -1,0 +1,3 @@
+pub mod Acceptable
+pub mod Cases
+pub mod Factors

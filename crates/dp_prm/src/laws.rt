@@ -1,0 +1,65 @@
+//! What holds of each parameter telegram, as contracts of functions that do nothing.
+
+ghost use Rattle.std.specs.Prelude.{◌≡◌, ◌<◌, ◌≤◌, ◌↔◌, ◌⊎◌, ℕ, true, false, List, All, IfSome, length};
+ghost use Rattle.dp_prm.specs.declared.limits.Limits.{Limits};
+ghost use Rattle.dp_prm.specs.declared.prm.Prm.{Prm};
+ghost use Rattle.dp_prm.specs.declared.prm.PrmVerdict.{PrmVerdict};
+ghost use Rattle.dp_prm.specs.Meaning.{is_not_supported, meaning_of, min_tsdr, parameters};
+ghost use Rattle.dp_prm.specs.Requests.{AsksUnsupported, IsAcceptable, IsForMinTsdr, IsLocking, IsUnlocking};
+
+/// Some case always applies: octets are too few, unlock, set min TSDR, or are a locking request,
+/// which is acceptable or not.
+pub fn some_case_always_applies()
+    ensures { (octets : List ℕ) (limits : Limits)
+        → (length octets < 7)
+        ⊎ IsUnlocking octets
+        ⊎ IsForMinTsdr octets
+        ⊎ (IsLocking octets × IsAcceptable octets limits)
+        ⊎ (IsLocking octets × ¬ IsAcceptable octets limits) }
+{}
+
+/// Fewer than seven octets are a fault whatever their bits, and nothing in them is not supported.
+pub fn short_is_a_fault()
+    ensures { (octets : List ℕ) (limits : Limits)
+        → length octets < 7
+        → meaning_of octets limits ≡ PrmVerdict.Fault false }
+{}
+
+/// Unlock_Req in seven octets or more, and nothing else, is an unlock, whatever Lock_Req is.
+pub fn unlock_goes_before_lock()
+    ensures { (octets : List ℕ) (limits : Limits)
+        → (meaning_of octets limits ≡ PrmVerdict.Unlock) ↔ IsUnlocking octets }
+{}
+
+/// Seven octets or more with neither Lock_Req nor Unlock_Req, and nothing else, set min TSDR.
+pub fn neither_sets_min_tsdr()
+    ensures { (octets : List ℕ) (limits : Limits) (tsdr : ℕ)
+        → (meaning_of octets limits ≡ PrmVerdict.MinTsdr tsdr) ↔ (IsForMinTsdr octets × (tsdr ≡ min_tsdr octets)) }
+{}
+
+/// A locking request locks exactly where nothing is wrong with it, and is a fault where anything
+/// is. Nothing else locks.
+pub fn lock_or_fault()
+    ensures lock { (octets : List ℕ) (limits : Limits) (prm : Prm)
+        → (meaning_of octets limits ≡ PrmVerdict.Lock prm)
+        ↔ (IsLocking octets × IsAcceptable octets limits × (prm ≡ parameters octets)) }
+    ensures fault { (octets : List ℕ) (limits : Limits)
+        → IsLocking octets
+        → ¬ IsAcceptable octets limits
+        → meaning_of octets limits ≡ PrmVerdict.Fault (is_not_supported octets limits) }
+{}
+
+/// What is not supported is exactly the Sync or Freeze of a locking request to a slave without it.
+pub fn not_supported_is_sync_or_freeze()
+    ensures { (octets : List ℕ) (limits : Limits)
+        → (meaning_of octets limits ≡ PrmVerdict.Fault true)
+        ↔ (IsLocking octets × AsksUnsupported octets limits) }
+{}
+
+/// The watchdog of an accepted locking request, if it has one, runs 1 to 65,025 units of 10 ms.
+pub fn watchdog_runs_1_to_65025_units()
+    ensures { (octets : List ℕ) (limits : Limits) (prm : Prm)
+        → All (λ octet. octet < 256) octets
+        → meaning_of octets limits ≡ PrmVerdict.Lock prm
+        → IfSome prm.watchdog (λ time. (1 ≤ time) × (time ≤ 65025)) }
+{}

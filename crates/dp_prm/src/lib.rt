@@ -1,0 +1,18 @@
+//! Parameter telegrams of PROFIBUS DP (IEC 61158-6-3, Set_Prm request): what the octets ask of a
+//! slave, and whether it takes them.
+//!
+//! [`read`] tells the [`PrmVerdict`] of the octets under the [`Limits`] of a slave; an accepted
+//! locking request has the parameters as a [`Prm`].
+#![tactic(auto)]
+
+pub mod laws;
+mod limits;
+mod prm;
+mod reading;
+
+pub use limits::Limits;
+pub use prm::{Prm, PrmVerdict};
+pub use reading::read;
+
+#[cfg(test)]
+mod tests;

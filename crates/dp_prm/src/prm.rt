@@ -1,0 +1,36 @@
+//! Parameters, and what a parameter telegram means.
+
+use arrayvec::ArrayVec;
+
+/// The parameters that an accepted locking request sets (IEC 61158-6-3, Set_Prm request).
+#[derive(Clone, Debug, Drop, PartialEq, Eq)]
+pub struct Prm {
+    /// The watchdog time, 1 to 65,025 units of 10 ms; `None` where WD_On is 0.
+    pub watchdog: Option<u32>,
+    /// Sync_Req: the master wants to use Sync.
+    pub sync_req: bool,
+    /// Freeze_Req: the master wants to use Freeze.
+    pub freeze_req: bool,
+    /// Min TSDR in bit times; 0 leaves the slave's own.
+    pub min_tsdr: u8,
+    /// Group_Ident: a bit for each group that the slave belongs to.
+    pub group: u8,
+    /// User_Prm: the user parameters, 0 to 237 octets.
+    pub user: ArrayVec<u8, 237>,
+}
+
+/// What a parameter telegram means (IEC 61158-6-3, Set_Prm request).
+#[derive(Clone, Debug, Drop, PartialEq, Eq)]
+pub enum PrmVerdict {
+    /// Neither Lock_Req nor Unlock_Req: only min TSDR is set, in bit times, and 0 leaves it.
+    MinTsdr(u8),
+    /// Unlock_Req: the slave is let go, whatever Lock_Req is.
+    Unlock,
+    /// Lock_Req without Unlock_Req: the slave is locked with these parameters.
+    Lock(Prm),
+    /// The telegram is refused.
+    Fault {
+        /// It is a locking request for Sync or Freeze, which the slave does not support.
+        not_supported: bool,
+    },
+}

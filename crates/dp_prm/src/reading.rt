@@ -1,0 +1,99 @@
+//! The octets of a parameter telegram into what they mean.
+
+ghost use Rattle.std.specs.Prelude.{◌≡◌, ◌<◌, ◌≤◌, ◌*◌, ◌&&◌, ◌||◌, ◌==◌, Some, None, if◌then◌else◌, nat_eq, not, length};
+ghost use Rattle.std.specs.Option.{option_eq};
+ghost use Rattle.dp_prm.specs.Meaning.{meaning_of, is_set as is_set_of};
+
+use crate::limits::Limits;
+use crate::prm::{Prm, PrmVerdict};
+use arrayvec::ArrayVec;
+
+// The bits of the first octet by their numbers (IEC 61158-6-3, Set_Prm request, Station_status).
+const LOCK_REQ: u32 = 7;
+
+const UNLOCK_REQ: u32 = 6;
+
+const SYNC_REQ: u32 = 5;
+
+const FREEZE_REQ: u32 = 4;
+
+const WD_ON: u32 = 3;
+
+/// The meaning of octets that are too few.
+const TOO_SHORT: PrmVerdict = PrmVerdict::Fault {
+    not_supported: false,
+};
+
+/// What the octets of a parameter telegram, 0 to 244 of them, mean to a slave with these limits
+/// (IEC 61158-6-3, Set_Prm request).
+///
+/// The first of these cases decides (own order):
+/// 1. Fewer than 7 octets are a `Fault`, whatever their bits.
+/// 2. Unlock_Req is `Unlock`, whatever Lock_Req is.
+/// 3. No Lock_Req is `MinTsdr`.
+/// 4. Another ident number, WD_On with a factor 0, Sync_Req or Freeze_Req that the slave does not
+///    support, or more user parameters than `user_max` is a `Fault`. Its `not_supported` tells
+///    whether there was such a Sync_Req or Freeze_Req, also beside another reason.
+/// 5. All else is `Lock`.
+pub fn read(octets: &[u8], limits: &Limits) -> PrmVerdict
+    requires { length octets.now ≤ 244 }
+    ensures { result ≡ meaning_of octets.now limits.now }
+{
+    let [
+        status,
+        wd_fact_1,
+        wd_fact_2,
+        min_tsdr,
+        ident_high,
+        ident_low,
+        group,
+        user @ ..,
+    ] = octets
+    else {
+        return TOO_SHORT;
+    };
+    if is_set(UNLOCK_REQ, *status) {
+        return PrmVerdict::Unlock;
+    }
+    if !is_set(LOCK_REQ, *status) {
+        return PrmVerdict::MinTsdr(*min_tsdr);
+    }
+    let ident = u16::from_be_bytes([*ident_high, *ident_low]);
+    let prm = Prm {
+        watchdog: watchdog_time(is_set(WD_ON, *status), *wd_fact_1, *wd_fact_2),
+        sync_req: is_set(SYNC_REQ, *status),
+        freeze_req: is_set(FREEZE_REQ, *status),
+        min_tsdr: *min_tsdr,
+        group: *group,
+        user: ArrayVec::try_from(user).unwrap(),
+    };
+    let not_supported = is_not_supported(&prm, limits);
+    let too_many = user.len() > usize::from(limits.user_max);
+    if ident != limits.ident || prm.watchdog == Some(0) || not_supported || too_many {
+        return PrmVerdict::Fault { not_supported };
+    }
+    PrmVerdict::Lock(prm)
+}
+
+/// The watchdog time in units of 10 ms; it is 0 exactly where a factor is.
+fn watchdog_time(wd_on: bool, wd_fact_1: u8, wd_fact_2: u8) -> Option<u32>
+    ensures value { result ≡ (if wd_on then Some (wd_fact_1 * wd_fact_2) else None) }
+    ensures factor_0 { option_eq nat_eq result (Some 0) ≡ (wd_on && (wd_fact_1 == 0 || wd_fact_2 == 0)) }
+{
+    wd_on.then_some(u32::from(wd_fact_1) * u32::from(wd_fact_2))
+}
+
+/// Sync or Freeze is to be used, which the slave does not support.
+const fn is_not_supported(prm: &Prm, limits: &Limits) -> bool
+    ensures { result ≡ (prm.now.sync_req && not limits.now.sync || prm.now.freeze_req && not limits.now.freeze) }
+{
+    prm.sync_req && !limits.sync || prm.freeze_req && !limits.freeze
+}
+
+/// The bit of this number is 1.
+const fn is_set(number: u32, octet: u8) -> bool
+    requires { number < 8 }
+    ensures { result ≡ is_set_of number octet }
+{
+    octet >> number & 1 == 1
+}
