@@ -1,0 +1,4 @@
+pub mod Addresses
+pub mod Events
+pub mod Verdicts
+pub mod Runs

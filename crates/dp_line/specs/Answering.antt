@@ -1,0 +1,34 @@
+-- Parts of the verdict by themselves. No public clause cites this module.
+use Rattle.std.specs.Prelude.{ℕ, Bool, not, ◌==◌, List, [], ◌∷◌, length}
+use Rattle.dp_telegram.specs.declared.frame.Frame.{Frame}
+use Rattle.dp_telegram.specs.declared.access.Parts.{Parts}
+use Rattle.dp_line.specs.declared.rule.Rule.{Rule}
+use Rattle.dp_line.specs.declared.rule.Rule.TheVariants as rules
+use Rattle.dp_line.specs.Verdict.{first_row, has_foreign_sender, is_token, is_no_request, has_reserved_function, has_bad_extension, is_broadcast, has_no_station, point_is_off, has_wrong_length, is_off}
+use Rattle.dp_line.specs.World.{World}
+
+-- the rows that look at the frame alone
+abbrev pub frame_rows : ℕ → Frame → List (Bool × Rule)
+frame_rows master frame =
+    (has_foreign_sender master frame, rules.ForeignSender)
+    ∷ (is_token frame, rules.Token)
+    ∷ (is_no_request frame, rules.NotRequest)
+    ∷ (has_reserved_function frame, rules.BadFunction)
+    ∷ []
+
+-- the rows that look for the slave, and at it
+abbrev pub slave_rows : World → Frame → List (Bool × Rule)
+slave_rows world frame =
+    (has_bad_extension frame, rules.BadExtension)
+    ∷ (is_broadcast frame, rules.BadBroadcast)
+    ∷ (has_no_station world frame, rules.NoStation)
+    ∷ (point_is_off frame, rules.NotActive)
+    ∷ (has_wrong_length frame, rules.Length)
+    ∷ []
+
+-- the rule at the slave, by the rows that look at points and payload
+abbrev pub rule_at : Parts → Rule
+rule_at parts = first_row (
+    (is_off parts.dsap, rules.NotActive)
+    ∷ (not (length parts.payload.items == 0), rules.Length)
+    ∷ [])

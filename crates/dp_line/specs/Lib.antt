@@ -1,0 +1,9 @@
+pub mod Codes
+pub mod SlaveRecord
+pub mod World
+pub mod Verdict
+pub mod ReplyText
+pub mod Steps
+pub mod Stations
+pub mod Answering
+pub mod LineExamples

@@ -1,0 +1,125 @@
+-- The verdict on a request: the first row of the table that applies (own order).
+use Rattle.std.specs.Prelude.{ℕ, ◌/◌, ◌%◌, Bool, true, false, not, ◌&&◌, ◌||◌, ◌==◌, if◌then◌else◌, List, [], ◌∷◌, length, Option, Some, None, is_none, unwrap_or}
+use Rattle.std.specs.Option.{option_map_or}
+use Rattle.std.specs.List.{list_any}
+use Rattle.dp_telegram.specs.declared.frame.Frame.{Frame}
+use Rattle.dp_telegram.specs.declared.frame.Frame.TheVariants as frames
+use Rattle.dp_telegram.specs.declared.frame.Telegram.{Telegram}
+use Rattle.dp_telegram.specs.declared.access.Parts.{Parts}
+use Rattle.dp_telegram.specs.FrameText.{frame_of}
+use Rattle.dp_telegram.specs.Access.{address_of, parts_of}
+use Rattle.dp_line.specs.declared.rule.Rule.{Rule}
+use Rattle.dp_line.specs.declared.rule.Rule.TheVariants as rules
+use Rattle.dp_line.specs.World.{World, slave_at, takes_no_more}
+
+-- the global address (IEC 61158-4-3, station addresses)
+abbrev pub global_address : ℕ
+global_address = 127
+
+-- bit 6 of a function code tells requests from responses (IEC 61158-4-3, function code)
+abbrev pub is_request : Telegram → Bool
+is_request telegram = telegram.fc / 64 % 2 == 1
+
+-- bits 3 to 0 of a function code (IEC 61158-4-3, function code)
+abbrev pub function_of : Telegram → ℕ
+function_of telegram = telegram.fc % 16
+
+-- Send and Request Data with reply, low and high (IEC 61158-4-3, function code)
+abbrev pub is_srd : Telegram → Bool
+is_srd telegram = function_of telegram == 12 || function_of telegram == 13
+
+-- the frame has a source address, and its address isn't the sender (own)
+abbrev pub has_foreign_sender : ℕ → Frame → Bool
+has_foreign_sender sender (frames.Token da sa) = not (address_of sa == sender)
+has_foreign_sender sender frames.Ack = false
+has_foreign_sender sender (frames.Telegram telegram) = not (address_of telegram.sa == sender)
+
+abbrev pub is_token : Frame → Bool
+is_token (frames.Token da sa) = true
+is_token frames.Ack = false
+is_token (frames.Telegram telegram) = false
+
+-- a condition on the frame's telegram, which doesn't hold of a frame that is none
+abbrev pub telegram_has : (Telegram → Bool) → Frame → Bool
+telegram_has condition (frames.Token da sa) = false
+telegram_has condition frames.Ack = false
+telegram_has condition (frames.Telegram telegram) = condition telegram
+
+-- a short acknowledgement, a token or a response
+abbrev pub is_no_request : Frame → Bool
+is_no_request frame = not (telegram_has is_request frame)
+
+-- a function outside those of this profile (own)
+abbrev pub has_reserved_function : Frame → Bool
+has_reserved_function = telegram_has (λ telegram. not (is_srd telegram))
+
+-- an announced extension octet is missing or not plain (own)
+abbrev pub has_bad_extension : Frame → Bool
+has_bad_extension = telegram_has (λ telegram. is_none (parts_of telegram))
+
+-- sent to all stations
+abbrev pub is_broadcast : Frame → Bool
+is_broadcast = telegram_has (λ telegram. address_of telegram.da == global_address)
+
+-- no slave has the destination address
+abbrev pub has_no_station : World → Frame → Bool
+has_no_station world = telegram_has (λ telegram. is_none (slave_at world (address_of telegram.da)))
+
+-- a condition on the points and the payload of the frame's telegram
+abbrev pub parts_have : (Parts → Bool) → Frame → Bool
+parts_have condition = telegram_has (λ telegram. option_map_or condition (parts_of telegram) false)
+
+-- the access point Slave_Diag (IEC 61158-6-3, service access points)
+abbrev pub slave_diag_point : ℕ
+slave_diag_point = 60
+
+-- every point but Slave_Diag is off (own)
+abbrev pub is_off : Option ℕ → Bool
+is_off point = not (option_map_or (λ number. number == slave_diag_point) point false)
+
+abbrev pub point_is_off : Frame → Bool
+point_is_off = parts_have (λ parts. is_off parts.dsap)
+
+-- Slave_Diag takes no octets (IEC 61158-6-3, Slave_Diag request)
+abbrev pub has_wrong_length : Frame → Bool
+has_wrong_length = parts_have (λ parts. not (length parts.payload.items == 0))
+
+-- the rule of the first row whose condition holds, and Done where there is none
+abbrev pub first_row : List (Bool × Rule) → Rule
+first_row [] = rules.Done
+first_row (row ∷ rows) = if row.0 then row.1 else first_row rows
+
+-- a condition on the frame that the octets spell, which doesn't hold where they spell none
+abbrev pub frame_has : (Frame → Bool) → List ℕ → Bool
+frame_has condition octets = option_map_or condition (frame_of octets) false
+
+-- the rule by which a master's request is answered
+abbrev pub verdict_of : World → ℕ → List ℕ → Rule
+verdict_of world master octets = first_row (
+    (takes_no_more world, rules.Halted)
+    ∷ (is_none (frame_of octets), rules.NoFrame)
+    ∷ (not (list_any (λ other. other == master) world.masters), rules.NoMaster)
+    ∷ (frame_has (has_foreign_sender master) octets, rules.ForeignSender)
+    ∷ (frame_has is_token octets, rules.Token)
+    ∷ (frame_has is_no_request octets, rules.NotRequest)
+    ∷ (frame_has has_reserved_function octets, rules.BadFunction)
+    ∷ (frame_has has_bad_extension octets, rules.BadExtension)
+    ∷ (frame_has is_broadcast octets, rules.BadBroadcast)
+    ∷ (frame_has (has_no_station world) octets, rules.NoStation)
+    ∷ (frame_has point_is_off octets, rules.NotActive)
+    ∷ (frame_has has_wrong_length octets, rules.Length)
+    ∷ [])
+
+-- the rows from Status on concern one slave; with the rows before, none is concerned (own)
+abbrev pub concerns_a_slave : Rule → Bool
+concerns_a_slave rules.Halted = false
+concerns_a_slave rules.NoFrame = false
+concerns_a_slave rules.NoMaster = false
+concerns_a_slave rules.ForeignSender = false
+concerns_a_slave rules.Token = false
+concerns_a_slave rules.NotRequest = false
+concerns_a_slave rules.BadFunction = false
+concerns_a_slave rules.BadExtension = false
+concerns_a_slave rules.BadBroadcast = false
+concerns_a_slave rules.NoStation = false
+concerns_a_slave other = true

@@ -1,0 +1,79 @@
+-- What a line is at one moment, and at its start.
+use Rattle.std.specs.Prelude.{ℕ, ◌+◌, Bool, false, not, ◌&&◌, ◌||◌, ◌==◌, nat_le, if◌then◌else◌, List, [], ◌∷◌, ◌++◌, length, map, find, Option, Some, None}
+use Rattle.std.specs.List.{list_all, list_any, filter_map, range_with_len}
+use Rattle.dp_line.specs.declared.description.SlaveSpec.{SlaveSpec}
+use Rattle.dp_line.specs.declared.description.LineSpec.{LineSpec}
+use Rattle.dp_line.specs.declared.fault.OpenFault.{OpenFault}
+use Rattle.dp_line.specs.declared.fault.OpenFault.TheVariants.{TwiceAddress, Limit}
+use Rattle.dp_line.specs.SlaveRecord.{SlaveRecord, starting_slave, address_of_slave}
+
+-- a line: its masters, the places of its journal and how many are taken, whether it is halted, and its
+-- slaves in ascending order of address (own)
+pub record World : Type 0 where
+  pub masters : List ℕ
+  pub places : ℕ
+  pub count : ℕ
+  pub halted : Bool
+  pub slaves : List SlaveRecord
+
+-- the slave that has the address
+abbrev pub slave_at : World → ℕ → Option SlaveRecord
+slave_at world address = find (λ slave. address_of_slave slave == address) world.slaves
+
+-- only the place of the halt is left
+abbrev pub is_last_place : World → Bool
+is_last_place world = nat_le world.places (world.count + 1)
+
+abbrev pub takes_no_more : World → Bool
+takes_no_more world = world.halted || is_last_place world
+
+-- station addresses are 0 to 126 (IEC 61158-4-3, station addresses)
+abbrev pub is_station : ℕ → Bool
+is_station address = nat_le address 126
+
+-- the limits of a slave's description
+abbrev pub slave_is_within_limits : SlaveSpec → Bool
+slave_is_within_limits slave = is_station slave.address && nat_le slave.user_max 237
+
+-- the limits of a line's description (own)
+abbrev pub is_within_limits : LineSpec → Bool
+is_within_limits line =
+    nat_le 2 line.capacity && nat_le line.capacity 65536
+    && nat_le 1 (length line.masters.items) && nat_le (length line.masters.items) 16
+    && nat_le 1 (length line.slaves.items) && nat_le (length line.slaves.items) 64
+    && list_all is_station line.masters.items
+    && list_all slave_is_within_limits line.slaves.items
+
+-- a number stands twice in the list
+abbrev pub has_twice : List ℕ → Bool
+has_twice [] = false
+has_twice (x ∷ xs) = list_any (λ y. x == y) xs || has_twice xs
+
+-- the addresses of the line's stations, masters and slaves together
+abbrev pub stations : LineSpec → List ℕ
+stations line = line.masters.items ++ map (λ slave. slave.address) line.slaves.items
+
+-- why a description isn't opened: limits first, then addresses
+abbrev pub opening_fault : LineSpec → Option OpenFault
+opening_fault line =
+    if not (is_within_limits line) then Some Limit
+    else if has_twice (stations line) then Some TwiceAddress
+    else None
+
+-- the slave that is described for the address
+abbrev pub described_at : List SlaveSpec → ℕ → Option SlaveSpec
+described_at slaves address = find (λ slave. slave.address == address) slaves
+
+-- the descriptions in ascending order of address: of each address in turn, the slave that has it
+unfoldable pub ascending : List SlaveSpec → List SlaveSpec
+ascending slaves = filter_map (described_at slaves) (range_with_len 0 127)
+
+-- the line at its start (own)
+abbrev pub start_of : LineSpec → World
+start_of line = record {
+  masters = line.masters.items;
+  places = line.capacity;
+  count = 0;
+  halted = false;
+  slaves = map starting_slave (ascending line.slaves.items);
+}

@@ -1,0 +1,34 @@
+//! Why a line isn't opened.
+
+ghost use Rattle.std.specs.Prelude.{◌≡◌};
+ghost use Rattle.dp_line.specs.Codes.{open_fault_code};
+
+use thiserror::Error;
+
+/// Why a line isn't opened. The first that applies is told: `Limit`, `TwiceAddress`, `OutOfMemory`.
+#[derive(Clone, Copy, Debug, PartialEq, Eq, Error)]
+pub enum OpenFault {
+    /// Memory was refused; nothing is left opened.
+    #[error("out of memory")]
+    OutOfMemory,
+    /// Two of the line's stations, masters and slaves together, have one address.
+    #[error("an address stands twice")]
+    TwiceAddress,
+    /// A number of the description is outside its limits: 2 to 65,536 places, 1 to 16 masters, 1 to
+    /// 64 slaves, addresses 0 to 126, at most 237 user parameters.
+    #[error("outside the limits")]
+    Limit,
+}
+
+impl OpenFault {
+    /// The number of the fault, 1 to 3 (own).
+    pub const fn code(self) -> u8
+        ensures { result ≡ open_fault_code self }
+    {
+        match self {
+            OpenFault::OutOfMemory => 1,
+            OpenFault::TwiceAddress => 2,
+            OpenFault::Limit => 3,
+        }
+    }
+}

@@ -1,0 +1,24 @@
+//! One line of DP slaves: octets of masters in, replies or silence with its cause out, as the
+//! written policy says.
+//!
+//! A [`LineState`] is opened from a [`LineSpec`]; [`LineState::take`] takes one [`Event`] and answers
+//! one [`Step`]. What an event does is the definition `step` of `specs/Steps`; the verdict on a
+//! request is the table `verdict_of` of `specs/Verdict`.
+#![tactic(auto)]
+
+mod description;
+mod event;
+mod fault;
+pub mod laws;
+mod limits;
+mod line_state;
+mod reply;
+mod rule;
+mod slave;
+mod stations;
+
+pub use description::{Device, LineSpec, SlaveSpec};
+pub use event::{Event, Facts, Outcome, Step};
+pub use fault::OpenFault;
+pub use line_state::LineState;
+pub use rule::Rule;

@@ -1,0 +1,91 @@
+//! What a description of a line may say.
+
+ghost use Rattle.std.specs.Prelude.{◌≡◌, ◌≤◌, ◌++◌, length, map};
+ghost use Rattle.std.specs.List.{list_all};
+ghost use Rattle.dp_line.specs.World.{is_within_limits, is_station, slave_is_within_limits, stations, has_twice, opening_fault};
+
+use crate::description::{LineSpec, SlaveSpec};
+use crate::fault::OpenFault;
+use arrayvec::ArrayVec;
+
+/// The last station address.
+pub(crate) const LAST_STATION: u8 = 126;
+
+/// The most slaves of a line.
+pub(crate) const MOST_SLAVES: usize = 64;
+
+/// The least and the most places of a journal.
+const LEAST_PLACES: u32 = 2;
+
+const MOST_PLACES: u32 = 65_536;
+
+/// The most user parameters of a slave, in octets.
+const MOST_USER_PARAMETERS: u8 = 237;
+
+/// Why the description isn't opened, or None.
+pub(crate) fn opening_fault_in(line: &LineSpec) -> Option<OpenFault>
+    ensures { result ≡ opening_fault line.now }
+{
+    if !is_within(line) {
+        return Some(OpenFault::Limit);
+    }
+    if stands_twice(&station_addresses(line)) {
+        return Some(OpenFault::TwiceAddress);
+    }
+    None
+}
+
+fn is_within(line: &LineSpec) -> bool
+    ensures { result ≡ is_within_limits line.now }
+{
+    LEAST_PLACES <= line.capacity
+        && line.capacity <= MOST_PLACES
+        && !line.masters.is_empty()
+        && line.masters.len() <= line.masters.capacity()
+        && !line.slaves.is_empty()
+        && line.slaves.len() <= MOST_SLAVES
+        && are_stations(&line.masters)
+        && slaves_are_within(&line.slaves)
+}
+
+fn are_stations(addresses: &[u8]) -> bool
+    ensures { result ≡ list_all is_station addresses.now }
+{
+    addresses.iter().all(|address| *address <= LAST_STATION)
+}
+
+fn slaves_are_within(slaves: &[SlaveSpec]) -> bool
+    ensures { result ≡ list_all slave_is_within_limits slaves.now }
+{
+    slaves.iter().all(|slave| slave_is_within(slave))
+}
+
+fn slave_is_within(slave: &SlaveSpec) -> bool
+    ensures { result ≡ slave_is_within_limits slave.now }
+{
+    slave.address <= LAST_STATION && slave.user_max <= MOST_USER_PARAMETERS
+}
+
+/// The addresses of masters and slaves.
+fn station_addresses(line: &LineSpec) -> ArrayVec<u8, 80>
+    requires masters { length line.now.masters.items ≤ 16 }
+    requires slaves { length line.now.slaves.items ≤ 64 }
+    ensures { result.items ≡ stations line.now }
+{
+    let mut addresses = ArrayVec::new();
+    addresses.try_extend_from_slice(&line.masters).unwrap();
+    for slave in &line.slaves {
+        addresses.push(slave.address);
+    }
+    addresses
+}
+
+/// An address stands twice among these.
+fn stands_twice(addresses: &[u8]) -> bool
+    ensures { result ≡ has_twice addresses.now }
+{
+    match addresses {
+        [] => false,
+        [first, others @ ..] => others.contains(first) || stands_twice(others),
+    }
+}

@@ -1,0 +1,139 @@
+//! A line: its masters, its slaves and the places of its journal.
+
+ghost use Rattle.std.specs.Prelude.{◌≡◌, false, None, IfSome, MatchResult, option_map};
+ghost use Rattle.dp_line.specs.World.{opening_fault, start_of, takes_no_more};
+ghost use Rattle.dp_line.specs.Steps.{step, effect_of_request, halted_world, let_go, unrecorded as unrecorded_step};
+
+mod answering;
+
+use crate::description::LineSpec;
+use crate::event::{Event, Outcome, Step};
+use crate::fault::OpenFault;
+use crate::limits::{MOST_SLAVES, opening_fault_in};
+use crate::rule::Rule;
+use crate::stations::Stations;
+use arrayvec::ArrayVec;
+use std::alloc::Global;
+use std::marker::Model;
+
+/// A line of slaves, opened from its description. Nothing but [`LineState::open`] takes memory.
+#[derive(Drop)]
+pub struct LineState {
+    masters: ArrayVec<u8, 16>,
+    places: u32,
+    count: u32,
+    halted: bool,
+    stations: Stations,
+}
+
+impl Model for LineState {
+    ghost use Rattle.std.specs.Prelude.{◌≡◌, ◌<◌, ◌≤◌, false};
+    ghost use Rattle.dp_line.specs.World.{World};
+
+    ghost Value = { World };
+
+    ghost view = { λ s. record {
+      masters = s.masters.items;
+      places = s.places;
+      count = s.count;
+      halted = s.halted;
+      slaves = s.stations;
+    } };
+
+    ghost invariant = { λ s. s.halted ≡ false → s.count < s.places };
+}
+
+impl LineState {
+    /// The line at its start: nothing recorded, every slave without a holder.
+    ///
+    /// `Limit` exactly where a number is outside its limits; `TwiceAddress` exactly where none is and
+    /// two stations have one address; else `OutOfMemory` where memory was refused (own).
+    pub fn open(alloc: Global, line: &LineSpec) -> Result<LineState, OpenFault>
+        ensures refused { IfSome (opening_fault line.now) (λ fault. result ≡ Err fault) }
+        ensures opened { opening_fault line.now ≡ None
+            → MatchResult result (λ state. state ≡ start_of line.now) (λ fault. fault ≡ OpenFault.OutOfMemory) }
+    {
+        if let Some(fault) = opening_fault_in(line) {
+            return Err(fault);
+        }
+        let stations = Stations::start(alloc, &line.slaves).map_err(|_| OpenFault::OutOfMemory)?;
+        let mut masters = ArrayVec::new();
+        masters.try_extend_from_slice(&line.masters).unwrap();
+        Ok(LineState {
+            masters,
+            places: line.capacity,
+            count: 0,
+            halted: false,
+            stations,
+        })
+    }
+
+    /// Takes one event: the world after it and the answer are the policy's step. It takes no memory.
+    pub fn take(&mut self, event: &Event) -> Step
+        ensures world { self.new ≡ (step self.old event.now).world }
+        ensures answer { result ≡ (step self.old event.now).answer }
+    {
+        if self.halted {
+            return unrecorded(None);
+        }
+        if self.places - self.count <= 1 {
+            return unrecorded(Some(self.halt()));
+        }
+        match event {
+            Event::Request { master, octets } => self.take_request(*master, octets),
+        }
+    }
+
+    /// How many events are recorded, the halt among them.
+    pub fn count(&self) -> u32
+        ensures { result ≡ self.now.count }
+    {
+        self.count
+    }
+
+    /// The line takes no events any more.
+    pub fn is_halted(&self) -> bool
+        ensures { result ≡ self.now.halted }
+    {
+        self.halted
+    }
+
+    /// Takes a request that takes a place.
+    fn take_request(&mut self, master: u8, octets: &[u8]) -> Step
+        requires { takes_no_more self.old ≡ false }
+        ensures world { self.new ≡ (effect_of_request self.old master octets.now).world }
+        ensures answer { result ≡ (effect_of_request self.old master octets.now).answer }
+    {
+        let answer = self.answer(master, octets);
+        self.count += 1;
+        Step {
+            place: Some(self.count),
+            facts: answer.facts,
+            outcome: answer.outcome,
+            halted: None,
+        }
+    }
+
+    /// Records the halt, which lets go of every slave; the addresses of those that had a holder.
+    fn halt(&mut self) -> ArrayVec<u8, MOST_SLAVES>
+        requires { self.old.halted ≡ false }
+        ensures world { self.new ≡ halted_world self.old }
+        ensures let_go { result.items ≡ let_go self.old }
+    {
+        self.count += 1;
+        self.halted = true;
+        self.stations.release_all()
+    }
+}
+
+/// The answer to an event that takes no place.
+fn unrecorded(halted: Option<ArrayVec<u8, MOST_SLAVES>>) -> Step
+    ensures { result ≡ unrecorded_step (option_map (λ addresses. addresses.items) halted) }
+{
+    Step {
+        place: None,
+        facts: None,
+        outcome: Outcome::Silence(Rule::Halted),
+        halted,
+    }
+}
