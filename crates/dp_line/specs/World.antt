@@ -27,6 +27,22 @@ is_last_place world = nat_le world.places (world.count + 1)
 abbrev pub takes_no_more : World → Bool
 takes_no_more world = world.halted || is_last_place world
 
+-- a line's description: its number in the rack, the places of its journal, and its stations
+pub record Description : Type 0 where
+  pub number : ℕ
+  pub places : ℕ
+  pub masters : List ℕ
+  pub slaves : List SlaveSpec
+
+-- what a `LineSpec` describes
+abbrev pub description_of : LineSpec → Description
+description_of line = record {
+  number = line.number;
+  places = line.capacity;
+  masters = line.masters.items;
+  slaves = line.slaves.items
+}
+
 -- station addresses are 0 to 126 (IEC 61158-4-3, station addresses)
 abbrev pub is_station : ℕ → Bool
 is_station address = nat_le address 126
@@ -36,13 +52,13 @@ abbrev pub slave_is_within_limits : SlaveSpec → Bool
 slave_is_within_limits slave = is_station slave.address && nat_le slave.user_max 237
 
 -- the limits of a line's description (own)
-abbrev pub is_within_limits : LineSpec → Bool
+abbrev pub is_within_limits : Description → Bool
 is_within_limits line =
-    nat_le 2 line.capacity && nat_le line.capacity 65536
-    && nat_le 1 (length line.masters.items) && nat_le (length line.masters.items) 16
-    && nat_le 1 (length line.slaves.items) && nat_le (length line.slaves.items) 64
-    && list_all is_station line.masters.items
-    && list_all slave_is_within_limits line.slaves.items
+    nat_le 2 line.places && nat_le line.places 65536
+    && nat_le 1 (length line.masters) && nat_le (length line.masters) 16
+    && nat_le 1 (length line.slaves) && nat_le (length line.slaves) 64
+    && list_all is_station line.masters
+    && list_all slave_is_within_limits line.slaves
 
 -- a number stands twice in the list
 abbrev pub has_twice : List ℕ → Bool
@@ -50,11 +66,11 @@ has_twice [] = false
 has_twice (x ∷ xs) = list_any (λ y. x == y) xs || has_twice xs
 
 -- the addresses of the line's stations, masters and slaves together
-abbrev pub stations : LineSpec → List ℕ
-stations line = line.masters.items ++ map (λ slave. slave.address) line.slaves.items
+abbrev pub stations : Description → List ℕ
+stations line = line.masters ++ map (λ slave. slave.address) line.slaves
 
 -- why a description isn't opened: limits first, then addresses
-abbrev pub opening_fault : LineSpec → Option OpenFault
+abbrev pub opening_fault : Description → Option OpenFault
 opening_fault line =
     if not (is_within_limits line) then Some Limit
     else if has_twice (stations line) then Some TwiceAddress
@@ -69,11 +85,11 @@ unfoldable pub ascending : List SlaveSpec → List SlaveSpec
 ascending slaves = filter_map (described_at slaves) (range_with_len 0 127)
 
 -- the line at its start (own)
-abbrev pub start_of : LineSpec → World
+abbrev pub start_of : Description → World
 start_of line = record {
-  masters = line.masters.items;
-  places = line.capacity;
+  masters = line.masters;
+  places = line.places;
   count = 0;
   halted = false;
-  slaves = map starting_slave (ascending line.slaves.items);
+  slaves = map starting_slave (ascending line.slaves);
 }

@@ -2,18 +2,17 @@
 
 ghost use Rattle.std.specs.Prelude.{◌≡◌, ◌+◌, ◌<◌, ℕ, List, ◌∷◌, ◌++◌, false, None, Some, length, slice_get};
 ghost use Rattle.arrayvec.specs.ArrayVec.{ArrayVec};
-ghost use Rattle.dp_line.specs.declared.description.LineSpec.{LineSpec};
 ghost use Rattle.dp_line.specs.declared.event.Event.{Event};
 ghost use Rattle.dp_line.specs.declared.event.Step.{Step};
 ghost use Rattle.dp_line.specs.SlaveRecord.{SlaveRecord};
-ghost use Rattle.dp_line.specs.World.{World, start_of, opening_fault};
+ghost use Rattle.dp_line.specs.World.{World, Description, start_of, opening_fault};
 ghost use Rattle.dp_line.specs.Steps.{run, outcome_of};
 
 /// After every list of events each request is answered as the written policy answers it in the world
 /// that the events before it left: the octets, or the silence with its cause. That holds on a halted
 /// line and at the last place too.
 pub fn every_answer_is_the_policys()
-    ensures { (line : LineSpec) (before later : List Event) (master : ℕ) (octets : ArrayVec ℕ) (answer : Step)
+    ensures { (line : Description) (before later : List Event) (master : ℕ) (octets : ArrayVec ℕ) (answer : Step)
         → opening_fault line ≡ None
         → slice_get (run (start_of line) (before ++ Event.Request master octets ∷ later)).answers (length before) ≡ Some answer
         → answer.outcome ≡ outcome_of (run (start_of line) before).world master octets.items }

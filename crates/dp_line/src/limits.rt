@@ -2,7 +2,7 @@
 
 ghost use Rattle.std.specs.Prelude.{◌≡◌, ◌≤◌, ◌++◌, length, map};
 ghost use Rattle.std.specs.List.{list_all};
-ghost use Rattle.dp_line.specs.World.{is_within_limits, is_station, slave_is_within_limits, stations, has_twice, opening_fault};
+ghost use Rattle.dp_line.specs.World.{is_within_limits, is_station, slave_is_within_limits, stations, has_twice, opening_fault, description_of};
 
 use crate::description::{LineSpec, SlaveSpec};
 use crate::fault::OpenFault;
@@ -24,7 +24,7 @@ const MOST_USER_PARAMETERS: u8 = 237;
 
 /// Why the description isn't opened, or None.
 pub(crate) fn opening_fault_in(line: &LineSpec) -> Option<OpenFault>
-    ensures { result ≡ opening_fault line.now }
+    ensures { result ≡ opening_fault (description_of line.now) }
 {
     if !is_within(line) {
         return Some(OpenFault::Limit);
@@ -36,7 +36,7 @@ pub(crate) fn opening_fault_in(line: &LineSpec) -> Option<OpenFault>
 }
 
 fn is_within(line: &LineSpec) -> bool
-    ensures { result ≡ is_within_limits line.now }
+    ensures { result ≡ is_within_limits (description_of line.now) }
 {
     LEAST_PLACES <= line.capacity
         && line.capacity <= MOST_PLACES
@@ -70,7 +70,7 @@ fn slave_is_within(slave: &SlaveSpec) -> bool
 fn station_addresses(line: &LineSpec) -> ArrayVec<u8, 80>
     requires masters { length line.now.masters.items ≤ 16 }
     requires slaves { length line.now.slaves.items ≤ 64 }
-    ensures { result.items ≡ stations line.now }
+    ensures { result.items ≡ stations (description_of line.now) }
 {
     let mut addresses = ArrayVec::new();
     addresses.try_extend_from_slice(&line.masters).unwrap();

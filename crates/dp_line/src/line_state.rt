@@ -1,7 +1,7 @@
 //! A line: its masters, its slaves and the places of its journal.
 
 ghost use Rattle.std.specs.Prelude.{◌≡◌, false, None, IfSome, MatchResult, option_map};
-ghost use Rattle.dp_line.specs.World.{opening_fault, start_of, takes_no_more};
+ghost use Rattle.dp_line.specs.World.{description_of, opening_fault, start_of, takes_no_more};
 ghost use Rattle.dp_line.specs.Steps.{step, effect_of_request, halted_world, let_go, unrecorded as unrecorded_step};
 
 mod answering;
@@ -49,9 +49,9 @@ impl LineState {
     /// `Limit` exactly where a number is outside its limits; `TwiceAddress` exactly where none is and
     /// two stations have one address; else `OutOfMemory` where memory was refused (own).
     pub fn open(alloc: Global, line: &LineSpec) -> Result<LineState, OpenFault>
-        ensures refused { IfSome (opening_fault line.now) (λ fault. result ≡ Err fault) }
-        ensures opened { opening_fault line.now ≡ None
-            → MatchResult result (λ state. state ≡ start_of line.now) (λ fault. fault ≡ OpenFault.OutOfMemory) }
+        ensures refused { IfSome (opening_fault (description_of line.now)) (λ fault. result ≡ Err fault) }
+        ensures opened { opening_fault (description_of line.now) ≡ None
+            → MatchResult result (λ state. state ≡ start_of (description_of line.now)) (λ fault. fault ≡ OpenFault.OutOfMemory) }
     {
         if let Some(fault) = opening_fault_in(line) {
             return Err(fault);
