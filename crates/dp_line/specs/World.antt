@@ -40,7 +40,7 @@ description_of line = record {
   number = line.number;
   places = line.capacity;
   masters = line.masters.items;
-  slaves = line.slaves.items
+  slaves = line.slaves.items;
 }
 
 -- station addresses are 0 to 126 (IEC 61158-4-3, station addresses)

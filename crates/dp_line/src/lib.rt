@@ -22,3 +22,6 @@ pub use event::{Event, Facts, Outcome, Step};
 pub use fault::OpenFault;
 pub use line_state::LineState;
 pub use rule::Rule;
+
+#[cfg(test)]
+mod tests;
