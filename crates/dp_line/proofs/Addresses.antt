@@ -3,12 +3,11 @@ use Rattle.std.proofs.Common.{◌≡◌, ℕ, zero, suc, ◌+◌, ◌≤◌, ◌
 use Rattle.std.specs.Prelude.{find, option_map, option_and_then, slice_get, slice_index_or, is_some}
 use Rattle.std.specs.List.{filter_map, range_with_len, cons_option}
 use Rattle.std.specs.Option.{option_or}
-use Rattle.std.proofs.lemmas.Grind.{common_steps}
 use Rattle.std.proofs.lemmas.List.{map_more, length-map, length-take, length-drop, nil_from_length, append-nil, take_all}
 use Rattle.std.proofs.lemmas.List.Elements.{filter_map-append}
 use Rattle.std.proofs.lemmas.Bool.{eqb-true, ne_eqb, eq-eqb, cases_eq}
 use Rattle.dp_line.specs.declared.description.SlaveSpec.{SlaveSpec}
-use Rattle.dp_line.specs.SlaveRecord.{SlaveRecord, starting_slave, released, address_of_slave}
+use Rattle.dp_line.specs.SlaveRecord.{SlaveRecord, released, address_of_slave}
 use Rattle.dp_line.specs.Stations.{place_of, IsIndexed}
 use Rattle.dp_line.specs.World.{described_at, ascending}
 

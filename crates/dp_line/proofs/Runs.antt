@@ -1,5 +1,5 @@
 -- Runs of a line, one step for each event.
-use Rattle.std.proofs.Common.{◌≡◌, ℕ, ◌+◌, ◌<◌, ◌≤◌, Bool, true, false, cond, List, [], ◌∷◌, ◌++◌, length, Option, Some, None, refl, sym, ap, subst, ◌∙◌, arith}
+use Rattle.std.proofs.Common.{◌≡◌, ℕ, ◌+◌, ◌<◌, Bool, true, false, cond, List, [], ◌∷◌, ◌++◌, length, Some, refl, sym, ap, subst, ◌∙◌, arith}
 use Rattle.std.specs.Prelude.{slice_get, ◌||◌}
 use Rattle.std.proofs.lemmas.Bool.{cond-true, cond-false}
 use Rattle.std.proofs.lemmas.Grind.{common_steps}
@@ -10,7 +10,6 @@ use Rattle.dp_line.specs.declared.event.Event.TheVariants.{Request}
 use Rattle.dp_line.specs.declared.event.Step.{Step}
 use Rattle.dp_line.specs.declared.event.Outcome.{Outcome}
 use Rattle.dp_line.specs.declared.event.Outcome.TheVariants.{Silence}
-use Rattle.dp_line.specs.SlaveRecord.{SlaveRecord}
 use Rattle.dp_line.specs.World.{World, takes_no_more, is_last_place}
 use Rattle.dp_line.specs.Steps.{step, effect, run, outcome_of, Stepped}
 use Rattle.dp_line.proofs.Verdicts.{outcome_silent}

@@ -11,11 +11,9 @@ use Rattle.dp_telegram.specs.declared.frame.Telegram.{Telegram}
 use Rattle.dp_telegram.specs.declared.access.Parts.{Parts}
 use Rattle.dp_telegram.specs.FrameText.{frame_of}
 use Rattle.dp_telegram.specs.Access.{address_of, parts_of}
-use Rattle.dp_sap.specs.declared.state.State.{State}
 use Rattle.dp_line.specs.declared.rule.Rule.{Rule}
 use Rattle.dp_line.specs.declared.rule.Rule.TheVariants as rules
-use Rattle.dp_line.specs.declared.event.Outcome.{Outcome}
-use Rattle.dp_line.specs.declared.event.Outcome.TheVariants.{Reply, Silence}
+use Rattle.dp_line.specs.declared.event.Outcome.TheVariants.{Silence}
 use Rattle.dp_line.specs.SlaveRecord.{SlaveRecord}
 use Rattle.dp_line.specs.World.{World, slave_at, takes_no_more, is_last_place}
 use Rattle.dp_line.specs.declared.event.Event.{Event}

@@ -1,17 +1,14 @@
 -- A line with masters 1 and 2 and slave 5, ident number 80A1, before any event.
-use Rattle.std.specs.Prelude.{◌≡◌, ℕ, [], ◌∷◌, true, false, Some, None, refl}
-use Rattle.std.specs.Vec.{vec_len}
-use Rattle.arrayvec.specs.ArrayVec.{ArrayVec}
+use Rattle.std.specs.Prelude.{◌≡◌, [], ◌∷◌, true, false, Some, None, refl}
 use Rattle.dp_sap.specs.declared.state.State.TheVariants.{WaitPrm}
-use Rattle.dp_diag.specs.Diagnosis.{no_diagnosis}
 use Rattle.dp_line.specs.declared.description.SlaveSpec.{SlaveSpec}
 use Rattle.dp_line.specs.declared.description.Device.TheVariants.{Still}
 use Rattle.dp_line.specs.declared.event.Outcome.TheVariants.{Reply, Silence}
 use Rattle.dp_line.specs.declared.event.Event.TheVariants.{Request}
 use Rattle.dp_line.specs.declared.rule.Rule.TheVariants as rules
-use Rattle.dp_line.specs.SlaveRecord.{SlaveRecord, starting_slave}
-use Rattle.dp_line.specs.World.{World, ascending, has_twice}
-use Rattle.dp_line.specs.Steps.{outcome_of, facts_of, step, run}
+use Rattle.dp_line.specs.SlaveRecord.{starting_slave}
+use Rattle.dp_line.specs.World.{World, ascending}
+use Rattle.dp_line.specs.Steps.{outcome_of, facts_of, step}
 
 -- the slave's description
 abbrev pub slave_5 : SlaveSpec

@@ -1,11 +1,10 @@
 -- The text of a reply (IEC 61158-4-3, response telegrams).
-use Rattle.std.specs.Prelude.{ℕ, ◌==◌, if◌then◌else◌, List, [], ◌++◌, length, Option, Some, None, option_to_list, option_and_then}
-use Rattle.dp_telegram.specs.declared.frame.Frame.{Frame}
+use Rattle.std.specs.Prelude.{ℕ, ◌==◌, if◌then◌else◌, List, [], ◌++◌, length, Option, Some, None, option_to_list}
 use Rattle.dp_telegram.specs.declared.frame.Frame.TheVariants as frames
 use Rattle.dp_telegram.specs.declared.frame.Telegram.{Telegram}
 use Rattle.dp_telegram.specs.declared.access.Parts.{Parts}
 use Rattle.dp_telegram.specs.FrameText.{text_of, sc_text}
-use Rattle.dp_telegram.specs.Access.{address_of, parts_of}
+use Rattle.dp_telegram.specs.Access.{address_of}
 use Rattle.dp_diag.specs.DiagnosisText.{diagnosis_text}
 use Rattle.dp_line.specs.declared.rule.Rule.{Rule}
 use Rattle.dp_line.specs.declared.rule.Rule.TheVariants as rules

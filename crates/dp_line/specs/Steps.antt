@@ -1,6 +1,5 @@
 -- What an event does to a line, and what a list of events does (own).
 use Rattle.std.specs.Prelude.{ℕ, ◌+◌, true, if◌then◌else◌, List, [], ◌∷◌, map, filter, Option, Some, None, option_map, option_and_then}
-use Rattle.std.specs.Option.{option_map_or}
 use Rattle.dp_sap.specs.declared.state.State.{State}
 use Rattle.dp_telegram.specs.declared.frame.Frame.{Frame}
 use Rattle.dp_telegram.specs.declared.frame.Frame.TheVariants as frames

@@ -1,7 +1,6 @@
-use Rattle.std.proofs.Common.{◌≡◌, ℕ, ◌<◌, Option, Some, None, cond, eqb, get_or, length, map, take, ap, sym, ◌∙◌, arith}
+use Rattle.std.proofs.Common.{◌≡◌, ℕ, Option, Some, None, cond, eqb, get_or, length, map, take, ap, sym, ◌∙◌, arith}
 use Rattle.std.specs.Option.{option_or}
 use Rattle.std.proofs.lemmas.List.{get_or-replicate, length-replicate, length-set}
-use Rattle.std.proofs.lemmas.Bool.{not-true, not-false}
 use Rattle.dp_line.specs.SlaveRecord.{address_of_slave}
 use Rattle.dp_line.specs.Stations.{place_of}
 use Rattle.dp_line.proofs.Addresses.{places_more, table_written, table_kept}

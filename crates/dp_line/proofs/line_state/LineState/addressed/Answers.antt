@@ -1,6 +1,5 @@
-use Rattle.std.proofs.Common.{◌≡◌, eqb, Bool, true, false, Some, ap, sym, ◌∙◌, rules}
+use Rattle.std.proofs.Common.{◌≡◌, eqb, true, Some, ap, sym, ◌∙◌, rules}
 use Rattle.std.specs.List.{list_any}
-use Rattle.dp_telegram.specs.declared.frame.Frame.TheVariants as frames
 use Rattle.dp_telegram.specs.FrameText.{frame_of}
 use Rattle.dp_line.specs.Verdict.{verdict_of, first_row}
 use Rattle.dp_line.specs.Answering.{slave_rows}

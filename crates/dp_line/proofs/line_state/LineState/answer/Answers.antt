@@ -1,5 +1,5 @@
 use Rattle.std.proofs.Common.{◌∙◌}
-use Rattle.dp_line.proofs.Verdicts.{outcome_silent, facts_silent, facts_reached, outcome_reached}
+use Rattle.dp_line.proofs.Verdicts.{outcome_silent, facts_reached}
 use Rattle.dp_line.proofs.line_state.LineState.answer.Goals as goal
 
 pub returns-in-Ok-clause-facts : goal.returns-in-Ok-clause-facts

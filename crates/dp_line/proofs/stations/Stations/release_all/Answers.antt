@@ -1,5 +1,4 @@
-use Rattle.std.proofs.Common.{◌≡◌, length, map, ap, sym, subst, ◌∙◌, arith}
-use Rattle.std.proofs.lemmas.List.{length-map}
+use Rattle.std.proofs.Common.{◌≡◌, length, map, ap, ◌∙◌, arith}
 use Rattle.dp_line.specs.SlaveRecord.{released}
 use Rattle.dp_line.proofs.Addresses.{indexed-written}
 use Rattle.dp_line.proofs.stations.Stations.release_all.Goals as goal

@@ -1,0 +1,7 @@
+mod Elements
+mod Each
+mod Folds
+mod Accepted
+pub mod Words
+pub mod Desks
+pub mod Played

@@ -1,0 +1,9 @@
+-- What a `Command` of the program stands for.
+use Rattle.rackd.specs.Commands.{Command, nothing, choose_line, send}
+use Rattle.rackd.specs.declared.command.Command.{Command as Read}
+use Rattle.rackd.specs.declared.command.Command.TheVariants as read
+
+abbrev pub command_view : Read → Command
+command_view read.Nothing = nothing
+command_view (read.ChooseLine number) = choose_line number
+command_view (read.Send master octets) = send master octets.items

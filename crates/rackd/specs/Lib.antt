@@ -1,0 +1,12 @@
+pub mod Codes
+pub mod Rack
+pub mod TomlKeys
+pub mod RackFile
+pub mod RackFileExamples
+pub mod Numbers
+pub mod Commands
+pub mod CommandView
+pub mod Answers
+pub mod ScriptText
+pub mod Runs
+pub mod Ending
