@@ -1,1 +1,5 @@
 pub mod Texts
+pub mod Faults
+pub mod Fronts
+pub mod Streams
+pub mod Windows

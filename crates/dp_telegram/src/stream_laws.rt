@@ -1,0 +1,49 @@
+//! Laws of the cut of a stream: each is what an empty function ensures.
+
+ghost use Rattle.std.specs.Prelude.{◌≡◌, ◌≢◌, ◌+◌, ◌≤◌, ◌↔◌, ℕ, List, ◌++◌, length, sum_by, Some, None};
+ghost use Rattle.dp_telegram.specs.declared.cutter.Cut.{Cut};
+ghost use Rattle.dp_telegram.specs.Stream.{StartsWith, StartsWithNone, CutsInto, cut_length, first_cut, cuts_of, with_cut, uncut};
+
+/// A stream has one cut.
+pub fn a_stream_has_one_cut()
+    ensures { (stream : List ℕ) (cuts others : List Cut) (rest left : List ℕ) →
+        CutsInto stream cuts rest → CutsInto stream others left → (cuts ≡ others) × (rest ≡ left) }
+{}
+
+/// The relations between a stream and its pieces and the computing definitions say the same.
+pub fn cut_and_computation_agree()
+    ensures piece { (stream : List ℕ) (cut : Cut) (rest : List ℕ) →
+        StartsWith stream cut rest ↔ (first_cut stream ≡ Some (cut, rest)) }
+    ensures none { (stream : List ℕ) → StartsWithNone stream ↔ (first_cut stream ≡ None) }
+    ensures whole { (stream : List ℕ) → CutsInto stream (cuts_of stream).cuts (cuts_of stream).rest }
+{}
+
+/// The pieces are cut off one after another.
+pub fn pieces_come_one_after_another()
+    ensures piece { (stream : List ℕ) (cut : Cut) (rest : List ℕ) →
+        first_cut stream ≡ Some (cut, rest) → cuts_of stream ≡ with_cut cut (cuts_of rest) }
+    ensures none { (stream : List ℕ) → first_cut stream ≡ None → cuts_of stream ≡ uncut stream }
+{}
+
+/// The cut does not depend on the pieces in which a stream comes: octets that come later change no
+/// piece, and the whole is cut as its beginning, and then as what is left of that with the rest.
+pub fn later_octets_change_no_piece()
+    ensures piece { (stream : List ℕ) (cut : Cut) (rest more : List ℕ) →
+        first_cut stream ≡ Some (cut, rest) → first_cut (stream ++ more) ≡ Some (cut, rest ++ more) }
+    ensures cuts { (stream more : List ℕ) →
+        (cuts_of (stream ++ more)).cuts ≡ (cuts_of stream).cuts ++ (cuts_of ((cuts_of stream).rest ++ more)).cuts }
+    ensures rest { (stream more : List ℕ) →
+        (cuts_of (stream ++ more)).rest ≡ (cuts_of ((cuts_of stream).rest ++ more)).rest }
+{}
+
+/// Whatever 255 octets are, they begin with a piece, so a cutter is never full with nothing to hand
+/// out.
+pub fn longest_frame_is_judged()
+    ensures { (stream : List ℕ) → 255 ≤ length stream → first_cut stream ≢ None }
+{}
+
+/// No octet is lost: those of the pieces and those left are as many as came.
+pub fn pieces_count_all_octets()
+    ensures { (stream : List ℕ) (cuts : List Cut) (rest : List ℕ) →
+        CutsInto stream cuts rest → sum_by cut_length cuts + length rest ≡ length stream }
+{}
