@@ -17,6 +17,8 @@ mod rack_laws;
 mod rack_tests;
 mod run;
 mod run_fault;
+#[cfg(test)]
+mod run_tests;
 mod script;
 mod toml_keys;
 
