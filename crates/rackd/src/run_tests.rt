@@ -3,11 +3,13 @@ use crate::run::run_text;
 use crate::run_fault::RunFault;
 use std::test::Fail;
 
-const RACK: &str = "[[line]]\nnumber = 1\ncapacity = 1000\nmasters = [1, 2]\n[[line.slave]]\naddress = 5\nident = 0x80A1\ncfg = \"2111\"\nsync = true\nfreeze = true\n";
+const RACK: &str =
+    "[[line]]\nnumber = 1\ncapacity = 1000\nmasters = [1, 2]\n[[line.slave]]\naddress = 5\nident = 0x80A1\ncfg = \"2111\"\nsync = true\nfreeze = true\n";
 
 #[test]
 fn answers_each_request(rt: HostRuntime) -> Result<(), Fail> {
-    let script = "# asked by two masters\nm 1 68 05 05 68 85 81 6D 3C 3E ED 16\nm 2 68 05 05 68 85 81 6D 3C 3E ED 16\n";
+    let script =
+        "# asked by two masters\nm 1 68 05 05 68 85 81 6D 3C 3E ED 16\nm 2 68 05 05 68 85 81 6D 3C 3E ED 16\n";
     let mut written = Vec::new(rt.alloc());
     run_text(rt.alloc(), RACK, script, &mut written)?;
     let answers = "1: reply 680b0b688185083e3c020500ff80a1af16 Done\n2: silence ForeignSender\n";
