@@ -17,7 +17,7 @@ use Rattle.dp_line.specs.declared.event.Outcome.TheVariants.{Silence}
 use Rattle.dp_line.specs.SlaveRecord.{SlaveRecord}
 use Rattle.dp_line.specs.World.{World, slave_at, takes_no_more, is_last_place}
 use Rattle.dp_line.specs.declared.event.Event.{Event}
-use Rattle.dp_line.specs.Verdict.{verdict_of, first_row, concerns_a_slave, has_foreign_sender, is_token, is_no_request, has_reserved_function, has_bad_extension, is_broadcast, has_no_station, point_is_off, has_wrong_length}
+use Rattle.dp_line.specs.Verdict.{verdict_of, first_row, concerns_a_slave, has_foreign_sender, is_token, is_no_request, has_reserved_function, has_bad_extension, is_broadcast, has_no_station, asks_for_status, has_unserved_function, point_is_off, has_wrong_length}
 use Rattle.dp_line.specs.Answering.{frame_rows, slave_rows, rule_at}
 use Rattle.dp_line.specs.ReplyText.{reply_text}
 use Rattle.dp_line.specs.Steps.{effect, step, facts_of, outcome_of, reply_of, answered, state_and_holder, addressed_slave, telegram_spelt, telegram_in_frame}
@@ -34,6 +34,8 @@ rows_behind world master text =
     ∷ (option_map_or has_bad_extension text false, rules.BadExtension)
     ∷ (option_map_or is_broadcast text false, rules.BadBroadcast)
     ∷ (option_map_or (has_no_station world) text false, rules.NoStation)
+    ∷ (option_map_or asks_for_status text false, rules.Status)
+    ∷ (option_map_or has_unserved_function text false, rules.NoService)
     ∷ (option_map_or point_is_off text false, rules.NotActive)
     ∷ (option_map_or has_wrong_length text false, rules.Length)
     ∷ []
@@ -65,6 +67,8 @@ and_then_none None f e = refl
 and_then_none (Some x) f e = e x
 
 silent_text : (rule : Rule) (slave : SlaveRecord) (telegram : Telegram) (parts : Parts) → concerns_a_slave rule ≡ false → reply_text slave telegram parts rule ≡ None
+silent_text rules.Status slave telegram parts e = absurd cc
+silent_text rules.NoService slave telegram parts e = absurd cc
 silent_text rules.NotActive slave telegram parts e = absurd cc
 silent_text rules.Length slave telegram parts e = absurd cc
 silent_text rules.Done slave telegram parts e = absurd cc
@@ -83,10 +87,13 @@ pub facts_silent : (world : World) (master : ℕ) (octets : List ℕ) (rule : Ru
 facts_silent world master octets rule silent verdict =
     sym (cond-false (concerns_a_slave (verdict_of world master octets)) _ _ (ap concerns_a_slave verdict ∙ silent))
 
-rule_concerns : (off wrong : Bool) → concerns_a_slave (cond off rules.NotActive (cond wrong rules.Length rules.Done)) ≡ true
-rule_concerns true wrong = refl
-rule_concerns false true = refl
-rule_concerns false false = refl
+rule_concerns : (status none off wrong : Bool)
+    → concerns_a_slave (cond status rules.Status (cond none rules.NoService (cond off rules.NotActive (cond wrong rules.Length rules.Done)))) ≡ true
+rule_concerns true none off wrong = refl
+rule_concerns false true off wrong = refl
+rule_concerns false false true wrong = refl
+rule_concerns false false false true = refl
+rule_concerns false false false false = refl
 
 slave_reached : (world : World) (octets : List ℕ) (telegram : Telegram) (slave : SlaveRecord) → frame_of octets ≡ Some (frames.Telegram telegram)
     → slave_at world (address_of telegram.da) ≡ Some slave → addressed_slave world octets ≡ Some slave
@@ -95,23 +102,23 @@ slave_reached world octets telegram slave found here =
 
 -- what reached its slave has its facts and its answer
 pub facts_reached : (world : World) (master : ℕ) (octets : List ℕ) (telegram : Telegram) (parts : Parts) (slave : SlaveRecord)
-    → frame_of octets ≡ Some (frames.Telegram telegram) → slave_at world (address_of telegram.da) ≡ Some slave → verdict_of world master octets ≡ rule_at parts
+    → frame_of octets ≡ Some (frames.Telegram telegram) → slave_at world (address_of telegram.da) ≡ Some slave → verdict_of world master octets ≡ rule_at telegram parts
     → Some (state_and_holder slave) ≡ facts_of world master octets
 facts_reached world master octets telegram parts slave found here verdict =
     sym (
-    cond-true (concerns_a_slave (verdict_of world master octets)) _ _ (ap concerns_a_slave verdict ∙ rule_concerns _ _)
+    cond-true (concerns_a_slave (verdict_of world master octets)) _ _ (ap concerns_a_slave verdict ∙ rule_concerns _ _ _ _)
     ∙ ap (option_map state_and_holder) (slave_reached world octets telegram slave found here)
     )
 
 pub outcome_reached : (world : World) (master : ℕ) (octets : List ℕ) (telegram : Telegram) (parts : Parts) (slave : SlaveRecord)
-    → frame_of octets ≡ Some (frames.Telegram telegram) → parts_of telegram ≡ Some parts → slave_at world (address_of telegram.da) ≡ Some slave → verdict_of world master octets ≡ rule_at parts
-    → answered (rule_at parts) (reply_text slave telegram parts (rule_at parts)) ≡ outcome_of world master octets
+    → frame_of octets ≡ Some (frames.Telegram telegram) → parts_of telegram ≡ Some parts → slave_at world (address_of telegram.da) ≡ Some slave → verdict_of world master octets ≡ rule_at telegram parts
+    → answered (rule_at telegram parts) (reply_text slave telegram parts (rule_at telegram parts)) ≡ outcome_of world master octets
 outcome_reached world master octets telegram parts slave found told here verdict =
     sym (
     ap (λ r. answered r (reply_of world octets r)) verdict
-    ∙ ap (λ s. answered (rule_at parts) (option_and_then (λ x. option_and_then (λ t. option_and_then (λ p. reply_text x t p (rule_at parts)) (parts_of t)) (telegram_spelt octets)) s)) (slave_reached world octets telegram slave found here)
-    ∙ ap (λ text. answered (rule_at parts) (option_and_then (λ t. option_and_then (λ p. reply_text slave t p (rule_at parts)) (parts_of t)) (option_and_then telegram_in_frame text))) found
-    ∙ ap (λ o. answered (rule_at parts) (option_and_then (λ p. reply_text slave telegram p (rule_at parts)) o)) told
+    ∙ ap (λ s. answered (rule_at telegram parts) (option_and_then (λ x. option_and_then (λ t. option_and_then (λ p. reply_text x t p (rule_at telegram parts)) (parts_of t)) (telegram_spelt octets)) s)) (slave_reached world octets telegram slave found here)
+    ∙ ap (λ text. answered (rule_at telegram parts) (option_and_then (λ t. option_and_then (λ p. reply_text slave t p (rule_at telegram parts)) (parts_of t)) (option_and_then telegram_in_frame text))) found
+    ∙ ap (λ o. answered (rule_at telegram parts) (option_and_then (λ p. reply_text slave telegram p (rule_at telegram parts)) o)) told
     )
 
 -- what became of a telegram is what became of the octets that spell it
@@ -119,11 +126,11 @@ pub reached_for_octets : (result : Result Addressed Rule) (world : World) (maste
     → frame_of octets ≡ Some (frames.Telegram telegram) → verdict_of world master octets ≡ first_row (slave_rows world (frames.Telegram telegram))
     → MatchResult result
     (λ reached. (reached.telegram ≡ telegram) × (parts_of telegram ≡ Some reached.parts) × (slave_at world (address_of telegram.da) ≡ Some reached.slave.now)
-    × (first_row (slave_rows world (frames.Telegram telegram)) ≡ rule_at reached.parts))
+    × (first_row (slave_rows world (frames.Telegram telegram)) ≡ rule_at reached.telegram reached.parts))
     (λ rule. (concerns_a_slave rule ≡ false) × (first_row (slave_rows world (frames.Telegram telegram)) ≡ rule))
     → MatchResult result
     (λ reached. (frame_of octets ≡ Some (frames.Telegram reached.telegram)) × (parts_of reached.telegram ≡ Some reached.parts)
-    × (slave_at world (address_of reached.telegram.da) ≡ Some reached.slave.now) × (verdict_of world master octets ≡ rule_at reached.parts))
+    × (slave_at world (address_of reached.telegram.da) ≡ Some reached.slave.now) × (verdict_of world master octets ≡ rule_at reached.telegram reached.parts))
     (λ rule. (concerns_a_slave rule ≡ false) × (verdict_of world master octets ≡ rule))
 reached_for_octets (Ok reached) world master octets telegram found verdict h = (
   found ∙ ap (λ t. Some (frames.Telegram t)) (sym h.0),

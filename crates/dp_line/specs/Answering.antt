@@ -1,10 +1,11 @@
 -- Parts of the verdict by themselves. No public clause cites this module.
 use Rattle.std.specs.Prelude.{ℕ, Bool, not, ◌==◌, List, [], ◌∷◌, length}
 use Rattle.dp_telegram.specs.declared.frame.Frame.{Frame}
+use Rattle.dp_telegram.specs.declared.frame.Telegram.{Telegram}
 use Rattle.dp_telegram.specs.declared.access.Parts.{Parts}
 use Rattle.dp_line.specs.declared.rule.Rule.{Rule}
 use Rattle.dp_line.specs.declared.rule.Rule.TheVariants as rules
-use Rattle.dp_line.specs.Verdict.{first_row, has_foreign_sender, is_token, is_no_request, has_reserved_function, has_bad_extension, is_broadcast, has_no_station, point_is_off, has_wrong_length, is_off}
+use Rattle.dp_line.specs.Verdict.{first_row, has_foreign_sender, is_token, is_no_request, has_reserved_function, has_bad_extension, is_broadcast, has_no_station, asks_for_status, has_unserved_function, point_is_off, has_wrong_length, is_fdl_status, is_unserved, is_off}
 use Rattle.dp_line.specs.World.{World}
 
 -- the rows that look at the frame alone
@@ -22,13 +23,22 @@ slave_rows world frame =
     (has_bad_extension frame, rules.BadExtension)
     ∷ (is_broadcast frame, rules.BadBroadcast)
     ∷ (has_no_station world frame, rules.NoStation)
+    ∷ (asks_for_status frame, rules.Status)
+    ∷ (has_unserved_function frame, rules.NoService)
     ∷ (point_is_off frame, rules.NotActive)
     ∷ (has_wrong_length frame, rules.Length)
     ∷ []
 
--- the rule at the slave, by the rows that look at points and payload
-abbrev pub rule_at : Parts → Rule
-rule_at parts = first_row (
+-- the rows that look at points and payload
+abbrev pub point_rows : Parts → List (Bool × Rule)
+point_rows parts =
     (is_off parts.dsap, rules.NotActive)
     ∷ (not (length parts.payload.items == 0), rules.Length)
-    ∷ [])
+    ∷ []
+
+-- the rule at the slave, by the rows that look at function, points and payload
+abbrev pub rule_at : Telegram → Parts → Rule
+rule_at telegram parts = first_row (
+    (is_fdl_status telegram, rules.Status)
+    ∷ (is_unserved telegram, rules.NoService)
+    ∷ point_rows parts)

@@ -85,6 +85,33 @@ not_plain = refl
 pub missing_extension : outcome_of fresh 1 (0x10 ∷ 0x85 ∷ 0x01 ∷ 0x6D ∷ 0xF3 ∷ 0x16 ∷ []) ≡ Silence rules.BadExtension
 missing_extension = refl
 
+-- the status of a slave
+pub fdl_status :
+    outcome_of fresh 1 (0x10 ∷ 0x05 ∷ 0x01 ∷ 0x49 ∷ 0x4F ∷ 0x16 ∷ [])
+    ≡ Reply (record { items = 0x10 ∷ 0x01 ∷ 0x05 ∷ 0x00 ∷ 0x06 ∷ 0x16 ∷ [] }) rules.Status
+fdl_status = refl
+
+-- with its state and its holder
+pub fdl_status_facts : facts_of fresh 1 (0x10 ∷ 0x05 ∷ 0x01 ∷ 0x49 ∷ 0x4F ∷ 0x16 ∷ []) ≡ Some (WaitPrm, None)
+fdl_status_facts = refl
+
+-- the status of a slave that isn't there, and of all
+pub status_without_station : outcome_of fresh 1 (0x10 ∷ 0x09 ∷ 0x01 ∷ 0x49 ∷ 0x53 ∷ 0x16 ∷ []) ≡ Silence rules.NoStation
+status_without_station = refl
+
+pub status_of_all : outcome_of fresh 1 (0x10 ∷ 0x7F ∷ 0x01 ∷ 0x49 ∷ 0xC9 ∷ 0x16 ∷ []) ≡ Silence rules.BadBroadcast
+status_of_all = refl
+
+-- Send Data with Acknowledge
+pub send_data_is_refused :
+    outcome_of fresh 1 (0x10 ∷ 0x05 ∷ 0x01 ∷ 0x45 ∷ 0x4B ∷ 0x16 ∷ [])
+    ≡ Reply (record { items = 0x10 ∷ 0x01 ∷ 0x05 ∷ 0x03 ∷ 0x09 ∷ 0x16 ∷ [] }) rules.NoService
+send_data_is_refused = refl
+
+-- Send Data with No acknowledge
+pub send_data_unacknowledged : outcome_of fresh 1 (0x10 ∷ 0x05 ∷ 0x01 ∷ 0x46 ∷ 0x4C ∷ 0x16 ∷ []) ≡ Silence rules.BadFunction
+send_data_unacknowledged = refl
+
 -- Set_Prm is off as long as there is no such service
 pub set_prm_is_off :
     outcome_of fresh 1 (0x68 ∷ 0x05 ∷ 0x05 ∷ 0x68 ∷ 0x85 ∷ 0x81 ∷ 0x6D ∷ 0x3D ∷ 0x3E ∷ 0xEE ∷ 0x16 ∷ [])

@@ -10,7 +10,10 @@ use Rattle.dp_line.specs.declared.rule.Rule.{Rule}
 use Rattle.dp_line.specs.declared.rule.Rule.TheVariants as rules
 use Rattle.dp_line.specs.SlaveRecord.{SlaveRecord, diag_facts}
 
--- functions of a response (IEC 61158-4-3, function code): UE, RS, DL
+-- functions of a response (IEC 61158-4-3, function code): OK, UE, RS, DL
+abbrev pub acknowledged : ℕ
+acknowledged = 0x00
+
 abbrev pub user_error : ℕ
 user_error = 0x01
 
@@ -46,6 +49,8 @@ positive_reply telegram parts octets =
 
 -- what a slave replies to a telegram by this rule; None is silence
 abbrev pub reply_text : SlaveRecord → Telegram → Parts → Rule → Option (List ℕ)
+reply_text slave telegram parts rules.Status = Some (short_reply telegram acknowledged)
+reply_text slave telegram parts rules.NoService = Some (short_reply telegram service_not_active)
 reply_text slave telegram parts rules.NotActive = Some (short_reply telegram service_not_active)
 reply_text slave telegram parts rules.Length = Some (short_reply telegram user_error)
 reply_text slave telegram parts rules.Done = Some (positive_reply telegram parts (diagnosis_text (diag_facts slave)))

@@ -28,6 +28,16 @@ function_of telegram = telegram.fc % 16
 abbrev pub is_srd : Telegram → Bool
 is_srd telegram = function_of telegram == 12 || function_of telegram == 13
 
+-- Request FDL Status (IEC 61158-4-3, function code)
+abbrev pub is_fdl_status : Telegram → Bool
+is_fdl_status telegram = function_of telegram == 9
+
+-- Send Data with Acknowledge, low and high, Request Ident and Request LSAP Status (IEC 61158-4-3, function code): no slave
+-- serves them (own)
+abbrev pub is_unserved : Telegram → Bool
+is_unserved telegram =
+    function_of telegram == 3 || function_of telegram == 5 || function_of telegram == 14 || function_of telegram == 15
+
 -- the frame has a source address, and its address isn't the sender (own)
 abbrev pub has_foreign_sender : ℕ → Frame → Bool
 has_foreign_sender sender (frames.Token da sa) = not (address_of sa == sender)
@@ -49,9 +59,9 @@ telegram_has condition (frames.Telegram telegram) = condition telegram
 abbrev pub is_no_request : Frame → Bool
 is_no_request frame = not (telegram_has is_request frame)
 
--- a function outside those of this profile (own)
+-- a function outside those of this profile, and Send Data with No acknowledge, which no point takes (own)
 abbrev pub has_reserved_function : Frame → Bool
-has_reserved_function = telegram_has (λ telegram. not (is_srd telegram))
+has_reserved_function = telegram_has (λ telegram. not (is_srd telegram || is_fdl_status telegram || is_unserved telegram))
 
 -- an announced extension octet is missing or not plain (own)
 abbrev pub has_bad_extension : Frame → Bool
@@ -64,6 +74,13 @@ is_broadcast = telegram_has (λ telegram. address_of telegram.da == global_addre
 -- no slave has the destination address
 abbrev pub has_no_station : World → Frame → Bool
 has_no_station world = telegram_has (λ telegram. is_none (slave_at world (address_of telegram.da)))
+
+-- the status of a station is asked for, which it has in every state
+abbrev pub asks_for_status : Frame → Bool
+asks_for_status = telegram_has is_fdl_status
+
+abbrev pub has_unserved_function : Frame → Bool
+has_unserved_function = telegram_has is_unserved
 
 -- a condition on the points and the payload of the frame's telegram
 abbrev pub parts_have : (Parts → Bool) → Frame → Bool
@@ -106,6 +123,8 @@ verdict_of world master octets = first_row (
     ∷ (frame_has has_bad_extension octets, rules.BadExtension)
     ∷ (frame_has is_broadcast octets, rules.BadBroadcast)
     ∷ (frame_has (has_no_station world) octets, rules.NoStation)
+    ∷ (frame_has asks_for_status octets, rules.Status)
+    ∷ (frame_has has_unserved_function octets, rules.NoService)
     ∷ (frame_has point_is_off octets, rules.NotActive)
     ∷ (frame_has has_wrong_length octets, rules.Length)
     ∷ [])

@@ -7,7 +7,9 @@ ghost use Rattle.dp_telegram.specs.Access.{address_of};
 use arrayvec::ArrayVec;
 use dp_telegram::{Frame, Octets, Parts, Telegram, encode};
 
-/// Functions of a response: user error, service not active, data low.
+/// Functions of a response: acknowledged, user error, service not active, data low.
+pub(crate) const ACKNOWLEDGED: u8 = 0x00;
+
 pub(crate) const USER_ERROR: u8 = 0x01;
 
 pub(crate) const NOT_ACTIVE: u8 = 0x03;

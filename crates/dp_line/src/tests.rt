@@ -70,7 +70,7 @@ fn slave_diag_fresh(rt: HostRuntime) -> Result<(), Fail> {
 
 #[test]
 fn silences(rt: HostRuntime) -> Result<(), Fail> {
-    let cases: [(u8, &[u8], Rule, u8); 9] = [
+    let cases: [(u8, &[u8], Rule, u8); 11] = [
         (2, &SLAVE_DIAG, Rule::ForeignSender, 4),
         (1, &[0x10, 0x05], Rule::NoFrame, 2),
         (9, &[0xE5], Rule::NoMaster, 3),
@@ -96,7 +96,19 @@ fn silences(rt: HostRuntime) -> Result<(), Fail> {
         ),
         (
             1,
-            &[0x10, 0x09, 0x01, 0x4D, 0x57, 0x16],
+            &[0x10, 0x05, 0x01, 0x46, 0x4C, 0x16],
+            Rule::BadFunction,
+            7,
+        ),
+        (
+            1,
+            &[0x10, 0x7F, 0x01, 0x49, 0xC9, 0x16],
+            Rule::BadBroadcast,
+            9,
+        ),
+        (
+            1,
+            &[0x10, 0x09, 0x01, 0x49, 0x53, 0x16],
             Rule::NoStation,
             10,
         ),
@@ -107,7 +119,62 @@ fn silences(rt: HostRuntime) -> Result<(), Fail> {
         assert_eq!(rt; step.outcome, Outcome::Silence(rule));
         assert_eq!(rt; rule.code(), code);
     }
-    assert_eq!(rt; state.count(), 9);
+    assert_eq!(rt; state.count(), 11);
+    Ok(())
+}
+
+#[test]
+fn status_and_refused_functions(rt: HostRuntime) -> Result<(), Fail> {
+    let refusal = [0x10, 0x01, 0x05, 0x03, 0x09, 0x16];
+    let cases: [(&[u8], [u8; 6], Rule, u8); 6] = [
+        (
+            &[0x10, 0x05, 0x01, 0x49, 0x4F, 0x16],
+            [0x10, 0x01, 0x05, 0x00, 0x06, 0x16],
+            Rule::Status,
+            11,
+        ),
+        (
+            &[
+                0x68, 0x05, 0x05, 0x68, 0x85, 0x81, 0x49, 0x3C, 0x3E, 0xC9, 0x16,
+            ],
+            [0x10, 0x01, 0x05, 0x00, 0x06, 0x16],
+            Rule::Status,
+            11,
+        ),
+        (
+            &[0x10, 0x05, 0x01, 0x43, 0x49, 0x16],
+            refusal,
+            Rule::NoService,
+            12,
+        ),
+        (
+            &[0x10, 0x05, 0x01, 0x45, 0x4B, 0x16],
+            refusal,
+            Rule::NoService,
+            12,
+        ),
+        (
+            &[0x10, 0x05, 0x01, 0x4E, 0x54, 0x16],
+            refusal,
+            Rule::NoService,
+            12,
+        ),
+        (
+            &[0x10, 0x05, 0x01, 0x4F, 0x55, 0x16],
+            refusal,
+            Rule::NoService,
+            12,
+        ),
+    ];
+    let mut state = LineState::open(rt.alloc(), &line(rt.alloc(), 1000, &[5])?)?;
+    for (asked, reply, rule, code) in cases {
+        let step = state.take(&request(1, asked)?);
+        let mut octets = ArrayVec::new();
+        octets.try_extend_from_slice(&reply)?;
+        assert_eq!(rt; step.outcome, Outcome::Reply { octets, rule });
+        assert_eq!(rt; step.facts, Some((State::WaitPrm, None)));
+        assert_eq!(rt; rule.code(), code);
+    }
     Ok(())
 }
 

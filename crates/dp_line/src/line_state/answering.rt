@@ -7,13 +7,13 @@ ghost use Rattle.dp_telegram.specs.Access.{address_of, parts_of};
 ghost use Rattle.dp_line.specs.declared.rule.Rule.{Rule};
 ghost use Rattle.dp_line.specs.World.{slave_at, takes_no_more};
 ghost use Rattle.dp_line.specs.Verdict.{verdict_of, concerns_a_slave, first_row};
-ghost use Rattle.dp_line.specs.Answering.{frame_rows, slave_rows, rule_at};
+ghost use Rattle.dp_line.specs.Answering.{frame_rows, slave_rows, point_rows, rule_at};
 ghost use Rattle.dp_line.specs.ReplyText.{reply_text};
 ghost use Rattle.dp_line.specs.Steps.{facts_of, outcome_of, state_and_holder, answered};
 
 use super::LineState;
 use crate::event::{Facts, Outcome};
-use crate::reply::{self, NOT_ACTIVE, USER_ERROR, address_in};
+use crate::reply::{self, ACKNOWLEDGED, NOT_ACTIVE, USER_ERROR, address_in};
 use crate::rule::Rule;
 use crate::slave::Slave;
 use dp_telegram::{Frame, Octets, Parts, Telegram, decode};
@@ -24,10 +24,23 @@ const GLOBAL_ADDRESS: u8 = 127;
 /// The access point Slave_Diag.
 const SLAVE_DIAG: u8 = 60;
 
+/// Send Data with Acknowledge, low and high.
+const SDA_LOW: u8 = 3;
+
+const SDA_HIGH: u8 = 5;
+
+/// Request FDL Status.
+const FDL_STATUS: u8 = 9;
+
 /// Send and Request Data with reply, low and high.
 const SRD_LOW: u8 = 12;
 
 const SRD_HIGH: u8 = 13;
+
+/// Request Ident, and Request LSAP Status.
+const IDENT: u8 = 14;
+
+const LSAP_STATUS: u8 = 15;
 
 /// An answer, and the facts of the slave that it concerns.
 #[derive(Drop)]
@@ -67,7 +80,7 @@ impl LineState {
             (λ reached. (frame_of octets.now ≡ Some (frames.Telegram reached.telegram))
             × (parts_of reached.telegram ≡ Some reached.parts)
             × (slave_at self.now (address_of reached.telegram.da) ≡ Some reached.slave.now)
-            × (verdict_of self.now master octets.now ≡ rule_at reached.parts))
+            × (verdict_of self.now master octets.now ≡ rule_at reached.telegram reached.parts))
             (λ rule. (concerns_a_slave rule ≡ false) × (verdict_of self.now master octets.now ≡ rule)) }
     {
         let Ok(frame) = decode(octets) else {
@@ -88,7 +101,7 @@ impl LineState {
             (λ reached. (reached.telegram ≡ telegram)
             × (parts_of telegram ≡ Some reached.parts)
             × (slave_at self.now (address_of telegram.da) ≡ Some reached.slave.now)
-            × (first_row (slave_rows self.now (frames.Telegram telegram)) ≡ rule_at reached.parts))
+            × (first_row (slave_rows self.now (frames.Telegram telegram)) ≡ rule_at reached.telegram reached.parts))
             (λ rule. (concerns_a_slave rule ≡ false) × (first_row (slave_rows self.now (frames.Telegram telegram)) ≡ rule)) }
     {
         let Some(parts) = telegram.parts() else {
@@ -109,7 +122,7 @@ impl LineState {
     }
 }
 
-/// The telegram of a request of a function that slaves have, or the rule by which nobody replies.
+/// The telegram of a request of a function that slaves answer, or the rule by which nobody replies.
 fn request_in(frame: Frame, master: u8) -> Result<Telegram, Rule>
     ensures { MatchResult result
         (λ telegram. (frame ≡ frames.Telegram telegram) × ((rows : List (Bool × Rule)) → first_row (frame_rows master frame ++ rows) ≡ first_row rows))
@@ -127,7 +140,8 @@ fn request_in(frame: Frame, master: u8) -> Result<Telegram, Rule>
                 return Err(Rule::NotRequest);
             }
             match telegram.fc % 16 {
-                SRD_LOW | SRD_HIGH => Ok(telegram),
+                SRD_LOW | SRD_HIGH | FDL_STATUS => Ok(telegram),
+                SDA_LOW | SDA_HIGH | IDENT | LSAP_STATUS => Ok(telegram),
                 _ => Err(Rule::BadFunction),
             }
         }
@@ -138,7 +152,7 @@ impl Addressed<'_> {
     /// The slave's answer.
     fn answer(&self) -> Answer
         ensures facts { result.facts ≡ Some (state_and_holder self.now.slave.now) }
-        ensures outcome { result.outcome ≡ answered (rule_at self.now.parts) (reply_text self.now.slave.now self.now.telegram self.now.parts (rule_at self.now.parts)) }
+        ensures outcome { result.outcome ≡ answered (rule_at self.now.telegram self.now.parts) (reply_text self.now.slave.now self.now.telegram self.now.parts (rule_at self.now.telegram self.now.parts)) }
     {
         let (octets, rule) = self.reply();
         Answer {
@@ -149,7 +163,21 @@ impl Addressed<'_> {
 
     /// The text of the slave's reply, and its rule.
     fn reply(&self) -> (Octets, Rule)
-        ensures rule { result.1 ≡ rule_at self.now.parts }
+        ensures rule { result.1 ≡ rule_at self.now.telegram self.now.parts }
+        ensures text { reply_text self.now.slave.now self.now.telegram self.now.parts result.1 ≡ Some result.0.items }
+    {
+        match self.telegram.fc % 16 {
+            FDL_STATUS => (reply::short(&self.telegram, ACKNOWLEDGED), Rule::Status),
+            SDA_LOW | SDA_HIGH | IDENT | LSAP_STATUS => {
+                (reply::short(&self.telegram, NOT_ACTIVE), Rule::NoService)
+            }
+            _ => self.point_reply(),
+        }
+    }
+
+    /// The text of the reply at the point that the request names, and its rule.
+    fn point_reply(&self) -> (Octets, Rule)
+        ensures rule { result.1 ≡ first_row (point_rows self.now.parts) }
         ensures text { reply_text self.now.slave.now self.now.telegram self.now.parts result.1 ≡ Some result.0.items }
     {
         if self.parts.dsap != Some(SLAVE_DIAG) {
