@@ -1,7 +1,6 @@
 //! A line: its masters, its slaves and the places of its journal.
 
-ghost use Rattle.std.specs.Prelude.{◌≡◌, ◌==◌, false, None, IfSome, MatchResult, option_map};
-ghost use Rattle.std.specs.List.{list_any};
+ghost use Rattle.std.specs.Prelude.{◌≡◌, false, None, IfSome, MatchResult, option_map};
 ghost use Rattle.dp_line.specs.World.{description_of, opening_fault, start_of, takes_no_more};
 ghost use Rattle.dp_line.specs.Steps.{step, effect_of_request, halted_world, let_go, unrecorded as unrecorded_step};
 
@@ -83,13 +82,6 @@ impl LineState {
         match event {
             Event::Request { master, octets } => self.take_request(*master, octets),
         }
-    }
-
-    /// The address is that of one of the line's masters.
-    pub fn has_master(&self, address: u8) -> bool
-        ensures { result ≡ list_any (λ master. master == address) self.now.masters }
-    {
-        self.masters.contains(&address)
     }
 
     /// How many events are recorded, the halt among them.

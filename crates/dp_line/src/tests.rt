@@ -64,7 +64,6 @@ fn slave_diag_fresh(rt: HostRuntime) -> Result<(), Fail> {
     assert_eq!(rt; step.halted, None);
     assert_eq!(rt; state.count(), 1);
     assert!(rt; !state.is_halted());
-    assert!(rt; state.has_master(2) && !state.has_master(5));
     Ok(())
 }
 

@@ -3,26 +3,24 @@ use Rattle.std.proofs.Common.{◌≡◌, ℕ, List, [], ◌∷◌, map, All, Non
 use Rattle.std.specs.List.{AllByRecursion}
 use Rattle.std.proofs.lemmas.List.Elements.{All-from_recursion}
 use Rattle.toml.specs.Parse.{parse_document}
-use Rattle.dp_line.specs.World.{World, start_of, description_of, opening_fault}
+use Rattle.dp_line.specs.World.{description_of, opening_fault}
 use Rattle.rackd.specs.declared.rack.RackLine.{RackLine}
 use Rattle.rackd.specs.Rack.{LineDescription, line_described, rack_described}
 use Rattle.rackd.specs.declared.rack.Rack.{Rack}
 use Rattle.rackd.specs.RackFile.{rack_in}
 use Rattle.rackd.proofs.Accepted.{of_document}
+use Rattle.rackd.specs.Segments.{Segment, segment_of}
 use Rattle.rackd.specs.ScriptText.{Desk, desk_of}
 
 map-map : {A B C : Type 0} (f : B → C) (g : A → B) (xs : List A) → map (λ x. f (g x)) xs ≡ map f (map g xs)
 map-map f g [] = refl
 map-map f g (x ∷ xs) = ap (λ ys. f (g x) ∷ ys) (map-map f g xs)
 
-pub desk_opened : (workers : ℕ) (lines : List RackLine) (numbers : List ℕ) (worlds : List World) (desk : Desk)
-    → desk ≡ record { numbers = numbers; worlds = worlds; chosen = 0 }
-    → numbers ≡ map (λ line. line.spec.number) lines → worlds ≡ map (λ line. start_of (description_of line.spec)) lines
+pub desk_opened : (workers : ℕ) (lines : List RackLine) (segments : List Segment) (desk : Desk)
+    → desk ≡ record { lines = segments; chosen = 0 } → segments ≡ map (λ line. segment_of (description_of line.spec)) lines
     → desk ≡ desk_of (record { workers = workers; lines = map line_described lines })
-desk_opened workers lines numbers worlds desk made n w =
-    let n' : numbers ≡ map (λ line. line.line.number) (map line_described lines) = n ∙ map-map (λ (line : LineDescription). line.line.number) line_described lines in
-    let w' : worlds ≡ map (λ line. start_of line.line) (map line_described lines) = w ∙ map-map (λ (line : LineDescription). start_of line.line) line_described lines in
-    made ∙ ap (λ ns. record { numbers = ns; worlds = worlds; chosen = 0 }) n' ∙ ap (λ ws. record { numbers = map (λ line. line.line.number) (map line_described lines); worlds = ws; chosen = 0 }) w'
+desk_opened workers lines segments desk made opened =
+    made ∙ ap (λ ss. record { lines = ss; chosen = 0 }) (opened ∙ map-map (λ (line : LineDescription). segment_of line.line) line_described lines)
 
 open_by_recursion : (lines : List RackLine) → AllByRecursion (λ line. opening_fault line.line ≡ None) (map line_described lines)
     → AllByRecursion (λ line. opening_fault (description_of line.spec) ≡ None) lines

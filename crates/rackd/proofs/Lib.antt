@@ -4,4 +4,5 @@ mod Folds
 mod Accepted
 pub mod Words
 pub mod Desks
+pub mod Passing
 pub mod Played

@@ -2,6 +2,8 @@
 use Rattle.std.specs.Prelude.{codes, ℕ, List, ◌++◌}
 use Rattle.std.specs.Fmt.{decimal}
 use Rattle.hex.specs.Hex.{encode_lower}
+use Rattle.dp_telegram.specs.declared.fault.FrameFault.{FrameFault}
+use Rattle.dp_telegram.specs.declared.fault.FrameFault.TheVariants as faults
 use Rattle.dp_line.specs.declared.rule.Rule.{Rule}
 use Rattle.dp_line.specs.declared.rule.Rule.TheVariants as rules
 use Rattle.dp_line.specs.declared.event.Outcome.{Outcome}
@@ -37,3 +39,16 @@ outcome_text (Silence rule) = codes "silence " ++ rule_name rule
 -- the line that answers a master: `M: OUTCOME`
 abbrev pub answer_text : ℕ → Outcome → List ℕ
 answer_text master outcome = decimal master ++ codes ": " ++ outcome_text outcome ++ codes "\n"
+
+-- the names of the faults of a frame
+abbrev pub frame_fault_name : FrameFault → List ℕ
+frame_fault_name faults.NoStart = codes "NoStart"
+frame_fault_name faults.BadHead = codes "BadHead"
+frame_fault_name faults.BadEnd = codes "BadEnd"
+frame_fault_name faults.Short = codes "Short"
+frame_fault_name faults.Long = codes "Long"
+
+-- the line that tells a master what of its stream was dropped: `M: dropped FAULT COUNT`
+abbrev pub dropped_text : ℕ → FrameFault → ℕ → List ℕ
+dropped_text master fault count =
+    decimal master ++ codes ": dropped " ++ frame_fault_name fault ++ codes " " ++ decimal count ++ codes "\n"

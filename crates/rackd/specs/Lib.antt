@@ -7,6 +7,8 @@ pub mod Numbers
 pub mod Commands
 pub mod CommandView
 pub mod Answers
+pub mod Segments
+pub mod SegmentExamples
 pub mod ScriptText
 pub mod Runs
 pub mod Ending

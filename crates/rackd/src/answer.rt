@@ -2,9 +2,10 @@
 
 ghost use Rattle.std.specs.Prelude.{codes, ◌≡◌, ◌++◌, string_bytes, IfOk, OnOk};
 ghost use Rattle.hex.specs.Hex.{encode_lower};
-ghost use Rattle.rackd.specs.Answers.{rule_name, answer_text};
+ghost use Rattle.rackd.specs.Answers.{rule_name, answer_text, frame_fault_name, dropped_text};
 
 use dp_line::{Outcome, Rule};
+use dp_telegram::FrameFault;
 use std::alloc::{AllocError, Global};
 
 /// The line that answers a master, with its LF.
@@ -19,6 +20,37 @@ pub fn answer_line(alloc: Global, master: u8, outcome: &Outcome) -> Result<Strin
     }
     text.push_str("\n")?;
     Ok(text)
+}
+
+/// The line that tells a master what of its stream was dropped, with its LF.
+pub fn dropped_line(
+    alloc: Global,
+    master: u8,
+    fault: FrameFault,
+    count: u8,
+) -> Result<String, AllocError>
+    ensures { IfOk result (λ text. string_bytes text ≡ dropped_text master fault count) }
+{
+    let mut text = master.to_string(alloc)?;
+    text.push_str(": dropped ")?;
+    text.push_str(frame_fault_name(fault))?;
+    text.push_str(" ")?;
+    text.push_str(count.to_string(alloc)?.as_str())?;
+    text.push_str("\n")?;
+    Ok(text)
+}
+
+/// The name of a fault of a frame.
+fn frame_fault_name(fault: FrameFault) -> &'static str
+    ensures { result.now ≡ frame_fault_name fault }
+{
+    match fault {
+        FrameFault::NoStart => "NoStart",
+        FrameFault::BadHead => "BadHead",
+        FrameFault::BadEnd => "BadEnd",
+        FrameFault::Short => "Short",
+        FrameFault::Long => "Long",
+    }
 }
 
 /// `reply HEX RULE`

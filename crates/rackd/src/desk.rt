@@ -1,26 +1,23 @@
 //! A rack in use: its lines, and the one that commands speak to.
 
-ghost use Rattle.std.specs.Prelude.{◌≡◌, ◌==◌, ◌&&◌, nat_le, None, All, length, map, position, string_bytes, option_map, is_some, IfOk, IfSome, OnSome};
+ghost use Rattle.std.specs.Prelude.{◌≡◌, ◌==◌, None, All, map, position, string_bytes, option_map, IfOk};
 ghost use Rattle.rackd.specs.Commands.{choose_line, send as send_octets};
-ghost use Rattle.dp_line.specs.World.{description_of, opening_fault, start_of};
-ghost use Rattle.dp_line.specs.Steps.{step};
+ghost use Rattle.dp_line.specs.World.{description_of, opening_fault};
 ghost use Rattle.rackd.specs.Rack.{rack_described};
 ghost use Rattle.rackd.specs.CommandView.{command_view};
-ghost use Rattle.rackd.specs.ScriptText.{desk_of, obeyed, is_master};
+ghost use Rattle.rackd.specs.Segments.{segment_of};
+ghost use Rattle.rackd.specs.ScriptText.{desk_of, obeyed};
 
-use crate::answer::answer_line;
 use crate::command::Command;
 use crate::rack::{Rack, RackLine};
-use arrayvec::ArrayVec;
-use dp_line::{Event, LineState, Outcome};
+use crate::segment::Segment;
 use std::alloc::{AllocError, Global};
 use std::marker::Model;
 
-/// The lines of a rack in the order of its file, each with its number, and the chosen one.
+/// The lines of a rack in the order of its file, and the chosen one.
 #[derive(Drop)]
 pub struct Desk {
-    numbers: Vec<u8>,
-    lines: Vec<LineState>,
+    lines: Vec<Segment>,
     chosen: usize,
 }
 
@@ -29,7 +26,7 @@ impl Model for Desk {
 
     ghost Value = { View };
 
-    ghost view = { λ d. record { numbers = d.numbers.items; worlds = d.lines.items; chosen = d.chosen } };
+    ghost view = { λ d. record { lines = d.lines.items; chosen = d.chosen } };
 }
 
 impl Desk {
@@ -39,7 +36,6 @@ impl Desk {
         ensures { IfOk result (λ desk. desk ≡ desk_of (rack_described rack.now)) }
     {
         Ok(Desk {
-            numbers: numbers_of(alloc, &rack.lines)?,
             lines: lines_of(alloc, &rack.lines)?,
             chosen: 0,
         })
@@ -61,12 +57,12 @@ impl Desk {
     fn choose(&mut self, alloc: Global, number: u8) -> Option<String>
         ensures { option_map (λ t. record { desk = self.new; text = string_bytes t }) result ≡ obeyed self.old (choose_line number) }
     {
-        let place = place_of(&self.numbers, number)?;
+        let place = place_of(&self.lines, number)?;
         self.chosen = place;
         Some(String::new(alloc))
     }
 
-    /// One event on the chosen line.
+    /// A master sends octets to the chosen line.
     fn send(
         &mut self,
         alloc: Global,
@@ -79,66 +75,25 @@ impl Desk {
         if self.chosen >= self.lines.len() {
             return Ok(None);
         }
-        let line = &mut self.lines[self.chosen];
-        let Some(outcome) = asked(line, master, octets) else {
-            return Ok(None);
-        };
-        let text = answer_line(alloc, master, &outcome)?;
-        Ok(Some(text))
+        self.lines[self.chosen].send(alloc, master, octets)
     }
 }
 
-/// A line's answer to a master's octets; None where the master isn't the line's, or the octets are
-/// more than an event has.
-fn asked(line: &mut LineState, master: u8, octets: &[u8]) -> Option<Outcome>
-    ensures refused { is_some result ≡ (is_master line.old master && nat_le (length octets.now) 255) }
-    ensures world { OnSome result (line.new ≡ (step line.old (Event.Request master (record { items = octets.now }))).world) }
-    ensures answer { IfSome result (λ outcome. outcome ≡ (step line.old (Event.Request master (record { items = octets.now }))).answer.outcome) }
+/// Where the line of a number stands first.
+fn place_of(lines: &[Segment], number: u8) -> Option<usize>
+    ensures { result ≡ position (λ line. line.number == number) lines.now }
 {
-    if !line.has_master(master) {
-        return None;
-    }
-    let mut sent = ArrayVec::new();
-    if sent.try_extend_from_slice(octets).is_err() {
-        return None;
-    }
-    let step = line.take(&Event::Request {
-        master,
-        octets: sent,
-    });
-    Some(step.outcome)
-}
-
-/// Where a number stands first.
-fn place_of(numbers: &[u8], number: u8) -> Option<usize>
-    ensures { result ≡ position (λ other. other == number) numbers.now }
-{
-    numbers.iter().position(|other| *other == number)
-}
-
-/// The numbers of the lines.
-fn numbers_of(alloc: Global, lines: &[RackLine]) -> Result<Vec<u8>, AllocError>
-    ensures { IfOk result (λ numbers. numbers.items ≡ map (λ line. line.spec.number) lines.now) }
-{
-    lines.iter().map(|line| line.spec.number).collect(alloc)
+    lines.iter().position(|line| line.number() == number)
 }
 
 /// The lines at their start.
-fn lines_of(alloc: Global, lines: &[RackLine]) -> Result<Vec<LineState>, AllocError>
+fn lines_of(alloc: Global, lines: &[RackLine]) -> Result<Vec<Segment>, AllocError>
     requires { All (λ line. opening_fault (description_of line.spec) ≡ None) lines.now }
-    ensures { IfOk result (λ states. states.items ≡ map (λ line. start_of (description_of line.spec)) lines.now) }
+    ensures { IfOk result (λ segments. segments.items ≡ map (λ line. segment_of (description_of line.spec)) lines.now) }
 {
-    let mut states = Vec::new(alloc);
+    let mut segments = Vec::new(alloc);
     for line in lines {
-        states.push(opened(alloc, line)?)?;
+        segments.push(Segment::open(alloc, &line.spec)?)?;
     }
-    Ok(states)
-}
-
-/// A line at its start.
-fn opened(alloc: Global, line: &RackLine) -> Result<LineState, AllocError>
-    requires { opening_fault (description_of line.now.spec) ≡ None }
-    ensures { IfOk result (λ state. state ≡ start_of (description_of line.now.spec)) }
-{
-    LineState::open(alloc, &line.spec).map_err(|_| AllocError)
+    Ok(segments)
 }

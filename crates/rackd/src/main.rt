@@ -20,6 +20,9 @@ mod run_fault;
 #[cfg(test)]
 mod run_tests;
 mod script;
+mod segment;
+#[cfg(test)]
+mod stream_tests;
 mod toml_keys;
 
 use clap::Command;

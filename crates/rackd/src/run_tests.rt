@@ -23,7 +23,7 @@ fn ends_at_a_line_that_is_no_command(rt: HostRuntime) -> Result<(), Fail> {
     let script = "m 1 33\nm 3 33\nm 1 33\n";
     let ran = run_text(rt.alloc(), RACK, script, &mut written);
     assert_eq!(rt; ran, Err(RunFault::Script(2)));
-    assert_eq!(rt; written.as_slice(), "1: silence NoFrame\n".as_bytes());
+    assert_eq!(rt; written.as_slice(), "1: dropped NoStart 1\n".as_bytes());
     Ok(())
 }
 

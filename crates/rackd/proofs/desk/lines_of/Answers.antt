@@ -4,7 +4,7 @@ use Rattle.dp_line.specs.World.{description_of, opening_fault}
 use Rattle.rackd.specs.declared.rack.RackLine.{RackLine}
 use Rattle.rackd.proofs.desk.lines_of.Goals as goal
 
-pub opened-requires : goal.opened-requires
-opened-requires c =
+pub open-requires : goal.open-requires
+open-requires c =
     ap (λ (line : RackLine). opening_fault (description_of line.spec)) c.line-item.is
     ∙ All-get_or (λ line. opening_fault (description_of line.spec) ≡ None) c.args.lines.now c.loop-line.line-index c.line-item.result c.loop-line-test.true c.requires

@@ -1,0 +1,54 @@
+-- What a master sends to the line with masters 1 and 2 and slave 5, and what is written.
+use Rattle.std.specs.Prelude.{◌≡◌, ⊤, ℕ, List, [], ◌∷◌, codes, Some, None, option_map, refl}
+use Rattle.std.specs.Fmt.{digits}
+use Rattle.hex.proofs.OnLiterals.{hex_on_literals}
+use Rattle.dp_line.specs.LineExamples.{fresh}
+use Rattle.rackd.specs.Segments.{Stream, Segment, Sent, sent}
+
+-- what computes a text
+unfoldable text_on_literals : ⊤
+unfolding hex_on_literals digits
+text_on_literals = tt
+
+-- the line, before anything came
+abbrev line_1 : Segment
+line_1 = record { number = 1; world = fresh; streams = record { master = 1; held = [] } ∷ record { master = 2; held = [] } ∷ [] }
+
+abbrev text_of_sent : Sent → List ℕ
+text_of_sent sending = sending.text
+
+abbrev streams_of_sent : Sent → List Stream
+streams_of_sent sending = sending.segment.streams
+
+-- a telegram with a bad end and the request of the slave's status, in one piece
+pub bad_end_then_status :
+    option_map text_of_sent (sent line_1 1 (0x68 ∷ 0x05 ∷ 0x05 ∷ 0x68 ∷ 0x05 ∷ 0x01 ∷ 0x5D ∷ 0x12 ∷ 0x34 ∷ 0xA8 ∷ 0x16 ∷ 0x10 ∷ 0x05 ∷ 0x01 ∷ 0x49 ∷ 0x4F ∷ 0x16 ∷ []))
+    ≡ Some (codes "1: dropped BadEnd 11\n1: reply 100105000616 Status\n")
+unfolding text_on_literals
+bad_end_then_status = refl
+
+-- a wrong head, octet by octet; the last may start a frame
+pub bad_head :
+    option_map text_of_sent (sent line_1 1 (0x68 ∷ 0x05 ∷ 0x04 ∷ 0x68 ∷ []))
+    ≡ Some (codes "1: dropped BadHead 1\n1: dropped NoStart 1\n1: dropped NoStart 1\n")
+unfolding text_on_literals
+bad_head = refl
+
+pub bad_head_keeps_one :
+    option_map streams_of_sent (sent line_1 1 (0x68 ∷ 0x05 ∷ 0x04 ∷ 0x68 ∷ []))
+    ≡ Some (record { master = 1; held = 0x68 ∷ [] } ∷ record { master = 2; held = [] } ∷ [])
+bad_head_keeps_one = refl
+
+-- half of a request writes nothing, and the other half goes on with it
+pub half_a_request : option_map text_of_sent (sent line_1 2 (0x10 ∷ 0x05 ∷ 0x02 ∷ [])) ≡ Some []
+half_a_request = refl
+
+pub other_half :
+    option_map text_of_sent (sent (record line_1 { streams = record { master = 1; held = [] } ∷ record { master = 2; held = 0x10 ∷ 0x05 ∷ 0x02 ∷ [] } ∷ [] }) 2 (0x49 ∷ 0x50 ∷ 0x16 ∷ []))
+    ≡ Some (codes "2: reply 100205000716 Status\n")
+unfolding text_on_literals
+other_half = refl
+
+-- no master of the line
+pub no_master_of_the_line : sent line_1 3 (0x33 ∷ []) ≡ None
+no_master_of_the_line = refl

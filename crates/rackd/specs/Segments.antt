@@ -1,0 +1,85 @@
+-- A line in use, and what its masters send it (own).
+use Rattle.std.specs.Prelude.{ℕ, ◌==◌, List, [], ◌∷◌, ◌++◌, map, slice_get, slice_set, Option, option_map, option_and_then, position}
+use Rattle.dp_telegram.specs.declared.cutter.Cut.{Cut}
+use Rattle.dp_telegram.specs.declared.cutter.Cut.TheVariants as pieces
+use Rattle.dp_telegram.specs.Stream.{CutStream, cuts_of}
+use Rattle.dp_line.specs.declared.event.Event.TheVariants.{Request}
+use Rattle.dp_line.specs.World.{World, Description, start_of}
+use Rattle.dp_line.specs.Steps.{step}
+use Rattle.rackd.specs.Answers.{answer_text, dropped_text}
+
+-- a master's stream: of the octets that came, those that can't be judged yet
+pub record Stream : Type 0 where
+  pub master : ℕ
+  pub held : List ℕ
+
+-- a line in use: its number in the rack, its world, and a stream for each of its masters
+pub record Segment : Type 0 where
+  pub number : ℕ
+  pub world : World
+  pub streams : List Stream
+
+-- the stream of a master before anything came
+abbrev pub empty_stream : ℕ → Stream
+empty_stream master = record { master = master; held = [] }
+
+-- the line at its start
+abbrev pub segment_of : Description → Segment
+segment_of line = record { number = line.number; world = start_of line; streams = map empty_stream line.masters }
+
+-- what pieces of a stream leave and write
+pub record Answered : Type 0 where
+  pub world : World
+  pub text : List ℕ
+
+-- a frame is one event, and its answer is written; dropped octets are no event, and are told
+abbrev pub piece_answered : World → ℕ → Cut → Answered
+piece_answered world master (pieces.Frame frame octets) =
+    let stepped = step world (Request master octets) in
+    record { world = stepped.world; text = answer_text master stepped.answer.outcome }
+piece_answered world master (pieces.Dropped fault count) = record { world = world; text = dropped_text master fault count }
+
+-- pieces one after another
+abbrev pub pieces_answered : World → ℕ → List Cut → Answered
+pieces_answered world master [] = record { world = world; text = [] }
+pieces_answered world master (piece ∷ others) =
+    let first = piece_answered world master piece in
+    let rest = pieces_answered first.world master others in
+    record { world = rest.world; text = first.text ++ rest.text }
+
+-- what octets that a master sends leave and write
+pub record Passed : Type 0 where
+  pub world : World
+  pub stream : Stream
+  pub text : List ℕ
+
+-- the pieces of a stream are answered, and what can't be judged yet is held
+abbrev pub cut_passed : World → ℕ → CutStream → Passed
+cut_passed world master cut =
+    let answered = pieces_answered world master cut.cuts in
+    record { world = answered.world; stream = record { master = master; held = cut.rest }; text = answered.text }
+
+-- octets go on with the stream, in whatever pieces they come
+abbrev pub passed : World → Stream → List ℕ → Passed
+passed world stream octets = cut_passed world stream.master (cuts_of (stream.held ++ octets))
+
+-- what a command to a line leaves and writes
+pub record Sent : Type 0 where
+  pub segment : Segment
+  pub text : List ℕ
+
+-- octets on the stream at this place
+abbrev pub sent_at : Segment → List ℕ → ℕ → Stream → Sent
+sent_at segment octets place stream =
+    let passing = passed segment.world stream octets in
+    record {
+      segment = record segment { world = passing.world; streams = slice_set segment.streams place passing.stream };
+      text = passing.text;
+    }
+
+-- a master sends octets; None where it isn't the line's
+abbrev pub sent : Segment → ℕ → List ℕ → Option Sent
+sent segment master octets =
+    option_and_then
+    (λ place. option_map (sent_at segment octets place) (slice_get segment.streams place))
+    (position (λ stream. stream.master == master) segment.streams)
