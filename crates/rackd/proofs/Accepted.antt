@@ -8,8 +8,8 @@ use Rattle.dp_line.specs.World.{opening_fault, has_twice}
 use Rattle.rackd.specs.declared.rack_fault.RackFault.{RackFault}
 use Rattle.rackd.specs.declared.rack_fault.RackFault.TheVariants.{BadKey, TwiceLine}
 use Rattle.rackd.specs.Rack.{LineDescription, RackDescription}
-use Rattle.rackd.specs.TomlKeys.{◌>>=◌, only, at_key, required, array_of, each_of}
-use Rattle.rackd.specs.RackFile.{line_of, lines_of, numbers, numbers_differ, opened, all_open, rack_keys, rack_of, rack_of_document}
+use Rattle.rackd.specs.TomlKeys.{◌>>=◌, only, at_key, required, optional, array_of, each_of}
+use Rattle.rackd.specs.RackFile.{line_of, workers_of, lines_of, numbers, numbers_differ, opened, all_open, rack_keys, rack_of, rack_of_document}
 use Rattle.rackd.proofs.Each.{done_parts, ok_parts}
 
 pub record IsAccepted (lines : List LineDescription) : Type 0 where
@@ -65,13 +65,14 @@ differing false unit e = refl
 of_file : (file : Members) (rack : RackDescription) → rack_of file ≡ Ok rack → IsAccepted rack.lines
 unfolding rack_of
 of_file file rack e =
-    let last : List LineDescription → Unit {0} → Result RackDescription RackFault = λ lines _. Ok (record { workers = 4; lines = lines }) in
-    let (one, keys, after_keys) = done_parts (only rack_keys file) (λ _. required lines_of (codes "line") file >>= λ lines. numbers_differ lines >>= λ _. all_open 1 lines >>= last lines) rack e in
-    let (lines, read, after_read) = done_parts (required lines_of (codes "line") file) (λ lines. numbers_differ lines >>= λ _. all_open 1 lines >>= last lines) rack after_keys in
-    let (two, differ, after_differ) = done_parts (numbers_differ lines) (λ _. all_open 1 lines >>= last lines) rack after_read in
-    let (three, open_all, after_open) = done_parts (all_open 1 lines) (last lines) rack after_differ in
+    let last : ℕ → List LineDescription → Unit {0} → Result RackDescription RackFault = λ workers lines _. Ok (record { workers = workers; lines = lines }) in
+    let (one, keys, after_keys) = done_parts (only rack_keys file) (λ _. optional 4 workers_of (codes "workers") file >>= λ workers. required lines_of (codes "line") file >>= λ lines. numbers_differ lines >>= λ _. all_open 1 lines >>= last workers lines) rack e in
+    let (workers, told_workers, after_workers) = done_parts (optional 4 workers_of (codes "workers") file) (λ workers. required lines_of (codes "line") file >>= λ lines. numbers_differ lines >>= λ _. all_open 1 lines >>= last workers lines) rack after_keys in
+    let (lines, read, after_read) = done_parts (required lines_of (codes "line") file) (λ lines. numbers_differ lines >>= λ _. all_open 1 lines >>= last workers lines) rack after_workers in
+    let (two, differ, after_differ) = done_parts (numbers_differ lines) (λ _. all_open 1 lines >>= last workers lines) rack after_read in
+    let (three, open_all, after_open) = done_parts (all_open 1 lines) (last workers lines) rack after_differ in
     let (least, most) = required_few (codes "line") file lines read in
-    let is : lines ≡ rack.lines = ap (λ (r : RackDescription). r.lines) (ok_parts (record { workers = 4; lines = lines }) rack after_open) in
+    let is : lines ≡ rack.lines = ap (λ (r : RackDescription). r.lines) (ok_parts (record { workers = workers; lines = lines }) rack after_open) in
     subst IsAccepted is (record { least = least; most = most; differ = differing (has_twice (numbers lines)) two differ; open_all = all_opened 1 lines open_all })
 
 pub of_document : (document : Option Members) (rack : RackDescription) → rack_of_document document ≡ Ok rack → IsAccepted rack.lines

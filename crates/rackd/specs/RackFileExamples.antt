@@ -1,18 +1,18 @@
 -- The rack of one line with masters 1 and 2 and slave 5, ident number 80A1, as a document.
-use Rattle.std.specs.Prelude.{◌≡◌, ⊤, ℕ, pos, [], ◌∷◌, codes, true, None, Ok, Err, refl}
+use Rattle.std.specs.Prelude.{◌≡◌, ⊤, ℕ, pos, [], ◌∷◌, codes, true, false, None, Some, Ok, Err, refl}
 use Rattle.hex.proofs.OnLiterals.{hex_on_literals}
 use Rattle.toml.proofs.OnLiterals.{toml_on_literals}
 use Rattle.toml.specs.Data.{Data, string, integer, boolean, array, table, Items, no_items, item, Members, no_members, member}
-use Rattle.dp_line.specs.declared.description.Device.TheVariants.{Still}
+use Rattle.dp_line.specs.declared.description.Device.TheVariants.{Still, Mirror}
 use Rattle.dp_line.specs.declared.fault.OpenFault.TheVariants.{TwiceAddress}
 use Rattle.rackd.specs.declared.rack_fault.RackFault.TheVariants.{NotToml, BadKey, TwiceLine, Open}
 use Rattle.rackd.specs.Rack.{LineDescription}
 use Rattle.rackd.specs.TomlKeys.{required, optional, array_of, number_to, octets_of, each_of}
-use Rattle.rackd.specs.RackFile.{configuration_of, slave_of, masters_of, slaves_of, line_of, lines_of, all_open, rack_of, rack_in}
+use Rattle.rackd.specs.RackFile.{configuration_of, device_of, slave_of, masters_of, slaves_of, port_of, line_of, workers_of, lines_of, all_open, rack_of, rack_in}
 
 -- what computes a document's rack
 unfoldable rack_on_literals : ⊤
-unfolding hex_on_literals toml_on_literals required optional array_of number_to octets_of each_of configuration_of slave_of masters_of slaves_of line_of lines_of all_open rack_of
+unfolding hex_on_literals toml_on_literals required optional array_of number_to octets_of each_of configuration_of device_of slave_of masters_of slaves_of port_of line_of workers_of lines_of all_open rack_of
 rack_on_literals = tt
 
 -- `[[line.slave]]` with this ident number
@@ -79,7 +79,67 @@ pub master_with_the_slaves_address : rack_of (file (item (line_with 1 2 (slave_5
 unfolding rack_on_literals
 master_with_the_slaves_address = refl
 
--- texts
+-- ---- each key
+
+-- `[[line.slave]]` with each key, and this device
+abbrev whole_slave : Data → Data
+whole_slave device =
+    table (member (codes "address") (integer (pos 5))
+    (member (codes "cfg") (string (codes "21"))
+    (member (codes "device") device
+    (member (codes "freeze") (boolean false)
+    (member (codes "ident") (integer (pos 1))
+    (member (codes "sync") (boolean true)
+    (member (codes "user_max") (integer (pos 0)) no_members)))))))
+
+-- one `[[line]]` with each key, and these workers and this device
+abbrev whole_file : ℕ → Data → Members
+whole_file workers device =
+    member (codes "line") (array (item (table (member (codes "capacity") (integer (pos 2))
+    (member (codes "listen") (integer (pos 65535))
+    (member (codes "masters") (array (item (integer (pos 1)) no_items))
+    (member (codes "number") (integer (pos 1))
+    (member (codes "operator") (integer (pos 0))
+    (member (codes "slave") (array (item (whole_slave device) no_items)) no_members))))))) no_items))
+    (member (codes "workers") (integer (pos workers)) no_members)
+
+abbrev whole_line : LineDescription
+whole_line = record {
+  line = record {
+    number = 1;
+    places = 2;
+    masters = 1 ∷ [];
+    slaves = record {
+      address = 5;
+      ident = 1;
+      cfg = record { items = 0x21 ∷ [] };
+      sync = true;
+      freeze = false;
+      user_max = 0;
+      device = Mirror;
+    } ∷ [];
+  };
+  listen = Some 65535;
+  operator = Some 0;
+}
+
+pub each_key : rack_of (whole_file 32 (string (codes "mirror"))) ≡ Ok (record { workers = 32; lines = whole_line ∷ [] })
+unfolding rack_on_literals
+each_key = refl
+
+pub no_worker : rack_of (whole_file 0 (string (codes "mirror"))) ≡ Err BadKey
+unfolding rack_on_literals
+no_worker = refl
+
+pub many_workers : rack_of (whole_file 33 (string (codes "mirror"))) ≡ Err BadKey
+unfolding rack_on_literals
+many_workers = refl
+
+pub unknown_device : rack_of (whole_file 32 (string (codes "Mirror"))) ≡ Err BadKey
+unfolding rack_on_literals
+unknown_device = refl
+
+-- ---- texts
 
 pub no_toml : rack_in (codes "[[line") ≡ Err NotToml
 unfolding rack_on_literals

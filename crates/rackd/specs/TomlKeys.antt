@@ -72,6 +72,9 @@ table_of value = ok_or (as_table value) BadKey
 abbrev pub flag_of : Data → Result Bool RackFault
 flag_of value = ok_or (as_bool value) BadKey
 
+abbrev pub text_of : Data → Result (List ℕ) RackFault
+text_of value = ok_or (as_str value) BadKey
+
 -- a number from 0 to the most
 unfoldable pub number_to : ℕ → Data → Result ℕ RackFault
 number_to most value = do
@@ -90,7 +93,7 @@ decoded (Err fault) = Err BadKey
 -- the octets that hex text writes
 unfoldable pub octets_of : Data → Result (List ℕ) RackFault
 octets_of value = do
-  text ← ok_or (as_str value) BadKey
+  text ← text_of value
   decoded (decode_of text)
 
 -- what is read of each value

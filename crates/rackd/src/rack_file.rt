@@ -1,18 +1,19 @@
 //! Reading a rack file.
 
-ghost use Rattle.std.specs.Prelude.{◌≡◌, ◌≤◌, ◌<◌, ◌+◌, ◌==◌, map, length, codes, vec_len, Ok, IfOk, IfErr};
+ghost use Rattle.std.specs.Prelude.{◌≡◌, ◌≤◌, ◌<◌, ◌+◌, ◌==◌, map, length, codes, vec_len, None, Ok, IfOk, IfErr};
 ghost use Rattle.std.specs.List.{list_any};
 ghost use Rattle.toml.specs.View.{view, table_view};
+ghost use Rattle.dp_line.specs.declared.description.Device.TheVariants.{Still};
 ghost use Rattle.dp_line.specs.World.{description_of, opening_fault, has_twice};
 ghost use Rattle.rackd.specs.Rack.{line_described, rack_described};
-ghost use Rattle.rackd.specs.TomlKeys.{Gives, Fails, required, number_to, each_of};
-ghost use Rattle.rackd.specs.RackFile.{configuration_of, slave_of, masters_of, slaves_of, line_of, lines_of, numbers, opened, all_open, rack_of, rack_in};
+ghost use Rattle.rackd.specs.TomlKeys.{Gives, Fails, required, optional, number_to, each_of};
+ghost use Rattle.rackd.specs.RackFile.{configuration_of, device_named, device_of, slave_of, masters_of, slaves_of, port_of, line_of, workers_of, lines_of, numbers, opened, all_open, rack_of, rack_in};
 
 use crate::rack::{Rack, RackLine};
 use crate::rack_fault::RackFault;
 use crate::toml_keys::{
     array_in, number_in, octets_in, only_keys, optional_flag, required_number, required_value,
-    table_in,
+    table_in, text_in, value_at,
 };
 use arrayvec::ArrayVec;
 use dp_line::{Device, LineSpec, LineState, OpenFault, SlaveSpec};
@@ -21,6 +22,9 @@ use toml::{Table, Value};
 
 /// Workers of a rack whose file doesn't say how many.
 const WORKERS: u8 = 4;
+
+/// The most workers of a rack.
+const MOST_WORKERS: u32 = 32;
 
 /// User parameters that a slave takes whose description doesn't say how many, in octets.
 const USER_PARAMETERS: u8 = 237;
@@ -51,21 +55,63 @@ fn required_configuration(alloc: Global, slave: &Table) -> Result<ArrayVec<u8, 2
     configuration_in(alloc, required_value(slave, "cfg")?)
 }
 
+/// User parameters that a slave takes, in octets, 237 where it doesn't say how many.
+#[tactic(auto, unfolding(crate::specs::TomlKeys::optional))]
+fn optional_user_parameters(slave: &Table) -> Result<u8, RackFault>
+    ensures { result ≡ optional 237 (number_to 255) (codes "user_max") (table_view slave.now) }
+{
+    match value_at(slave, "user_max") {
+        Some(value) => Ok(number_in(value, 255)? as u8),
+        None => Ok(USER_PARAMETERS),
+    }
+}
+
+/// The device of this name.
+fn device_by_name(name: &str) -> Result<Device, RackFault>
+    ensures { result ≡ device_named name.now }
+{
+    if name == "still" {
+        Ok(Device::Still)
+    } else if name == "counter" {
+        Ok(Device::Counter)
+    } else if name == "mirror" {
+        Ok(Device::Mirror)
+    } else {
+        Err(RackFault::BadKey)
+    }
+}
+
+/// What feeds a slave's inputs, nothing where it doesn't say.
+#[tactic(auto, unfolding(crate::specs::TomlKeys::optional, crate::specs::RackFile::device_of))]
+fn optional_device(slave: &Table) -> Result<Device, RackFault>
+    ensures { result ≡ optional Still device_of (codes "device") (table_view slave.now) }
+{
+    match value_at(slave, "device") {
+        Some(value) => device_by_name(text_in(value)?),
+        None => Ok(Device::Still),
+    }
+}
+
 /// The slave that a value describes.
 #[tactic(auto, unfolding(crate::specs::RackFile::slave_of))]
 fn slave_in(alloc: Global, value: &Value) -> Result<SlaveSpec, RackFault>
     ensures { Gives (λ slave. slave) result (slave_of (view value.now)) }
 {
     let slave = table_in(value)?;
-    only_keys(slave, &["address", "ident", "cfg", "sync", "freeze"])?;
+    only_keys(
+        slave,
+        &[
+            "address", "ident", "cfg", "sync", "freeze", "user_max", "device",
+        ],
+    )?;
     Ok(SlaveSpec {
         address: required_number(slave, "address", 255)? as u8,
         ident: required_number(slave, "ident", 65_535)? as u16,
         cfg: required_configuration(alloc, slave)?,
         sync: optional_flag(slave, "sync")?,
         freeze: optional_flag(slave, "freeze")?,
-        user_max: USER_PARAMETERS,
-        device: Device::Still,
+        user_max: optional_user_parameters(slave)?,
+        device: optional_device(slave)?,
     })
 }
 
@@ -113,13 +159,29 @@ fn required_slaves(alloc: Global, line: &Table) -> Result<Vec<SlaveSpec>, RackFa
     slaves_in(alloc, array_in(required_value(line, "slave")?)?)
 }
 
+/// The port at a key, if the line has it.
+#[tactic(auto, unfolding(crate::specs::TomlKeys::optional, crate::specs::RackFile::port_of))]
+fn optional_port(line: &Table, key: &str) -> Result<Option<u16>, RackFault>
+    ensures { result ≡ optional None port_of key.now (table_view line.now) }
+{
+    match value_at(line, key) {
+        Some(value) => Ok(Some(number_in(value, 65_535)? as u16)),
+        None => Ok(None),
+    }
+}
+
 /// The line that a value describes.
 #[tactic(auto, unfolding(crate::specs::RackFile::line_of))]
 fn line_in(alloc: Global, value: &Value) -> Result<RackLine, RackFault>
     ensures { Gives line_described result (line_of (view value.now)) }
 {
     let line = table_in(value)?;
-    only_keys(line, &["number", "capacity", "masters", "slave"])?;
+    only_keys(
+        line,
+        &[
+            "number", "capacity", "masters", "listen", "operator", "slave",
+        ],
+    )?;
     let spec = LineSpec {
         number: required_number(line, "number", 255)? as u8,
         capacity: required_number(line, "capacity", u32::MAX)?,
@@ -128,9 +190,32 @@ fn line_in(alloc: Global, value: &Value) -> Result<RackLine, RackFault>
     };
     Ok(RackLine {
         spec,
-        listen: None,
-        operator: None,
+        listen: optional_port(line, "listen")?,
+        operator: optional_port(line, "operator")?,
     })
+}
+
+/// The workers that a value is, 1 to 32.
+#[tactic(auto, unfolding(crate::specs::RackFile::workers_of))]
+fn workers_in(value: &Value) -> Result<u8, RackFault>
+    ensures { result ≡ workers_of (view value.now) }
+{
+    let workers = number_in(value, MOST_WORKERS)?;
+    if workers == 0 {
+        return Err(RackFault::BadKey);
+    }
+    Ok(workers as u8)
+}
+
+/// The workers of a rack, 4 where it doesn't say how many.
+#[tactic(auto, unfolding(crate::specs::TomlKeys::optional))]
+fn optional_workers(file: &Table) -> Result<u8, RackFault>
+    ensures { result ≡ optional 4 workers_of (codes "workers") (table_view file.now) }
+{
+    match value_at(file, "workers") {
+        Some(value) => workers_in(value),
+        None => Ok(WORKERS),
+    }
 }
 
 /// The lines of a rack.
@@ -207,25 +292,29 @@ fn check_openings(alloc: Global, position: u8, lines: &[RackLine]) -> Result<(),
 fn rack_in_document(alloc: Global, file: &Table) -> Result<Rack, RackFault>
     ensures { Gives rack_described result (rack_of (table_view file.now)) }
 {
-    only_keys(file, &["line"])?;
+    only_keys(file, &["workers", "line"])?;
+    let workers = optional_workers(file)?;
     let lines = required_lines(alloc, file)?;
     if has_number_twice(&lines) {
         return Err(RackFault::TwiceLine);
     }
     check_openings(alloc, 1, &lines)?;
-    Ok(Rack {
-        workers: WORKERS,
-        lines,
-    })
+    Ok(Rack { workers, lines })
 }
 
-/// The rack that a text describes. The text is TOML: 1 to 8 tables `[[line]]`, each with `number`,
-/// `capacity`, `masters` and tables `[[line.slave]]` with `address`, `ident`, `cfg` (hex text) and,
-/// where they aren't false, `sync` and `freeze` (own).
+/// The rack that a text describes. The text is TOML with these keys and no other (own):
+///
+/// - `workers`, 1 to 32, and 4 where it is missing.
+/// - `[[line]]`, 1 to 8 of them: `number`, 0 to 255; `capacity`, below 2^32; `masters`, at most 16
+///   numbers from 0 to 255; the tables `slave`; `listen` and `operator`, ports from 0 to 65,535, and
+///   no port where they are missing.
+/// - `[[line.slave]]`: `address`, 0 to 255; `ident`, 0 to 65,535; `cfg`, hex text of at most 244
+///   octets; `sync` and `freeze`, false where they are missing; `user_max`, 0 to 255, and 237 where
+///   it is missing; `device`, "still", "counter" or "mirror", and still where it is missing.
 ///
 /// The first fault that applies is told: `NotToml`; `BadKey` for an unknown or missing key, a wrong
-/// type, text that isn't hex, or a number or list outside its range; `TwiceLine`; `Open` of the first
-/// line that can't be opened. `OutOfMemory` may come in place of each.
+/// type, text that isn't hex or no device, or a number or list outside its range; `TwiceLine`; `Open`
+/// of the first line that can't be opened. `OutOfMemory` may come in place of each.
 pub fn read_rack(alloc: Global, text: &str) -> Result<Rack, RackFault>
     // The rack is the one that the text describes.
     ensures ok { IfOk result (λ rack. rack_in text.now ≡ Ok (rack_described rack)) }

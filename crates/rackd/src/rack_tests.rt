@@ -59,6 +59,98 @@ fn sync_and_freeze_are_false_where_they_are_missing(rt: HostRuntime) -> Result<(
 }
 
 #[test]
+fn reads_each_key(rt: HostRuntime) -> Result<(), Fail> {
+    let line = format!(in rt.alloc(); "{LINE}listen = 65535\noperator = 0\n")?;
+    let slave = format!(in rt.alloc(); "{SLAVE}user_max = 0\ndevice = \"mirror\"\n")?;
+    let lines = rack_text(rt.alloc(), &line, &slave)?;
+    let text = format!(in rt.alloc(); "workers = 32\n{lines}")?;
+    let rack = read_rack(rt.alloc(), &text)?;
+    assert_eq!(rt; rack.workers, 32);
+    assert_eq!(rt; rack.lines.len(), 1);
+    let line = &rack.lines[0];
+    assert_eq!(rt; line.listen, Some(65_535));
+    assert_eq!(rt; line.operator, Some(0));
+    assert_eq!(rt; line.spec.number, 1);
+    assert_eq!(rt; line.spec.slaves.len(), 1);
+    let slave = &line.spec.slaves[0];
+    assert_eq!(rt; slave.address, 5);
+    assert_eq!(rt; slave.user_max, 0);
+    assert_eq!(rt; slave.device, Device::Mirror);
+    Ok(())
+}
+
+#[test]
+fn reads_the_bounds_of_workers_and_equal_ports(rt: HostRuntime) -> Result<(), Fail> {
+    let line = format!(in rt.alloc(); "{LINE}listen = 4000\noperator = 4000\n")?;
+    let lines = rack_text(rt.alloc(), &line, SLAVE)?;
+    for workers in [1, 32] {
+        let text = format!(in rt.alloc(); "workers = {workers}\n{lines}")?;
+        let rack = read_rack(rt.alloc(), &text)?;
+        assert_eq!(rt; rack.workers, workers);
+        assert_eq!(rt; rack.lines.len(), 1);
+        assert_eq!(rt; rack.lines[0].listen, Some(4000));
+        assert_eq!(rt; rack.lines[0].operator, Some(4000));
+    }
+    Ok(())
+}
+
+#[test]
+fn reads_the_devices_by_their_names(rt: HostRuntime) -> Result<(), Fail> {
+    let cases = [
+        ("still", Device::Still),
+        ("counter", Device::Counter),
+        ("mirror", Device::Mirror),
+    ];
+    for (name, device) in cases {
+        let slave = format!(in rt.alloc(); "{SLAVE}device = \"{name}\"\n")?;
+        let text = rack_text(rt.alloc(), LINE, &slave)?;
+        let rack = read_rack(rt.alloc(), &text)?;
+        assert_eq!(rt; rack.lines.len(), 1);
+        let line = &rack.lines[0];
+        assert_eq!(rt; line.spec.slaves.len(), 1);
+        assert_eq!(rt; line.spec.slaves[0].device, device, "{name}");
+        assert_eq!(rt; line.spec.slaves[0].user_max, 237);
+    }
+    Ok(())
+}
+
+#[test]
+fn refuses_bad_keys_of_a_rack(rt: HostRuntime) -> Result<(), Fail> {
+    let tops = [
+        "workers = 0\n",
+        "workers = 33\n",
+        "workers = -1\n",
+        "workers = 4.0\n",
+        "workers = \"4\"\n",
+        "lockers = 2\n",
+        "readers = 2\n",
+        "failsafe = true\n",
+    ];
+    let lines = rack_text(rt.alloc(), LINE, SLAVE)?;
+    for top in tops {
+        let text = format!(in rt.alloc(); "{top}{lines}")?;
+        assert_eq!(rt;
+            read_rack(rt.alloc(), &text).err(),
+            Some(RackFault::BadKey),
+            "{top}"
+        );
+    }
+    Ok(())
+}
+
+#[test]
+fn refuses_ports_that_are_none(rt: HostRuntime) -> Result<(), Fail> {
+    for key in ["listen", "operator"] {
+        for port in ["65536", "-1", "\"4000\"", "4000.0", "[4000]"] {
+            let line = format!(in rt.alloc(); "{LINE}{key} = {port}\n")?;
+            let found = fault_of(rt.alloc(), &line, SLAVE)?;
+            assert_eq!(rt; found, Some(RackFault::BadKey), "{key} {port}");
+        }
+    }
+    Ok(())
+}
+
+#[test]
 fn refuses_bad_keys_of_a_line(rt: HostRuntime) -> Result<(), Fail> {
     let lines = [
         "number = 1\ncapacity = 1000\n",
@@ -95,6 +187,15 @@ fn refuses_bad_keys_of_a_slave(rt: HostRuntime) -> Result<(), Fail> {
         "address = 5\nident = 1\ncfg = \"zz\"\n",
         "address = 5\nident = 1\ncfg = \"\"\nsync = 1\n",
         "address = 5\nident = 1\ncfg = \"\"\nfreeze = \"true\"\n",
+        "address = 5\nident = 1\ncfg = []\n",
+        "address = 5\nident = 1\ncfg = [\"21\"]\n",
+        "address = 5\nident = 1\ncfg = \"\"\nuser_max = 256\n",
+        "address = 5\nident = 1\ncfg = \"\"\nuser_max = -1\n",
+        "address = 5\nident = 1\ncfg = \"\"\nuser_max = \"5\"\n",
+        "address = 5\nident = 1\ncfg = \"\"\ndevice = \"Still\"\n",
+        "address = 5\nident = 1\ncfg = \"\"\ndevice = \"\"\n",
+        "address = 5\nident = 1\ncfg = \"\"\ndevice = 1\n",
+        "address = 5\nident = 1\ncfg = \"\"\nfailsafe = true\n",
     ];
     for slave in slaves {
         assert_eq!(rt;
@@ -147,6 +248,16 @@ fn refuses_lines_that_cannot_be_opened(rt: HostRuntime) -> Result<(), Fail> {
         (
             LINE,
             "address = 127\nident = 1\ncfg = \"\"\n",
+            OpenFault::Limit,
+        ),
+        (
+            LINE,
+            "address = 5\nident = 1\ncfg = \"\"\nuser_max = 238\n",
+            OpenFault::Limit,
+        ),
+        (
+            LINE,
+            "address = 5\nident = 1\ncfg = \"\"\nuser_max = 255\n",
             OpenFault::Limit,
         ),
     ];

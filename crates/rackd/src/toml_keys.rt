@@ -5,7 +5,7 @@ ghost use Rattle.std.specs.List.{list_any};
 ghost use Rattle.std.specs.Str.{bytes_eq};
 ghost use Rattle.toml.specs.Data.{get_member};
 ghost use Rattle.toml.specs.View.{view, table_view};
-ghost use Rattle.rackd.specs.TomlKeys.{Gives, seen, only, required, optional, at_key, array_of, table_of, flag_of, number_to, octets_of};
+ghost use Rattle.rackd.specs.TomlKeys.{Gives, seen, only, required, optional, at_key, array_of, table_of, flag_of, text_of, number_to, octets_of};
 
 use crate::rack_fault::RackFault;
 use std::alloc::Global;
@@ -100,13 +100,19 @@ pub(crate) fn optional_flag(table: &Table, key: &str) -> Result<bool, RackFault>
     }
 }
 
+/// The text that a value is.
+pub(crate) fn text_in(value: &Value) -> Result<&str, RackFault>
+    ensures { seen (λ text. text.now) result ≡ text_of (view value.now) }
+{
+    value.as_str().ok_or(RackFault::BadKey)
+}
+
 /// The octets that a value writes as hex text.
 #[tactic(auto, unfolding(crate::specs::TomlKeys::octets_of))]
 pub(crate) fn octets_in(alloc: Global, value: &Value) -> Result<Vec<u8>, RackFault>
     ensures { Gives (λ octets. octets.items) result (octets_of (view value.now)) }
 {
-    let text = value.as_str().ok_or(RackFault::BadKey)?;
-    match hex::decode(alloc, text) {
+    match hex::decode(alloc, text_in(value)?) {
         Ok(octets) => Ok(octets),
         Err(hex::FromHexError::OutOfMemory) => Err(RackFault::OutOfMemory),
         Err(_) => Err(RackFault::BadKey),
