@@ -63,6 +63,12 @@ cut_passed world master cut =
 abbrev pub passed : World → Stream → List ℕ → Passed
 passed world stream octets = cut_passed world stream.master (cuts_of (stream.held ++ octets))
 
+-- octets that come after others
+abbrev pub then_passed : Passed → List ℕ → Passed
+then_passed before octets =
+    let after = passed before.world before.stream octets in
+    record { world = after.world; stream = after.stream; text = before.text ++ after.text }
+
 -- what a command to a line leaves and writes
 pub record Sent : Type 0 where
   pub segment : Segment

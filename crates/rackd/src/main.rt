@@ -21,6 +21,7 @@ mod run_fault;
 mod run_tests;
 mod script;
 mod segment;
+mod stream_laws;
 #[cfg(test)]
 mod stream_tests;
 mod toml_keys;
