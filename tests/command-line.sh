@@ -31,9 +31,11 @@ rack='[[line]]\nnumber = 1\ncapacity = 1000\nmasters = [1, 2]\n[[line.slave]]\na
 slave_diag='m 1 68 05 05 68 85 81 6D 3C 3E ED 16'
 reply='1: reply 680b0b688185083e3c020500ff80a1af16 Done'
 
-"$rackd" <"$top/examples/slave-diag.txt" >"$work/out" 2>"$work/err"
-status=$?
-expect 'the example' 0 "$(cat "$top/examples/slave-diag.out")" ''
+for example in slave-diag streams; do
+  "$rackd" <"$top/examples/$example.txt" >"$work/out" 2>"$work/err"
+  status=$?
+  expect "the example $example" 0 "$(cat "$top/examples/$example.out")" ''
+done
 
 run "$rack%%%%\n$slave_diag\n"; expect 'a request' 0 "$reply" ''
 run "$rack%%%%\n$slave_diag"; expect 'no LF at the end' 0 "$reply" ''
@@ -48,6 +50,9 @@ run "${rack/number = 1\\n/}"; expect 'a missing key' 2 '' 'rackd: rack BadKey'
 run '[[line'; expect 'broken TOML' 2 '' 'rackd: rack NotToml'
 run "$rack$rack"; expect 'two lines with one number' 2 '' 'rackd: rack TwiceLine'
 run "${rack/0x80A1/65536}"; expect 'ident 65536' 2 '' 'rackd: rack BadKey'
+run "workers = 33\n$rack"; expect '33 workers' 2 '' 'rackd: rack BadKey'
+run "${rack}user_max = 238\n"; expect '238 octets of user parameters' 2 '' 'rackd: rack line 1 Limit'
+run "${rack}device = \"Still\"\n"; expect 'no device' 2 '' 'rackd: rack BadKey'
 run "${rack/"[1, 2]"/"[1, 5]"}"; expect 'an address of a master and a slave' 2 '' 'rackd: rack line 1 TwiceAddress'
 run "${rack/1000/1}"; expect 'capacity 1' 2 '' 'rackd: rack line 1 Limit'
 run "$rack${rack/number = 1/number = 2}${rack/number = 1\\ncapacity = 1000/number = 3\\ncapacity = 0}"; expect 'the third line is refused' 2 '' 'rackd: rack line 3 Limit'
@@ -58,9 +63,11 @@ run "$rack%%%%\nm 1 E\n"; expect 'half a pair' 2 '' 'rackd: script line 1'
 run "$rack%%%%\nm 1  E5\n"; expect 'two spaces' 2 '' 'rackd: script line 1'
 run "$rack%%%%\nm 1 E5\r\n"; expect 'a carriage return' 2 '' 'rackd: script line 1'
 run "$rack%%%%\nline 2\n"; expect 'a line that is not in the rack' 2 '' 'rackd: script line 1'
-octets=$(printf 'E5%.0s' $(seq 255))
-run "$rack%%%%\nm 1 $octets\n"; expect '255 octets' 0 '1: silence NoFrame' ''
-run "$rack%%%%\nm 1 ${octets}E5\n"; expect '256 octets' 2 '' 'rackd: script line 1'
+run "$rack%%%%\nm 1 $(printf 'E5%.0s' $(seq 300))\n"
+expect '300 octets in one line' 0 "$(for _ in $(seq 300); do echo '1: silence NotRequest'; done)" ''
+run "$rack%%%%\n$(for octet in 68 05 05 68 85 81 6D 3C 3E ED; do echo "m 1 $octet"; done)\n"; expect 'ten octets of eleven' 0 '' ''
+run "$rack%%%%\n$(for octet in 68 05 05 68 85 81 6D 3C 3E ED 16; do echo "m 1 $octet"; done)\n"; expect 'octet by octet' 0 "$reply" ''
+run "$rack%%%%\nm 1 68 05 04 68\n"; expect 'a bad head' 0 $'1: dropped BadHead 1\n1: dropped NoStart 1\n1: dropped NoStart 1' ''
 run "${rack/1000/2}%%%%\n$slave_diag\n$slave_diag\n$slave_diag\n"
 expect 'the last place is the halt'"'"'s' 0 "$reply"$'\n1: silence Halted\n1: silence Halted' ''
 two="$rack${rack/number = 1/number = 2}"
