@@ -1,4 +1,4 @@
-use Rattle.std.proofs.Common.{ap, sym, ◌++◌, ◌∙◌, arith, rules}
+use Rattle.std.proofs.Common.{ap, sym, ◌++◌, ◌∙◌}
 use Rattle.std.specs.Prelude.{string_bytes}
 use Rattle.dp_telegram.specs.Stream.{cuts_of}
 use Rattle.rackd.proofs.Passing.{piece_passed, all_passed}
