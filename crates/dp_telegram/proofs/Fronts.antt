@@ -1,18 +1,17 @@
 -- The piece in front: by the relation, and as it is judged.
-use Rattle.std.proofs.Common.{◌≡◌, ℕ, ◌≤◌, ◌<◌, inl, inr, true, false, eqb, List, [], ◌∷◌, ◌++◌, length, take, drop, Option, Some, None, Ok, Err, refl, sym, ap, subst, ◌∙◌, arith}
+use Rattle.std.proofs.Common.{◌≡◌, ℕ, ◌≤◌, true, false, eqb, List, [], ◌∷◌, ◌++◌, length, take, drop, Option, Some, None, refl, sym, ap, subst, ◌∙◌, arith}
 use Rattle.std.specs.Prelude.{is_none, if◌then◌else◌, option_map}
 use Rattle.std.proofs.lemmas.Grind.{common_steps}
-use Rattle.std.proofs.lemmas.Bool.{cases_lt}
-use Rattle.std.proofs.lemmas.List.{take-append-drop, length-append, length-take-le, take_all, take_at, drop_at}
+use Rattle.std.proofs.lemmas.List.{take-append-drop, length-append, length-take-le, take_at, drop_at}
 use Rattle.dp_telegram.specs.declared.fault.FrameFault.{FrameFault}
 use Rattle.dp_telegram.specs.declared.fault.FrameFault.TheVariants.{NoStart, BadHead, BadEnd, Short, Long}
 use Rattle.dp_telegram.specs.declared.frame.Frame.{Frame}
 use Rattle.dp_telegram.specs.declared.cutter.Cut.{Cut}
 use Rattle.dp_telegram.specs.declared.cutter.Cut.TheVariants as pieces
-use Rattle.dp_telegram.specs.FrameText.{sd2, Spells, fault_of, frame_at, reading_of, frame_length, head_length, head_is_right, end_is_right, is_start, delimiter, unless_faulty}
-use Rattle.dp_telegram.specs.Stream.{IsWhole, StartsWith, cut_length, frame_in_front, piece_by, piece_of, first_cut}
+use Rattle.dp_telegram.specs.FrameText.{sd2, Spells, fault_of, frame_at, frame_length, head_length, head_is_right, end_is_right, is_start, delimiter}
+use Rattle.dp_telegram.specs.Stream.{IsWhole, StartsWith, cut_length, piece_by, piece_of, first_cut}
 use Rattle.dp_telegram.proofs.Texts.{Spells-frame_of}
-use Rattle.dp_telegram.proofs.Faults.{frame_length_some, head_within_frame, head_length_some, delimiter_same, right_same, size_same, InFront, end_same, frame_same, Means, means, no_start_fault, bad_head_fault, bad_end_fault, whole_fault, piece_in_front}
+use Rattle.dp_telegram.proofs.Faults.{frame_length_some, head_within_frame, head_length_some, delimiter_same, right_same, size_same, InFront, end_same, frame_same, Means, means, no_start_fault, bad_head_fault, bad_end_fault, piece_in_front}
 
 -- what is read of a frame that stands in front
 parts_found : (fault : Option FrameFault) (x y : Frame) → (if is_none fault then Some x else None) ≡ Some y → (fault ≡ None) × (x ≡ y)
@@ -170,91 +169,3 @@ pub frame_parted : (s : List ℕ) → InFront s → frame_at (take (frame_length
 frame_parted s front =
     let part = parted s front.room in
     sym (frame_same (take (frame_length s) s) (drop (frame_length s) s) part.there (omega (arith, part.whole))) ∙ ap frame_at (take-append-drop (frame_length s) s)
-
--- the octets of the frame in front have the fault of all octets, but for what follows them
-abbrev without_long : Option FrameFault → Option FrameFault
-without_long None = None
-without_long (Some Long) = None
-without_long (Some NoStart) = Some NoStart
-without_long (Some BadHead) = Some BadHead
-without_long (Some BadEnd) = Some BadEnd
-without_long (Some Short) = Some Short
-
-fault_in_room : (s : List ℕ) → frame_length s ≤ length s → (fault : Option FrameFault) → Means s fault → fault_of (take (frame_length s) s) ≡ without_long fault
-fault_in_room s room None meant =
-    whole_fault (take (frame_length s) s) (front_parted s meant.0) (end_parted s meant.0 ∙ meant.1) ((parted s room).whole)
-fault_in_room s room (Some Long) meant =
-    whole_fault (take (frame_length s) s) (front_parted s meant.0) (end_parted s meant.0 ∙ meant.1) ((parted s room).whole)
-fault_in_room s room (Some NoStart) meant =
-    no_start_fault (take (frame_length s) s) ((parted s room).some) (ap is_start ((parted s room).start) ∙ meant.1)
-fault_in_room s room (Some BadHead) meant =
-    bad_head_fault (take (frame_length s) s) (ap is_start ((parted s room).start) ∙ meant.0) ((parted s room).there) ((parted s room).right ∙ meant.2)
-fault_in_room s room (Some BadEnd) meant = bad_end_fault (take (frame_length s) s) (front_parted s meant.0) (end_parted s meant.0 ∙ meant.1)
-fault_in_room s room (Some Short) meant = absurd (omega (arith, meant.0))
-
-not_long : (s : List ℕ) → length s < frame_length s → (fault : Option FrameFault) → Means s fault → fault ≡ without_long fault
-not_long s few None meant = refl
-not_long s few (Some Long) meant = absurd (omega (arith, meant.2))
-not_long s few (Some NoStart) meant = refl
-not_long s few (Some BadHead) meant = refl
-not_long s few (Some BadEnd) meant = refl
-not_long s few (Some Short) meant = refl
-
-fault_in_front : (s : List ℕ) → fault_of (take (frame_length s) s) ≡ without_long (fault_of s)
-fault_in_front s = elim (cases_lt (length s) (frame_length s)) [
-  | inl few ↦ ap fault_of (take_all (frame_length s) s (omega arith)) ∙ not_long s few (fault_of s) (means s)
-  | inr room ↦ fault_in_room s room (fault_of s) (means s)
-]
-
--- what is read of them tells the piece in front
-read_ok : (verdict : Option FrameFault) (x y : Frame) → unless_faulty verdict x ≡ Ok y → (verdict ≡ None) × (x ≡ y)
-read_ok None x y e = (refl, cc)
-read_ok (Some fault) x y e = absurd cc
-
-read_err : (verdict : Option FrameFault) (x : Frame) (fault : FrameFault) → unless_faulty verdict x ≡ Err fault → verdict ≡ Some fault
-read_err None x fault e = absurd cc
-read_err (Some other) x fault e = cc
-
-piece_read_by : (s : List ℕ) (fault : Option FrameFault) → Means s fault → without_long fault ≡ None → (piece_by fault s ≡ Some (frame_in_front s)) × (frame_at (take (frame_length s) s) ≡ frame_at s)
-piece_read_by s None meant none = (refl, frame_parted s meant.0)
-piece_read_by s (Some Long) meant none = (refl, frame_parted s meant.0)
-piece_read_by s (Some NoStart) meant none = absurd cc
-piece_read_by s (Some BadHead) meant none = absurd cc
-piece_read_by s (Some BadEnd) meant none = absurd cc
-piece_read_by s (Some Short) meant none = absurd cc
-
-pub piece_read : (s : List ℕ) (frame : Frame) → reading_of (take (frame_length s) s) ≡ Ok frame → Some (pieces.Frame frame (record { items = take (frame_length s) s })) ≡ piece_of s
-piece_read s frame read =
-    let found = read_ok (fault_of (take (frame_length s) s)) (frame_at (take (frame_length s) s)) frame read in
-    let piece = piece_read_by s (fault_of s) (means s) (sym (fault_in_front s) ∙ found.0) in
-    ap (λ (f : Frame). Some (pieces.Frame f (record { items = take (frame_length s) s }))) (sym found.1 ∙ piece.1) ∙ sym piece.0
-
-fault_kept : (verdict : Option FrameFault) (fault : FrameFault) → without_long verdict ≡ Some fault → verdict ≡ Some fault
-fault_kept None fault e = absurd cc
-fault_kept (Some Long) fault e = absurd cc
-fault_kept (Some NoStart) fault e = e
-fault_kept (Some BadHead) fault e = e
-fault_kept (Some BadEnd) fault e = e
-fault_kept (Some Short) fault e = e
-
-pub fault_read : (s : List ℕ) (fault : FrameFault) → reading_of (take (frame_length s) s) ≡ Err fault → fault_of s ≡ Some fault
-fault_read s fault read =
-    fault_kept (fault_of s) fault (sym (fault_in_front s) ∙ read_err (fault_of (take (frame_length s) s)) (frame_at (take (frame_length s) s)) fault read)
-
-long_not_kept : (verdict : Option FrameFault) → without_long verdict ≡ Some Long → ⊥
-long_not_kept None e = absurd cc
-long_not_kept (Some Long) e = absurd cc
-long_not_kept (Some NoStart) e = absurd cc
-long_not_kept (Some BadHead) e = absurd cc
-long_not_kept (Some BadEnd) e = absurd cc
-long_not_kept (Some Short) e = absurd cc
-
-pub long_not_read : (s : List ℕ) → reading_of (take (frame_length s) s) ≡ Err Long → ⊥
-long_not_read s read =
-    long_not_kept (fault_of s) (sym (fault_in_front s) ∙ read_err (fault_of (take (frame_length s) s)) (frame_at (take (frame_length s) s)) Long read)
-
-pub piece_for : (s : List ℕ) (fault : FrameFault) → reading_of (take (frame_length s) s) ≡ Err fault → piece_by (Some fault) s ≡ piece_of s
-piece_for s fault read = ap (λ (f : Option FrameFault). piece_by f s) (sym (fault_read s fault read))
-
-pub bad_end_room : (s : List ℕ) → reading_of (take (frame_length s) s) ≡ Err BadEnd → frame_length s ≤ length s
-bad_end_room s read = let meant : Means s (Some BadEnd) = subst (Means s) (fault_read s BadEnd read) (means s) in meant.0.room

@@ -1,11 +1,11 @@
 //! Streams of octets into frames.
 
-ghost use Rattle.std.specs.Prelude.{◌≡◌, ◌+◌, ◌-◌, ◌<◌, ◌≤◌, ◌↔◌, ℕ, List, [], ◌++◌, length, take, min, slice_range, option_map, IfSome, OnSome, IfNone, IsNone};
-ghost use Rattle.dp_telegram.specs.FrameText.{frame_length};
-ghost use Rattle.dp_telegram.specs.Stream.{first_cut, piece_of, cut_length, StartsWith, StartsWithNone, cuts_of, uncut, with_handed};
+ghost use Rattle.std.specs.Prelude.{◌≡◌, ◌+◌, ◌-◌, ◌<◌, ◌≤◌, ◌↔◌, ℕ, List, [], ◌++◌, length, take, min, slice_range, option_map, IfSome, OnSome, IfNone, IsNone, IsTrue, Some};
+ghost use Rattle.dp_telegram.specs.declared.cutter.Cut.TheVariants as pieces;
+ghost use Rattle.dp_telegram.specs.FrameText.{fault_of, delimiter, is_start, head_is_right, frame_length};
+ghost use Rattle.dp_telegram.specs.Stream.{first_cut, piece_of, frame_in_front, cut_length, StartsWith, StartsWithNone, cuts_of, uncut, with_handed};
 
-use crate::decoding::decode;
-use crate::delimiter::{SD1, SD2, SD3, SD4};
+use crate::decoding::{fault_in, frame_in, frame_size};
 use crate::fault::FrameFault;
 use crate::frame::{Frame, Octets};
 use arrayvec::ArrayVec;
@@ -29,18 +29,6 @@ pub enum Cut {
         /// How many octets, 1 to 255.
         count: u8,
     },
-}
-
-impl Cut {
-    /// How many octets of the stream the piece is.
-    fn size(&self) -> usize
-        ensures { result ≡ cut_length self.now }
-    {
-        match self {
-            Cut::Frame { octets, .. } => octets.len(),
-            Cut::Dropped { count, .. } => usize::from(*count),
-        }
-    }
 }
 
 /// The most octets that are held: the longest frame has so many.
@@ -111,46 +99,67 @@ impl Cutter {
         ensures stream { (more : List ℕ) → cuts_of (self.old ++ more) ≡ with_handed result (cuts_of (self.new ++ more)) }
         ensures rest { IfNone result (cuts_of self.new ≡ uncut self.new) }
     {
-        let cut = first_piece(&self.buffer[self.start..self.end])?;
-        self.start += cut.size();
-        Some(cut)
+        let start = self.start;
+        let octets = &self.buffer[start..self.end];
+        let fault = fault_in(octets);
+        self.start += piece_size(fault, octets);
+        first_piece(fault, &self.buffer[start..self.end])
     }
 }
 
-/// The first piece of the octets, where they begin with one.
-fn first_piece(octets: &[u8]) -> Option<Cut>
-    requires { length octets.now ≤ 255 }
+/// How many octets the first piece has, by the fault of all octets; 0 where they begin with none.
+fn piece_size(fault: Option<FrameFault>, octets: &[u8]) -> usize
+    requires { fault ≡ fault_of octets.now }
+    ensures piece { IfSome (piece_of octets.now) (λ cut. result ≡ cut_length cut) }
+    ensures none { IfNone (piece_of octets.now) (result ≡ 0) }
+{
+    match fault {
+        Some(FrameFault::Short) => 0,
+        Some(FrameFault::NoStart) => 1,
+        Some(FrameFault::BadHead) => 1,
+        Some(FrameFault::BadEnd) => frame_size(octets),
+        Some(FrameFault::Long) => frame_size(octets),
+        None => frame_size(octets),
+    }
+}
+
+/// The first piece, by the fault of all octets, where they begin with one.
+///
+/// It is built where it is returned: a piece that is moved costs the copy of 530 octets.
+fn first_piece(fault: Option<FrameFault>, octets: &[u8]) -> Option<Cut>
+    requires fault { fault ≡ fault_of octets.now }
+    requires most { length octets.now ≤ 255 }
     ensures { result ≡ piece_of octets.now }
 {
-    let size = frame_size(octets).min(octets.len());
-    match decode(&octets[..size]) {
-        Ok(frame) => Some(Cut::Frame {
-            frame,
-            octets: copied(&octets[..size]),
-        }),
-        Err(fault @ FrameFault::NoStart) => Some(Cut::Dropped { fault, count: 1 }),
-        Err(fault @ FrameFault::BadHead) => Some(Cut::Dropped { fault, count: 1 }),
-        Err(fault @ FrameFault::BadEnd) => {
-            let count = size as u8;
-            Some(Cut::Dropped { fault, count })
-        }
-        Err(FrameFault::Short) => None,
-        Err(FrameFault::Long) => unreachable!(),
+    match fault {
+        Some(FrameFault::Short) => None,
+        Some(fault @ FrameFault::NoStart) => dropped(fault, 1),
+        Some(fault @ FrameFault::BadHead) => dropped(fault, 1),
+        Some(fault @ FrameFault::BadEnd) => dropped(fault, frame_size(octets) as u8),
+        Some(FrameFault::Long) => first_frame(octets),
+        None => first_frame(octets),
     }
 }
 
-/// How many octets the frame has whose head stands here.
-fn frame_size(octets: &[u8]) -> usize
-    ensures { result ≡ frame_length octets.now }
+fn dropped(fault: FrameFault, count: u8) -> Option<Cut>
+    ensures { result ≡ Some (pieces.Dropped fault count) }
 {
-    match octets {
-        [SD1, ..] => 6,
-        [SD2] => 6,
-        [SD2, le, ..] => usize::from(*le) + 6,
-        [SD3, ..] => 14,
-        [SD4, ..] => 3,
-        _ => 1,
-    }
+    Some(Cut::Dropped { fault, count })
+}
+
+/// The frame in front: its head is right, and all of its octets are there.
+fn first_frame(octets: &[u8]) -> Option<Cut>
+    requires start { IsTrue (is_start (delimiter octets.now)) }
+    requires right { IsTrue (head_is_right octets.now) }
+    requires whole { frame_length octets.now ≤ length octets.now }
+    requires most { length octets.now ≤ 255 }
+    ensures { result ≡ Some (frame_in_front octets.now) }
+{
+    let size = frame_size(octets);
+    Some(Cut::Frame {
+        frame: frame_in(octets),
+        octets: copied(&octets[..size]),
+    })
 }
 
 fn copied(octets: &[u8]) -> Octets

@@ -1,10 +1,10 @@
 //! Octets into frames.
 
-ghost use Rattle.std.specs.Prelude.{◌≡◌, ◌≤◌, ◌&&◌, ◌↔◌, length, IsTrue, Some};
+ghost use Rattle.std.specs.Prelude.{◌≡◌, ◌≤◌, ◌&&◌, ◌↔◌, not, length, IsTrue, Some};
 ghost use Rattle.std.specs.Result.{result_ok};
 ghost use Rattle.dp_telegram.specs.declared.fault.FrameFault.{FrameFault};
 ghost use Rattle.dp_telegram.specs.declared.frame.Frame.{Frame};
-ghost use Rattle.dp_telegram.specs.FrameText.{Spells, frame_of, reading_of, fault_of, telegram_in, is_start, is_checked, delimiter, head_length, head_is_right, frame_length, sd2, sd4, sc};
+ghost use Rattle.dp_telegram.specs.FrameText.{Spells, frame_of, reading_of, fault_of, frame_at, telegram_in, is_start, is_checked, delimiter, head_length, head_is_right, frame_length, sd2};
 
 use crate::delimiter::{ED, SC, SD1, SD2, SD3, SD4, check_sum};
 use crate::fault::FrameFault;
@@ -20,46 +20,112 @@ pub fn decode(octets: &[u8]) -> Result<Frame, FrameFault>
     ensures frame { (frame : Frame) → (result ≡ Ok frame) ↔ Spells octets.now frame }
     ensures fault { (fault : FrameFault) → (result ≡ Err fault) ↔ (fault_of octets.now ≡ Some fault) }
 {
-    dispatch(octets)
-}
-
-/// The layout is told by the start delimiter.
-fn dispatch(octets: &[u8]) -> Result<Frame, FrameFault>
-    ensures { result ≡ reading_of octets.now }
-{
-    let Some(&start) = octets.first() else {
-        return Err(FrameFault::Short);
-    };
-    match start {
-        SD1 => telegram_at(octets, 1, 6),
-        SD2 => variable(octets),
-        SD3 => telegram_at(octets, 1, 14),
-        SD4 => token(octets),
-        SC => acknowledgement(octets),
-        _ => Err(FrameFault::NoStart),
+    match fault_in(octets) {
+        Some(fault) => Err(fault),
+        None => Ok(frame_in(octets)),
     }
 }
 
-/// A telegram whose head is judged: DA stands at `head`, and the frame has `size` octets.
-fn telegram_at(octets: &[u8], head: usize, size: usize) -> Result<Frame, FrameFault>
+/// The first fault of the octets. The layout is told by the start delimiter.
+pub(crate) fn fault_in(octets: &[u8]) -> Option<FrameFault>
+    ensures { result ≡ fault_of octets.now }
+{
+    let Some(&start) = octets.first() else {
+        return Some(FrameFault::Short);
+    };
+    match start {
+        SD1 => telegram_fault(octets, 1, 6),
+        SD2 => variable_fault(octets),
+        SD3 => telegram_fault(octets, 1, 14),
+        SD4 => size_fault(octets, 3),
+        SC => size_fault(octets, 1),
+        _ => Some(FrameFault::NoStart),
+    }
+}
+
+/// Of a telegram whose head is judged: DA stands at `head`, and the frame has `size` octets.
+fn telegram_fault(octets: &[u8], head: usize, size: usize) -> Option<FrameFault>
     requires start { IsTrue (is_start (delimiter octets.now) && is_checked octets.now) }
     requires head { head ≡ head_length octets.now }
     requires right { IsTrue (head_is_right octets.now) }
     requires whole { head ≤ length octets.now }
     requires size { size ≡ frame_length octets.now }
-    ensures { result ≡ reading_of octets.now }
+    ensures { result ≡ fault_of octets.now }
 {
     if octets.len() < size {
-        return Err(FrameFault::Short);
+        return Some(FrameFault::Short);
     }
     let body = &octets[head..size - 2];
     if octets[size - 2] != check_sum(body) || octets[size - 1] != ED {
-        return Err(FrameFault::BadEnd);
+        return Some(FrameFault::BadEnd);
     }
     if size < octets.len() {
-        return Err(FrameFault::Long);
+        return Some(FrameFault::Long);
     }
-    Ok(Frame::Telegram(telegram_of(body)))
+    None
+}
+
+/// Of an SD2 telegram: its length stands in its head.
+fn variable_fault(octets: &[u8]) -> Option<FrameFault>
+    requires { delimiter octets.now ≡ sd2 }
+    ensures { result ≡ fault_of octets.now }
+{
+    let [_, le, again, start, ..] = octets else {
+        return Some(FrameFault::Short);
+    };
+    if *le < 4 || *le > 249 || le != again || *start != SD2 {
+        return Some(FrameFault::BadHead);
+    }
+    telegram_fault(octets, 4, usize::from(*le) + 6)
+}
+
+/// Of a token or a short acknowledgement: only its size can be wrong.
+fn size_fault(octets: &[u8], size: usize) -> Option<FrameFault>
+    requires start { IsTrue (is_start (delimiter octets.now) && not (is_checked octets.now)) }
+    requires there { 1 ≤ length octets.now }
+    requires size { size ≡ frame_length octets.now }
+    ensures { result ≡ fault_of octets.now }
+{
+    if octets.len() < size {
+        return Some(FrameFault::Short);
+    }
+    if size < octets.len() {
+        return Some(FrameFault::Long);
+    }
+    None
+}
+
+/// The frame in front: its head is right, and all of its octets are there.
+pub(crate) fn frame_in(octets: &[u8]) -> Frame
+    requires start { IsTrue (is_start (delimiter octets.now)) }
+    requires right { IsTrue (head_is_right octets.now) }
+    requires whole { frame_length octets.now ≤ length octets.now }
+    ensures { result ≡ frame_at octets.now }
+{
+    let size = frame_size(octets);
+    match octets[0] {
+        SD2 => Frame::Telegram(telegram_of(&octets[4..size - 2])),
+        SD4 => Frame::Token {
+            da: octets[1],
+            sa: octets[2],
+        },
+        SC => Frame::Ack,
+        _ => Frame::Telegram(telegram_of(&octets[1..size - 2])),
+    }
+}
+
+/// How many octets the frame has whose head stands here.
+pub(crate) fn frame_size(octets: &[u8]) -> usize
+    ensures { result ≡ frame_length octets.now }
+{
+    match octets {
+        [SD1, ..] => 6,
+        [SD2] => 6,
+        [SD2, le, ..] => usize::from(*le) + 6,
+        [SD3, ..] => 14,
+        [SD4, ..] => 3,
+        _ => 1,
+    }
 }
 
 /// The telegram of which these are DA, SA, FC and the data unit.
@@ -75,40 +141,5 @@ fn telegram_of(body: &[u8]) -> Telegram
         sa: body[1],
         fc: body[2],
         du,
-    }
-}
-
-/// An SD2 telegram: its length stands in its head.
-fn variable(octets: &[u8]) -> Result<Frame, FrameFault>
-    requires { delimiter octets.now ≡ sd2 }
-    ensures { result ≡ reading_of octets.now }
-{
-    let [_, le, again, start, ..] = octets else {
-        return Err(FrameFault::Short);
-    };
-    if *le < 4 || *le > 249 || le != again || *start != SD2 {
-        return Err(FrameFault::BadHead);
-    }
-    telegram_at(octets, 4, usize::from(*le) + 6)
-}
-
-fn token(octets: &[u8]) -> Result<Frame, FrameFault>
-    requires { delimiter octets.now ≡ sd4 }
-    ensures { result ≡ reading_of octets.now }
-{
-    match octets {
-        [_, da, sa] => Ok(Frame::Token { da: *da, sa: *sa }),
-        [_, _, _, _, ..] => Err(FrameFault::Long),
-        _ => Err(FrameFault::Short),
-    }
-}
-
-fn acknowledgement(octets: &[u8]) -> Result<Frame, FrameFault>
-    requires { delimiter octets.now ≡ sc }
-    ensures { result ≡ reading_of octets.now }
-{
-    match octets {
-        [_] => Ok(Frame::Ack),
-        _ => Err(FrameFault::Long),
     }
 }

@@ -1,16 +1,21 @@
-use Rattle.std.proofs.Common.{◌∙◌, sym, ap}
-use Rattle.std.specs.Result.{result_ok}
-use Rattle.dp_telegram.proofs.Texts.{Spells-reading, reading-Spells, fault_is, result_ok-reading_of}
+use Rattle.std.proofs.Common.{◌≡◌, ℕ, List, Option, Result, Ok, sym, ap, ◌∙◌}
+use Rattle.std.specs.Prelude.{◌↔◌}
+use Rattle.dp_telegram.specs.declared.fault.FrameFault.{FrameFault}
+use Rattle.dp_telegram.specs.declared.frame.Frame.{Frame}
+use Rattle.dp_telegram.specs.FrameText.{Spells, frame_at, reading_of, unless_faulty}
+use Rattle.dp_telegram.proofs.Texts.{Spells-reading, reading-Spells}
 use Rattle.dp_telegram.proofs.decoding.decode.Goals as goal
 
-pub returns-clause-frame : goal.returns-clause-frame
-returns-clause-frame c frame =
-    (λ read. reading-Spells c.args.octets.now frame (sym c.dispatch.ensures ∙ read), λ spelt. c.dispatch.ensures ∙ Spells-reading c.args.octets.now frame spelt)
+-- what is read is the frame that the octets spell
+read_is_spelt : (octets : List ℕ) (result : Result Frame FrameFault) (frame : Frame) → result ≡ reading_of octets → (result ≡ Ok frame) ↔ Spells octets frame
+read_is_spelt octets result frame e = (λ read. reading-Spells octets frame (sym e ∙ read), λ spelt. e ∙ Spells-reading octets frame spelt)
 
-pub returns-clause-fault : goal.returns-clause-fault
-returns-clause-fault c fault =
-    let both = fault_is c.args.octets.now fault in
-    (λ e. both.0 (sym c.dispatch.ensures ∙ e), λ e. c.dispatch.ensures ∙ both.1 e)
+pub returns-in-Some-clause-frame : goal.returns-in-Some-clause-frame
+returns-in-Some-clause-frame c frame =
+    let octets = c.args.octets.now in
+    read_is_spelt octets _ frame (ap (λ (f : Option FrameFault). unless_faulty f (frame_at octets)) c.in-Some.ensures)
 
-pub returns-clause-found : goal.returns-clause-found
-returns-clause-found c = ap result_ok c.dispatch.ensures ∙ result_ok-reading_of c.args.octets.now
+pub returns-in-None-clause-frame : goal.returns-in-None-clause-frame
+returns-in-None-clause-frame c frame =
+    let octets = c.args.octets.now in
+    read_is_spelt octets _ frame (ap Ok c.frame_in.ensures ∙ ap (λ (f : Option FrameFault). unless_faulty f (frame_at octets)) c.in-None.ensures)
