@@ -2,3 +2,4 @@ pub mod Addresses
 pub mod Events
 pub mod Verdicts
 pub mod Runs
+mod StatusRequests

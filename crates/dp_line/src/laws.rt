@@ -1,11 +1,13 @@
-//! What holds over whole runs of a line.
+//! Laws of a line: of its answers, and over whole runs.
 
-ghost use Rattle.std.specs.Prelude.{◌≡◌, ◌+◌, ◌<◌, ℕ, List, ◌∷◌, ◌++◌, false, None, Some, length, slice_get};
+ghost use Rattle.std.specs.Prelude.{◌≡◌, ◌+◌, ◌<◌, ℕ, List, ◌∷◌, ◌++◌, false, None, Some, length, slice_get, is_none};
 ghost use Rattle.arrayvec.specs.ArrayVec.{ArrayVec};
 ghost use Rattle.dp_line.specs.declared.event.Event.{Event};
 ghost use Rattle.dp_line.specs.declared.event.Step.{Step};
 ghost use Rattle.dp_line.specs.SlaveRecord.{SlaveRecord};
-ghost use Rattle.dp_line.specs.World.{World, Description, start_of, opening_fault};
+ghost use Rattle.dp_line.specs.declared.rule.Rule.{Rule};
+ghost use Rattle.dp_line.specs.World.{World, Description, start_of, opening_fault, slave_at, takes_no_more};
+ghost use Rattle.dp_line.specs.Verdict.{verdict_of};
 ghost use Rattle.dp_line.specs.Steps.{run, outcome_of};
 
 /// After every list of events each request is answered as the written policy answers it in the world
@@ -33,4 +35,15 @@ pub fn each_event_has_its_place()
         → world.count + length before + 1 < world.places
         → slice_get (run world (before ++ event ∷ later)).answers (length before) ≡ Some answer
         → answer.place ≡ Some (world.count + length before + 1) }
+{}
+
+/// FDL status is answered in every state: where a request is answered as one, it is answered alike on
+/// each line with the same stations, whatever the states of the slaves.
+pub fn status_is_answered_in_every_state()
+    ensures { (world other : World) (master : ℕ) (octets : List ℕ)
+        → takes_no_more other ≡ takes_no_more world
+        → other.masters ≡ world.masters
+        → ((address : ℕ) → is_none (slave_at other address) ≡ is_none (slave_at world address))
+        → verdict_of world master octets ≡ Rule.Status
+        → outcome_of other master octets ≡ outcome_of world master octets }
 {}
