@@ -31,6 +31,9 @@ rack='[[line]]\nnumber = 1\ncapacity = 1000\nmasters = [1, 2]\n[[line.slave]]\na
 slave_diag='m 1 68 05 05 68 85 81 6D 3C 3E ED 16'
 reply='1: reply 680b0b688185083e3c020500ff80a1af16 Done'
 
+# what it says while it builds the program belongs to no case
+"$rackd" </dev/null >"$work/out" 2>"$work/err"
+
 for example in slave-diag streams; do
   "$rackd" <"$top/examples/$example.txt" >"$work/out" 2>"$work/err"
   status=$?
