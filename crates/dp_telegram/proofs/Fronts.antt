@@ -84,6 +84,14 @@ right_is_there (d ∷ a ∷ []) some right = grind (arith, common_steps)
 right_is_there (d ∷ a ∷ b ∷ []) some right = grind (arith, common_steps)
 right_is_there (d ∷ a ∷ b ∷ c ∷ rest) some right = grind (arith, common_steps)
 
+pub right_in_front : (octets : List ℕ) → is_start (delimiter octets) ≡ true → head_is_right octets ≡ true → frame_length octets ≤ length octets → InFront octets
+right_in_front octets start right room = record {
+  start = start;
+  there = right_is_there octets (omega (arith, room, frame_length_some octets)) right;
+  right = right;
+  room = room;
+}
+
 whole_in_front : (octets : List ℕ) → IsWhole octets → InFront octets
 whole_in_front octets whole = record {
   start = whole.start;

@@ -3,3 +3,4 @@ pub mod Faults
 pub mod Fronts
 pub mod Streams
 pub mod Windows
+pub mod Handing

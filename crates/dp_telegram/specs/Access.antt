@@ -2,10 +2,26 @@
 use Rattle.std.specs.Prelude.{◌≡◌, ℕ, ◌+◌, ◌%◌, Bool, true, false, nat_lt, nat_le, if◌then◌else◌, List, [], ◌∷◌, ◌++◌, Option, Some, None, is_some, IfSome, option_and_then, option_to_list}
 use Rattle.dp_telegram.specs.declared.access.Parts.{Parts}
 use Rattle.dp_telegram.specs.declared.frame.Telegram.{Telegram}
+use Rattle.dp_telegram.specs.declared.frame.Frame.{Frame}
+use Rattle.dp_telegram.specs.declared.frame.Frame.TheVariants as frames
 
 -- bits 6 to 0 of an address octet are the address (IEC 61158-4-3, address octets)
 abbrev pub address_of : ℕ → ℕ
 address_of octet = octet % 128
+
+-- the address of all stations together (IEC 61158-4-3, address octets)
+abbrev pub global_address : ℕ
+global_address = 127
+
+-- a station may have every address below the global one (IEC 61158-4-3, address octets)
+abbrev pub is_station : ℕ → Bool
+is_station address = nat_lt address global_address
+
+-- the source address of a frame that has one: a token or a telegram
+abbrev pub source_of : Frame → Option ℕ
+source_of (frames.Token da sa) = Some (address_of sa)
+source_of frames.Ack = None
+source_of (frames.Telegram telegram) = Some (address_of telegram.sa)
 
 -- bit 7 announces an extension octet at the front of the data unit (IEC 61158-4-3, address extension)
 abbrev pub announces : ℕ → Bool

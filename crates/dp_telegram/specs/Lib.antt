@@ -1,5 +1,6 @@
 pub mod FrameText
 pub mod Access
+pub mod FunctionCode
 pub mod FrameExamples
 pub mod Stream
 pub mod StreamExamples

@@ -4,6 +4,8 @@ use Rattle.dp_telegram.specs.declared.fault.FrameFault.{FrameFault}
 use Rattle.dp_telegram.specs.declared.fault.FrameFault.TheVariants.{NoStart, BadHead, BadEnd, Short, Long}
 use Rattle.dp_telegram.specs.declared.cutter.Cut.{Cut}
 use Rattle.dp_telegram.specs.declared.cutter.Cut.TheVariants as pieces
+use Rattle.dp_telegram.specs.declared.cutter.Piece.{Piece}
+use Rattle.dp_telegram.specs.declared.cutter.Piece.TheVariants as lent
 use Rattle.dp_telegram.specs.FrameText.{sd2, Spells, delimiter, is_start, head_is_right, frame_length, end_is_right, fault_of, frame_at}
 
 -- a start delimiter, a right head, and as many octets as the head says (IEC 61158-4-3, frame formats)
@@ -77,6 +79,19 @@ piece_of stream = piece_by (fault_of stream) stream
 -- the piece in front, and what follows it
 abbrev pub first_cut : List ℕ → Option (Cut × List ℕ)
 first_cut stream = option_map (λ cut. (cut, drop (cut_length cut) stream)) (piece_of stream)
+
+-- what follows the piece in front; where there is none, all octets
+abbrev pub left_behind : Option Cut → List ℕ → List ℕ
+left_behind None stream = stream
+left_behind (Some cut) stream = drop (cut_length cut) stream
+
+abbrev pub left_of : List ℕ → List ℕ
+left_of stream = left_behind (piece_of stream) stream
+
+-- a piece whose octets are lent is this piece: the octets of a frame say which frame it is
+abbrev pub cut_lent : Piece → Cut
+cut_lent (lent.Frame octets) = pieces.Frame (frame_at octets.now) (record { items = octets.now })
+cut_lent (lent.Dropped fault count) = pieces.Dropped fault count
 
 -- the pieces of a stream, and the rest
 pub record CutStream : Type 0 where

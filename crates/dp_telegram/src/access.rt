@@ -2,11 +2,18 @@
 
 ghost use Rattle.std.specs.Prelude.{◌≡◌, ◌+◌, ◌<◌, ◌≤◌, ◌↔◌, ◌++◌, length, Some, option_to_list, option_map};
 ghost use Rattle.std.specs.Option.{ForSome};
-ghost use Rattle.dp_telegram.specs.Access.{HasParts, parts_of, request_of, request_parts, extension_of, announces, address_octet as address_octet_of};
+ghost use Rattle.dp_telegram.specs.Access.{HasParts, parts_of, request_of, request_parts, extension_of, announces, address_of, address_octet as address_octet_of};
 ghost use Rattle.dp_telegram.specs.declared.access.Parts.{Parts};
+ghost use Rattle.dp_telegram.specs.declared.frame.Telegram.{Telegram};
 
 use crate::frame::{Frame, Telegram};
 use arrayvec::ArrayVec;
+
+/// Bit 7 of an address octet.
+const ANNOUNCES: u8 = 0x80;
+
+/// The last service access point.
+const LAST_POINT: u8 = 63;
 
 /// A data unit taken apart (IEC 61158-4-3, address extension).
 #[derive(Clone, Debug, Drop, PartialEq, Eq)]
@@ -30,12 +37,10 @@ impl Telegram {
     {
         let (dsap, rest) = extension(self.da, &self.du)?;
         let (ssap, rest) = extension(self.sa, rest)?;
-        let mut payload = ArrayVec::new();
-        payload.try_extend_from_slice(rest).unwrap();
         Some(Parts {
             dsap,
             ssap,
-            payload,
+            payload: ArrayVec::try_from(rest).unwrap(),
         })
     }
 }
@@ -54,15 +59,11 @@ fn extension(address: u8, octets: &[u8]) -> Option<(Option<u8>, &[u8])>
     Some((Some(*point), rest))
 }
 
-/// Bit 7 of an address octet.
-const ANNOUNCES: u8 = 0x80;
-
-/// The last service access point.
-const LAST_POINT: u8 = 63;
-
-/// The telegram of a request with these addresses, this function code, these access points and this
-/// payload (IEC 61158-4-3, address extension). Bit 7 of an address octet tells whether there is an
-/// extension octet; points and payload have at most 246 octets together.
+/// The frame of a request: addresses 0 to 127, any function code, points 0 to 63 or none, and a
+/// payload; points and payload have at most 246 octets together (IEC 61158-4-3, address extension).
+///
+/// Bit 7 of its DA and of its SA announces the extension octet of its point. Addresses and parts can
+/// be read back from it.
 pub fn request(da: u8, sa: u8, fc: u8, dsap: Option<u8>, ssap: Option<u8>, payload: &[u8]) -> Frame
     requires da { da ≤ 127 }
     requires sa { sa ≤ 127 }
@@ -70,7 +71,8 @@ pub fn request(da: u8, sa: u8, fc: u8, dsap: Option<u8>, ssap: Option<u8>, paylo
     requires ssap { ForSome ssap (λ point. point < 64) }
     requires room { length (option_to_list dsap) + length (option_to_list ssap) + length payload.now ≤ 246 }
     ensures frame { result ≡ Frame.Telegram (request_of da sa fc dsap ssap payload.now) }
-    ensures parts { parts_of (request_of da sa fc dsap ssap payload.now) ≡ Some (request_parts dsap ssap payload.now) }
+    ensures parts { (telegram : Telegram) → result ≡ Frame.Telegram telegram → parts_of telegram ≡ Some (request_parts dsap ssap payload.now) }
+    ensures addresses { (telegram : Telegram) → result ≡ Frame.Telegram telegram → (address_of telegram.da ≡ da) × (address_of telegram.sa ≡ sa) }
 {
     let mut du = ArrayVec::new();
     push_point(&mut du, dsap);

@@ -1,15 +1,22 @@
 //! Streams of octets into frames.
 
-ghost use Rattle.std.specs.Prelude.{◌≡◌, ◌+◌, ◌-◌, ◌<◌, ◌≤◌, ◌↔◌, ℕ, List, [], ◌++◌, length, take, min, slice_range, option_map, IfSome, OnSome, IfNone, IsNone, IsTrue, Some};
+ghost use Rattle.std.specs.Prelude.{◌≡◌, ◌+◌, ◌-◌, ◌<◌, ◌≤◌, ◌↔◌, ℕ, List, [], ◌++◌, length, take, drop, min, slice_range, option_map, IfSome, OnSome, IfNone, IsNone, IsTrue, Some};
 ghost use Rattle.dp_telegram.specs.declared.cutter.Cut.TheVariants as pieces;
-ghost use Rattle.dp_telegram.specs.FrameText.{fault_of, delimiter, is_start, head_is_right, frame_length};
-ghost use Rattle.dp_telegram.specs.Stream.{first_cut, piece_of, frame_in_front, cut_length, StartsWith, StartsWithNone, cuts_of, uncut, with_handed};
+ghost use Rattle.dp_telegram.specs.FrameText.{fault_of, delimiter, is_start, head_is_right, frame_length, frame_at};
+ghost use Rattle.dp_telegram.specs.Stream.{piece_of, left_of, cut_lent, frame_in_front, cut_length, StartsWith, StartsWithNone, cuts_of, uncut, with_handed};
 
 use crate::decoding::{fault_in, frame_in, frame_size};
 use crate::fault::FrameFault;
 use crate::frame::{Frame, Octets};
 use arrayvec::ArrayVec;
 use std::marker::Model;
+
+/// The most octets that are held: the longest frame has so many.
+const MOST: usize = 255;
+
+/// Room for as many again: the octets held, then at most 254, are moved to the front only after at
+/// least 256 were handed out, so on average no octet is moved more than once.
+const ROOM: usize = 510;
 
 /// A piece of a stream.
 #[derive(Clone, Debug, Drop, PartialEq, Eq)]
@@ -31,12 +38,32 @@ pub enum Cut {
     },
 }
 
-/// The most octets that are held: the longest frame has so many.
-const MOST: usize = 255;
+/// A piece of a stream whose octets are lent where they lie: the same piece as a [`Cut`], with
+/// nothing copied and nothing decoded.
+#[derive(Clone, Copy, Debug, PartialEq, Eq)]
+pub enum Piece<'a> {
+    /// The octets of a frame.
+    Frame(&'a [u8]),
+    /// Octets that are no frame and are dropped, as in [`Cut::Dropped`].
+    Dropped {
+        /// Why they are dropped.
+        fault: FrameFault,
+        /// How many octets, 1 to 255.
+        count: u8,
+    },
+}
 
-/// Room for as many again: the octets held, then at most 254, are moved to the front only after at
-/// least 256 were handed out, so on average no octet is moved more than once.
-const ROOM: usize = 510;
+impl Piece<'_> {
+    /// How many octets the piece has.
+    pub fn size(&self) -> usize
+        ensures { result ≡ cut_length (cut_lent self.now) }
+    {
+        match self {
+            Piece::Frame(octets) => octets.len(),
+            Piece::Dropped { count, .. } => usize::from(*count),
+        }
+    }
+}
 
 /// Cuts a stream into frames and dropped octets, in whatever pieces it is fed. Contracts see the
 /// octets held, 0 to 255 of them.
@@ -89,10 +116,12 @@ impl Cutter {
     ///
     /// None exactly where they begin with no piece. Then nothing changes, and `feed` has room.
     pub fn next(&mut self) -> Option<Cut>
-        ensures first { first_cut self.old ≡ option_map (λ cut. (cut, self.new)) result }
+        ensures cut { result ≡ piece_of self.old }
+        ensures left { self.new ≡ left_of self.old }
+
+        // What these two equations say in the words of a stream.
         ensures piece { IfSome result (λ cut. StartsWith self.old cut self.new) }
         ensures none { IsNone result ↔ StartsWithNone self.old }
-        ensures unchanged { IfNone result (self.new ≡ self.old) }
         ensures room { IfNone result (length self.new < 255) }
         ensures fewer { OnSome result (length self.new < length self.old) }
         ensures most { length self.new ≤ 255 }
@@ -104,6 +133,38 @@ impl Cutter {
         let fault = fault_in(octets);
         self.start += piece_size(fault, octets);
         first_piece(fault, &self.buffer[start..self.end])
+    }
+
+    /// Lends the octets of the first piece; it stays held, until [`Cutter::pass`] lets go of as many
+    /// octets as it has.
+    ///
+    /// None exactly where the octets held begin with no piece. Then `feed` has room.
+    pub fn front(&self) -> Option<Piece<'_>>
+        ensures cut { option_map cut_lent result ≡ piece_of self.now }
+        ensures left { IfSome result (λ piece. left_of self.now ≡ drop (cut_length (cut_lent piece)) self.now) }
+
+        // What these two say in the words of a stream.
+        ensures piece { IfSome result (λ piece. StartsWith self.now (cut_lent piece) (left_of self.now)) }
+        ensures none { IsNone result ↔ StartsWithNone self.now }
+        ensures room { IfNone result (length self.now < 255) }
+        ensures some { IfSome result (λ piece. 0 < cut_length (cut_lent piece)) }
+        ensures held { IfSome result (λ piece. cut_length (cut_lent piece) ≤ length self.now) }
+        ensures stream { (more : List ℕ) → cuts_of (self.now ++ more)
+            ≡ with_handed (option_map cut_lent result) (cuts_of (left_of self.now ++ more)) }
+        ensures rest { IfNone result (cuts_of self.now ≡ uncut self.now) }
+    {
+        let octets = &self.buffer[self.start..self.end];
+        let fault = fault_in(octets);
+        lent_piece(fault, octets)
+    }
+
+    /// Lets go of the first `count` octets held, those of a piece that was lent.
+    pub fn pass(&mut self, count: usize)
+        requires { count ≤ length self.old }
+        ensures held { self.new ≡ drop count self.old }
+        ensures most { length self.new ≤ 255 }
+    {
+        self.start += count;
     }
 }
 
@@ -147,6 +208,36 @@ fn dropped(fault: FrameFault, count: u8) -> Option<Cut>
     Some(Cut::Dropped { fault, count })
 }
 
+/// The first piece, by the fault of all octets, where they begin with one.
+fn lent_piece(fault: Option<FrameFault>, octets: &[u8]) -> Option<Piece<'_>>
+    requires fault { fault ≡ fault_of octets.now }
+    requires most { length octets.now ≤ 255 }
+    ensures { option_map cut_lent result ≡ piece_of octets.now }
+{
+    match fault {
+        Some(FrameFault::Short) => None,
+        Some(fault @ FrameFault::NoStart) => Some(Piece::Dropped { fault, count: 1 }),
+        Some(fault @ FrameFault::BadHead) => Some(Piece::Dropped { fault, count: 1 }),
+        Some(fault @ FrameFault::BadEnd) => Some(Piece::Dropped {
+            fault,
+            count: frame_size(octets) as u8,
+        }),
+        Some(FrameFault::Long) => Some(Piece::Frame(lent_frame(octets))),
+        None => Some(Piece::Frame(lent_frame(octets))),
+    }
+}
+
+/// The octets of the frame in front: its head is right, and all of its octets are there.
+fn lent_frame(octets: &[u8]) -> &[u8]
+    requires start { IsTrue (is_start (delimiter octets.now)) }
+    requires right { IsTrue (head_is_right octets.now) }
+    requires whole { frame_length octets.now ≤ length octets.now }
+    ensures octets { result.now ≡ take (frame_length octets.now) octets.now }
+    ensures same { frame_at result.now ≡ frame_at octets.now }
+{
+    &octets[..frame_size(octets)]
+}
+
 /// The frame in front: its head is right, and all of its octets are there.
 fn first_frame(octets: &[u8]) -> Option<Cut>
     requires start { IsTrue (is_start (delimiter octets.now)) }
@@ -158,15 +249,6 @@ fn first_frame(octets: &[u8]) -> Option<Cut>
     let size = frame_size(octets);
     Some(Cut::Frame {
         frame: frame_in(octets),
-        octets: copied(&octets[..size]),
+        octets: ArrayVec::try_from(&octets[..size]).unwrap(),
     })
-}
-
-fn copied(octets: &[u8]) -> Octets
-    requires { length octets.now ≤ 255 }
-    ensures { result.items ≡ octets.now }
-{
-    let mut text = ArrayVec::new();
-    text.try_extend_from_slice(octets).unwrap();
-    text
 }

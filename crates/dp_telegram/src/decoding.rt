@@ -114,13 +114,13 @@ pub(crate) fn frame_in(octets: &[u8]) -> Frame
     }
 }
 
-/// How many octets the frame has whose head stands here.
+/// How many octets the frame has whose whole head stands here.
 pub(crate) fn frame_size(octets: &[u8]) -> usize
+    requires { head_length octets.now ≤ length octets.now }
     ensures { result ≡ frame_length octets.now }
 {
     match octets {
         [SD1, ..] => 6,
-        [SD2] => 6,
         [SD2, le, ..] => usize::from(*le) + 6,
         [SD3, ..] => 14,
         [SD4, ..] => 3,
@@ -134,12 +134,10 @@ fn telegram_of(body: &[u8]) -> Telegram
     requires most { length body.now ≤ 249 }
     ensures { result ≡ telegram_in body.now }
 {
-    let mut du = ArrayVec::new();
-    du.try_extend_from_slice(&body[3..]).unwrap();
     Telegram {
         da: body[0],
         sa: body[1],
         fc: body[2],
-        du,
+        du: ArrayVec::try_from(&body[3..]).unwrap(),
     }
 }

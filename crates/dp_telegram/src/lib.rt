@@ -8,26 +8,25 @@
 #![tactic(auto)]
 
 mod access;
+mod address;
 mod cutter;
 mod decoding;
 mod delimiter;
 mod encoding;
 mod fault;
 mod frame;
-mod laws;
-mod stream_laws;
+pub mod function_code;
+pub mod laws;
+pub mod stream_laws;
 
 pub use access::{Parts, request};
-pub use cutter::{Cut, Cutter};
+pub use address::{GLOBAL_ADDRESS, LAST_STATION, is_station};
+pub use cutter::{Cut, Cutter, Piece};
 pub use decoding::decode;
 pub use encoding::encode;
 pub use fault::FrameFault;
 pub use frame::{Frame, Octets, Telegram};
-pub use laws::{no_text_begins_another, relation_and_computation_agree};
-pub use stream_laws::{
-    a_stream_has_one_cut, cut_and_computation_agree, later_octets_change_no_piece,
-    longest_frame_is_judged, pieces_come_one_after_another, pieces_count_all_octets,
-};
+pub use function_code::Function;
 
 #[cfg(test)]
 mod stream_tests;

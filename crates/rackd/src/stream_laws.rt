@@ -4,7 +4,7 @@ ghost use Rattle.std.specs.Prelude.{◌≡◌, ℕ, List, ◌++◌};
 ghost use Rattle.dp_line.specs.World.{World};
 ghost use Rattle.rackd.specs.Segments.{Stream, passed, then_passed};
 
-use dp_telegram::later_octets_change_no_piece;
+use dp_telegram::stream_laws::later_octets_change_no_piece;
 
 /// However a master's octets are cut into pieces, the same events are taken and the same is written.
 pub fn pieces_of_a_stream_do_not_matter()

@@ -1,0 +1,10 @@
+use Rattle.std.proofs.Common.{◌≡◌, true, ap, ◌∙◌, rules, take, ℕ}
+use Rattle.dp_telegram.specs.FrameText.{frame_at, frame_length, is_start, delimiter, head_is_right}
+use Rattle.dp_telegram.proofs.Fronts.{frame_parted, right_in_front}
+use Rattle.dp_telegram.proofs.cutter.lent_frame.Goals as goal
+
+pub returns-clause-same : goal.returns-clause-same
+returns-clause-same c =
+    let octets = c.args.octets.now in
+    ap (λ (n : ℕ). frame_at (take n octets)) c.frame_size.ensures
+    ∙ frame_parted octets (right_in_front octets (search rules) (search rules) c.requires.whole)

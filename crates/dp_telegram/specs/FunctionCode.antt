@@ -1,0 +1,88 @@
+-- What the function code of a telegram says (IEC 61158-4-3, function code).
+use Rattle.std.specs.Prelude.{ℕ, ◌/◌, ◌%◌, ◌^◌, ◌==◌, Bool, true, false, if◌then◌else◌, List, [], ◌∷◌}
+use Rattle.dp_telegram.specs.declared.function_code.Function.{Function}
+use Rattle.dp_telegram.specs.declared.function_code.Function.TheVariants.{SdaLow, SdnLow, SdaHigh, SdnHigh, FdlStatus, SrdLow, SrdHigh, Ident, LsapStatus, Reserved}
+
+-- a bit of an octet is 1, by the bit's number
+abbrev pub is_set : ℕ → ℕ → Bool
+is_set number octet = octet / 2 ^ number % 2 == 1
+
+-- bit 6: a request, and no response; bit 7 is ignored (own)
+abbrev pub is_request : ℕ → Bool
+is_request fc = is_set 6 fc
+
+-- bit 5, FCB: it alternates from request to request
+abbrev pub frame_count_bit : ℕ → Bool
+frame_count_bit fc = is_set 5 fc
+
+-- bit 4, FCV: FCB is valid
+abbrev pub frame_count_is_valid : ℕ → Bool
+frame_count_is_valid fc = is_set 4 fc
+
+-- the functions of a request by their numbers
+abbrev pub functions : List (ℕ × Function)
+functions =
+    (3, SdaLow)
+    ∷ (4, SdnLow)
+    ∷ (5, SdaHigh)
+    ∷ (6, SdnHigh)
+    ∷ (9, FdlStatus)
+    ∷ (12, SrdLow)
+    ∷ (13, SrdHigh)
+    ∷ (14, Ident)
+    ∷ (15, LsapStatus)
+    ∷ []
+
+-- the function of a number by these rows; every other number is treated as reserved (own)
+abbrev pub numbered : List (ℕ × Function) → ℕ → Function
+numbered [] number = Reserved
+numbered (row ∷ rows) number = if number == row.0 then row.1 else numbered rows number
+
+-- bits 3 to 0: the function of a request
+abbrev pub function_of : ℕ → Function
+function_of fc = numbered functions (fc % 16)
+
+-- Send and Request Data with reply, low or high
+abbrev pub asks_srd : Function → Bool
+asks_srd SrdLow = true
+asks_srd SrdHigh = true
+asks_srd SdaLow = false
+asks_srd SdnLow = false
+asks_srd SdaHigh = false
+asks_srd SdnHigh = false
+asks_srd FdlStatus = false
+asks_srd Ident = false
+asks_srd LsapStatus = false
+asks_srd Reserved = false
+
+-- Send Data with No acknowledge, low or high
+abbrev pub asks_sdn : Function → Bool
+asks_sdn SdnLow = true
+asks_sdn SdnHigh = true
+asks_sdn SdaLow = false
+asks_sdn SdaHigh = false
+asks_sdn FdlStatus = false
+asks_sdn SrdLow = false
+asks_sdn SrdHigh = false
+asks_sdn Ident = false
+asks_sdn LsapStatus = false
+asks_sdn Reserved = false
+
+-- the functions of a response: OK, user error, no resource, service not activated, data low, data high
+abbrev pub ok : ℕ
+ok = 0x00
+
+abbrev pub user_error : ℕ
+user_error = 0x01
+
+abbrev pub no_resource : ℕ
+no_resource = 0x02
+
+abbrev pub not_activated : ℕ
+not_activated = 0x03
+
+abbrev pub data_low : ℕ
+data_low = 0x08
+
+abbrev pub data_high : ℕ
+data_high = 0x0A
