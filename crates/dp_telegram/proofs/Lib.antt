@@ -4,3 +4,5 @@ pub mod Fronts
 pub mod Streams
 pub mod Windows
 pub mod Handing
+pub mod WrongEnds
+pub mod Ends

@@ -2,7 +2,7 @@
 use Rattle.std.proofs.Common.{◌≡◌, ◌≢◌, ℕ, zero, suc, ◌+◌, ◌≤◌, ◌<◌, inl, inr, true, false, eqb, List, [], ◌∷◌, ◌++◌, length, take, drop, Option, Some, None, Ok, refl, sym, ap, subst, ◌∙◌, arith}
 use Rattle.std.specs.Prelude.{IfSome, sum_by}
 use Rattle.std.proofs.lemmas.Bool.{eqb-true, both_ways, cases_Bool}
-use Rattle.std.proofs.lemmas.List.{append_assoc, take-append-drop, length-take, length-drop, length-append, nil_from_length}
+use Rattle.std.proofs.lemmas.List.{append_assoc, drop-drop, take-append-drop, length-take, length-drop, length-append, nil_from_length}
 use Rattle.dp_telegram.specs.declared.fault.FrameFault.{FrameFault}
 use Rattle.dp_telegram.specs.declared.fault.FrameFault.TheVariants.{NoStart, BadHead, BadEnd, Short, Long}
 use Rattle.dp_telegram.specs.declared.frame.Frame.{Frame}
@@ -17,7 +17,7 @@ use Rattle.dp_telegram.proofs.Faults.{frame_length_some, head_length_some, right
 use Rattle.dp_telegram.proofs.Fronts.{followed, starts_first, take_front, parted, front_parted, end_parted, frame_parted}
 
 -- each first cut is a piece in front, and none only where there is none
-frame_starts : (s : List ℕ) → InFront s → end_is_right s ≡ true → StartsWith s (frame_in_front s) (drop (length (take (frame_length s) s)) s)
+pub frame_starts : (s : List ℕ) → InFront s → end_is_right s ≡ true → StartsWith s (frame_in_front s) (drop (length (take (frame_length s) s)) s)
 frame_starts s front right =
     let octets : List ℕ = take (frame_length s) s in
     let part = parted s front.room in
@@ -99,7 +99,7 @@ short_by s (Some BadHead) meant none = absurd cc
 short_by s (Some BadEnd) meant none = absurd cc
 short_by s (Some Short) meant none = meant.1
 
-no_piece : (piece : Option Cut) (s : List ℕ) → followed s piece ≡ None → piece ≡ None
+pub no_piece : (piece : Option Cut) (s : List ℕ) → followed s piece ≡ None → piece ≡ None
 no_piece None s e = refl
 no_piece (Some x) s e = absurd cc
 
@@ -218,6 +218,21 @@ length_by s (pieces.Dropped Long count) rest starts = absurd starts
 pub all_octets : (s : List ℕ) (cuts : List Cut) (rest : List ℕ) → CutsInto s cuts rest → sum_by cut_length cuts + length rest ≡ length s
 all_octets s [] rest into = omega (arith, ap length into.0)
 all_octets s (cut ∷ cuts) rest into = omega (arith, sum_by-cons cut_length cut cuts, length_by s cut into.0 into.1, all_octets into.0 cuts rest into.2)
+
+-- what is left is what stands behind the pieces
+behind_by : (s : List ℕ) (piece : Option Cut) (cut : Cut) (rest : List ℕ) → followed s piece ≡ Some (cut, rest) → rest ≡ drop (cut_length cut) s
+behind_by s None cut rest e = absurd cc
+behind_by s (Some x) cut rest e =
+    let same = some_pair_parts x cut (drop (cut_length x) s) rest e in
+    sym same.1 ∙ ap (λ (c : Cut). drop (cut_length c) s) same.0
+
+pub rest_behind : (s : List ℕ) (cuts : List Cut) (rest : List ℕ) → CutsInto s cuts rest → rest ≡ drop (sum_by cut_length cuts) s
+rest_behind s [] rest into = sym into.0
+rest_behind s (cut ∷ cuts) rest into =
+    rest_behind into.0 cuts rest into.2
+    ∙ ap (λ (o : List ℕ). drop (sum_by cut_length cuts) o) (behind_by s (piece_of s) cut into.0 (starts_first s cut into.0 into.1))
+    ∙ drop-drop (sum_by cut_length cuts) (cut_length cut) s
+    ∙ ap (λ (n : ℕ). drop n s) (sym (sum_by-cons cut_length cut cuts))
 
 pub full_starts : (s : List ℕ) → 255 ≤ length s → first_cut s ≢ None
 full_starts s full none = absurd (omega (arith, none_is_short s none))

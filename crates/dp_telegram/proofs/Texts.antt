@@ -178,7 +178,7 @@ sc_spelt : (rest : List ℕ) → NoFault (sc ∷ rest) → Spells (sc ∷ rest) 
 sc_spelt [] free = refl
 sc_spelt (a ∷ rest) free = absurd (omega arith)
 
-is_one_of_five : (d : ℕ) → is_start d ≡ true → (d ≡ sd1) ⊎ (d ≡ sd2) ⊎ (d ≡ sd3) ⊎ (d ≡ sd4) ⊎ (d ≡ sc)
+pub is_one_of_five : (d : ℕ) → is_start d ≡ true → (d ≡ sd1) ⊎ (d ≡ sd2) ⊎ (d ≡ sd3) ⊎ (d ≡ sd4) ⊎ (d ≡ sc)
 is_one_of_five d e = grind (arith, common_steps)
 
 free_spelt : (octets : List ℕ) → NoFault octets → Spells octets (frame_at octets)

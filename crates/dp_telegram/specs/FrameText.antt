@@ -1,5 +1,5 @@
 -- What the text of a frame is, and which fault octets have that are the text of none.
-use Rattle.std.specs.Prelude.{◌≡◌, ℕ, ◌+◌, ◌-◌, ◌%◌, ◌≤◌, ◌⊎◌, Bool, not, ◌&&◌, ◌||◌, ◌==◌, nat_lt, nat_le, if◌then◌else◌, List, [], ◌∷◌, ◌++◌, length, sum, drop, slice_index, slice_range, Option, Some, None, is_none, Result, Ok, Err}
+use Rattle.std.specs.Prelude.{◌≡◌, ◌≢◌, ℕ, ◌+◌, ◌-◌, ◌%◌, ◌≤◌, ◌⊎◌, Bool, not, ◌&&◌, ◌||◌, ◌==◌, nat_lt, nat_le, if◌then◌else◌, List, [], ◌∷◌, ◌++◌, length, sum, drop, slice_index, slice_range, Option, Some, None, is_none, Result, Ok, Err}
 use Rattle.std.specs.List.{list_any}
 use Rattle.dp_telegram.specs.declared.fault.FrameFault.{FrameFault}
 use Rattle.dp_telegram.specs.declared.fault.FrameFault.TheVariants.{NoStart, BadHead, BadEnd, Short, Long}
@@ -75,10 +75,14 @@ Spells octets (frames.Telegram t) =
     ⊎ ((octets ≡ sd2_text t) × (1 ≤ length t.du.items) × (length t.du.items ≤ 246))
     ⊎ ((octets ≡ sd3_text t) × (length t.du.items ≡ 8))
 
--- what stands before DA: SD1 without a data unit, SD2 with the length twice where there is one
-abbrev pub head_text : ℕ → List ℕ
-head_text data_length =
-    if data_length == 0 then sd1 ∷ [] else sd2 ∷ (data_length + 3) ∷ (data_length + 3) ∷ sd2 ∷ []
+-- the text of a frame stands in front, and more octets behind it
+pub record HasFrameAndMore (octets : List ℕ) : Type 0 where
+  pub text : List ℕ
+  pub more : List ℕ
+  pub frame : Frame
+  pub all : octets ≡ text ++ more
+  pub spelt : Spells text frame
+  pub some : more ≢ []
 
 -- the text that is written: SD1 without a data unit, SD2 with one (own choice of SD2 for eight octets)
 abbrev pub text_of : Frame → List ℕ

@@ -4,3 +4,4 @@ pub mod FunctionCode
 pub mod FrameExamples
 pub mod Stream
 pub mod StreamExamples
+pub mod Encoding

@@ -1,12 +1,12 @@
 -- Into which pieces a stream of octets falls.
-use Rattle.std.specs.Prelude.{◌≡◌, ℕ, zero, suc, ◌≤◌, true, false, List, [], ◌∷◌, ◌++◌, length, take, drop, Option, Some, None, option_map}
+use Rattle.std.specs.Prelude.{◌≡◌, ◌≢◌, ◌⊎◌, ℕ, zero, suc, ◌≤◌, true, false, List, [], ◌∷◌, ◌++◌, length, take, drop, Option, Some, None, option_map}
 use Rattle.dp_telegram.specs.declared.fault.FrameFault.{FrameFault}
 use Rattle.dp_telegram.specs.declared.fault.FrameFault.TheVariants.{NoStart, BadHead, BadEnd, Short, Long}
 use Rattle.dp_telegram.specs.declared.cutter.Cut.{Cut}
 use Rattle.dp_telegram.specs.declared.cutter.Cut.TheVariants as pieces
 use Rattle.dp_telegram.specs.declared.cutter.Piece.{Piece}
 use Rattle.dp_telegram.specs.declared.cutter.Piece.TheVariants as lent
-use Rattle.dp_telegram.specs.FrameText.{sd2, Spells, delimiter, is_start, head_is_right, frame_length, end_is_right, fault_of, frame_at}
+use Rattle.dp_telegram.specs.FrameText.{sd1, sd2, sd3, ed, check_sequence, Spells, delimiter, is_start, head_is_right, frame_length, end_is_right, fault_of, frame_at}
 
 -- a start delimiter, a right head, and as many octets as the head says (IEC 61158-4-3, frame formats)
 pub record IsWhole (octets : List ℕ) : Type 0 where
@@ -35,6 +35,25 @@ pub record HasBadEnd (stream : List ℕ) (count : ℕ) (rest : List ℕ) : Type 
   pub whole : IsWhole octets
   pub wrong : end_is_right octets ≡ false
   pub counted : count ≡ length octets
+
+-- what stands before DA in a telegram whose check sequence covers so many octets: SD1 with DA, SA and FC alone, SD2 with the length
+-- twice, SD3 with eight octets of data unit (IEC 61158-4-3, frame formats)
+abbrev pub IsHead : List ℕ → ℕ → Type 0
+IsHead head size =
+    ((head ≡ sd1 ∷ []) × (size ≡ 3))
+    ⊎ ((head ≡ sd2 ∷ size ∷ size ∷ sd2 ∷ []) × (4 ≤ size) × (size ≤ 249))
+    ⊎ ((head ≡ sd3 ∷ []) × (size ≡ 11))
+
+-- a whole frame with a wrong check sequence or end delimiter, by its layout: a head, the octets that the check sequence covers, and a
+-- check octet and an end octet of which one is wrong (IEC 61158-4-3, frame formats)
+pub record HasWrongEnd (octets : List ℕ) : Type 0 where
+  pub head : List ℕ
+  pub body : List ℕ
+  pub check : ℕ
+  pub last : ℕ
+  pub laid_out : octets ≡ head ++ body ++ check ∷ last ∷ []
+  pub fits : IsHead head (length body)
+  pub wrong : (check ≢ check_sequence body) ⊎ (last ≢ ed)
 
 -- the stream is this piece, and the rest: a frame text with its octets, or one of the three that are dropped (own)
 abbrev pub StartsWith : List ℕ → Cut → List ℕ → Type 0

@@ -1,7 +1,8 @@
 //! Frames into octets.
 
 ghost use Rattle.std.specs.Prelude.{◌≡◌, ◌+◌, ◌≤◌, ◌++◌, [], length};
-ghost use Rattle.dp_telegram.specs.FrameText.{Spells, text_of, head_text, checked, body_of, reading_of};
+ghost use Rattle.dp_telegram.specs.FrameText.{Spells, text_of, checked, body_of, reading_of};
+ghost use Rattle.dp_telegram.specs.Encoding.{head_text};
 
 use crate::delimiter::{ED, SC, SD1, SD2, SD4, check_sum};
 use crate::frame::{Frame, Octets, Telegram};

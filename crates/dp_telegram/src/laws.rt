@@ -1,8 +1,10 @@
 //! Laws of the frame texts: each is what an empty function ensures.
 
-ghost use Rattle.std.specs.Prelude.{◌≡◌, ◌↔◌, ℕ, List, [], ◌++◌, Some};
+ghost use Rattle.std.specs.Prelude.{◌≡◌, ◌≢◌, ◌↔◌, ℕ, List, [], ◌++◌, Some};
 ghost use Rattle.dp_telegram.specs.declared.frame.Frame.{Frame};
-ghost use Rattle.dp_telegram.specs.FrameText.{Spells, frame_of};
+ghost use Rattle.dp_telegram.specs.declared.fault.FrameFault.{FrameFault};
+ghost use Rattle.dp_telegram.specs.FrameText.{Spells, frame_of, fault_of, HasFrameAndMore};
+ghost use Rattle.dp_telegram.specs.Stream.{StartsWithNone};
 
 /// The relation between octets and frames and the computing definition say the same.
 pub fn relation_and_computation_agree()
@@ -13,4 +15,14 @@ pub fn relation_and_computation_agree()
 pub fn no_text_begins_another()
     ensures { (text more : List ℕ) (frame other : Frame) →
         Spells text frame → Spells (text ++ more) other → more ≡ [] }
+{}
+
+/// Octets are `Long` where the text of a frame stands in front and other octets behind it.
+pub fn long_octets_begin_with_a_frame()
+    ensures { (octets : List ℕ) → (fault_of octets ≡ Some FrameFault.Long) ↔ HasFrameAndMore octets }
+{}
+
+/// Octets are `Short` where nothing can be judged yet: they begin with no piece of a stream.
+pub fn short_octets_begin_with_nothing()
+    ensures { (octets : List ℕ) → (fault_of octets ≡ Some FrameFault.Short) ↔ StartsWithNone octets }
 {}

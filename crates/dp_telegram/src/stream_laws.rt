@@ -1,8 +1,9 @@
 //! Laws of the cut of a stream: each is what an empty function ensures.
 
-ghost use Rattle.std.specs.Prelude.{◌≡◌, ◌≢◌, ◌+◌, ◌≤◌, ◌↔◌, ℕ, List, ◌++◌, length, sum_by, Some, None};
+ghost use Rattle.std.specs.Prelude.{◌≡◌, ◌≢◌, ◌+◌, ◌≤◌, ◌↔◌, ℕ, List, ◌++◌, length, drop, sum_by, Some, None, false};
+ghost use Rattle.dp_telegram.specs.FrameText.{end_is_right};
 ghost use Rattle.dp_telegram.specs.declared.cutter.Cut.{Cut};
-ghost use Rattle.dp_telegram.specs.Stream.{StartsWith, StartsWithNone, CutsInto, cut_length, first_cut, cuts_of, with_cut, uncut};
+ghost use Rattle.dp_telegram.specs.Stream.{IsWhole, HasWrongEnd, StartsWith, StartsWithNone, CutsInto, cut_length, first_cut, cuts_of, with_cut, uncut};
 
 /// A stream has one cut.
 pub fn a_stream_has_one_cut()
@@ -42,8 +43,15 @@ pub fn longest_frame_is_judged()
     ensures { (stream : List ℕ) → 255 ≤ length stream → first_cut stream ≢ None }
 {}
 
-/// No octet is lost: those of the pieces and those left are as many as came.
-pub fn pieces_count_all_octets()
-    ensures { (stream : List ℕ) (cuts : List Cut) (rest : List ℕ) →
+/// No octet is lost: what is left is the stream behind its pieces, and the pieces have the others.
+pub fn pieces_and_rest_are_all_octets()
+    ensures rest { (stream : List ℕ) (cuts : List Cut) (rest : List ℕ) →
+        CutsInto stream cuts rest → rest ≡ drop (sum_by cut_length cuts) stream }
+    ensures count { (stream : List ℕ) (cuts : List Cut) (rest : List ℕ) →
         CutsInto stream cuts rest → sum_by cut_length cuts + length rest ≡ length stream }
+{}
+
+/// A frame that is dropped whole is one by its layout, but for its check octet or its end octet.
+pub fn a_bad_end_is_a_wrong_octet()
+    ensures { (octets : List ℕ) → (IsWhole octets × (end_is_right octets ≡ false)) ↔ HasWrongEnd octets }
 {}

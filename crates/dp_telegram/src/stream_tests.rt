@@ -1,4 +1,5 @@
-ghost use Rattle.std.specs.Prelude.{◌<◌, length, OnOk};
+ghost use Rattle.std.specs.Prelude.{◌≡◌, ◌<◌, length, OnOk, OnSome};
+ghost use Rattle.dp_telegram.specs.Stream.{piece_of, left_of};
 
 use super::*;
 use arrayvec::ArrayVec;
@@ -8,6 +9,12 @@ use std::test::Fail;
 const SLAVE_DIAG: [u8; 11] = [
     0x68, 0x05, 0x05, 0x68, 0x85, 0x81, 0x6D, 0x3C, 0x3E, 0xED, 0x16,
 ];
+
+/// How many frames and how many dropped pieces 100,000 pseudo-random octets have, as a program
+/// counted that was written from the printed rules and shares nothing with this crate.
+const FRAMES: usize = 686;
+
+const DROPPED: usize = 92_005;
 
 fn frame(frame: Frame, text: &[u8]) -> Result<Cut, Fail> {
     let mut octets = ArrayVec::new();
@@ -58,6 +65,59 @@ fn bad_head_drops_one_octet(rt: HostRuntime) {
     }
     assert_eq!(rt; cutter.next(), None);
     assert_eq!(rt; cutter.feed(&[0; 255]), 254);
+}
+
+/// Two calls in a row: the first two pieces of the octets held.
+fn first_two(cutter: &mut Cutter) -> (Option<Cut>, Option<Cut>)
+    ensures first { result.0 ≡ piece_of cutter.old }
+    ensures second { result.1 ≡ piece_of (left_of cutter.old) }
+    ensures left { cutter.new ≡ left_of (left_of cutter.old) }
+{
+    let first = cutter.next();
+    (first, cutter.next())
+}
+
+/// Looks at the first piece where it lies and lets go of it, as `next` would: its size.
+fn pass_front(cutter: &mut Cutter) -> Option<usize>
+    ensures { OnSome result (cutter.new ≡ left_of cutter.old) }
+{
+    let size = cutter.front()?.size();
+    cutter.pass(size);
+    Some(size)
+}
+
+#[test]
+fn pieces_in_place(rt: HostRuntime) -> Result<(), Fail> {
+    let mut cutter = Cutter::new();
+    assert_eq!(rt; cutter.front(), None);
+    assert_eq!(rt; cutter.feed(&[0x68, 0x05, 0x04, 0x68, 0xE5]), 5);
+    let fault = FrameFault::BadHead;
+    assert_eq!(rt; cutter.front(), Some(Piece::Dropped { fault, count: 1 }));
+    assert_eq!(rt; pass_front(&mut cutter), Some(1));
+    let no_start = Cut::Dropped {
+        fault: FrameFault::NoStart,
+        count: 1,
+    };
+    assert_eq!(rt;
+        first_two(&mut cutter),
+        (Some(no_start.clone()?), Some(no_start))
+    );
+    assert_eq!(rt; cutter.front(), None);
+    assert_eq!(rt; cutter.feed(&SLAVE_DIAG), 11);
+    assert_eq!(rt; pass_front(&mut cutter), Some(1));
+    Ok(())
+}
+
+#[test]
+fn frame_in_place(rt: HostRuntime) {
+    let mut cutter = Cutter::new();
+    assert_eq!(rt; cutter.feed(&SLAVE_DIAG), 11);
+    assert_eq!(rt; cutter.feed(&[0xE5, 0x10]), 2);
+    assert_eq!(rt; cutter.front(), Some(Piece::Frame(&SLAVE_DIAG)));
+    assert_eq!(rt; pass_front(&mut cutter), Some(11));
+    assert_eq!(rt; cutter.front(), Some(Piece::Frame(&[0xE5])));
+    assert_eq!(rt; pass_front(&mut cutter), Some(1));
+    assert_eq!(rt; cutter.front(), None);
 }
 
 /// Bits 16 to 23 of each state of a linear congruential generator.
@@ -114,7 +174,8 @@ fn any_pieces_give_equal_cuts(rt: HostRuntime) -> Result<(), Fail> {
     let frames = by_octet
         .iter()
         .filter(|cut| matches!(cut, Cut::Frame { .. }));
-    assert!(rt; 100 < frames.count());
+    assert_eq!(rt; frames.count(), FRAMES);
+    assert_eq!(rt; by_octet.len(), FRAMES + DROPPED);
     assert!(rt; cuts(rt.alloc(), &stream, 7)? == by_octet);
     assert!(rt; cuts(rt.alloc(), &stream, 255)? == by_octet);
     Ok(())

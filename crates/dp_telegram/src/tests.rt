@@ -87,13 +87,15 @@ fn longest_telegrams(rt: HostRuntime) -> Result<(), Fail> {
 fn requests_have_their_parts(rt: HostRuntime) -> Result<(), Fail> {
     let frame = request(5, 1, 0x6D, Some(60), Some(62), &[]);
     assert_eq!(rt; frame, telegram(0x85, 0x81, 0x6D, &[0x3C, 0x3E])?);
-    if let Frame::Telegram(telegram) = frame {
-        let parts = telegram.parts().ok_or("parts")?;
-        assert_eq!(rt;
-            (parts.dsap, parts.ssap, parts.payload.len()),
-            (Some(60), Some(62), 0)
-        );
-    }
+    let Frame::Telegram(sent) = frame else {
+        return Err("a telegram")?;
+    };
+    let parts = sent.parts().ok_or("parts")?;
+    assert_eq!(rt;
+        (parts.dsap, parts.ssap, parts.payload.len()),
+        (Some(60), Some(62), 0)
+    );
+    assert_eq!(rt; (sent.destination(), sent.source()), (5, 1));
     let plain = request(5, 1, 0x5D, None, None, &[0x12, 0x34]);
     assert_eq!(rt; plain, telegram(0x05, 0x01, 0x5D, &[0x12, 0x34])?);
     let cases: [(u8, u8, &[u8]); 3] = [
@@ -102,9 +104,66 @@ fn requests_have_their_parts(rt: HostRuntime) -> Result<(), Fail> {
         (0x85, 0x81, &[0x3C]),
     ];
     for (da, sa, du) in cases {
-        if let Frame::Telegram(telegram) = telegram(da, sa, 0x6D, du)? {
-            assert_eq!(rt; telegram.parts(), None);
-        }
+        let Frame::Telegram(sent) = telegram(da, sa, 0x6D, du)? else {
+            return Err("a telegram")?;
+        };
+        assert_eq!(rt; sent.parts(), None);
+    }
+    Ok(())
+}
+
+#[test]
+fn frames_have_a_source(rt: HostRuntime) -> Result<(), Fail> {
+    assert_eq!(rt; Frame::Token { da: 2, sa: 1 }.source(), Some(1));
+    assert_eq!(rt; Frame::Ack.source(), None);
+    assert_eq!(rt; telegram(0x85, 0x81, 0x6D, &[])?.source(), Some(1));
+    assert!(rt; is_station(LAST_STATION) && !is_station(GLOBAL_ADDRESS));
+    Ok(())
+}
+
+#[test]
+fn function_codes(rt: HostRuntime) -> Result<(), Fail> {
+    let cases: [(u8, Function); 11] = [
+        (0x43, Function::SdaLow),
+        (0x44, Function::SdnLow),
+        (0x45, Function::SdaHigh),
+        (0x46, Function::SdnHigh),
+        (0x49, Function::FdlStatus),
+        (0x4C, Function::SrdLow),
+        (0x4D, Function::SrdHigh),
+        (0x4E, Function::Ident),
+        (0x4F, Function::LsapStatus),
+        (0x42, Function::Reserved),
+        (0xFD, Function::SrdHigh),
+    ];
+    for (fc, function) in cases {
+        let Frame::Telegram(sent) = telegram(5, 1, fc, &[])? else {
+            return Err("a telegram")?;
+        };
+        assert!(rt; sent.is_request());
+        assert_eq!(rt; sent.function(), function, "{fc:02x}");
+    }
+    assert!(rt; Function::SrdLow.is_srd() && Function::SrdHigh.is_srd());
+    assert!(rt; Function::SdnLow.is_sdn() && Function::SdnHigh.is_sdn());
+    assert!(rt; !Function::SdnLow.is_srd() && !Function::SrdLow.is_sdn());
+    Ok(())
+}
+
+#[test]
+fn frame_count_bits(rt: HostRuntime) -> Result<(), Fail> {
+    let cases: [(u8, bool, bool, bool); 5] = [
+        (0x6D, true, true, false),
+        (0x5D, true, false, true),
+        (0x7D, true, true, true),
+        (0x4D, true, false, false),
+        (0x08, false, false, false),
+    ];
+    for (fc, request, fcb, fcv) in cases {
+        let Frame::Telegram(sent) = telegram(5, 1, fc, &[])? else {
+            return Err("a telegram")?;
+        };
+        assert_eq!(rt; sent.is_request(), request, "{fc:02x}");
+        assert_eq!(rt; (sent.fcb(), sent.fcv()), (fcb, fcv), "{fc:02x}");
     }
     Ok(())
 }

@@ -1,5 +1,5 @@
-use Rattle.std.proofs.Common.{◌≡◌, true, ap, ◌∙◌, rules, take, ℕ}
-use Rattle.dp_telegram.specs.FrameText.{frame_at, frame_length, is_start, delimiter, head_is_right}
+use Rattle.std.proofs.Common.{ap, ◌∙◌, rules, take, ℕ}
+use Rattle.dp_telegram.specs.FrameText.{frame_at}
 use Rattle.dp_telegram.proofs.Fronts.{frame_parted, right_in_front}
 use Rattle.dp_telegram.proofs.cutter.lent_frame.Goals as goal
 

@@ -1,4 +1,4 @@
-use Rattle.std.proofs.Common.{◌≡◌, List, ℕ, ◌++◌, Option, ap, sym, ◌∙◌}
+use Rattle.std.proofs.Common.{◌≡◌, ◌++◌, Option, ap, sym, ◌∙◌}
 use Rattle.std.specs.Prelude.{option_map}
 use Rattle.dp_telegram.specs.Stream.{piece_of, cut_lent, with_handed, cuts_of, left_of}
 use Rattle.dp_telegram.specs.declared.cutter.Cut.{Cut}
