@@ -7,3 +7,4 @@ pub mod Steps
 pub mod Stations
 pub mod Answering
 pub mod LineExamples
+pub mod Names

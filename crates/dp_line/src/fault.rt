@@ -2,21 +2,20 @@
 
 ghost use Rattle.std.specs.Prelude.{◌≡◌};
 ghost use Rattle.dp_line.specs.Codes.{open_fault_code};
+ghost use Rattle.dp_line.specs.Names.{open_fault_name};
 
 use thiserror::Error;
 
 /// Why a line isn't opened. The first that applies is told: `Limit`, `TwiceAddress`, `OutOfMemory`.
 #[derive(Clone, Copy, Debug, PartialEq, Eq, Error)]
+#[error("{}", self.name())]
 pub enum OpenFault {
     /// Memory was refused; nothing is left opened.
-    #[error("out of memory")]
     OutOfMemory,
     /// Two of the line's stations, masters and slaves together, have one address.
-    #[error("an address stands twice")]
     TwiceAddress,
     /// A number of the description is outside its limits: 2 to 65,536 places, 1 to 16 masters, 1 to
     /// 64 slaves, addresses 0 to 126, at most 237 user parameters.
-    #[error("outside the limits")]
     Limit,
 }
 
@@ -29,6 +28,17 @@ impl OpenFault {
             OpenFault::OutOfMemory => 1,
             OpenFault::TwiceAddress => 2,
             OpenFault::Limit => 3,
+        }
+    }
+
+    /// Its name in texts (own).
+    pub const fn name(self) -> &'static str
+        ensures { result.now ≡ open_fault_name self }
+    {
+        match self {
+            OpenFault::OutOfMemory => "OutOfMemory",
+            OpenFault::TwiceAddress => "TwiceAddress",
+            OpenFault::Limit => "Limit",
         }
     }
 }

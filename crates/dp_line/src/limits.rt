@@ -22,17 +22,20 @@ const MOST_PLACES: u32 = 65_536;
 /// The most user parameters of a slave, in octets.
 const MOST_USER_PARAMETERS: u8 = 237;
 
-/// Why the description isn't opened, or None.
-pub(crate) fn opening_fault_in(line: &LineSpec) -> Option<OpenFault>
-    ensures { result ≡ opening_fault (description_of line.now) }
-{
-    if !is_within(line) {
-        return Some(OpenFault::Limit);
+impl LineSpec {
+    /// Why no line is opened from the description: `Limit` where a number is outside its limits, else
+    /// `TwiceAddress` where two stations have one address; None where a line is opened.
+    pub fn fault(&self) -> Option<OpenFault>
+        ensures { result ≡ opening_fault (description_of self.now) }
+    {
+        if !is_within(self) {
+            return Some(OpenFault::Limit);
+        }
+        if stands_twice(&station_addresses(self)) {
+            return Some(OpenFault::TwiceAddress);
+        }
+        None
     }
-    if stands_twice(&station_addresses(line)) {
-        return Some(OpenFault::TwiceAddress);
-    }
-    None
 }
 
 fn is_within(line: &LineSpec) -> bool

@@ -9,7 +9,7 @@ mod answering;
 use crate::description::LineSpec;
 use crate::event::{Event, Outcome, Step};
 use crate::fault::OpenFault;
-use crate::limits::{MOST_SLAVES, opening_fault_in};
+use crate::limits::MOST_SLAVES;
 use crate::rule::Rule;
 use crate::stations::Stations;
 use arrayvec::ArrayVec;
@@ -53,7 +53,7 @@ impl LineState {
         ensures opened { opening_fault (description_of line.now) ≡ None
             → MatchResult result (λ state. state ≡ start_of (description_of line.now)) (λ fault. fault ≡ OpenFault.OutOfMemory) }
     {
-        if let Some(fault) = opening_fault_in(line) {
+        if let Some(fault) = line.fault() {
             return Err(fault);
         }
         let stations = Stations::start(alloc, &line.slaves).map_err(|_| OpenFault::OutOfMemory)?;

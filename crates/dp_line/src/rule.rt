@@ -2,6 +2,7 @@
 
 ghost use Rattle.std.specs.Prelude.{◌≡◌};
 ghost use Rattle.dp_line.specs.Codes.{rule_code};
+ghost use Rattle.dp_line.specs.Names.{rule_name};
 
 /// Why a request is answered as it is: the row of the verdict that decided (own order).
 #[derive(Clone, Copy, Debug, PartialEq, Eq)]
@@ -71,6 +72,33 @@ impl Rule {
             Rule::Length => 17,
             Rule::NotSelected => 18,
             Rule::Done => 19,
+        }
+    }
+
+    /// Its name in texts (own).
+    pub const fn name(self) -> &'static str
+        ensures { result.now ≡ rule_name self }
+    {
+        match self {
+            Rule::Halted => "Halted",
+            Rule::NoFrame => "NoFrame",
+            Rule::NoMaster => "NoMaster",
+            Rule::ForeignSender => "ForeignSender",
+            Rule::Token => "Token",
+            Rule::NotRequest => "NotRequest",
+            Rule::BadFunction => "BadFunction",
+            Rule::BadExtension => "BadExtension",
+            Rule::BadBroadcast => "BadBroadcast",
+            Rule::NoStation => "NoStation",
+            Rule::Status => "Status",
+            Rule::NoService => "NoService",
+            Rule::Repeat => "Repeat",
+            Rule::NotActive => "NotActive",
+            Rule::NotHolder => "NotHolder",
+            Rule::Busy => "Busy",
+            Rule::Length => "Length",
+            Rule::NotSelected => "NotSelected",
+            Rule::Done => "Done",
         }
     }
 }

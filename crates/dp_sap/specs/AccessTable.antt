@@ -1,6 +1,5 @@
 -- The access table of a slave, which point it opens in a state, and the busy marks of its rows.
-use Rattle.std.specs.Prelude.{ℕ, Bool, true, false, nat_eq, is_some, List, [], ◌∷◌, map, find, slice_set, slice_index_or, Option, Some, None}
-use Rattle.std.specs.List.{position_from}
+use Rattle.std.specs.Prelude.{ℕ, Bool, true, false, nat_eq, is_some, if◌then◌else◌, List, [], ◌∷◌, find, Option, Some, None}
 use Rattle.std.specs.Option.{option_eq, option_map, option_map_or, option_and_then}
 use Rattle.dp_sap.specs.declared.state.State.{State}
 use Rattle.dp_sap.specs.declared.state.State.TheVariants.{WaitPrm, WaitCfg, DataExch}
@@ -63,6 +62,10 @@ set_prm = Some 61
 abbrev pub chk_cfg : Option ℕ
 chk_cfg = Some 62
 
+-- the most data octets of a telegram (IEC 61158-6-3, data unit)
+abbrev pub most_data : ℕ
+most_data = 244
+
 -- the access table of a slave with this output length (own)
 abbrev pub access_table : ℕ → List Row
 access_table out_len =
@@ -73,48 +76,86 @@ access_table out_len =
     ∷ table_row global_control Sdn off off holder 2 2
     ∷ table_row get_cfg Srd all all all 0 0
     ∷ table_row slave_diag Srd all all all 0 0
-    ∷ table_row set_prm Srd all holder holder 0 244
-    ∷ table_row chk_cfg Srd off holder holder 0 244
+    ∷ table_row set_prm Srd all holder holder 0 most_data
+    ∷ table_row chk_cfg Srd off holder holder 0 most_data
     ∷ []
 
--- the points of a slave: its state, its holder, its output length, and a busy mark for each row of the table, in the table's order (own)
+-- a busy mark for each point of the table (own)
+pub record BusyMarks : Type 0 where
+  pub data_exchange : Bool
+  pub rd_inp : Bool
+  pub rd_outp : Bool
+  pub global_control : Bool
+  pub get_cfg : Bool
+  pub slave_diag : Bool
+  pub set_prm : Bool
+  pub chk_cfg : Bool
+
+-- the points of a slave: its state, its holder, its output length and its busy marks (own)
 pub record PointsView : Type 0 where
   pub state : State
   pub holder : Option ℕ
   pub out_len : ℕ
-  pub busy : List Bool
+  pub busy : BusyMarks
 
 -- the same point
 abbrev pub same_point : Option ℕ → Option ℕ → Bool
 same_point = option_eq nat_eq
 
--- the place of a point in the table, counted from 0; none for a point outside it
-abbrev pub place_of : Option ℕ → Option ℕ
-place_of number = position_from (λ row. same_point number row.point) 0 (access_table 0)
+-- the row of a point
+abbrev pub row_of : ℕ → Option ℕ → Option Row
+row_of out_len number = find (λ row. same_point number row.point) (access_table out_len)
 
--- the point has a row in the table
+-- the point has a row in the table, whatever the output length
 abbrev pub is_in_table : Option ℕ → Bool
-is_in_table number = is_some (place_of number)
+is_in_table number = is_some (row_of 0 number)
 
 -- the marks of points of which none is busy
-abbrev pub no_marks : List Bool
-no_marks = map (λ row. false) (access_table 0)
+abbrev pub no_marks : BusyMarks
+no_marks = record {
+  data_exchange = false;
+  rd_inp = false;
+  rd_outp = false;
+  global_control = false;
+  get_cfg = false;
+  slave_diag = false;
+  set_prm = false;
+  chk_cfg = false;
+}
+
+-- each point of the table with its mark
+abbrev pub marked_points : BusyMarks → List (Option ℕ × Bool)
+marked_points marks =
+    (data_exchange, marks.data_exchange)
+    ∷ (rd_inp, marks.rd_inp)
+    ∷ (rd_outp, marks.rd_outp)
+    ∷ (global_control, marks.global_control)
+    ∷ (get_cfg, marks.get_cfg)
+    ∷ (slave_diag, marks.slave_diag)
+    ∷ (set_prm, marks.set_prm)
+    ∷ (chk_cfg, marks.chk_cfg)
+    ∷ []
 
 -- the busy mark of a point; a point outside the table is never busy (own)
-abbrev pub is_busy : List Bool → Option ℕ → Bool
-is_busy marks number = option_map_or (λ place. slice_index_or marks place false) (place_of number) false
+abbrev pub is_busy : BusyMarks → Option ℕ → Bool
+is_busy marks number = option_map_or (λ row. row.1) (find (λ row. same_point number row.0) (marked_points marks)) false
 
 -- the marks with that of one point set or taken away; a point outside the table has none (own)
-abbrev pub with_mark : List Bool → Option ℕ → Bool → List Bool
-with_mark marks number busy = option_map_or (λ place. slice_set marks place busy) (place_of number) marks
+abbrev pub with_mark : BusyMarks → Option ℕ → Bool → BusyMarks
+with_mark marks number busy = record {
+  data_exchange = if same_point number data_exchange then busy else marks.data_exchange;
+  rd_inp = if same_point number rd_inp then busy else marks.rd_inp;
+  rd_outp = if same_point number rd_outp then busy else marks.rd_outp;
+  global_control = if same_point number global_control then busy else marks.global_control;
+  get_cfg = if same_point number get_cfg then busy else marks.get_cfg;
+  slave_diag = if same_point number slave_diag then busy else marks.slave_diag;
+  set_prm = if same_point number set_prm then busy else marks.set_prm;
+  chk_cfg = if same_point number chk_cfg then busy else marks.chk_cfg;
+}
 
 -- the points of a slave none of which is busy
 abbrev pub unmarked : State → Option ℕ → ℕ → PointsView
 unmarked state master out_len = record { state = state; holder = master; out_len = out_len; busy = no_marks }
-
--- the row of a point
-abbrev pub row_of : ℕ → Option ℕ → Option Row
-row_of out_len number = find (λ row. same_point number row.point) (access_table out_len)
 
 -- the column of a state
 abbrev pub column_in : State → Row → Column

@@ -1,6 +1,6 @@
 -- Rows of the access table, worked.
-use Rattle.std.specs.Prelude.{◌≡◌, ℕ, true, false, [], ◌∷◌, Option, Some, None, refl}
-use Rattle.dp_sap.specs.AccessTable.{PointsView, access_row, chk_cfg, data_exchange, get_cfg, global_control, is_busy, no_marks, rd_inp, set_prm, unmarked, with_mark}
+use Rattle.std.specs.Prelude.{◌≡◌, ℕ, Bool, true, false, Option, Some, None, refl}
+use Rattle.dp_sap.specs.AccessTable.{BusyMarks, PointsView, access_row, chk_cfg, data_exchange, get_cfg, global_control, is_busy, no_marks, rd_inp, rd_outp, set_prm, slave_diag, unmarked, with_mark}
 use Rattle.dp_sap.specs.declared.point.Access.{Access}
 use Rattle.dp_sap.specs.declared.point.Access.TheVariants.{All, Only}
 use Rattle.dp_sap.specs.declared.point.Point.{Point}
@@ -51,8 +51,36 @@ below_the_table = refl
 pub above_the_table : access_row exchanging (Some 63) ≡ None
 above_the_table = refl
 
-pub mark_of_get_cfg : with_mark no_marks get_cfg true ≡ false ∷ false ∷ false ∷ false ∷ true ∷ false ∷ false ∷ false ∷ []
+pub mark_of_get_cfg : with_mark no_marks get_cfg true ≡ record no_marks { get_cfg = true }
 mark_of_get_cfg = refl
 
-pub no_mark_outside_the_table : is_busy (with_mark no_marks (Some 63) true) (Some 63) ≡ false
-no_mark_outside_the_table = refl
+pub no_mark_outside_the_table : (marks : BusyMarks) → is_busy (with_mark marks (Some 63) true) (Some 63) ≡ false
+no_mark_outside_the_table marks = refl
+
+-- a mark that is set is found, whatever the marks were
+abbrev IsFound : Option ℕ → Type 0
+IsFound point = (marks : BusyMarks) (busy : Bool) → is_busy (with_mark marks point busy) point ≡ busy
+
+pub data_exchange_is_marked : IsFound data_exchange
+data_exchange_is_marked marks busy = refl
+
+pub rd_inp_is_marked : IsFound rd_inp
+rd_inp_is_marked marks busy = refl
+
+pub rd_outp_is_marked : IsFound rd_outp
+rd_outp_is_marked marks busy = refl
+
+pub global_control_is_marked : IsFound global_control
+global_control_is_marked marks busy = refl
+
+pub get_cfg_is_marked : IsFound get_cfg
+get_cfg_is_marked marks busy = refl
+
+pub slave_diag_is_marked : IsFound slave_diag
+slave_diag_is_marked marks busy = refl
+
+pub set_prm_is_marked : IsFound set_prm
+set_prm_is_marked marks busy = refl
+
+pub chk_cfg_is_marked : IsFound chk_cfg
+chk_cfg_is_marked marks busy = refl

@@ -1,3 +1,4 @@
 pub mod AccessTable
 pub mod AccessTableExamples
 pub mod SapFault
+pub mod Names

@@ -1,7 +1,7 @@
 //! What follows from the access table.
 
-ghost use Rattle.std.specs.Prelude.{◌≡◌, ◌≢◌, ◌≤◌, ◌↔◌, ℕ, Option, Some, None, Bool, true, false, List, [], ◌∷◌, All, Contains, IsSome, length};
-ghost use Rattle.dp_sap.specs.AccessTable.{PointsView, Row, access_row, access_table, column_in, get_cfg, holder, is_busy, is_in_table, no_marks, row_of, set_prm, slave_diag, with_mark};
+ghost use Rattle.std.specs.Prelude.{◌≡◌, ◌≢◌, ◌≤◌, ◌↔◌, ℕ, Option, Some, None, Bool, true, false, [], ◌∷◌, All, Contains, IsSome};
+ghost use Rattle.dp_sap.specs.AccessTable.{BusyMarks, PointsView, Row, access_row, access_table, column_in, get_cfg, holder, is_busy, is_in_table, row_of, set_prm, slave_diag, with_mark};
 ghost use Rattle.dp_sap.specs.declared.state.State.{State};
 
 /// A point that its row opens to the holder alone is off while there is no holder, in each state.
@@ -30,18 +30,17 @@ pub fn outside_the_table_is_off()
     ensures off { (points : PointsView) (number : Option ℕ)
         → is_in_table number ≡ false
         → access_row points number ≡ None }
-    ensures idle { (marks : List Bool) (number : Option ℕ)
+    ensures idle { (marks : BusyMarks) (number : Option ℕ)
         → is_in_table number ≡ false
         → is_busy marks number ≡ false }
 {}
 
 /// A mark that is set or taken away is that of its own point, and no other point's.
 pub fn a_mark_is_of_one_point()
-    ensures own { (marks : List Bool) (number : Option ℕ) (busy : Bool)
-        → length marks ≡ length no_marks
+    ensures own { (marks : BusyMarks) (number : Option ℕ) (busy : Bool)
         → is_in_table number ≡ true
         → is_busy (with_mark marks number busy) number ≡ busy }
-    ensures others { (marks : List Bool) (number other : Option ℕ) (busy : Bool)
+    ensures others { (marks : BusyMarks) (number other : Option ℕ) (busy : Bool)
         → number ≢ other
         → is_busy (with_mark marks number busy) other ≡ is_busy marks other }
 {}

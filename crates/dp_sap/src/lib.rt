@@ -3,9 +3,10 @@
 //! are marked busy.
 //!
 //! [`Points`] holds what decides this: the slave's [`State`], its holder, its output length and
-//! the busy marks. [`Points::find`] tells the [`Point`] of a number.
+//! the busy marks. [`Points::find`] tells the [`Point`] of a number, such as [`SLAVE_DIAG`].
 #![tactic(auto)]
 
+mod busy;
 mod fault;
 pub mod laws;
 mod point;
@@ -13,7 +14,10 @@ mod points;
 mod state;
 
 pub use fault::SapFault;
-pub use point::{Access, Point, Service};
+pub use point::{
+    Access, CHK_CFG, GET_CFG, GLOBAL_CONTROL, MOST_DATA, Point, RD_INP, RD_OUTP, SET_PRM,
+    SLAVE_DIAG, Service,
+};
 pub use points::Points;
 pub use state::State;
 

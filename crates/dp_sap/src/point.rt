@@ -1,4 +1,30 @@
-//! A service access point as a request finds it.
+//! A service access point as a request finds it, and the points by their names.
+//!
+//! The default point, that of Data_Exchange, has no number: a request without DSAP names it.
+
+/// The point RD_Inp: the inputs are read (IEC 61158-6-3, service access points).
+pub const RD_INP: u8 = 56;
+
+/// The point RD_Outp: the outputs are read (IEC 61158-6-3, service access points).
+pub const RD_OUTP: u8 = 57;
+
+/// The point Global_Control (IEC 61158-6-3, service access points).
+pub const GLOBAL_CONTROL: u8 = 58;
+
+/// The point Get_Cfg: the configuration is read (IEC 61158-6-3, service access points).
+pub const GET_CFG: u8 = 59;
+
+/// The point Slave_Diag: the diagnosis is read (IEC 61158-6-3, service access points).
+pub const SLAVE_DIAG: u8 = 60;
+
+/// The point Set_Prm: parameters are sent (IEC 61158-6-3, service access points).
+pub const SET_PRM: u8 = 61;
+
+/// The point Chk_Cfg: a configuration is sent (IEC 61158-6-3, service access points).
+pub const CHK_CFG: u8 = 62;
+
+/// The most data octets of a telegram (IEC 61158-6-3, data unit).
+pub const MOST_DATA: usize = 244;
 
 /// Whose requests a point takes (own).
 #[derive(Clone, Copy, Debug, PartialEq, Eq)]

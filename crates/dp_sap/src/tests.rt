@@ -1,4 +1,10 @@
-use crate::{Access, Point, Points, SapFault, Service, State};
+ghost use Rattle.std.specs.Prelude.{◌≡◌, true, is_ok, IfOk, IsOkAnd};
+ghost use Rattle.dp_sap.specs.AccessTable.{is_in_table};
+
+use crate::{
+    Access, CHK_CFG, GET_CFG, GLOBAL_CONTROL, MOST_DATA, Point, Points, RD_INP, RD_OUTP, SET_PRM,
+    SLAVE_DIAG, SapFault, Service, State, laws,
+};
 
 const HOLDER: u8 = 3;
 
@@ -74,7 +80,7 @@ fn each_row_in_each_state(rt: HostRuntime) {
 
 #[test]
 fn numbers_outside_the_table(rt: HostRuntime) {
-    for number in [0, 55, 63, 255] {
+    for number in [0, 55, 63, 64, 255] {
         let mut points = Points::at_state(State::DataExch, Some(HOLDER), OUT_LEN);
         assert_eq!(rt;
             points.set_busy(Some(number), true),
@@ -101,4 +107,73 @@ fn a_mark_stays_until_taken_away(rt: HostRuntime) {
     assert_eq!(rt; points.set_busy(Some(60), false), Ok(()));
     assert!(rt; !points.find(Some(60)).busy);
     assert!(rt; points.find(None).busy);
+}
+
+#[test]
+fn each_point_is_marked_alone(rt: HostRuntime) {
+    for marked in access_table() {
+        let mut points = Points::at_state(State::DataExch, Some(HOLDER), OUT_LEN);
+        assert_eq!(rt; points.set_busy(marked.number, true), Ok(()));
+        for row in access_table() {
+            let busy = row.number == marked.number;
+            assert_eq!(rt; points.find(row.number).busy, busy, "at {:?}", row.number);
+        }
+    }
+}
+
+#[test]
+fn state_holder_and_output_length(rt: HostRuntime) {
+    let mut points = Points::at_state(State::WaitPrm, None, OUT_LEN);
+    assert_eq!(rt; points.state(), State::WaitPrm);
+    assert_eq!(rt; points.holder(), None);
+    assert_eq!(rt; points.out_len(), OUT_LEN);
+    points.move_to(State::WaitCfg, Some(126), 244);
+    assert_eq!(rt; points.state(), State::WaitCfg);
+    assert_eq!(rt; points.holder(), Some(126));
+    assert_eq!(rt; points.out_len(), 244);
+}
+
+#[test]
+fn named_points(rt: HostRuntime) {
+    let named = [
+        RD_INP,
+        RD_OUTP,
+        GLOBAL_CONTROL,
+        GET_CFG,
+        SLAVE_DIAG,
+        SET_PRM,
+        CHK_CFG,
+    ];
+    assert_eq!(rt; named, [56, 57, 58, 59, 60, 61, 62]);
+    assert_eq!(rt; MOST_DATA, 244);
+}
+
+/// What a client proves of a point by its name: it is marked, and is found busy.
+fn marked(points: &mut Points) -> Result<Point, SapFault>
+    ensures { IsOkAnd result (λ point. point.busy ≡ true) }
+{
+    points.set_busy(Some(SET_PRM), true)?;
+    Ok(points.find(Some(SET_PRM)))
+}
+
+/// The same of any point and either mark.
+fn marked_so(points: &mut Points, number: Option<u8>, busy: bool) -> Result<Point, SapFault>
+    ensures known { is_ok result ≡ is_in_table number }
+    ensures found { IfOk result (λ point. point.busy ≡ busy) }
+{
+    laws::a_mark_is_of_one_point();
+    points.set_busy(number, busy)?;
+    Ok(points.find(number))
+}
+
+#[test]
+fn a_mark_is_found(rt: HostRuntime) {
+    let mut points = Points::at_state(State::WaitPrm, None, OUT_LEN);
+    assert!(rt; marked(&mut points).is_ok_and(|point| point.busy));
+    let free = marked_so(&mut points, Some(SET_PRM), false);
+    assert!(rt; free.is_ok_and(|point| !point.busy));
+    assert_eq!(rt;
+        marked_so(&mut points, Some(63), true),
+        Err(SapFault::UnknownPoint)
+    );
 }

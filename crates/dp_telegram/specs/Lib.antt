@@ -5,3 +5,4 @@ pub mod FrameExamples
 pub mod Stream
 pub mod StreamExamples
 pub mod Encoding
+pub mod Names

@@ -2,6 +2,7 @@
 
 ghost use Rattle.std.specs.Prelude.{◌≡◌};
 ghost use Rattle.dp_telegram.specs.FrameText.{fault_code};
+ghost use Rattle.dp_telegram.specs.Names.{frame_fault_name};
 
 use thiserror::Error;
 
@@ -9,22 +10,18 @@ use thiserror::Error;
 /// `NoStart`, `Short` for want of a whole head, `BadHead`, `Short` for want of a whole frame,
 /// `BadEnd`, `Long`.
 #[derive(Clone, Copy, Debug, PartialEq, Eq, Error)]
+#[error("{}", self.name())]
 pub enum FrameFault {
     /// The first octet is no start delimiter (IEC 61158-4-3, start delimiters).
-    #[error("no start delimiter")]
     NoStart,
     /// The head of an SD2 telegram is wrong: LE and LEr differ, LE is not 4 to 249, or the second
     /// start delimiter is another octet (IEC 61158-4-3, length octets).
-    #[error("wrong head")]
     BadHead,
     /// The check sequence or the end delimiter is wrong (IEC 61158-4-3, frame check sequence).
-    #[error("wrong check sequence or end delimiter")]
     BadEnd,
     /// The octets end before the frame does.
-    #[error("octets are missing")]
     Short,
     /// Octets stand behind the frame.
-    #[error("octets behind the frame")]
     Long,
 }
 
@@ -39,6 +36,19 @@ impl FrameFault {
             FrameFault::BadEnd => 3,
             FrameFault::Short => 4,
             FrameFault::Long => 5,
+        }
+    }
+
+    /// Its name in texts (own).
+    pub const fn name(self) -> &'static str
+        ensures { result.now ≡ frame_fault_name self }
+    {
+        match self {
+            FrameFault::NoStart => "NoStart",
+            FrameFault::BadHead => "BadHead",
+            FrameFault::BadEnd => "BadEnd",
+            FrameFault::Short => "Short",
+            FrameFault::Long => "Long",
         }
     }
 }

@@ -1,0 +1,92 @@
+//! The busy marks of a slave's points.
+
+ghost use Rattle.std.specs.Prelude.{◌≡◌};
+ghost use Rattle.dp_sap.specs.AccessTable.{is_busy, is_in_table, no_marks, with_mark};
+
+use crate::point::{CHK_CFG, GET_CFG, GLOBAL_CONTROL, RD_INP, RD_OUTP, SET_PRM, SLAVE_DIAG};
+use std::marker::Model;
+
+/// A busy mark for each point of the access table (own).
+#[derive(Debug, Drop)]
+pub(crate) struct BusyMarks {
+    data_exchange: bool,
+    rd_inp: bool,
+    rd_outp: bool,
+    global_control: bool,
+    get_cfg: bool,
+    slave_diag: bool,
+    set_prm: bool,
+    chk_cfg: bool,
+}
+
+impl Model for BusyMarks {
+    ghost use Rattle.dp_sap.specs.AccessTable as table;
+
+    ghost Value = { table.BusyMarks };
+
+    ghost view = { λ m. record {
+      data_exchange = m.data_exchange;
+      rd_inp = m.rd_inp;
+      rd_outp = m.rd_outp;
+      global_control = m.global_control;
+      get_cfg = m.get_cfg;
+      slave_diag = m.slave_diag;
+      set_prm = m.set_prm;
+      chk_cfg = m.chk_cfg;
+    } };
+}
+
+impl BusyMarks {
+    /// No point is busy.
+    pub(crate) fn none() -> BusyMarks
+        ensures { result ≡ no_marks }
+    {
+        BusyMarks {
+            data_exchange: false,
+            rd_inp: false,
+            rd_outp: false,
+            global_control: false,
+            get_cfg: false,
+            slave_diag: false,
+            set_prm: false,
+            chk_cfg: false,
+        }
+    }
+
+    /// Whether the point is busy; one outside the table never is.
+    pub(crate) fn is_busy(&self, number: Option<u8>) -> bool
+        ensures { result ≡ is_busy self.now number }
+    {
+        match number {
+            None => self.data_exchange,
+            Some(RD_INP) => self.rd_inp,
+            Some(RD_OUTP) => self.rd_outp,
+            Some(GLOBAL_CONTROL) => self.global_control,
+            Some(GET_CFG) => self.get_cfg,
+            Some(SLAVE_DIAG) => self.slave_diag,
+            Some(SET_PRM) => self.set_prm,
+            Some(CHK_CFG) => self.chk_cfg,
+            Some(_) => false,
+        }
+    }
+
+    /// Sets or takes away the mark of the point. Whether the table has the point; where it has
+    /// not, nothing changes.
+    pub(crate) fn set(&mut self, number: Option<u8>, busy: bool) -> bool
+        ensures known { result ≡ is_in_table number }
+        ensures set { self.new ≡ with_mark self.old number busy }
+    {
+        match number {
+            None => self.data_exchange = busy,
+            Some(RD_INP) => self.rd_inp = busy,
+            Some(RD_OUTP) => self.rd_outp = busy,
+            Some(GLOBAL_CONTROL) => self.global_control = busy,
+            Some(GET_CFG) => self.get_cfg = busy,
+            Some(SLAVE_DIAG) => self.slave_diag = busy,
+            Some(SET_PRM) => self.set_prm = busy,
+            Some(CHK_CFG) => self.chk_cfg = busy,
+            Some(_) => return false,
+        }
+        true
+    }
+}
