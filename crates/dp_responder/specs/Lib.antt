@@ -1,0 +1,4 @@
+pub mod Rules
+pub mod Memory
+pub mod Judgement
+pub mod JudgementExamples

@@ -1,0 +1,52 @@
+-- The rules: their numbers and names, and which rule the rows of a verdict give (own).
+use Rattle.std.specs.Prelude.{ℕ, codes, Bool, if◌then◌else◌, List, [], ◌∷◌}
+use Rattle.dp_responder.specs.declared.rule.Rule.{Rule}
+use Rattle.dp_responder.specs.declared.rule.Rule.TheVariants as rules
+
+-- the rules in the order of the verdict
+abbrev pub rule_code : Rule → ℕ
+rule_code rules.Halted = 1
+rule_code rules.NoFrame = 2
+rule_code rules.NoMaster = 3
+rule_code rules.ForeignSender = 4
+rule_code rules.Token = 5
+rule_code rules.NotRequest = 6
+rule_code rules.BadFunction = 7
+rule_code rules.BadExtension = 8
+rule_code rules.BadBroadcast = 9
+rule_code rules.NoStation = 10
+rule_code rules.Status = 11
+rule_code rules.NoService = 12
+rule_code rules.Repeat = 13
+rule_code rules.NotActive = 14
+rule_code rules.NotHolder = 15
+rule_code rules.Busy = 16
+rule_code rules.Length = 17
+rule_code rules.NotSelected = 18
+rule_code rules.Done = 19
+
+abbrev pub rule_name : Rule → List ℕ
+rule_name rules.Halted = codes "Halted"
+rule_name rules.NoFrame = codes "NoFrame"
+rule_name rules.NoMaster = codes "NoMaster"
+rule_name rules.ForeignSender = codes "ForeignSender"
+rule_name rules.Token = codes "Token"
+rule_name rules.NotRequest = codes "NotRequest"
+rule_name rules.BadFunction = codes "BadFunction"
+rule_name rules.BadExtension = codes "BadExtension"
+rule_name rules.BadBroadcast = codes "BadBroadcast"
+rule_name rules.NoStation = codes "NoStation"
+rule_name rules.Status = codes "Status"
+rule_name rules.NoService = codes "NoService"
+rule_name rules.Repeat = codes "Repeat"
+rule_name rules.NotActive = codes "NotActive"
+rule_name rules.NotHolder = codes "NotHolder"
+rule_name rules.Busy = codes "Busy"
+rule_name rules.Length = codes "Length"
+rule_name rules.NotSelected = codes "NotSelected"
+rule_name rules.Done = codes "Done"
+
+-- the rule of the first row whose condition holds, and Done where there is none
+abbrev pub first_row : List (Bool × Rule) → Rule
+first_row [] = rules.Done
+first_row (row ∷ rows) = if row.0 then row.1 else first_row rows

@@ -1,0 +1,19 @@
+//! How a DP slave judges a request before it serves it (IEC 61158-4-3, FDL procedures): what it
+//! remembers of each master, so that a repeated request is answered and not executed again, and the
+//! rows of the verdict from the repeat to the length.
+//!
+//! [`judge`] tells what comes of a request under the slave's points and its [`FrameMemory`];
+//! [`FrameMemory::remember`] keeps the reply. [`Rule`] names every row of the verdict.
+#![tactic(auto)]
+
+mod judgement;
+pub mod laws;
+mod memory;
+mod rule;
+
+pub use judgement::{Judged, judge};
+pub use memory::FrameMemory;
+pub use rule::Rule;
+
+#[cfg(test)]
+mod tests;

@@ -1,0 +1,171 @@
+//! What a slave remembers of each master.
+
+ghost use Rattle.std.specs.Prelude.{◌≡◌, ◌≤◌, ◌==◌, Some, find, length, map};
+ghost use Rattle.std.specs.Option.{option_copied};
+ghost use Rattle.dp_responder.specs.Memory.{master_after, no_memory, remembered_of, with_remembered};
+
+use arrayvec::ArrayVec;
+use dp_telegram::Octets;
+use dp_telegram::function_code::{self, Function};
+use std::marker::Model;
+
+/// The most masters of a line.
+const MOST_MASTERS: usize = 16;
+
+/// The last request of a master that was judged anew.
+#[derive(Debug, Drop)]
+pub(crate) struct Last {
+    /// Its frame count bit.
+    pub(crate) fcb: bool,
+    /// The reply to it.
+    pub(crate) reply: Octets,
+}
+
+impl Model for Last {
+    ghost use Rattle.dp_responder.specs.Memory.{Remembered};
+
+    ghost Value = { Remembered };
+
+    ghost view = { λ l. record { fcb = l.fcb; reply = l.reply.items } };
+}
+
+impl Last {
+    /// The reply, to be handed out again.
+    pub(crate) fn copy_reply(&self) -> Octets
+        ensures { result.items ≡ self.now.reply }
+    {
+        ArrayVec::try_from(self.reply.as_slice()).unwrap()
+    }
+}
+
+/// A master, and what is remembered of it.
+#[derive(Debug, Default, Drop)]
+struct Entry {
+    master: u8,
+    last: Option<Last>,
+}
+
+impl Model for Entry {
+    ghost use Rattle.dp_responder.specs.Memory.{MasterMemory};
+
+    ghost Value = { MasterMemory };
+
+    ghost view = { λ e. record { master = e.master; last = e.last } };
+}
+
+/// What a slave remembers of each master of its line: the frame count bit of the last request that
+/// was judged anew, and the reply to it (own). Contracts see the masters in their order, and what is
+/// remembered of each.
+#[derive(Debug, Drop)]
+pub struct FrameMemory {
+    entries: ArrayVec<Entry, MOST_MASTERS>,
+}
+
+impl Model for FrameMemory {
+    ghost use Rattle.std.specs.Prelude.{List};
+    ghost use Rattle.dp_responder.specs.Memory.{MasterMemory};
+
+    ghost Value = { List MasterMemory };
+
+    ghost view = { λ m. m.entries.items };
+}
+
+impl FrameMemory {
+    /// Nothing is remembered of these masters, which are the line's.
+    pub fn new(masters: &ArrayVec<u8, MOST_MASTERS>) -> FrameMemory
+        ensures { result ≡ no_memory masters.now.items }
+    {
+        let mut entries = ArrayVec::new();
+        for master in masters.as_slice() {
+            entries.push(Entry {
+                master: *master,
+                last: None,
+            });
+        }
+        FrameMemory { entries }
+    }
+
+    /// Keeps what a request of the sender that was judged anew leaves: `fc` is its function code, 0
+    /// to 255, and `reply` are the octets that were answered.
+    ///
+    /// Of an SRD, FCB and reply are remembered with FCV 1, and with FCV 0 and FCB 1; with FCV 0 and
+    /// FCB 0 the memory of the sender is emptied. SDN and every other function leave it alone, and so
+    /// does an address that is no master of the line. Other masters' memories stay (own).
+    pub fn remember(&mut self, sender: u8, fc: u8, reply: &Octets)
+        ensures { self.new ≡ with_remembered self.old sender fc reply.now.items }
+    {
+        remember_in(self.entries.as_mut_slice(), sender, fc, reply);
+    }
+
+    /// What is remembered of the sender.
+    pub(crate) fn last_of(&self, sender: u8) -> Option<&Last>
+        ensures { option_copied result ≡ remembered_of self.now sender }
+    {
+        match entry_of(&self.entries, sender) {
+            Some(entry) => entry.last(),
+            None => None,
+        }
+    }
+}
+
+/// The entry of the sender, if it is a master.
+fn entry_of(entries: &[Entry], sender: u8) -> Option<&Entry>
+    ensures { option_copied result ≡ find (λ m. m.master == sender) entries.now }
+{
+    entries.iter().find(|entry| entry.master == sender)
+}
+
+/// Keeps what a request leaves in the sender's entry.
+fn remember_in(entries: &mut [Entry], sender: u8, fc: u8, reply: &[u8])
+    requires { length reply.now ≤ 255 }
+    ensures { entries.new ≡ map (master_after sender fc reply.now) entries.old }
+{
+    for entry in entries.iter_mut() {
+        entry.remember(sender, fc, reply);
+    }
+}
+
+impl Entry {
+    /// What is remembered of the master.
+    fn last(&self) -> Option<&Last>
+        ensures { option_copied result ≡ self.now.last }
+    {
+        self.last.as_ref()
+    }
+
+    /// Keeps what a request of the sender leaves, where it is this master.
+    fn remember(&mut self, sender: u8, fc: u8, reply: &[u8])
+        requires { length reply.now ≤ 255 }
+        ensures { self.new ≡ master_after sender fc reply.now self.old }
+    {
+        if self.master != sender || !Function::of(fc).is_srd() {
+            return;
+        }
+        let fcb = function_code::fcb(fc);
+        if fcb || function_code::fcv(fc) {
+            keep(&mut self.last, fcb, reply);
+        } else {
+            self.last = None;
+        }
+    }
+}
+
+/// Remembers a request in the place of the one before it, whose room the reply takes.
+fn keep(last: &mut Option<Last>, fcb: bool, reply: &[u8])
+    requires { length reply.now ≤ 255 }
+    ensures { last.new ≡ Some (record { fcb = fcb; reply = reply.now }) }
+{
+    match last {
+        Some(last) => {
+            last.fcb = fcb;
+            last.reply.clear();
+            last.reply.try_extend_from_slice(reply).unwrap();
+        }
+        None => {
+            *last = Some(Last {
+                fcb,
+                reply: ArrayVec::try_from(reply).unwrap(),
+            });
+        }
+    }
+}

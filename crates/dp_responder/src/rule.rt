@@ -1,0 +1,103 @@
+//! The rules of the verdict.
+
+ghost use Rattle.std.specs.Prelude.{◌≡◌};
+ghost use Rattle.dp_responder.specs.Rules.{rule_code, rule_name};
+
+/// Why a request is answered as it is: the row of the verdict that decided (own order).
+#[derive(Clone, Copy, Debug, PartialEq, Eq)]
+pub enum Rule {
+    /// The line is halted, or only the place of the halt is left: silence.
+    Halted,
+    /// The octets are no single frame: silence.
+    NoFrame,
+    /// The event's master is none of the line's: silence.
+    NoMaster,
+    /// The frame's source address isn't the event's master: silence.
+    ForeignSender,
+    /// A token: silence.
+    Token,
+    /// A short acknowledgement, or a telegram that is a response: silence.
+    NotRequest,
+    /// A function outside this profile: silence.
+    BadFunction,
+    /// An announced extension octet is missing or not plain: silence.
+    BadExtension,
+    /// A function for one station is sent to all: silence.
+    BadBroadcast,
+    /// No slave has the destination address: silence.
+    NoStation,
+    /// FDL status is answered.
+    Status,
+    /// The function is none that the slave has at this point: RS.
+    NoService,
+    /// A repeated request: the stored reply.
+    Repeat,
+    /// The access point is off: RS.
+    NotActive,
+    /// The access point is open to another master only: RS.
+    NotHolder,
+    /// The access point is marked busy: RR.
+    Busy,
+    /// The payload's length is outside the access table: UE.
+    Length,
+    /// A Global_Control that doesn't select the slave: silence.
+    NotSelected,
+    /// The service is done.
+    Done,
+}
+
+impl Rule {
+    /// The number of the rule, 1 to 19 in the order of the verdict (own).
+    pub const fn code(self) -> u8
+        ensures { result ≡ rule_code self }
+    {
+        match self {
+            Rule::Halted => 1,
+            Rule::NoFrame => 2,
+            Rule::NoMaster => 3,
+            Rule::ForeignSender => 4,
+            Rule::Token => 5,
+            Rule::NotRequest => 6,
+            Rule::BadFunction => 7,
+            Rule::BadExtension => 8,
+            Rule::BadBroadcast => 9,
+            Rule::NoStation => 10,
+            Rule::Status => 11,
+            Rule::NoService => 12,
+            Rule::Repeat => 13,
+            Rule::NotActive => 14,
+            Rule::NotHolder => 15,
+            Rule::Busy => 16,
+            Rule::Length => 17,
+            Rule::NotSelected => 18,
+            Rule::Done => 19,
+        }
+    }
+
+    /// Its name in texts (own).
+    pub const fn name(self) -> &'static str
+        ensures { result.now ≡ rule_name self }
+    {
+        match self {
+            Rule::Halted => "Halted",
+            Rule::NoFrame => "NoFrame",
+            Rule::NoMaster => "NoMaster",
+            Rule::ForeignSender => "ForeignSender",
+            Rule::Token => "Token",
+            Rule::NotRequest => "NotRequest",
+            Rule::BadFunction => "BadFunction",
+            Rule::BadExtension => "BadExtension",
+            Rule::BadBroadcast => "BadBroadcast",
+            Rule::NoStation => "NoStation",
+            Rule::Status => "Status",
+            Rule::NoService => "NoService",
+            Rule::Repeat => "Repeat",
+            Rule::NotActive => "NotActive",
+            Rule::NotHolder => "NotHolder",
+            Rule::Busy => "Busy",
+            Rule::Length => "Length",
+            Rule::NotSelected => "NotSelected",
+            Rule::Done => "Done",
+        }
+    }
+}
