@@ -8,12 +8,14 @@ use Rattle.dp_telegram.specs.declared.frame.Frame.TheVariants as frames
 use Rattle.dp_telegram.specs.declared.frame.Telegram.{Telegram}
 use Rattle.dp_telegram.specs.FrameText.{frame_of}
 use Rattle.dp_telegram.specs.Access.{address_of, parts_of}
-use Rattle.dp_line.specs.declared.rule.Rule.{Rule}
-use Rattle.dp_line.specs.declared.rule.Rule.TheVariants as rules
+use Rattle.dp_responder.specs.declared.rule.Rule.{Rule}
+use Rattle.dp_responder.specs.declared.rule.Rule.TheVariants as rules
 use Rattle.dp_line.specs.SlaveRecord.{SlaveRecord}
 use Rattle.dp_line.specs.World.{World, slave_at, takes_no_more}
-use Rattle.dp_line.specs.Verdict.{verdict_of, first_row, frame_has, has_foreign_sender, is_token, is_no_request, has_reserved_function, has_bad_extension, is_broadcast, has_no_station, asks_for_status, has_unserved_function, point_is_off, has_wrong_length}
-use Rattle.dp_line.specs.ReplyText.{short_reply, acknowledged}
+use Rattle.dp_line.specs.Verdict.{verdict_of, frame_has, has_foreign_sender, is_token, is_no_request, has_reserved_function, has_bad_extension, is_broadcast, has_no_station, asks_for_status, has_unserved_function, point_is_off, has_wrong_length}
+use Rattle.dp_line.specs.ReplyText.{short_reply}
+use Rattle.dp_telegram.specs.FunctionCode.{ok}
+use Rattle.dp_responder.specs.Rules.{first_row}
 use Rattle.dp_line.specs.Steps.{outcome_of, reply_of, answered, addressed_slave, telegram_spelt}
 
 -- the verdict by what it looks at of the line
@@ -66,7 +68,7 @@ same_reply (Some slave) (Some another) reply e = refl
 
 -- what any slave replies
 abbrev status_reply : List ℕ → Option (List ℕ)
-status_reply octets = option_and_then (λ telegram. option_and_then (λ parts. Some (short_reply telegram acknowledged)) (parts_of telegram)) (telegram_spelt octets)
+status_reply octets = option_and_then (λ telegram. option_and_then (λ parts. Some (short_reply telegram ok)) (parts_of telegram)) (telegram_spelt octets)
 
 pub status_alike : (world other : World) (master : ℕ) (octets : List ℕ) → takes_no_more other ≡ takes_no_more world → other.masters ≡ world.masters → SameStations other world
     → verdict_of world master octets ≡ rules.Status → outcome_of other master octets ≡ outcome_of world master octets

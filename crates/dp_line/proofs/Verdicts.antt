@@ -1,6 +1,7 @@
 -- Which row of the verdict decides, and what follows for facts and answer.
 use Rattle.std.proofs.Common.{◌≡◌, ℕ, Bool, true, false, not, cond, eqb, List, [], ◌∷◌, ◌++◌, Option, Some, None, refl, sym, ap, ◌∙◌}
 use Rattle.std.specs.Prelude.{is_none, option_map, option_and_then, Result, Ok, Err, MatchResult}
+use Rattle.dp_responder.specs.Rules.{first_row}
 use Rattle.dp_line.specs.declared.line_state.answering.Addressed.{Addressed}
 use Rattle.std.specs.Option.{option_map_or}
 use Rattle.std.specs.List.{list_any}
@@ -11,13 +12,13 @@ use Rattle.dp_telegram.specs.declared.frame.Telegram.{Telegram}
 use Rattle.dp_telegram.specs.declared.access.Parts.{Parts}
 use Rattle.dp_telegram.specs.FrameText.{frame_of}
 use Rattle.dp_telegram.specs.Access.{address_of, parts_of}
-use Rattle.dp_line.specs.declared.rule.Rule.{Rule}
-use Rattle.dp_line.specs.declared.rule.Rule.TheVariants as rules
+use Rattle.dp_responder.specs.declared.rule.Rule.{Rule}
+use Rattle.dp_responder.specs.declared.rule.Rule.TheVariants as rules
 use Rattle.dp_line.specs.declared.event.Outcome.TheVariants.{Silence}
 use Rattle.dp_line.specs.SlaveRecord.{SlaveRecord}
 use Rattle.dp_line.specs.World.{World, slave_at, takes_no_more, is_last_place}
 use Rattle.dp_line.specs.declared.event.Event.{Event}
-use Rattle.dp_line.specs.Verdict.{verdict_of, first_row, concerns_a_slave, has_foreign_sender, is_token, is_no_request, has_reserved_function, has_bad_extension, is_broadcast, has_no_station, asks_for_status, has_unserved_function, point_is_off, has_wrong_length}
+use Rattle.dp_line.specs.Verdict.{verdict_of, concerns_a_slave, has_foreign_sender, is_token, is_no_request, has_reserved_function, has_bad_extension, is_broadcast, has_no_station, asks_for_status, has_unserved_function, point_is_off, has_wrong_length}
 use Rattle.dp_line.specs.Answering.{frame_rows, slave_rows, rule_at}
 use Rattle.dp_line.specs.ReplyText.{reply_text}
 use Rattle.dp_line.specs.Steps.{effect, step, facts_of, outcome_of, reply_of, answered, state_and_holder, addressed_slave, telegram_spelt, telegram_in_frame}

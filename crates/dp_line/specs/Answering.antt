@@ -1,12 +1,14 @@
 -- Parts of the verdict by themselves. No public clause cites this module.
 use Rattle.std.specs.Prelude.{ℕ, Bool, not, ◌==◌, List, [], ◌∷◌, length}
 use Rattle.dp_telegram.specs.declared.frame.Frame.{Frame}
+use Rattle.dp_telegram.specs.declared.frame.Frame.TheVariants as frames
 use Rattle.dp_telegram.specs.declared.frame.Telegram.{Telegram}
 use Rattle.dp_telegram.specs.declared.access.Parts.{Parts}
-use Rattle.dp_line.specs.declared.rule.Rule.{Rule}
-use Rattle.dp_line.specs.declared.rule.Rule.TheVariants as rules
-use Rattle.dp_line.specs.Verdict.{first_row, has_foreign_sender, is_token, is_no_request, has_reserved_function, has_bad_extension, is_broadcast, has_no_station, asks_for_status, has_unserved_function, point_is_off, has_wrong_length, is_fdl_status, is_unserved, is_off}
+use Rattle.dp_responder.specs.declared.rule.Rule.{Rule}
+use Rattle.dp_responder.specs.declared.rule.Rule.TheVariants as rules
+use Rattle.dp_line.specs.Verdict.{telegram_is_request, has_foreign_sender, is_token, is_no_request, has_reserved_function, has_bad_extension, is_broadcast, has_no_station, asks_for_status, has_unserved_function, point_is_off, has_wrong_length, is_fdl_status, is_unserved, is_off}
 use Rattle.dp_line.specs.World.{World}
+use Rattle.dp_responder.specs.Rules.{first_row}
 
 -- the rows that look at the frame alone
 abbrev pub frame_rows : ℕ → Frame → List (Bool × Rule)
@@ -15,6 +17,13 @@ frame_rows master frame =
     ∷ (is_token frame, rules.Token)
     ∷ (is_no_request frame, rules.NotRequest)
     ∷ (has_reserved_function frame, rules.BadFunction)
+    ∷ []
+
+-- of these the rows that look at a telegram of the master itself
+abbrev pub telegram_rows : Telegram → List (Bool × Rule)
+telegram_rows telegram =
+    (not (telegram_is_request telegram), rules.NotRequest)
+    ∷ (has_reserved_function (frames.Telegram telegram), rules.BadFunction)
     ∷ []
 
 -- the rows that look for the slave, and at it

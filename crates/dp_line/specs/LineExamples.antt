@@ -5,7 +5,7 @@ use Rattle.dp_line.specs.declared.description.SlaveSpec.{SlaveSpec}
 use Rattle.dp_line.specs.declared.description.Device.TheVariants.{Still}
 use Rattle.dp_line.specs.declared.event.Outcome.TheVariants.{Reply, Silence}
 use Rattle.dp_line.specs.declared.event.Event.TheVariants.{Request}
-use Rattle.dp_line.specs.declared.rule.Rule.TheVariants as rules
+use Rattle.dp_responder.specs.declared.rule.Rule.TheVariants as rules
 use Rattle.dp_line.specs.SlaveRecord.{starting_slave}
 use Rattle.dp_line.specs.World.{World, ascending}
 use Rattle.dp_line.specs.Steps.{outcome_of, facts_of, step}

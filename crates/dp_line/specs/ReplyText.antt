@@ -5,23 +5,11 @@ use Rattle.dp_telegram.specs.declared.frame.Telegram.{Telegram}
 use Rattle.dp_telegram.specs.declared.access.Parts.{Parts}
 use Rattle.dp_telegram.specs.FrameText.{text_of, sc_text}
 use Rattle.dp_telegram.specs.Access.{address_of}
+use Rattle.dp_telegram.specs.FunctionCode.{ok, user_error, not_activated, data_low}
 use Rattle.dp_diag.specs.DiagnosisText.{diagnosis_text}
-use Rattle.dp_line.specs.declared.rule.Rule.{Rule}
-use Rattle.dp_line.specs.declared.rule.Rule.TheVariants as rules
+use Rattle.dp_responder.specs.declared.rule.Rule.{Rule}
+use Rattle.dp_responder.specs.declared.rule.Rule.TheVariants as rules
 use Rattle.dp_line.specs.SlaveRecord.{SlaveRecord, diag_facts}
-
--- functions of a response (IEC 61158-4-3, function code): OK, UE, RS, DL
-abbrev pub acknowledged : ℕ
-acknowledged = 0x00
-
-abbrev pub user_error : ℕ
-user_error = 0x01
-
-abbrev pub service_not_active : ℕ
-service_not_active = 0x03
-
-abbrev pub data_low : ℕ
-data_low = 0x08
 
 -- a reply without data: SD1 with the addresses exchanged, and no extension (IEC 61158-4-3, response telegrams)
 abbrev pub short_reply : Telegram → ℕ → List ℕ
@@ -49,9 +37,9 @@ positive_reply telegram parts octets =
 
 -- what a slave replies to a telegram by this rule; None is silence
 abbrev pub reply_text : SlaveRecord → Telegram → Parts → Rule → Option (List ℕ)
-reply_text slave telegram parts rules.Status = Some (short_reply telegram acknowledged)
-reply_text slave telegram parts rules.NoService = Some (short_reply telegram service_not_active)
-reply_text slave telegram parts rules.NotActive = Some (short_reply telegram service_not_active)
+reply_text slave telegram parts rules.Status = Some (short_reply telegram ok)
+reply_text slave telegram parts rules.NoService = Some (short_reply telegram not_activated)
+reply_text slave telegram parts rules.NotActive = Some (short_reply telegram not_activated)
 reply_text slave telegram parts rules.Length = Some (short_reply telegram user_error)
 reply_text slave telegram parts rules.Done = Some (positive_reply telegram parts (diagnosis_text (diag_facts slave)))
 reply_text slave telegram parts silent = None

@@ -11,8 +11,8 @@ use Rattle.dp_line.specs.declared.event.Event.TheVariants.{Request}
 use Rattle.dp_line.specs.declared.event.Outcome.{Outcome}
 use Rattle.dp_line.specs.declared.event.Outcome.TheVariants.{Reply, Silence}
 use Rattle.dp_line.specs.declared.event.Step.{Step}
-use Rattle.dp_line.specs.declared.rule.Rule.{Rule}
-use Rattle.dp_line.specs.declared.rule.Rule.TheVariants as rules
+use Rattle.dp_responder.specs.declared.rule.Rule.{Rule}
+use Rattle.dp_responder.specs.declared.rule.Rule.TheVariants as rules
 use Rattle.dp_line.specs.SlaveRecord.{SlaveRecord, released, is_held, address_of_slave}
 use Rattle.dp_line.specs.World.{World, slave_at, is_last_place}
 use Rattle.dp_line.specs.Verdict.{verdict_of, concerns_a_slave}

@@ -7,42 +7,56 @@ use Rattle.dp_telegram.specs.declared.frame.Frame.TheVariants as frames
 use Rattle.dp_telegram.specs.declared.frame.Telegram.{Telegram}
 use Rattle.dp_telegram.specs.declared.access.Parts.{Parts}
 use Rattle.dp_telegram.specs.FrameText.{frame_of}
-use Rattle.dp_telegram.specs.Access.{address_of, parts_of}
-use Rattle.dp_line.specs.declared.rule.Rule.{Rule}
-use Rattle.dp_line.specs.declared.rule.Rule.TheVariants as rules
+use Rattle.dp_telegram.specs.Access.{address_of, global_address, parts_of, source_of}
+use Rattle.dp_telegram.specs.FunctionCode.{asks_srd, function_of, is_request}
+use Rattle.dp_telegram.specs.declared.function_code.Function.{Function}
+use Rattle.dp_telegram.specs.declared.function_code.Function.TheVariants.{SdaLow, SdnLow, SdaHigh, SdnHigh, FdlStatus, SrdLow, SrdHigh, Ident, LsapStatus, Reserved}
+use Rattle.dp_sap.specs.AccessTable.{same_point, slave_diag}
+use Rattle.dp_responder.specs.Rules.{first_row}
+use Rattle.dp_responder.specs.declared.rule.Rule.{Rule}
+use Rattle.dp_responder.specs.declared.rule.Rule.TheVariants as rules
 use Rattle.dp_line.specs.World.{World, slave_at, takes_no_more}
 
--- the global address (IEC 61158-4-3, station addresses)
-abbrev pub global_address : ℕ
-global_address = 127
-
--- bit 6 of a function code tells requests from responses (IEC 61158-4-3, function code)
-abbrev pub is_request : Telegram → Bool
-is_request telegram = telegram.fc / 64 % 2 == 1
-
--- bits 3 to 0 of a function code (IEC 61158-4-3, function code)
-abbrev pub function_of : Telegram → ℕ
-function_of telegram = telegram.fc % 16
-
--- Send and Request Data with reply, low and high (IEC 61158-4-3, function code)
-abbrev pub is_srd : Telegram → Bool
-is_srd telegram = function_of telegram == 12 || function_of telegram == 13
+-- a telegram is a request (IEC 61158-4-3, function code)
+abbrev pub telegram_is_request : Telegram → Bool
+telegram_is_request telegram = is_request telegram.fc
 
 -- Request FDL Status (IEC 61158-4-3, function code)
-abbrev pub is_fdl_status : Telegram → Bool
-is_fdl_status telegram = function_of telegram == 9
+abbrev pub asks_fdl_status : Function → Bool
+asks_fdl_status FdlStatus = true
+asks_fdl_status SdaLow = false
+asks_fdl_status SdnLow = false
+asks_fdl_status SdaHigh = false
+asks_fdl_status SdnHigh = false
+asks_fdl_status SrdLow = false
+asks_fdl_status SrdHigh = false
+asks_fdl_status Ident = false
+asks_fdl_status LsapStatus = false
+asks_fdl_status Reserved = false
 
 -- Send Data with Acknowledge, low and high, Request Ident and Request LSAP Status (IEC 61158-4-3, function code): no slave
 -- serves them (own)
+abbrev pub asks_unserved : Function → Bool
+asks_unserved SdaLow = true
+asks_unserved SdaHigh = true
+asks_unserved Ident = true
+asks_unserved LsapStatus = true
+asks_unserved SdnLow = false
+asks_unserved SdnHigh = false
+asks_unserved FdlStatus = false
+asks_unserved SrdLow = false
+asks_unserved SrdHigh = false
+asks_unserved Reserved = false
+
+abbrev pub is_fdl_status : Telegram → Bool
+is_fdl_status telegram = asks_fdl_status (function_of telegram.fc)
+
 abbrev pub is_unserved : Telegram → Bool
-is_unserved telegram =
-    function_of telegram == 3 || function_of telegram == 5 || function_of telegram == 14 || function_of telegram == 15
+is_unserved telegram = asks_unserved (function_of telegram.fc)
 
 -- the frame has a source address, and its address isn't the sender (own)
 abbrev pub has_foreign_sender : ℕ → Frame → Bool
-has_foreign_sender sender (frames.Token da sa) = not (address_of sa == sender)
-has_foreign_sender sender frames.Ack = false
-has_foreign_sender sender (frames.Telegram telegram) = not (address_of telegram.sa == sender)
+has_foreign_sender sender frame = option_map_or (λ source. not (source == sender)) (source_of frame) false
 
 abbrev pub is_token : Frame → Bool
 is_token (frames.Token da sa) = true
@@ -57,11 +71,11 @@ telegram_has condition (frames.Telegram telegram) = condition telegram
 
 -- a short acknowledgement, a token or a response
 abbrev pub is_no_request : Frame → Bool
-is_no_request frame = not (telegram_has is_request frame)
+is_no_request frame = not (telegram_has telegram_is_request frame)
 
 -- a function outside those of this profile, and Send Data with No acknowledge, which no point takes (own)
 abbrev pub has_reserved_function : Frame → Bool
-has_reserved_function = telegram_has (λ telegram. not (is_srd telegram || is_fdl_status telegram || is_unserved telegram))
+has_reserved_function = telegram_has (λ telegram. not (asks_srd (function_of telegram.fc) || is_fdl_status telegram || is_unserved telegram))
 
 -- an announced extension octet is missing or not plain (own)
 abbrev pub has_bad_extension : Frame → Bool
@@ -86,13 +100,9 @@ has_unserved_function = telegram_has is_unserved
 abbrev pub parts_have : (Parts → Bool) → Frame → Bool
 parts_have condition = telegram_has (λ telegram. option_map_or condition (parts_of telegram) false)
 
--- the access point Slave_Diag (IEC 61158-6-3, service access points)
-abbrev pub slave_diag_point : ℕ
-slave_diag_point = 60
-
 -- every point but Slave_Diag is off (own)
 abbrev pub is_off : Option ℕ → Bool
-is_off point = not (option_map_or (λ number. number == slave_diag_point) point false)
+is_off point = not (same_point point slave_diag)
 
 abbrev pub point_is_off : Frame → Bool
 point_is_off = parts_have (λ parts. is_off parts.dsap)
@@ -100,11 +110,6 @@ point_is_off = parts_have (λ parts. is_off parts.dsap)
 -- Slave_Diag takes no octets (IEC 61158-6-3, Slave_Diag request)
 abbrev pub has_wrong_length : Frame → Bool
 has_wrong_length = parts_have (λ parts. not (length parts.payload.items == 0))
-
--- the rule of the first row whose condition holds, and Done where there is none
-abbrev pub first_row : List (Bool × Rule) → Rule
-first_row [] = rules.Done
-first_row (row ∷ rows) = if row.0 then row.1 else first_row rows
 
 -- a condition on the frame that the octets spell, which doesn't hold where they spell none
 abbrev pub frame_has : (Frame → Bool) → List ℕ → Bool

@@ -5,6 +5,7 @@ use Rattle.dp_line.specs.declared.description.SlaveSpec.{SlaveSpec}
 use Rattle.dp_line.specs.declared.description.LineSpec.{LineSpec}
 use Rattle.dp_line.specs.declared.fault.OpenFault.{OpenFault}
 use Rattle.dp_line.specs.declared.fault.OpenFault.TheVariants.{TwiceAddress, Limit}
+use Rattle.dp_telegram.specs.Access.{global_address, is_station}
 use Rattle.dp_line.specs.SlaveRecord.{SlaveRecord, starting_slave, address_of_slave}
 
 -- a line: its masters, the places of its journal and how many are taken, whether it is halted, and its
@@ -43,10 +44,6 @@ description_of line = record {
   slaves = line.slaves.items;
 }
 
--- station addresses are 0 to 126 (IEC 61158-4-3, station addresses)
-abbrev pub is_station : ℕ → Bool
-is_station address = nat_le address 126
-
 -- the limits of a slave's description
 abbrev pub slave_is_within_limits : SlaveSpec → Bool
 slave_is_within_limits slave = is_station slave.address && nat_le slave.user_max 237
@@ -82,7 +79,7 @@ described_at slaves address = find (λ slave. slave.address == address) slaves
 
 -- the descriptions in ascending order of address: of each address in turn, the slave that has it
 unfoldable pub ascending : List SlaveSpec → List SlaveSpec
-ascending slaves = filter_map (described_at slaves) (range_with_len 0 127)
+ascending slaves = filter_map (described_at slaves) (range_with_len 0 global_address)
 
 -- the line at its start (own)
 abbrev pub start_of : Description → World

@@ -1,7 +1,7 @@
 //! What comes to a line, and what a line answers.
 
-use crate::rule::Rule;
 use arrayvec::ArrayVec;
+use dp_responder::Rule;
 use dp_sap::State;
 use dp_telegram::Octets;
 

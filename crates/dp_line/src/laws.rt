@@ -5,7 +5,7 @@ ghost use Rattle.arrayvec.specs.ArrayVec.{ArrayVec};
 ghost use Rattle.dp_line.specs.declared.event.Event.{Event};
 ghost use Rattle.dp_line.specs.declared.event.Step.{Step};
 ghost use Rattle.dp_line.specs.SlaveRecord.{SlaveRecord};
-ghost use Rattle.dp_line.specs.declared.rule.Rule.{Rule};
+ghost use Rattle.dp_responder.specs.declared.rule.Rule.{Rule};
 ghost use Rattle.dp_line.specs.World.{World, Description, start_of, opening_fault, slave_at, takes_no_more};
 ghost use Rattle.dp_line.specs.Verdict.{verdict_of};
 ghost use Rattle.dp_line.specs.Steps.{run, outcome_of};

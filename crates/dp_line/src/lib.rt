@@ -13,15 +13,14 @@ pub mod laws;
 mod limits;
 mod line_state;
 mod reply;
-mod rule;
 mod slave;
 mod stations;
 
 pub use description::{Device, LineSpec, SlaveSpec};
+pub use dp_responder::Rule;
 pub use event::{Event, Facts, Outcome, Step};
 pub use fault::OpenFault;
 pub use line_state::LineState;
-pub use rule::Rule;
 
 #[cfg(test)]
 mod tests;

@@ -2,14 +2,13 @@
 
 ghost use Rattle.std.specs.Prelude.{◌≡◌, ◌≤◌, ◌++◌, length, map};
 ghost use Rattle.std.specs.List.{list_all};
-ghost use Rattle.dp_line.specs.World.{is_within_limits, is_station, slave_is_within_limits, stations, has_twice, opening_fault, description_of};
+ghost use Rattle.dp_telegram.specs.Access.{is_station as is_station_address};
+ghost use Rattle.dp_line.specs.World.{is_within_limits, slave_is_within_limits, stations, has_twice, opening_fault, description_of};
 
 use crate::description::{LineSpec, SlaveSpec};
 use crate::fault::OpenFault;
 use arrayvec::ArrayVec;
-
-/// The last station address.
-pub(crate) const LAST_STATION: u8 = 126;
+use dp_telegram::is_station;
 
 /// The most slaves of a line.
 pub(crate) const MOST_SLAVES: usize = 64;
@@ -52,9 +51,9 @@ fn is_within(line: &LineSpec) -> bool
 }
 
 fn are_stations(addresses: &[u8]) -> bool
-    ensures { result ≡ list_all is_station addresses.now }
+    ensures { result ≡ list_all is_station_address addresses.now }
 {
-    addresses.iter().all(|address| *address <= LAST_STATION)
+    addresses.iter().all(|address| is_station(*address))
 }
 
 fn slaves_are_within(slaves: &[SlaveSpec]) -> bool
@@ -66,7 +65,7 @@ fn slaves_are_within(slaves: &[SlaveSpec]) -> bool
 fn slave_is_within(slave: &SlaveSpec) -> bool
     ensures { result ≡ slave_is_within_limits slave.now }
 {
-    slave.address <= LAST_STATION && slave.user_max <= MOST_USER_PARAMETERS
+    is_station(slave.address) && slave.user_max <= MOST_USER_PARAMETERS
 }
 
 /// The addresses of masters and slaves.

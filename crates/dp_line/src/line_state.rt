@@ -10,9 +10,9 @@ use crate::description::LineSpec;
 use crate::event::{Event, Outcome, Step};
 use crate::fault::OpenFault;
 use crate::limits::MOST_SLAVES;
-use crate::rule::Rule;
 use crate::stations::Stations;
 use arrayvec::ArrayVec;
+use dp_responder::Rule;
 use std::alloc::Global;
 use std::marker::Model;
 

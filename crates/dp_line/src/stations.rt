@@ -7,9 +7,10 @@ ghost use Rattle.dp_line.specs.Stations.{place_of};
 ghost use Rattle.dp_line.specs.World.{ascending, described_at};
 
 use crate::description::SlaveSpec;
-use crate::limits::{LAST_STATION, MOST_SLAVES};
+use crate::limits::MOST_SLAVES;
 use crate::slave::Slave;
 use arrayvec::ArrayVec;
+use dp_telegram::LAST_STATION;
 use std::alloc::{AllocError, Global};
 use std::marker::Model;
 

@@ -4,8 +4,8 @@ use Rattle.std.specs.Fmt.{decimal}
 use Rattle.hex.specs.Hex.{encode_lower}
 use Rattle.dp_telegram.specs.declared.fault.FrameFault.{FrameFault}
 use Rattle.dp_telegram.specs.declared.fault.FrameFault.TheVariants as faults
-use Rattle.dp_line.specs.declared.rule.Rule.{Rule}
-use Rattle.dp_line.specs.declared.rule.Rule.TheVariants as rules
+use Rattle.dp_responder.specs.declared.rule.Rule.{Rule}
+use Rattle.dp_responder.specs.declared.rule.Rule.TheVariants as rules
 use Rattle.dp_line.specs.declared.event.Outcome.{Outcome}
 use Rattle.dp_line.specs.declared.event.Outcome.TheVariants.{Reply, Silence}
 

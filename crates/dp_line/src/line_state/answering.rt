@@ -4,43 +4,22 @@ ghost use Rattle.std.specs.Prelude.{◌≡◌, ◌++◌, false, Bool, List, Some
 ghost use Rattle.dp_telegram.specs.declared.frame.Frame.TheVariants as frames;
 ghost use Rattle.dp_telegram.specs.FrameText.{frame_of};
 ghost use Rattle.dp_telegram.specs.Access.{address_of, parts_of};
-ghost use Rattle.dp_line.specs.declared.rule.Rule.{Rule};
+ghost use Rattle.dp_responder.specs.declared.rule.Rule.{Rule};
 ghost use Rattle.dp_line.specs.World.{slave_at, takes_no_more};
-ghost use Rattle.dp_line.specs.Verdict.{verdict_of, concerns_a_slave, first_row};
-ghost use Rattle.dp_line.specs.Answering.{frame_rows, slave_rows, point_rows, rule_at};
+ghost use Rattle.dp_line.specs.Verdict.{verdict_of, concerns_a_slave};
+ghost use Rattle.dp_responder.specs.Rules.{first_row};
+ghost use Rattle.dp_line.specs.Answering.{frame_rows, telegram_rows, slave_rows, point_rows, rule_at};
 ghost use Rattle.dp_line.specs.ReplyText.{reply_text};
 ghost use Rattle.dp_line.specs.Steps.{facts_of, outcome_of, state_and_holder, answered};
 
 use super::LineState;
 use crate::event::{Facts, Outcome};
-use crate::reply::{self, ACKNOWLEDGED, NOT_ACTIVE, USER_ERROR, address_in};
-use crate::rule::Rule;
+use crate::reply;
 use crate::slave::Slave;
-use dp_telegram::{Frame, Octets, Parts, Telegram, decode};
-
-/// The global address.
-const GLOBAL_ADDRESS: u8 = 127;
-
-/// The access point Slave_Diag.
-const SLAVE_DIAG: u8 = 60;
-
-/// Send Data with Acknowledge, low and high.
-const SDA_LOW: u8 = 3;
-
-const SDA_HIGH: u8 = 5;
-
-/// Request FDL Status.
-const FDL_STATUS: u8 = 9;
-
-/// Send and Request Data with reply, low and high.
-const SRD_LOW: u8 = 12;
-
-const SRD_HIGH: u8 = 13;
-
-/// Request Ident, and Request LSAP Status.
-const IDENT: u8 = 14;
-
-const LSAP_STATUS: u8 = 15;
+use dp_responder::Rule;
+use dp_sap::SLAVE_DIAG;
+use dp_telegram::function_code::{Function, OK, RS, UE};
+use dp_telegram::{Frame, GLOBAL_ADDRESS, Octets, Parts, Telegram, decode};
 
 /// An answer, and the facts of the slave that it concerns.
 #[derive(Drop)]
@@ -107,7 +86,7 @@ impl LineState {
         let Some(parts) = telegram.parts() else {
             return Err(Rule::BadExtension);
         };
-        let address = address_in(telegram.da);
+        let address = telegram.destination();
         if address == GLOBAL_ADDRESS {
             return Err(Rule::BadBroadcast);
         }
@@ -128,23 +107,31 @@ fn request_in(frame: Frame, master: u8) -> Result<Telegram, Rule>
         (λ telegram. (frame ≡ frames.Telegram telegram) × ((rows : List (Bool × Rule)) → first_row (frame_rows master frame ++ rows) ≡ first_row rows))
         (λ rule. (concerns_a_slave rule ≡ false) × ((rows : List (Bool × Rule)) → first_row (frame_rows master frame ++ rows) ≡ rule)) }
 {
+    if frame.source().is_some_and(|source| source != master) {
+        return Err(Rule::ForeignSender);
+    }
     match frame {
-        Frame::Token { sa, .. } if address_in(sa) == master => Err(Rule::Token),
-        Frame::Token { .. } => Err(Rule::ForeignSender),
+        Frame::Token { .. } => Err(Rule::Token),
         Frame::Ack => Err(Rule::NotRequest),
-        Frame::Telegram(telegram) => {
-            if address_in(telegram.sa) != master {
-                return Err(Rule::ForeignSender);
-            }
-            if telegram.fc / 64 % 2 == 0 {
-                return Err(Rule::NotRequest);
-            }
-            match telegram.fc % 16 {
-                SRD_LOW | SRD_HIGH | FDL_STATUS => Ok(telegram),
-                SDA_LOW | SDA_HIGH | IDENT | LSAP_STATUS => Ok(telegram),
-                _ => Err(Rule::BadFunction),
-            }
-        }
+        Frame::Telegram(telegram) => request_of(telegram),
+    }
+}
+
+/// The same of a telegram of the master itself.
+fn request_of(telegram: Telegram) -> Result<Telegram, Rule>
+    ensures { MatchResult result
+        (λ asked. (asked ≡ telegram) × ((rows : List (Bool × Rule)) → first_row (telegram_rows telegram ++ rows) ≡ first_row rows))
+        (λ rule. (concerns_a_slave rule ≡ false) × ((rows : List (Bool × Rule)) → first_row (telegram_rows telegram ++ rows) ≡ rule)) }
+{
+    if !telegram.is_request() {
+        return Err(Rule::NotRequest);
+    }
+    match telegram.function() {
+        Function::SrdLow | Function::SrdHigh | Function::FdlStatus => Ok(telegram),
+        Function::SdaLow | Function::SdaHigh | Function::Ident | Function::LsapStatus => Ok(
+            telegram,
+        ),
+        Function::SdnLow | Function::SdnHigh | Function::Reserved => Err(Rule::BadFunction),
     }
 }
 
@@ -166,10 +153,10 @@ impl Addressed<'_> {
         ensures rule { result.1 ≡ rule_at self.now.telegram self.now.parts }
         ensures text { reply_text self.now.slave.now self.now.telegram self.now.parts result.1 ≡ Some result.0.items }
     {
-        match self.telegram.fc % 16 {
-            FDL_STATUS => (reply::short(&self.telegram, ACKNOWLEDGED), Rule::Status),
-            SDA_LOW | SDA_HIGH | IDENT | LSAP_STATUS => {
-                (reply::short(&self.telegram, NOT_ACTIVE), Rule::NoService)
+        match self.telegram.function() {
+            Function::FdlStatus => (reply::short(&self.telegram, OK), Rule::Status),
+            Function::SdaLow | Function::SdaHigh | Function::Ident | Function::LsapStatus => {
+                (reply::short(&self.telegram, RS), Rule::NoService)
             }
             _ => self.point_reply(),
         }
@@ -181,10 +168,10 @@ impl Addressed<'_> {
         ensures text { reply_text self.now.slave.now self.now.telegram self.now.parts result.1 ≡ Some result.0.items }
     {
         if self.parts.dsap != Some(SLAVE_DIAG) {
-            return (reply::short(&self.telegram, NOT_ACTIVE), Rule::NotActive);
+            return (reply::short(&self.telegram, RS), Rule::NotActive);
         }
         if !self.parts.payload.is_empty() {
-            return (reply::short(&self.telegram, USER_ERROR), Rule::Length);
+            return (reply::short(&self.telegram, UE), Rule::Length);
         }
         let diagnosis = self.slave.slave_diag();
         (

@@ -1,7 +1,8 @@
 use Rattle.std.proofs.Common.{◌≡◌, eqb, true, Some, ap, sym, ◌∙◌, rules}
 use Rattle.std.specs.List.{list_any}
 use Rattle.dp_telegram.specs.FrameText.{frame_of}
-use Rattle.dp_line.specs.Verdict.{verdict_of, first_row}
+use Rattle.dp_line.specs.Verdict.{verdict_of}
+use Rattle.dp_responder.specs.Rules.{first_row}
 use Rattle.dp_line.specs.Answering.{slave_rows}
 use Rattle.dp_line.proofs.Verdicts.{verdict_framed, reached_for_octets}
 use Rattle.dp_line.proofs.line_state.LineState.addressed.Goals as goal
