@@ -5,7 +5,8 @@ use Rattle.std.specs.Option.{option_map}
 use Rattle.std.proofs.lemmas.Bool.{or_parts, or_cases, or_left, or_right, or_from, ltb-true, ltb-false, lt-ltb, le-ltb, cond-true, cond-false}
 use Rattle.std.proofs.lemmas.Option.{same_Some}
 use Rattle.dp_cfg.specs.Identifiers.{Identifier, IsSplit, input_sum, output_sum, most_octets}
-use Rattle.dp_cfg.specs.Reading.{split_of, sums_of, input_octets, output_octets, fault_in, fault_of, unless_faulty, reading_of}
+use Rattle.dp_cfg.specs.Reading.{split_of, input_octets, output_octets, fault_in, fault_of, unless_faulty, reading_of}
+use Rattle.dp_cfg.specs.PrivateWords.{sums_of}
 use Rattle.dp_cfg.specs.declared.fault.CfgFault.{CfgFault}
 use Rattle.dp_cfg.specs.declared.fault.CfgFault.TheVariants.{Cut, TooLong}
 use Rattle.dp_cfg.proofs.Splits.{split_found, split_is}
@@ -85,6 +86,10 @@ fits_in : (octets : List ℕ) (fault : Option CfgFault) → Answer octets fault 
 fits_in octets fault (fits e h) ok = h
 fits_in octets fault (is_cut e h) ok = let f : IsOk (unless_faulty (Some Cut) octets) = rw e at ok in cc
 fits_in octets fault (is_long e h) ok = let f : IsOk (unless_faulty (Some TooLong) octets) = rw e at ok in cc
+
+-- what is read is a split that fits
+pub fitting_of : (octets : List ℕ) → reading_of octets ≡ Ok octets → IsFitting octets
+fitting_of octets e = fits_in octets (fault_of octets) (answer_of octets) (rw e refl)
 
 pub ok_clause : (octets : List ℕ) (r : Result (List ℕ) CfgFault) → r ≡ reading_of octets → IsOk r ↔ IsFitting octets
 ok_clause octets r e = (

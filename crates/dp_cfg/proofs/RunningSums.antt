@@ -4,7 +4,8 @@ use Rattle.std.specs.Option.{option_map}
 use Rattle.std.proofs.lemmas.List.Sums.{sum_by-cons}
 use Rattle.std.proofs.lemmas.Option.{same_Some}
 use Rattle.dp_cfg.specs.Identifiers.{Identifier, input_sum, output_sum}
-use Rattle.dp_cfg.specs.Reading.{first_identifier, split_of, sums_of, lengths_and_rest}
+use Rattle.dp_cfg.specs.Reading.{first_identifier, split_of}
+use Rattle.dp_cfg.specs.PrivateWords.{sums_of, lengths_and_rest}
 use Rattle.dp_cfg.proofs.Splits.{split_step, split_stops}
 
 -- the sums with those so far

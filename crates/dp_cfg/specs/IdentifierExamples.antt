@@ -29,6 +29,12 @@ four_words_of_inputs = refl
 pub no_octets_of_the_maker : sums_of (0x4F ∷ 0x00 ∷ []) ≡ (1, 0)
 no_octets_of_the_maker = refl
 
+pub octets_of_the_maker : sums_of (0x42 ∷ 0x40 ∷ 0xAA ∷ 0xBB ∷ []) ≡ (2, 0)
+octets_of_the_maker = refl
+
+pub octets_of_the_maker_are_cut : reading_of (0x42 ∷ 0x40 ∷ 0xAA ∷ []) ≡ Err Cut
+octets_of_the_maker_are_cut = refl
+
 pub empty_place : sums_of (0x00 ∷ []) ≡ (0, 0)
 empty_place = refl
 
@@ -41,3 +47,7 @@ too_long = refl
 -- the identifiers of the double special one: outputs stand before inputs
 pub double_special_split : split_of (0xC1 ∷ 0x01 ∷ 0x03 ∷ 0x00 ∷ []) ≡ Some (identifier (0xC1 ∷ 0x01 ∷ 0x03 ∷ 0x00 ∷ []) 4 2 ∷ [])
 double_special_split = refl
+
+-- the maker's octets belong to their identifier, whatever they would be by themselves
+pub maker_split : split_of (0x02 ∷ 0x11 ∷ 0x11 ∷ 0x21 ∷ []) ≡ Some (identifier (0x02 ∷ 0x11 ∷ 0x11 ∷ []) 0 0 ∷ identifier (0x21 ∷ []) 0 2 ∷ [])
+maker_split = refl

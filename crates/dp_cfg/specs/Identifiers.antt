@@ -52,20 +52,28 @@ maker_count head = if bits_3_0 head == 15 then 0 else bits_3_0 head
 abbrev pub IsSpecial : ℕ → ℕ → List ℕ → Type 0
 IsSpecial head lengths maker = (bits_5_4 head ≡ 0) × (bits_7_6 head ≡ lengths) × (length maker ≡ maker_count head)
 
--- the identifiers, a row for each: what the head's bits are, the octets, the inputs and the outputs (IEC 61158-6-3, configuration identifiers)
+-- the identifiers, a row for each: the bits of the head from 7 to 0, its octets, the inputs and the outputs (IEC 61158-6-3,
+-- configuration identifiers). c is 1 for consistency, w is 1 for words, l.. is the length less one, n.. counts the maker's octets
 pub data IsIdentifier (i : Identifier) : Type 0 where
+  -- cw01 llll: inputs
   general_inputs : (head : ℕ) → bits_5_4 head ≡ 1
       → i ≡ identifier (head ∷ []) (general_octets head) 0 → IsIdentifier i
+  -- cw10 llll: outputs
   general_outputs : (head : ℕ) → bits_5_4 head ≡ 2
       → i ≡ identifier (head ∷ []) 0 (general_octets head) → IsIdentifier i
+  -- cw11 llll: inputs and as many outputs
   general_both : (head : ℕ) → bits_5_4 head ≡ 3
       → i ≡ identifier (head ∷ []) (general_octets head) (general_octets head) → IsIdentifier i
+  -- 0000 nnnn: an empty place
   empty_place : (head : ℕ) (maker : List ℕ) → IsSpecial head 0 maker
       → i ≡ identifier (head ∷ maker) 0 0 → IsIdentifier i
+  -- 0100 nnnn, then cwll llll: inputs
   special_inputs : (head inputs : ℕ) (maker : List ℕ) → IsSpecial head 1 maker
       → i ≡ identifier (head ∷ inputs ∷ maker) (announced_octets inputs) 0 → IsIdentifier i
+  -- 1000 nnnn, then cwll llll: outputs
   special_outputs : (head outputs : ℕ) (maker : List ℕ) → IsSpecial head 2 maker
       → i ≡ identifier (head ∷ outputs ∷ maker) 0 (announced_octets outputs) → IsIdentifier i
+  -- 1100 nnnn, then cwll llll twice: outputs, and then inputs
   special_both : (head outputs inputs : ℕ) (maker : List ℕ) → IsSpecial head 3 maker
       → i ≡ identifier (head ∷ outputs ∷ inputs ∷ maker) (announced_octets inputs) (announced_octets outputs) → IsIdentifier i
 
@@ -82,6 +90,6 @@ input_sum identifiers = sum_by (λ i. i.inputs) identifiers
 abbrev pub output_sum : List Identifier → ℕ
 output_sum identifiers = sum_by (λ i. i.outputs) identifiers
 
--- the most octets of inputs, and of outputs, that a slave has (IEC 61158-6-3, Data_Exchange)
+-- the most octets of inputs, of outputs and of a configuration: those that a telegram has room for (IEC 61158-6-3, data unit)
 abbrev pub most_octets : ℕ
 most_octets = 244

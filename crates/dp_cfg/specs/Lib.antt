@@ -1,3 +1,4 @@
 pub mod Identifiers
-pub mod Reading
 pub mod IdentifierExamples
+pub mod PrivateWords
+pub mod Reading

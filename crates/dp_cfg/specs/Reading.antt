@@ -1,5 +1,5 @@
 -- Configuration octets read from left to right: what the relation of `Identifiers` says, in a form that computes.
-use Rattle.std.specs.Prelude.{◌≡◌, ℕ, zero, suc, ◌==◌, nat_lt, ◌||◌, if◌then◌else◌, List, [], ◌∷◌, length, take, drop, Option, Some, None, unwrap_or, option_and_then, Result, Ok, Err}
+use Rattle.std.specs.Prelude.{ℕ, zero, suc, ◌==◌, nat_lt, ◌||◌, if◌then◌else◌, List, [], ◌∷◌, length, take, drop, Option, Some, None, unwrap_or, option_and_then, Result, Ok, Err}
 use Rattle.std.specs.Option.{option_map}
 use Rattle.dp_cfg.specs.Identifiers.{Identifier, identifier, bits_5_4, bits_7_6, general_octets, announced_octets, maker_count, input_sum, output_sum, most_octets}
 use Rattle.dp_cfg.specs.declared.fault.CfgFault.{CfgFault}
@@ -60,10 +60,6 @@ abbrev pub first_identifier : List ℕ → Option (Identifier × List ℕ)
 first_identifier [] = None
 first_identifier (head ∷ rest) = identifier_at head rest
 
--- inputs, outputs and the octets behind (own)
-abbrev pub lengths_and_rest : Identifier × List ℕ → ℕ × ℕ × List ℕ
-lengths_and_rest first = (first.0.inputs, first.0.outputs, first.1)
-
 -- the identifiers of octets of at most this length (own)
 abbrev pub split_within : ℕ → List ℕ → Option (List Identifier)
 split_within most [] = Some []
@@ -75,10 +71,6 @@ split_within (suc most) (head ∷ rest) =
 -- the identifiers of which these are the octets; none where the last is cut (own)
 abbrev pub split_of : List ℕ → Option (List Identifier)
 split_of octets = split_within (length octets) octets
-
--- inputs and outputs of the identifiers together (own)
-abbrev pub sums_of : List Identifier → ℕ × ℕ
-sums_of identifiers = (input_sum identifiers, output_sum identifiers)
 
 -- inputs of a configuration, in octets (own)
 abbrev pub input_octets : List ℕ → ℕ
@@ -107,9 +99,3 @@ unless_faulty (Some fault) right = Err fault
 -- the octets as a configuration, or the fault (own)
 abbrev pub reading_of : List ℕ → Result (List ℕ) CfgFault
 reading_of octets = unless_faulty (fault_of octets) octets
-
--- octets that are a configuration, with its inputs and outputs (own)
-pub record IsConfiguration (octets : List ℕ) (inputs outputs : ℕ) : Type 0 where
-  pub is_read : reading_of octets ≡ Ok octets
-  pub inputs_are : inputs ≡ input_octets octets
-  pub outputs_are : outputs ≡ output_octets octets

@@ -3,17 +3,18 @@
 ghost use Rattle.std.specs.Prelude.{◌≡◌, ◌<◌, ◌≤◌, length, IfSome};
 ghost use Rattle.std.specs.Option.{option_map};
 ghost use Rattle.dp_cfg.specs.Identifiers.{unit_octets as unit_of, general_octets as general_of, announced_octets as announced_by, maker_count as maker_of};
-ghost use Rattle.dp_cfg.specs.Reading.{special_at, first_identifier as first_of, lengths_and_rest};
+ghost use Rattle.dp_cfg.specs.PrivateWords.{lengths_and_rest};
+ghost use Rattle.dp_cfg.specs.Reading.{special_at, first_identifier as first_of};
 
 /// Inputs and outputs in octets.
 #[derive(Clone, Copy)]
-pub struct Lengths {
-    pub inputs: u8,
-    pub outputs: u8,
+pub(crate) struct Lengths {
+    pub(crate) inputs: u8,
+    pub(crate) outputs: u8,
 }
 
 impl Lengths {
-    pub const fn new(inputs: u8, outputs: u8) -> Self
+    pub(crate) const fn new(inputs: u8, outputs: u8) -> Self
         ensures { result ≡ record { inputs = inputs; outputs = outputs } }
     {
         Lengths { inputs, outputs }
@@ -22,7 +23,7 @@ impl Lengths {
 
 /// The lengths of the identifier that stands first, and the octets behind it; `None` where it is
 /// cut (IEC 61158-6-3, configuration identifiers).
-pub fn first_identifier(octets: &[u8]) -> Option<(Lengths, &[u8])>
+pub(crate) fn first_identifier(octets: &[u8]) -> Option<(Lengths, &[u8])>
     ensures value { option_map (λ p. (p.0.inputs, p.0.outputs, p.1.now)) result
         ≡ option_map lengths_and_rest (first_of octets.now) }
     ensures behind { IfSome result (λ p. length p.1.now < length octets.now) }
@@ -30,7 +31,7 @@ pub fn first_identifier(octets: &[u8]) -> Option<(Lengths, &[u8])>
 {
     let (&head, rest) = octets.split_first()?;
     let length = general_octets(head);
-    let lengths = match head / 16 % 4 {
+    let lengths = match head >> 4 & 0b11 {
         1 => Lengths::new(length, 0),
         2 => Lengths::new(0, length),
         3 => Lengths::new(length, length),
@@ -45,7 +46,7 @@ fn special(head: u8, rest: &[u8]) -> Option<(Lengths, &[u8])>
         ≡ option_map lengths_and_rest (special_at head rest.now) }
     ensures most { IfSome result (λ p. (p.0.inputs ≤ 128) × (p.0.outputs ≤ 128)) }
 {
-    let (inputs, outputs, rest) = match (head / 64, rest) {
+    let (inputs, outputs, rest) = match (head >> 6, rest) {
         (0, rest) => (0, 0, rest),
         (1, [inputs, rest @ ..]) => (announced_octets(*inputs), 0, rest),
         (2, [outputs, rest @ ..]) => (0, announced_octets(*outputs), rest),
@@ -63,7 +64,7 @@ fn general_octets(head: u8) -> u8
     ensures value { result ≡ general_of head }
     ensures most { result ≤ 32 }
 {
-    (head % 16 + 1) * unit_octets(head)
+    ((head & 0x0F) + 1) * unit_octets(head)
 }
 
 /// What a length octet announces: bits 5 to 0 are the length less one.
@@ -71,21 +72,21 @@ fn announced_octets(octet: u8) -> u8
     ensures value { result ≡ announced_by octet }
     ensures most { result ≤ 128 }
 {
-    (octet % 64 + 1) * unit_octets(octet)
+    ((octet & 0x3F) + 1) * unit_octets(octet)
 }
 
 /// Bit 6 makes the unit a word of two octets.
 fn unit_octets(octet: u8) -> u8
     ensures { result ≡ unit_of octet }
 {
-    if octet / 64 % 2 == 1 { 2 } else { 1 }
+    if octet >> 6 & 1 == 1 { 2 } else { 1 }
 }
 
 /// The maker's octets of a special identifier, where 15 means none.
 fn maker_count(head: u8) -> usize
     ensures { result ≡ maker_of head }
 {
-    match head % 16 {
+    match head & 0x0F {
         15 => 0,
         count => usize::from(count),
     }

@@ -6,7 +6,7 @@ ghost use Rattle.dp_cfg.specs.Reading.{reading_of, input_octets, output_octets};
 ghost use Rattle.dp_cfg.specs.declared.fault.CfgFault.TheVariants.{Cut, TooLong};
 
 use crate::fault::CfgFault;
-use crate::sums::lengths_of;
+use crate::sums::{MOST_OCTETS, lengths_of};
 use arrayvec::ArrayVec;
 use std::marker::Model;
 
@@ -15,14 +15,14 @@ use std::marker::Model;
 /// the octets.
 #[derive(Debug, Drop)]
 pub struct CfgIds {
-    octets: ArrayVec<u8, 244>,
+    octets: ArrayVec<u8, MOST_OCTETS>,
     inputs: u8,
     outputs: u8,
 }
 
 impl Model for CfgIds {
     ghost use Rattle.std.specs.Prelude.{ℕ, List};
-    ghost use Rattle.dp_cfg.specs.Reading.{IsConfiguration};
+    ghost use Rattle.dp_cfg.specs.PrivateWords.{IsConfiguration};
 
     ghost Value = { List ℕ };
 
@@ -36,7 +36,7 @@ impl CfgIds {
     /// identifier, `TooLong` where they don't and the inputs or the outputs of all identifiers
     /// together are more than 244 octets (IEC 61158-6-3, Chk_Cfg request).
     pub fn parse(octets: &[u8]) -> Result<CfgIds, CfgFault>
-        requires { length octets.now ≤ 244 }
+        requires { length octets.now ≤ most_octets }
         ensures ok { IsOk result ↔ ((ids : List Identifier) × IsSplit octets.now ids
             × (input_sum ids ≤ most_octets) × (output_sum ids ≤ most_octets)) }
         ensures value { IfOk result (λ ids. ids ≡ octets.now) }
@@ -46,28 +46,28 @@ impl CfgIds {
         ensures computed { result ≡ reading_of octets.now }
     {
         let lengths = lengths_of(octets)?;
-        let mut kept = ArrayVec::new();
-        kept.try_extend_from_slice(octets).unwrap();
         Ok(CfgIds {
-            octets: kept,
+            octets: ArrayVec::try_from(octets).unwrap(),
             inputs: lengths.inputs,
             outputs: lengths.outputs,
         })
     }
 
-    /// The inputs of all identifiers together, 0 to 244 octets (IEC 61158-6-3, Data_Exchange).
+    /// The inputs of all identifiers together, 0 to 244 octets (IEC 61158-6-3, Data_Exchange): the
+    /// octets split into identifiers, and it is the sum over these.
     pub fn input_len(&self) -> u8
         ensures computed { result ≡ input_octets self.now }
-        ensures summed { (ids : List Identifier) → IsSplit self.now ids → result ≡ input_sum ids }
+        ensures summed { (ids : List Identifier) × IsSplit self.now ids × (result ≡ input_sum ids) }
         ensures most { result ≤ most_octets }
     {
         self.inputs
     }
 
-    /// The outputs of all identifiers together, 0 to 244 octets (IEC 61158-6-3, Data_Exchange).
+    /// The outputs of all identifiers together, 0 to 244 octets (IEC 61158-6-3, Data_Exchange): the
+    /// octets split into identifiers, and it is the sum over these.
     pub fn output_len(&self) -> u8
         ensures computed { result ≡ output_octets self.now }
-        ensures summed { (ids : List Identifier) → IsSplit self.now ids → result ≡ output_sum ids }
+        ensures summed { (ids : List Identifier) × IsSplit self.now ids × (result ≡ output_sum ids) }
         ensures most { result ≤ most_octets }
     {
         self.outputs
@@ -76,7 +76,7 @@ impl CfgIds {
     /// The octets as they were given, at most 244 (IEC 61158-6-3, Get_Cfg response).
     pub fn octets(&self) -> &[u8]
         ensures value { result.now ≡ self.now }
-        ensures most { length result.now ≤ 244 }
+        ensures most { length result.now ≤ most_octets }
         ensures is_read { reading_of self.now ≡ Ok self.now }
     {
         self.octets.as_slice()

@@ -13,6 +13,7 @@ mod sums;
 
 pub use fault::CfgFault;
 pub use ids::CfgIds;
+pub use sums::MOST_OCTETS;
 
 #[cfg(test)]
 mod tests;

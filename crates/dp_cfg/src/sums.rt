@@ -2,17 +2,21 @@
 
 ghost use Rattle.std.specs.Prelude.{◌≡◌, ◌≤◌, length};
 ghost use Rattle.std.specs.Option.{option_map};
-ghost use Rattle.dp_cfg.specs.Reading.{split_of, sums_of, unless_faulty, fault_of, input_octets, output_octets};
+ghost use Rattle.dp_cfg.specs.Identifiers.{most_octets};
+ghost use Rattle.dp_cfg.specs.PrivateWords.{sums_of};
+ghost use Rattle.dp_cfg.specs.Reading.{split_of, unless_faulty, fault_of, input_octets, output_octets};
 
 use crate::fault::CfgFault;
 use crate::identifier::{Lengths, first_identifier};
 
-/// The most octets of inputs, and of outputs (IEC 61158-6-3, Data_Exchange).
-const MOST: u32 = 244;
+/// The most octets of inputs, of outputs and of a configuration (IEC 61158-6-3, data unit).
+pub const MOST_OCTETS: usize = 244;
+
+const MOST: u32 = MOST_OCTETS as u32;
 
 /// Inputs and outputs of a configuration, or why it is none.
-pub fn lengths_of(octets: &[u8]) -> Result<Lengths, CfgFault>
-    requires { length octets.now ≤ 244 }
+pub(crate) fn lengths_of(octets: &[u8]) -> Result<Lengths, CfgFault>
+    requires { length octets.now ≤ most_octets }
     ensures { result ≡ unless_faulty (fault_of octets.now)
         (record { inputs = input_octets octets.now; outputs = output_octets octets.now }) }
 {
@@ -25,7 +29,7 @@ pub fn lengths_of(octets: &[u8]) -> Result<Lengths, CfgFault>
 
 /// The sums of inputs and of outputs over the identifiers; `None` where the last is cut.
 fn sums(octets: &[u8]) -> Option<(u32, u32)>
-    requires { length octets.now ≤ 244 }
+    requires { length octets.now ≤ most_octets }
     ensures { result ≡ option_map sums_of (split_of octets.now) }
 {
     let mut inputs = 0;

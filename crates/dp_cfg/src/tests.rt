@@ -1,7 +1,9 @@
-ghost use Rattle.std.specs.Prelude.{◌≤◌, length};
+ghost use Rattle.std.specs.Prelude.{◌≡◌, ◌≤◌, List, length};
+ghost use Rattle.dp_cfg.specs.Identifiers.{Identifier, IsSplit, input_sum, most_octets, output_sum};
 
 use super::*;
 use std::process::Abort;
+use std::test::Fail;
 
 const NONE: [u8; 16] = [0; 16];
 
@@ -11,7 +13,7 @@ const WORDS: [u8; 16] = [2, 4, 6, 8, 10, 12, 14, 16, 18, 20, 22, 24, 26, 28, 30,
 
 /// Inputs and outputs, or the fault.
 fn lengths(octets: &[u8]) -> Result<(u8, u8), CfgFault>
-    requires { length octets.now ≤ 244 }
+    requires { length octets.now ≤ most_octets }
 {
     CfgIds::parse(octets).map(|ids| (ids.input_len(), ids.output_len()))
 }
@@ -25,6 +27,9 @@ fn identifier_lengths(rt: HostRuntime) {
     assert_eq!(rt; lengths(&[0xC1, 0x01, 0x03, 0x00]), Ok((4, 2)));
     assert_eq!(rt; lengths(&[0x40, 0xC3]), Ok((8, 0)));
     assert_eq!(rt; lengths(&[0x4F, 0x00]), Ok((1, 0)));
+    assert_eq!(rt; lengths(&[0x42, 0x40, 0xAA, 0xBB]), Ok((2, 0)));
+    assert_eq!(rt; lengths(&[0x42, 0x40, 0xAA]), Err(CfgFault::Cut));
+    assert_eq!(rt; lengths(&[0x02, 0x11, 0x11, 0x21]), Ok((0, 2)));
     assert_eq!(rt; lengths(&[0x00]), Ok((0, 0)));
     assert_eq!(rt; lengths(&[0xC1, 0x01]), Err(CfgFault::Cut));
     assert_eq!(rt; lengths(&[0x80, 0x7F, 0x80, 0x7F]), Err(CfgFault::TooLong));
@@ -80,15 +85,31 @@ fn every_octet_alone(rt: HostRuntime) {
 }
 
 #[test]
-fn octets_are_kept(rt: HostRuntime) {
-    let read = CfgIds::parse(&[0x21, 0x11]);
-    assert!(rt; read.is_ok());
-    if let Ok(ids) = read {
-        assert_eq!(rt; ids.octets(), [0x21, 0x11].as_slice());
-        assert!(rt; ids.equals(&[0x21, 0x11]));
-        assert!(rt; !ids.equals(&[0x11, 0x21]));
-        assert!(rt; !ids.equals(&[0x21]));
-    }
+fn octets_are_kept(rt: HostRuntime) -> Result<(), Fail> {
+    let ids = CfgIds::parse(&[0x21, 0x11])?;
+    assert_eq!(rt; ids.octets(), [0x21, 0x11].as_slice());
+    assert!(rt; ids.equals(&[0x21, 0x11]));
+    assert!(rt; !ids.equals(&[0x11, 0x21]));
+    assert!(rt; !ids.equals(&[0x21]));
+    assert_eq!(rt; input_sum_of(&ids), 2);
+    assert_eq!(rt; sums_of(&ids), (2, 2));
+    Ok(())
+}
+
+/// What a client proves of a configuration: it splits, and its inputs are the sum over the split.
+fn input_sum_of(configuration: &CfgIds) -> u8
+    ensures { (ids : List Identifier) × IsSplit configuration.now ids × (result ≡ input_sum ids) }
+{
+    configuration.input_len()
+}
+
+/// And one split has both sums.
+fn sums_of(configuration: &CfgIds) -> (u8, u8)
+    ensures { (ids : List Identifier) × IsSplit configuration.now ids
+        × (result.0 ≡ input_sum ids) × (result.1 ≡ output_sum ids) }
+{
+    laws::lengths_are_sums();
+    (configuration.input_len(), configuration.output_len())
 }
 
 #[test]

@@ -1,16 +1,13 @@
--- The octets of a diagnosis: each bit by its condition, in the order of the printed table.
-use Rattle.std.specs.Prelude.{ℕ, ◌/◌, ◌%◌, ◌^◌, ◌<◌, Bool, true, false, not, if◌then◌else◌, List, [], ◌∷◌, ◌++◌, sum, map, unwrap_or, IfSome}
+-- The octets of a diagnosis: each bit by its condition, in the order of the standard's table.
+use Rattle.std.specs.Prelude.{ℕ, ◌+◌, ◌*◌, ◌/◌, ◌%◌, ◌<◌, Bool, true, false, not, if◌then◌else◌, List, [], ◌∷◌, ◌++◌, unwrap_or, IfSome}
 use Rattle.dp_sap.specs.declared.state.State.{State}
 use Rattle.dp_sap.specs.declared.state.State.TheVariants.{WaitPrm, WaitCfg, DataExch}
 use Rattle.dp_diag.specs.declared.facts.DiagFacts.{DiagFacts}
 
--- what a bit adds to its octet, by its number and its condition: 2 to the power of the number where the condition holds
-abbrev pub bit_weight : ℕ × Bool → ℕ
-bit_weight bit = if bit.1 then 2 ^ bit.0 else 0
-
--- the octet of these bits, each with its number and its condition; all others are 0
-abbrev pub octet_of : List (ℕ × Bool) → ℕ
-octet_of bits = sum (map bit_weight bits)
+-- the octet of these bits, bit 0 first
+abbrev pub octet_of : List Bool → ℕ
+octet_of [] = 0
+octet_of (bit ∷ bits) = (if bit then 1 else 0) + 2 * octet_of bits
 
 -- the slave has parameters and configuration: its state is Data_Exch (IEC 61158-6-3, slave state machine)
 abbrev pub is_in_data_exch : State → Bool
@@ -24,82 +21,70 @@ is_in_wait_prm WaitPrm = true
 is_in_wait_prm WaitCfg = false
 is_in_wait_prm DataExch = false
 
--- Station_Not_Ready: the state is not Data_Exch (IEC 61158-6-3, Slave_Diag response, Station_status_1)
-abbrev pub station_not_ready_bit : DiagFacts → Bool
-station_not_ready_bit facts = not (is_in_data_exch facts.state)
+-- octet 1 by its bits, bit 0 first (IEC 61158-6-3, Slave_Diag response, Station_status_1)
+abbrev pub station_status_1 : DiagFacts → List Bool
+station_status_1 facts =
+    -- 0 Station_Non_Existent: the master's own, a slave sends 0
+    false
+    -- 1 Station_Not_Ready: the state is not Data_Exch
+    ∷ not (is_in_data_exch facts.state)
+    -- 2 Cfg_Fault: the last configuration was refused
+    ∷ facts.diag.cfg_fault
+    -- 3 Ext_Diag: the extended octets tell of a fault
+    ∷ facts.diag.ext
+    -- 4 Not_Supported: a function was asked for that the slave has not
+    ∷ facts.diag.not_supported
+    -- 5 Invalid_Slave_Response: the master's own, a slave sends 0
+    ∷ false
+    -- 6 Prm_Fault: the last parameters were refused
+    ∷ facts.diag.prm_fault
+    -- 7 Master_Lock: the master's own, a slave sends 0
+    ∷ false
+    ∷ []
 
--- Cfg_Fault: the last configuration was refused (IEC 61158-6-3, Slave_Diag response, Station_status_1)
-abbrev pub cfg_fault_bit : DiagFacts → Bool
-cfg_fault_bit facts = facts.diag.cfg_fault
+-- octet 2 by its bits, bit 0 first (IEC 61158-6-3, Slave_Diag response, Station_status_2)
+abbrev pub station_status_2 : DiagFacts → List Bool
+station_status_2 facts =
+    -- 0 Prm_Req: the slave asks for parameters, in Wait_Prm
+    is_in_wait_prm facts.state
+    -- 1 Stat_Diag: the master asks for the diagnosis until this bit is 0
+    ∷ facts.diag.stat
+    -- 2 always 1
+    ∷ true
+    -- 3 WD_On: a watchdog runs
+    ∷ facts.wd_on
+    -- 4 Freeze_Mode: the inputs are frozen
+    ∷ facts.freeze_mode
+    -- 5 Sync_Mode: the outputs are frozen
+    ∷ facts.sync_mode
+    -- 6 reserved
+    ∷ false
+    -- 7 Deactivated: the master's own, a slave sends 0
+    ∷ false
+    ∷ []
 
--- Ext_Diag: the extended octets tell of a fault (IEC 61158-6-3, Slave_Diag response, Station_status_1)
-abbrev pub ext_diag_bit : DiagFacts → Bool
-ext_diag_bit facts = facts.diag.ext
+-- octet 3 by its bits, bit 0 first (IEC 61158-6-3, Slave_Diag response, Station_status_3)
+abbrev pub station_status_3 : DiagFacts → List Bool
+station_status_3 facts =
+    -- 0 to 6 reserved
+    false
+    ∷ false
+    ∷ false
+    ∷ false
+    ∷ false
+    ∷ false
+    ∷ false
+    -- 7 Ext_Diag_Overflow: there was more to tell than fits
+    ∷ facts.diag.overflow
+    ∷ []
 
--- Not_Supported: a function was asked for that the slave has not (IEC 61158-6-3, Slave_Diag response, Station_status_1)
-abbrev pub not_supported_bit : DiagFacts → Bool
-not_supported_bit facts = facts.diag.not_supported
+-- the address that stands for no master (IEC 61158-6-3, Slave_Diag response, Master_Add)
+abbrev pub no_master : ℕ
+no_master = 255
 
--- Prm_Fault: the last parameters were refused (IEC 61158-6-3, Slave_Diag response, Station_status_1)
-abbrev pub prm_fault_bit : DiagFacts → Bool
-prm_fault_bit facts = facts.diag.prm_fault
-
--- Prm_Req: the slave asks for parameters, in Wait_Prm (IEC 61158-6-3, Slave_Diag response, Station_status_2)
-abbrev pub prm_req_bit : DiagFacts → Bool
-prm_req_bit facts = is_in_wait_prm facts.state
-
--- Stat_Diag: the master asks for the diagnosis until this bit is 0 (IEC 61158-6-3, Slave_Diag response, Station_status_2)
-abbrev pub stat_diag_bit : DiagFacts → Bool
-stat_diag_bit facts = facts.diag.stat
-
--- the bit of a DP slave, always 1 (IEC 61158-6-3, Slave_Diag response, Station_status_2)
-abbrev pub dp_slave_bit : DiagFacts → Bool
-dp_slave_bit facts = true
-
--- WD_On: a watchdog runs (IEC 61158-6-3, Slave_Diag response, Station_status_2)
-abbrev pub wd_on_bit : DiagFacts → Bool
-wd_on_bit facts = facts.wd_on
-
--- Freeze_Mode: the inputs are frozen (IEC 61158-6-3, Slave_Diag response, Station_status_2)
-abbrev pub freeze_mode_bit : DiagFacts → Bool
-freeze_mode_bit facts = facts.freeze_mode
-
--- Sync_Mode: the outputs are frozen (IEC 61158-6-3, Slave_Diag response, Station_status_2)
-abbrev pub sync_mode_bit : DiagFacts → Bool
-sync_mode_bit facts = facts.sync_mode
-
--- Ext_Diag_Overflow: there was more to tell than fits (IEC 61158-6-3, Slave_Diag response, Station_status_3)
-abbrev pub ext_diag_overflow_bit : DiagFacts → Bool
-ext_diag_overflow_bit facts = facts.diag.overflow
-
--- octet 1 (IEC 61158-6-3, Slave_Diag response, Station_status_1)
-abbrev pub station_status_1 : DiagFacts → ℕ
-station_status_1 facts = octet_of (
-    (1, station_not_ready_bit facts)
-    ∷ (2, cfg_fault_bit facts)
-    ∷ (3, ext_diag_bit facts)
-    ∷ (4, not_supported_bit facts)
-    ∷ (6, prm_fault_bit facts)
-    ∷ [])
-
--- octet 2 (IEC 61158-6-3, Slave_Diag response, Station_status_2)
-abbrev pub station_status_2 : DiagFacts → ℕ
-station_status_2 facts = octet_of (
-    (0, prm_req_bit facts)
-    ∷ (1, stat_diag_bit facts)
-    ∷ (2, dp_slave_bit facts)
-    ∷ (3, wd_on_bit facts)
-    ∷ (4, freeze_mode_bit facts)
-    ∷ (5, sync_mode_bit facts)
-    ∷ [])
-
--- octet 3 (IEC 61158-6-3, Slave_Diag response, Station_status_3)
-abbrev pub station_status_3 : DiagFacts → ℕ
-station_status_3 facts = octet_of ((7, ext_diag_overflow_bit facts) ∷ [])
-
--- octet 4: the address of the holder, 255 for none (IEC 61158-6-3, Slave_Diag response, Master_Add)
+-- octet 4: the address of the holder (IEC 61158-6-3, Slave_Diag response, Master_Add)
 abbrev pub master_add : DiagFacts → ℕ
-master_add facts = unwrap_or facts.holder 255
+master_add facts = unwrap_or facts.holder no_master
 
 -- octets 5 and 6: the ident number, high octet first (IEC 61158-6-3, Slave_Diag response, Ident_Number)
 abbrev pub ident_number : DiagFacts → List ℕ
@@ -108,9 +93,9 @@ ident_number facts = facts.ident / 256 ∷ facts.ident % 256 ∷ []
 -- the octets of the diagnosis: six, and then the extended octets (IEC 61158-6-3, Slave_Diag response)
 abbrev pub diagnosis_text : DiagFacts → List ℕ
 diagnosis_text facts =
-    station_status_1 facts
-    ∷ station_status_2 facts
-    ∷ station_status_3 facts
+    octet_of (station_status_1 facts)
+    ∷ octet_of (station_status_2 facts)
+    ∷ octet_of (station_status_3 facts)
     ∷ master_add facts
     ∷ ident_number facts
     ++ facts.diag.octets.items

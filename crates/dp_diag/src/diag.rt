@@ -1,9 +1,12 @@
 //! What a slave keeps of its diagnosis.
 
-ghost use Rattle.std.specs.Prelude.{◌≡◌, ◌||◌, true};
-ghost use Rattle.dp_diag.specs.Diagnosis.{no_diagnosis};
+ghost use Rattle.std.specs.Prelude.{◌≡◌};
+ghost use Rattle.dp_diag.specs.Diagnosis.{is_due_high, no_diagnosis, reported};
 
 use arrayvec::ArrayVec;
+
+/// The most octets of extended diagnosis (IEC 61158-6-3, Slave_Diag response).
+pub const MOST_EXTENDED: usize = 238;
 
 /// What a slave keeps of its diagnosis: what its application reported last, and its faults.
 #[derive(Clone, Debug, Default, Drop, PartialEq, Eq)]
@@ -16,7 +19,7 @@ pub struct Diag {
     /// Ext_Diag_Overflow: there was more to tell than the extended octets hold.
     pub overflow: bool,
     /// Extended diagnosis, 0 to 238 octets.
-    pub octets: ArrayVec<u8, 238>,
+    pub octets: ArrayVec<u8, MOST_EXTENDED>,
     /// The holder has not asked for the diagnosis since it was reported (own).
     pub unread: bool,
     /// Prm_Fault: the last parameters were refused.
@@ -38,14 +41,14 @@ impl Diag {
     /// The application reports Ext_Diag, Stat_Diag, Ext_Diag_Overflow and the extended octets (IEC
     /// 61158-6-3, Slave_Diag response). The diagnosis is unread then, and the three faults stay
     /// (own).
-    pub fn update(&mut self, ext: bool, stat: bool, overflow: bool, octets: &ArrayVec<u8, 238>)
-        ensures { self.new ≡ record self.old {
-          ext = ext;
-          stat = stat;
-          overflow = overflow;
-          octets = octets.now;
-          unread = true;
-        } }
+    pub fn update(
+        &mut self,
+        ext: bool,
+        stat: bool,
+        overflow: bool,
+        octets: &ArrayVec<u8, MOST_EXTENDED>,
+    )
+        ensures { self.new ≡ reported self.old ext stat overflow octets.now.items }
     {
         self.ext = ext;
         self.stat = stat;
@@ -58,7 +61,7 @@ impl Diag {
     /// Whether the next reply to Data_Exchange is of high priority, so that the master asks for the
     /// diagnosis: exactly while it is unread or Stat_Diag is set (own).
     pub const fn due_high(&self) -> bool
-        ensures { result ≡ (self.now.unread || self.now.stat) }
+        ensures { result ≡ is_due_high self.now }
     {
         self.unread || self.stat
     }

@@ -1,11 +1,11 @@
 //! What a diagnosis tells, and its octets.
 
-ghost use Rattle.std.specs.Prelude.{◌≡◌, ◌<◌};
-ghost use Rattle.dp_diag.specs.DiagnosisText.{diagnosis_text, station_status_1, station_status_2, station_status_3, bit_weight};
+ghost use Rattle.std.specs.Prelude.{◌≡◌, ◌^◌, ◌<◌, if◌then◌else◌};
+ghost use Rattle.dp_diag.specs.DiagnosisText.{diagnosis_text, octet_of, station_status_1, station_status_2, station_status_3};
 
 use crate::diag::Diag;
 use arrayvec::ArrayVec;
-use dp_sap::State;
+use dp_sap::{MOST_DATA, State};
 
 /// The address that stands for no master (IEC 61158-6-3, Slave_Diag response, Master_Add).
 const NO_MASTER: u8 = 255;
@@ -30,7 +30,7 @@ pub struct DiagFacts {
 }
 
 /// The octets of the diagnosis, 6 to 244 of them (IEC 61158-6-3, Slave_Diag response).
-pub fn octets(facts: &DiagFacts) -> ArrayVec<u8, 244>
+pub fn octets(facts: &DiagFacts) -> ArrayVec<u8, MOST_DATA>
     ensures { result.items ≡ diagnosis_text facts.now }
 {
     let [ident_high, ident_low] = facts.ident.to_be_bytes();
@@ -42,8 +42,7 @@ pub fn octets(facts: &DiagFacts) -> ArrayVec<u8, 244>
         ident_high,
         ident_low,
     ];
-    let mut octets = ArrayVec::new();
-    octets.try_extend_from_slice(&head).unwrap();
+    let mut octets = ArrayVec::try_from(head.as_slice()).unwrap();
     octets.try_extend_from_slice(&facts.diag.octets).unwrap();
     octets
 }
@@ -51,7 +50,7 @@ pub fn octets(facts: &DiagFacts) -> ArrayVec<u8, 244>
 /// Station_status_1 (IEC 61158-6-3, Slave_Diag response).
 #[tactic(auto, using(crate::proofs::Bits::or_station_status_1))]
 fn octet_1(facts: &DiagFacts) -> u8
-    ensures { result ≡ station_status_1 facts.now }
+    ensures { result ≡ octet_of (station_status_1 facts.now) }
 {
     bit(1, facts.state != State::DataExch)
         | bit(2, facts.diag.cfg_fault)
@@ -63,7 +62,7 @@ fn octet_1(facts: &DiagFacts) -> u8
 /// Station_status_2 (IEC 61158-6-3, Slave_Diag response).
 #[tactic(auto, using(crate::proofs::Bits::or_station_status_2))]
 fn octet_2(facts: &DiagFacts) -> u8
-    ensures { result ≡ station_status_2 facts.now }
+    ensures { result ≡ octet_of (station_status_2 facts.now) }
 {
     bit(0, facts.state == State::WaitPrm)
         | bit(1, facts.diag.stat)
@@ -75,7 +74,7 @@ fn octet_2(facts: &DiagFacts) -> u8
 
 /// Station_status_3 (IEC 61158-6-3, Slave_Diag response).
 fn octet_3(facts: &DiagFacts) -> u8
-    ensures { result ≡ station_status_3 facts.now }
+    ensures { result ≡ octet_of (station_status_3 facts.now) }
 {
     bit(7, facts.diag.overflow)
 }
@@ -83,7 +82,7 @@ fn octet_3(facts: &DiagFacts) -> u8
 /// An octet in which this bit alone is 1, where the flag is set, and else no bit.
 fn bit(number: u32, flag: bool) -> u8
     requires { number < 8 }
-    ensures { result ≡ bit_weight (number, flag) }
+    ensures { result ≡ (if flag then 2 ^ number else 0) }
 {
     u8::from(flag) << number
 }

@@ -1,13 +1,15 @@
 //! Laws of the diagnosis text.
 
 ghost use Rattle.std.specs.Prelude.{◌≡◌, ◌≤◌, length};
+ghost use Rattle.dp_sap.specs.AccessTable.{most_data};
 ghost use Rattle.dp_diag.specs.declared.facts.DiagFacts.{DiagFacts};
+ghost use Rattle.dp_diag.specs.Diagnosis.{most_extended};
 ghost use Rattle.dp_diag.specs.DiagnosisText.{diagnosis_text, shown, HolderIsStation};
 
 /// A diagnosis has 6 to 244 octets, where its extended octets are at most 238.
 pub fn diagnosis_text_has_6_to_244_octets()
-    ensures { (facts : DiagFacts) → length facts.diag.octets.items ≤ 238
-        → (6 ≤ length (diagnosis_text facts)) × (length (diagnosis_text facts) ≤ 244) }
+    ensures { (facts : DiagFacts) → length facts.diag.octets.items ≤ most_extended
+        → (6 ≤ length (diagnosis_text facts)) × (length (diagnosis_text facts) ≤ most_data) }
 {}
 
 /// From the octets of a diagnosis each fact can be read back, but for whether it is unread: equal

@@ -9,7 +9,8 @@ mod diag;
 mod facts;
 pub mod laws;
 
-pub use diag::Diag;
+pub use diag::{Diag, MOST_EXTENDED};
+pub use dp_sap::State;
 pub use facts::{DiagFacts, octets};
 
 #[cfg(test)]

@@ -1,5 +1,5 @@
 -- Which case gives a verdict.
-use Rattle.std.proofs.Common.{◌≡◌, ℕ, ◌<◌, ◌≤◌, ◌↔◌, ◌⊎◌, inl, inr, Bool, true, false, not, List, [], ◌∷◌, length, All, IfSome, refl, sym, ap, ◌∙◌, arith}
+use Rattle.std.proofs.Common.{◌≡◌, ℕ, ◌<◌, ◌≤◌, ◌↔◌, ◌⊎◌, inl, inr, Bool, true, false, not, List, [], ◌∷◌, length, All, IfSome, refl, sym, ap, ◌∙◌, arith, length-drop}
 use Rattle.std.proofs.lemmas.Grind.{common_steps}
 use Rattle.std.proofs.lemmas.Bool.{ltb-false, ltb-true}
 use Rattle.std.proofs.lemmas.List.Elements.{All-get_or}
@@ -7,7 +7,7 @@ use Rattle.dp_prm.specs.declared.limits.Limits.{Limits}
 use Rattle.dp_prm.specs.declared.prm.Prm.{Prm}
 use Rattle.dp_prm.specs.declared.prm.PrmVerdict.{PrmVerdict}
 use Rattle.dp_prm.specs.declared.prm.PrmVerdict.TheVariants.{MinTsdr, Unlock, Lock, Fault}
-use Rattle.dp_prm.specs.Meaning.{first_case, meaning_of, is_short, unlock_req, lock_req, min_tsdr, is_faulty, is_not_supported, parameters, wd_on, wd_fact_1, wd_fact_2}
+use Rattle.dp_prm.specs.Meaning.{first_case, meaning_of, most_octets, most_user_parameters, is_short, unlock_req, lock_req, min_tsdr, is_faulty, is_not_supported, parameters, wd_on, wd_fact_1, wd_fact_2}
 use Rattle.dp_prm.specs.Requests.{AsksUnsupported, IsAcceptable, IsForMinTsdr, IsLocking, IsUnlocking}
 use Rattle.dp_prm.proofs.Acceptable.{is_faulty-acceptable, acceptable-is_faulty, is_not_supported-asks, asks-is_not_supported, is_not_supported-is_faulty}
 use Rattle.dp_prm.proofs.Factors.{time_between}
@@ -120,3 +120,12 @@ watchdog_between octets limits prm below e =
     let first : wd_fact_1 octets < 256 = All-get_or (λ octet. octet < 256) octets 1 0 (omega arith) below in
     let second : wd_fact_2 octets < 256 = All-get_or (λ octet. octet < 256) octets 2 0 (omega arith) below in
     rw same (time_between (wd_on octets) (wd_fact_1 octets) (wd_fact_2 octets) (omega arith) (omega arith) good.factors)
+
+-- the user parameters of an accepted locking request
+pub user_parameters_fit : (octets : List ℕ) (limits : Limits) (prm : Prm)
+    → length octets ≤ most_octets
+    → meaning_of octets limits ≡ Lock prm
+    → length prm.user.items ≤ most_user_parameters
+user_parameters_fit octets limits prm most e =
+    let (locking, good, same) = (locks octets limits prm).0 e in
+    rw same (omega (arith, length-drop 7 octets))

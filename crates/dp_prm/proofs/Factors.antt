@@ -1,20 +1,8 @@
 -- The two factors of the watchdog time.
-use Rattle.std.proofs.Common.{◌≡◌, ℕ, zero, suc, ◌*◌, ◌<◌, ◌≤◌, Bool, true, false, ◌&&◌, ◌||◌, Option, Some, None, IfSome, if◌then◌else◌, nat_eq, refl, ap, ◌∙◌, arith}
+use Rattle.std.proofs.Common.{◌≡◌, ℕ, zero, suc, ◌*◌, ◌<◌, ◌≤◌, Bool, true, false, Some, None, IfSome, if◌then◌else◌, refl, arith}
 use Rattle.std.proofs.Math.Nat.{mul-le-mul}
-use Rattle.std.specs.Option.{option_eq}
 
--- a product is 0 exactly where a factor is
-product_0 : (m n : ℕ) → nat_eq (m * n) 0 ≡ (nat_eq m 0 || nat_eq n 0)
-product_0 zero n = grind arith
-product_0 (suc m) zero = grind arith
-product_0 (suc m) (suc n) = grind arith
-
--- a watchdog time is 0 exactly where a watchdog is to run and a factor is 0
-pub time_0 : (on : Bool) (m n : ℕ) (time : Option ℕ) → time ≡ (if on then Some (m * n) else None)
-    → option_eq nat_eq time (Some 0) ≡ (on && (nat_eq m 0 || nat_eq n 0))
-time_0 false m n time e = ap (λ o. option_eq nat_eq o (Some 0)) e
-time_0 true m n time e = ap (λ o. option_eq nat_eq o (Some 0)) e ∙ product_0 m n
-
+-- a product of factors above 0 is one
 product_least : (m n : ℕ) → 0 < m → 0 < n → 1 ≤ m * n
 product_least (suc m) (suc n) a b = grind arith
 product_least zero n a b = absurd (omega arith)

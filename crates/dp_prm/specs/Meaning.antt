@@ -7,6 +7,14 @@ use Rattle.dp_prm.specs.declared.prm.Prm.{Prm}
 use Rattle.dp_prm.specs.declared.prm.PrmVerdict.{PrmVerdict}
 use Rattle.dp_prm.specs.declared.prm.PrmVerdict.TheVariants.{MinTsdr, Unlock, Lock, Fault}
 
+-- the most octets of a parameter telegram (IEC 61158-6-3, data unit)
+abbrev pub most_octets : ℕ
+most_octets = 244
+
+-- the most octets of user parameters (IEC 61158-6-3, Set_Prm request, User_Prm)
+abbrev pub most_user_parameters : ℕ
+most_user_parameters = 237
+
 -- the bit of this number is 1; bit 0 is the lowest (own)
 abbrev pub is_set : ℕ → ℕ → Bool
 is_set number octet = octet / 2 ^ number % 2 == 1

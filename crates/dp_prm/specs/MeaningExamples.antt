@@ -3,7 +3,7 @@ use Rattle.std.specs.Prelude.{◌≡◌, true, false, [], ◌∷◌, replicate, 
 use Rattle.dp_prm.specs.declared.limits.Limits.{Limits}
 use Rattle.dp_prm.specs.declared.prm.Prm.{Prm}
 use Rattle.dp_prm.specs.declared.prm.PrmVerdict.TheVariants.{MinTsdr, Unlock, Lock, Fault}
-use Rattle.dp_prm.specs.Meaning.{meaning_of}
+use Rattle.dp_prm.specs.Meaning.{meaning_of, most_octets}
 
 -- the slave supports Sync and Freeze and takes two octets of user parameters
 abbrev pub slave : Limits
@@ -74,5 +74,5 @@ unlocks = refl
 pub lock_with_unlock_unlocks : meaning_of (0xC8 ∷ 0x02 ∷ 0x05 ∷ 0x0B ∷ 0x80 ∷ 0xA1 ∷ 0x01 ∷ []) slave ≡ Unlock
 lock_with_unlock_unlocks = refl
 
-pub longest_telegram_of_zeros : meaning_of (replicate 244 0x00) slave ≡ MinTsdr 0
+pub longest_telegram_of_zeros : meaning_of (replicate most_octets 0x00) slave ≡ MinTsdr 0
 longest_telegram_of_zeros = refl

@@ -4,7 +4,7 @@ ghost use Rattle.std.specs.Prelude.{◌≡◌, ◌<◌, ◌≤◌, ◌↔◌, �
 ghost use Rattle.dp_prm.specs.declared.limits.Limits.{Limits};
 ghost use Rattle.dp_prm.specs.declared.prm.Prm.{Prm};
 ghost use Rattle.dp_prm.specs.declared.prm.PrmVerdict.{PrmVerdict};
-ghost use Rattle.dp_prm.specs.Meaning.{is_not_supported, meaning_of, min_tsdr, parameters};
+ghost use Rattle.dp_prm.specs.Meaning.{is_not_supported, meaning_of, min_tsdr, most_octets, most_user_parameters, parameters};
 ghost use Rattle.dp_prm.specs.Requests.{AsksUnsupported, IsAcceptable, IsForMinTsdr, IsLocking, IsUnlocking};
 
 /// Some case always applies: octets are too few, unlock, set min TSDR, or are a locking request,
@@ -62,4 +62,13 @@ pub fn watchdog_runs_1_to_65025_units()
         → All (λ octet. octet < 256) octets
         → meaning_of octets limits ≡ PrmVerdict.Lock prm
         → IfSome prm.watchdog (λ time. (1 ≤ time) × (time ≤ 65025)) }
+{}
+
+/// The user parameters of an accepted locking request are at most 237, as many as a telegram has
+/// room for.
+pub fn user_parameters_are_at_most_237()
+    ensures { (octets : List ℕ) (limits : Limits) (prm : Prm)
+        → length octets ≤ most_octets
+        → meaning_of octets limits ≡ PrmVerdict.Lock prm
+        → length prm.user.items ≤ most_user_parameters }
 {}

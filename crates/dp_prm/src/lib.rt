@@ -11,8 +11,8 @@ mod prm;
 mod reading;
 
 pub use limits::Limits;
-pub use prm::{Prm, PrmVerdict};
-pub use reading::read;
+pub use prm::{MOST_USER_PARAMETERS, Prm, PrmVerdict};
+pub use reading::{MOST_OCTETS, read};
 
 #[cfg(test)]
 mod tests;

@@ -2,6 +2,10 @@
 
 use arrayvec::ArrayVec;
 
+/// The most octets of user parameters: those of a parameter telegram but for the seven that come
+/// before them (IEC 61158-6-3, Set_Prm request, User_Prm).
+pub const MOST_USER_PARAMETERS: usize = 237;
+
 /// The parameters that an accepted locking request sets (IEC 61158-6-3, Set_Prm request).
 #[derive(Clone, Debug, Drop, PartialEq, Eq)]
 pub struct Prm {
@@ -16,7 +20,7 @@ pub struct Prm {
     /// Group_Ident: a bit for each group that the slave belongs to.
     pub group: u8,
     /// User_Prm: the user parameters, 0 to 237 octets.
-    pub user: ArrayVec<u8, 237>,
+    pub user: ArrayVec<u8, MOST_USER_PARAMETERS>,
 }
 
 /// What a parameter telegram means (IEC 61158-6-3, Set_Prm request).

@@ -1,12 +1,14 @@
 //! The octets of a parameter telegram into what they mean.
 
-ghost use Rattle.std.specs.Prelude.{◌≡◌, ◌<◌, ◌≤◌, ◌*◌, ◌&&◌, ◌||◌, ◌==◌, Some, None, if◌then◌else◌, nat_eq, not, length};
-ghost use Rattle.std.specs.Option.{option_eq};
-ghost use Rattle.dp_prm.specs.Meaning.{meaning_of, is_set as is_set_of};
+ghost use Rattle.std.specs.Prelude.{◌≡◌, ◌<◌, ◌≤◌, ◌*◌, ◌&&◌, ◌||◌, ◌==◌, Some, None, if◌then◌else◌, not, length};
+ghost use Rattle.dp_prm.specs.Meaning.{meaning_of, most_octets, is_set as is_set_of};
 
 use crate::limits::Limits;
 use crate::prm::{Prm, PrmVerdict};
 use arrayvec::ArrayVec;
+
+/// The most octets of a parameter telegram (IEC 61158-6-3, data unit).
+pub const MOST_OCTETS: usize = 244;
 
 // The bits of the first octet by their numbers (IEC 61158-6-3, Set_Prm request, Station_status).
 const LOCK_REQ: u32 = 7;
@@ -36,7 +38,7 @@ const TOO_SHORT: PrmVerdict = PrmVerdict::Fault {
 ///    whether there was such a Sync_Req or Freeze_Req, also beside another reason.
 /// 5. All else is `Lock`.
 pub fn read(octets: &[u8], limits: &Limits) -> PrmVerdict
-    requires { length octets.now ≤ 244 }
+    requires { length octets.now ≤ most_octets }
     ensures { result ≡ meaning_of octets.now limits.now }
 {
     let [
@@ -59,35 +61,41 @@ pub fn read(octets: &[u8], limits: &Limits) -> PrmVerdict
         return PrmVerdict::MinTsdr(*min_tsdr);
     }
     let ident = u16::from_be_bytes([*ident_high, *ident_low]);
-    let prm = Prm {
-        watchdog: watchdog_time(is_set(WD_ON, *status), *wd_fact_1, *wd_fact_2),
+    let factor_0 = has_factor_0(*status, *wd_fact_1, *wd_fact_2);
+    let not_supported = is_not_supported(*status, limits);
+    let too_many = user.len() > usize::from(limits.user_max);
+    if ident != limits.ident || factor_0 || not_supported || too_many {
+        return PrmVerdict::Fault { not_supported };
+    }
+    PrmVerdict::Lock(Prm {
+        watchdog: watchdog_time(*status, *wd_fact_1, *wd_fact_2),
         sync_req: is_set(SYNC_REQ, *status),
         freeze_req: is_set(FREEZE_REQ, *status),
         min_tsdr: *min_tsdr,
         group: *group,
         user: ArrayVec::try_from(user).unwrap(),
-    };
-    let not_supported = is_not_supported(&prm, limits);
-    let too_many = user.len() > usize::from(limits.user_max);
-    if ident != limits.ident || prm.watchdog == Some(0) || not_supported || too_many {
-        return PrmVerdict::Fault { not_supported };
-    }
-    PrmVerdict::Lock(prm)
+    })
 }
 
-/// The watchdog time in units of 10 ms; it is 0 exactly where a factor is.
-fn watchdog_time(wd_on: bool, wd_fact_1: u8, wd_fact_2: u8) -> Option<u32>
-    ensures value { result ≡ (if wd_on then Some (wd_fact_1 * wd_fact_2) else None) }
-    ensures factor_0 { option_eq nat_eq result (Some 0) ≡ (wd_on && (wd_fact_1 == 0 || wd_fact_2 == 0)) }
+/// A watchdog is to run, and a factor of its time is 0.
+const fn has_factor_0(status: u8, wd_fact_1: u8, wd_fact_2: u8) -> bool
+    ensures { result ≡ (is_set_of WD_ON status && (wd_fact_1 == 0 || wd_fact_2 == 0)) }
 {
-    wd_on.then_some(u32::from(wd_fact_1) * u32::from(wd_fact_2))
+    is_set(WD_ON, status) && (wd_fact_1 == 0 || wd_fact_2 == 0)
 }
 
 /// Sync or Freeze is to be used, which the slave does not support.
-const fn is_not_supported(prm: &Prm, limits: &Limits) -> bool
-    ensures { result ≡ (prm.now.sync_req && not limits.now.sync || prm.now.freeze_req && not limits.now.freeze) }
+const fn is_not_supported(status: u8, limits: &Limits) -> bool
+    ensures { result ≡ (is_set_of SYNC_REQ status && not limits.now.sync || is_set_of FREEZE_REQ status && not limits.now.freeze) }
 {
-    prm.sync_req && !limits.sync || prm.freeze_req && !limits.freeze
+    is_set(SYNC_REQ, status) && !limits.sync || is_set(FREEZE_REQ, status) && !limits.freeze
+}
+
+/// The watchdog time in units of 10 ms, where a watchdog is to run.
+fn watchdog_time(status: u8, wd_fact_1: u8, wd_fact_2: u8) -> Option<u32>
+    ensures { result ≡ (if is_set_of WD_ON status then Some (wd_fact_1 * wd_fact_2) else None) }
+{
+    is_set(WD_ON, status).then_some(u32::from(wd_fact_1) * u32::from(wd_fact_2))
 }
 
 /// The bit of this number is 1.

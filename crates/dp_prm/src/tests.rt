@@ -1,4 +1,4 @@
-use crate::{Limits, Prm, PrmVerdict, read};
+use crate::{Limits, MOST_OCTETS, MOST_USER_PARAMETERS, Prm, PrmVerdict, read};
 use arrayvec::ArrayVec;
 use std::test::Fail;
 
@@ -141,7 +141,7 @@ fn user_parameters(rt: HostRuntime) -> Result<(), Fail> {
 
 #[test]
 fn longest_telegrams(rt: HostRuntime) {
-    let mut octets = [0x00; 244];
+    let mut octets = [0x00; MOST_OCTETS];
     assert_eq!(rt; read(&octets, &SLAVE), PrmVerdict::MinTsdr(0));
     octets[..7].copy_from_slice(&[0x88, 0x02, 0x05, 0x0B, 0x80, 0xA1, 0x01]);
     let limits = Limits {
@@ -149,7 +149,7 @@ fn longest_telegrams(rt: HostRuntime) {
         ..SLAVE
     };
     let prm = Prm {
-        user: ArrayVec::from([0x00; 237]),
+        user: ArrayVec::from([0x00; MOST_USER_PARAMETERS]),
         ..watched()
     };
     assert_eq!(rt; read(&octets, &limits), PrmVerdict::Lock(prm));

@@ -25,7 +25,7 @@ pub record Row : Type 0 where
   pub least : ℕ
   pub most : ℕ
 
--- a row, in the order of the printed table
+-- a row, its parts in the order of the table's columns
 abbrev pub table_row : Option ℕ → Service → Column → Column → Column → ℕ → ℕ → Row
 table_row point service wait_prm wait_cfg data_exch least most = record {
   point = point;

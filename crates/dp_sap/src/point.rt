@@ -53,9 +53,9 @@ pub struct Point {
     pub access: Access,
     /// The service by which it is used.
     pub service: Service,
-    /// The least number of data octets of a request.
+    /// The least number of data octets of a request, 0 to 244.
     pub least: u8,
-    /// The greatest number of data octets of a request.
+    /// The greatest number of data octets of a request, 0 to 244.
     pub most: u8,
     /// The point is marked busy.
     pub busy: bool,

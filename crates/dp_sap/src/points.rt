@@ -77,8 +77,9 @@ impl Points {
         self.out_len
     }
 
-    /// The point of this number, `None` being the default point: its row of the access table
-    /// with its busy mark. A number outside the table gives a point that is off and not busy.
+    /// The point of this number, which may be any octet, `None` being the default point: its row
+    /// of the access table with its busy mark. A number outside the table gives a point that is
+    /// off and not busy.
     ///
     /// Of a point that is off only `active` and `busy` mean anything.
     pub fn find(&self, number: Option<u8>) -> Point
@@ -98,9 +99,9 @@ impl Points {
         }
     }
 
-    /// Marks the point of this number as busy or as not busy, `None` being the default point: in
-    /// each state, also where the point is off. `UnknownPoint` exactly for a point that is not in
-    /// the access table, and then nothing changes.
+    /// Marks the point of this number, which may be any octet, as busy or as not busy, `None` being
+    /// the default point: in each state, also where the point is off. `UnknownPoint` exactly for a
+    /// number that is not in the access table, and then nothing changes.
     pub fn set_busy(&mut self, number: Option<u8>, busy: bool) -> Result<(), SapFault>
         ensures known { is_ok result ≡ is_in_table number }
         ensures unknown { IfErr result (λ fault. fault ≡ SapFault.UnknownPoint) }

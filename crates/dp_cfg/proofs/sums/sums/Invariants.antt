@@ -1,6 +1,7 @@
 use Rattle.std.proofs.Common.{◌≡◌, ◌≤◌, length, ◌+◌, ◌*◌}
 use Rattle.std.specs.Option.{option_map}
-use Rattle.dp_cfg.specs.Reading.{split_of, sums_of}
+use Rattle.dp_cfg.specs.Reading.{split_of}
+use Rattle.dp_cfg.specs.PrivateWords.{sums_of}
 use Rattle.dp_cfg.proofs.RunningSums.{added}
 use Rattle.dp_cfg.proofs.sums.sums.Given as goal
 

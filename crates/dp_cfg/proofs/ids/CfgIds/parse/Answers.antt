@@ -17,7 +17,7 @@ returns-in_err-lengths-clause-too_long c = long_clause c.args.octets.now c.from_
 
 pub invariant_of-result : goal.invariant_of-result
 invariant_of-result c =
-    let kept : c.try_extend_from_slice.new.self.items ≡ c.args.octets.now = search rules in
+    let kept : c.unwrap.result.items ≡ c.args.octets.now = search rules in
     let right = right_from (fault_of c.args.octets.now) _ _ c.in_ok-lengths.ensures in
     rw (kept, right.1) (record {
       is_read = rw right.0;
@@ -27,7 +27,7 @@ invariant_of-result c =
 
 pub returns-clause-computed : goal.returns-clause-computed
 returns-clause-computed c =
-    let kept : c.try_extend_from_slice.new.self.items ≡ c.args.octets.now = search rules in
+    let kept : c.unwrap.result.items ≡ c.args.octets.now = search rules in
     let right = right_from (fault_of c.args.octets.now) _ _ c.in_ok-lengths.ensures in
     rw (kept, right.0)
 
