@@ -28,7 +28,7 @@ station_status_1 facts =
     false
     -- 1 Station_Not_Ready: the state is not Data_Exch
     ∷ not (is_in_data_exch facts.state)
-    -- 2 Cfg_Fault: the last configuration was refused
+    -- 2 Cfg_Fault: a configuration was refused
     ∷ facts.diag.cfg_fault
     -- 3 Ext_Diag: the extended octets tell of a fault
     ∷ facts.diag.ext
@@ -36,7 +36,7 @@ station_status_1 facts =
     ∷ facts.diag.not_supported
     -- 5 Invalid_Slave_Response: the master's own, a slave sends 0
     ∷ false
-    -- 6 Prm_Fault: the last parameters were refused
+    -- 6 Prm_Fault: parameters were refused
     ∷ facts.diag.prm_fault
     -- 7 Master_Lock: the master's own, a slave sends 0
     ∷ false

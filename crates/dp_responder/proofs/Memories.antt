@@ -6,7 +6,7 @@ use Rattle.std.proofs.lemmas.Bool.{cases_Bool, eqb-true, eq-eqb, ne_eqb, both_wa
 use Rattle.dp_telegram.specs.FunctionCode.{asks_srd, asks_sdn, function_of, frame_count_bit, frame_count_is_valid}
 use Rattle.dp_responder.specs.declared.judgement.Judged.TheVariants as verdicts
 use Rattle.dp_responder.specs.Memory.{JudgedRequest, MasterMemory, Remembered, last_after, memory_after, no_memory, remembered_of, same_bit, with_remembered}
-use Rattle.dp_responder.specs.Judgement.{Answer, the_stored, the_function, JudgementRow, first_judged, judged_by, judgement}
+use Rattle.dp_responder.specs.Judgement.{RowAnswer, the_stored, the_function, JudgementRow, first_judged, judged_by, judgement}
 use Rattle.dp_responder.specs.declared.rule.Rule.{Rule}
 use Rattle.dp_telegram.specs.declared.access.Parts.{Parts}
 use Rattle.dp_sap.specs.AccessTable.{PointsView}
@@ -105,7 +105,7 @@ first_applies fc (r ∷ before) behind row none here = elim (cases_Bool r.applie
   | inr e ↦ rw e (first_applies fc before behind row (rw e at none) here)
 ]
 
-never_pass : (fc : ℕ) (rule : Rule) (answer : Answer) → judged_by fc rule answer ≢ verdicts.Pass
+never_pass : (fc : ℕ) (rule : Rule) (answer : RowAnswer) → judged_by fc rule answer ≢ verdicts.Pass
 never_pass fc rule (the_stored reply) e = absurd cc
 never_pass fc rule (the_function function) e = elim (cases_Bool (asks_sdn (function_of fc))) [
   | inl sdn ↦ let silent : verdicts.Silent rule ≡ verdicts.Pass = rw sdn at e in absurd cc

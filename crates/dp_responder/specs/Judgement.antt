@@ -34,17 +34,17 @@ abbrev pub takes_length : ℕ → Point → Bool
 takes_length count point = nat_le point.least count && nat_le count point.most
 
 -- what a row answers: the stored reply, or a reply without data of this function, which an SDN doesn't get
-pub data Answer : Type 0 where
-  the_stored : List ℕ → Answer
-  the_function : ℕ → Answer
+pub data RowAnswer : Type 0 where
+  the_stored : List ℕ → RowAnswer
+  the_function : ℕ → RowAnswer
 
 -- a row of the verdict: when it applies, its rule, and what it answers
 pub record JudgementRow : Type 0 where
   pub applies : Bool
   pub rule : Rule
-  pub answer : Answer
+  pub answer : RowAnswer
 
-abbrev pub judgement_row : Bool → Rule → Answer → JudgementRow
+abbrev pub judgement_row : Bool → Rule → RowAnswer → JudgementRow
 judgement_row applies rule answer = record { applies = applies; rule = rule; answer = answer }
 
 -- the rows by which a request is refused: the point is the one that it names, None where that is off
@@ -68,7 +68,7 @@ abbrev pub rules_of : List JudgementRow → List (Bool × Rule)
 rules_of rows = map (λ row. (row.applies, row.rule)) rows
 
 -- what a row that applies gives: silence with its rule for an SDN that is refused
-abbrev pub judged_by : ℕ → Rule → Answer → Judged
+abbrev pub judged_by : ℕ → Rule → RowAnswer → Judged
 judged_by fc rule (the_stored reply) = verdicts.Repeat (record { items = reply })
 judged_by fc rule (the_function function) = if asks_sdn (function_of fc) then verdicts.Silent rule else verdicts.Refuse function rule
 

@@ -62,7 +62,7 @@ set_prm = Some 61
 abbrev pub chk_cfg : Option ℕ
 chk_cfg = Some 62
 
--- the most data octets of a telegram (IEC 61158-6-3, data unit)
+-- the most data octets of a service (IEC 61158-6-3, data unit)
 abbrev pub most_data : ℕ
 most_data = 244
 

@@ -23,7 +23,7 @@ pub const SET_PRM: u8 = 61;
 /// The point Chk_Cfg: a configuration is sent (IEC 61158-6-3, service access points).
 pub const CHK_CFG: u8 = 62;
 
-/// The most data octets of a telegram (IEC 61158-6-3, data unit).
+/// The most data octets of a service (IEC 61158-6-3, data unit).
 pub const MOST_DATA: usize = 244;
 
 /// Whose requests a point takes (own).

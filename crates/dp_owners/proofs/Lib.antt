@@ -1,0 +1,10 @@
+pub mod Mending
+pub mod Positions
+pub mod Homes
+pub mod Chains
+pub mod Changes
+pub mod Appends
+pub mod Unlinks
+pub mod Walks
+pub mod Counts
+pub mod Same
