@@ -1,0 +1,95 @@
+//! A Global_Control.
+
+ghost use Rattle.std.specs.Prelude.{◌≡◌, ◌<◌, length};
+ghost use Rattle.dp_telegram.specs.FunctionCode.{is_set as is_set_of};
+ghost use Rattle.dp_slave.specs.SlaveParts.{with_slave};
+ghost use Rattle.dp_slave.specs.Acts.{is_controlled};
+ghost use Rattle.dp_slave.specs.Fields.{acted};
+ghost use Rattle.dp_globalctl.specs.Command.{command_of, control_in, selects as is_selected};
+
+use dp_slave::Slave;
+
+/// The bits of the first octet by their numbers (IEC 61158-6-3, Global_Control request,
+/// Control_Command).
+const CLEAR_DATA: u32 = 1;
+
+const UNFREEZE: u32 = 2;
+
+const FREEZE: u32 = 3;
+
+const UNSYNC: u32 = 4;
+
+const SYNC: u32 = 5;
+
+/// What a Global_Control asks for.
+#[derive(Clone, Copy, Debug, PartialEq, Eq)]
+pub struct Command {
+    /// Clear_Data: outputs and latest data become zero.
+    pub clear_data: bool,
+    /// Unfreeze: freeze mode ends.
+    pub unfreeze: bool,
+    /// Freeze: the inputs are copied, and freeze mode starts.
+    pub freeze: bool,
+    /// Unsync: sync mode ends.
+    pub unsync: bool,
+    /// Sync: the outputs wait for the next Sync.
+    pub sync: bool,
+    /// Group_Select: 0 for every slave, else a bit for each group.
+    pub group: u8,
+}
+
+impl Command {
+    /// What the two octets of a Global_Control say; the other bits of the first are ignored (own).
+    pub fn read(octets: &[u8]) -> Command
+        requires { length octets.now ≡ 2 }
+        ensures { result ≡ command_of octets.now }
+    {
+        let control = octets[0];
+        Command {
+            clear_data: is_set(CLEAR_DATA, control),
+            unfreeze: is_set(UNFREEZE, control),
+            freeze: is_set(FREEZE, control),
+            unsync: is_set(UNSYNC, control),
+            sync: is_set(SYNC, control),
+            group: octets[1],
+        }
+    }
+
+    /// It selects a slave of these groups: Group_Select 0 selects every slave, and else a group has
+    /// to be in common.
+    pub const fn selects(&self, group: u8) -> bool
+        ensures { result ≡ is_selected self.now.group group }
+    {
+        self.group == 0 || self.group & group != 0
+    }
+
+    /// Does to a slave in Data_Exch what it asks for, in this order (own): Clear_Data; Unsync, or
+    /// else Sync; Unfreeze, or else Freeze. The watchdog is set to its full time.
+    #[tactic(auto, unfolding(dp_slave::specs::Fields::acted))]
+    pub fn apply(&self, slave: &mut Slave)
+        ensures { slave.new ≡ with_slave slave.old (acted slave.old.slave (is_controlled (control_in self.now))) }
+    {
+        if self.clear_data {
+            slave.clear_data();
+        }
+        if self.unsync {
+            slave.unsync();
+        } else if self.sync {
+            slave.sync();
+        }
+        if self.unfreeze {
+            slave.unfreeze();
+        } else if self.freeze {
+            slave.freeze();
+        }
+        slave.retrigger();
+    }
+}
+
+/// The bit of this number is 1.
+const fn is_set(number: u32, octet: u8) -> bool
+    requires { number < 8 }
+    ensures { result ≡ is_set_of number octet }
+{
+    octet >> number & 1 == 1
+}

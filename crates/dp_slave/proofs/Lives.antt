@@ -1,0 +1,312 @@
+-- What holds of a slave after an act.
+use Rattle.std.proofs.Common.{◌≡◌, ℕ, ◌+◌, ◌-◌, ◌<◌, Bool, true, false, not, eqb, List, [], ◌∷◌, length, Option, Some, None, is_some, inl, inr, refl, sym, ap, subst, ◌∙◌, arith}
+use Rattle.std.specs.Prelude.{if◌then◌else◌, is_none, option_map}
+use Rattle.std.proofs.lemmas.Bool.{and_parts, cases_Bool, leb-false, lt-leb, eqb-true, both_ways}
+use Rattle.std.proofs.lemmas.List.{length-replicate}
+use Rattle.dp_prm.specs.declared.prm.PrmVerdict.{PrmVerdict}
+use Rattle.dp_prm.specs.declared.prm.PrmVerdict.TheVariants as prm
+use Rattle.dp_sap.specs.declared.state.State.{State}
+use Rattle.dp_sap.specs.declared.state.State.TheVariants.{WaitPrm, WaitCfg, DataExch}
+use Rattle.dp_diag.specs.DiagnosisText.{is_in_data_exch, is_in_wait_prm}
+use Rattle.dp_slave.specs.declared.description.SlaveSpec.{SlaveSpec}
+use Rattle.dp_slave.specs.SlaveRecord.{SlaveRecord, full_time, input_length, is_held_by, output_length, released, starting_slave, zeros}
+use Rattle.dp_slave.specs.Acts.{Act, Control, locks, faults, unlocks, sets_min_tsdr, configures, misconfigures, exchanges, tells_diagnosis, is_read, is_controlled, is_fed, reports, is_marked, ticks, halts, releases, runs_out}
+use Rattle.dp_slave.specs.Fields.{acted, cleared_by, is_frozen_by}
+use Rattle.dp_slave.specs.Services.{prm_act}
+use Rattle.dp_slave.specs.Lives.{IsSound, acts_after, all_fit, fits}
+
+pub released_again : (slave : SlaveRecord) → released (released slave) ≡ released slave
+unfolding released
+released_again slave = refl
+
+pub halt_releases : (slave : SlaveRecord) → acted slave halts ≡ released slave
+unfolding acted released
+halt_releases slave = refl
+
+-- data wait in sync mode
+pub data_wait : (slave : SlaveRecord) (octets : List ℕ) → slave.sync_mode ≡ true → (acted slave (exchanges octets)).outputs ≡ slave.outputs
+unfolding acted
+data_wait slave octets on = rw on refl
+
+pub put_out : (slave : SlaveRecord) (octets : List ℕ) (control : Control) → control.unsync ≡ true → control.clear_data ≡ false
+    → (acted (acted slave (exchanges octets)) (is_controlled control)).outputs ≡ octets
+unfolding acted
+put_out slave octets control unsync clear = rw (unsync, clear) refl
+
+-- a tick that lets go of nobody
+waited : (slave : SlaveRecord) (time : ℕ) → runs_out time slave.left ≡ false → acted slave (ticks time) ≡ record slave { left = option_map (λ units. units - time) slave.left }
+unfolding acted
+waited slave time stays = rw stays refl
+
+parts_stay : (time more : ℕ) (left : Option ℕ) → runs_out (time + more) left ≡ false
+    → (runs_out time left ≡ false) × (runs_out more (option_map (λ units. units - time) left) ≡ false)
+    × (option_map (λ units. units - more) (option_map (λ units. units - time) left) ≡ option_map (λ units. units - (time + more)) left)
+parts_stay time more None stays = (refl, refl, refl)
+parts_stay time more (Some units) stays =
+    let above : time + more < units = leb-false units (time + more) stays in
+    (lt-leb units time (omega arith), lt-leb (units - time) more (omega arith), ap Some (omega arith))
+
+pub times_add : (slave : SlaveRecord) (time more : ℕ) → releases slave (ticks (time + more)) ≡ false → acted (acted slave (ticks time)) (ticks more) ≡ acted slave (ticks (time + more))
+times_add slave time more stays =
+    let parts = parts_stay time more slave.left stays in
+    ap (λ (s : SlaveRecord). acted s (ticks more)) (waited slave time parts.0)
+    ∙ waited (record slave { left = option_map (λ units. units - time) slave.left }) more parts.1
+    ∙ ap (λ (left : Option ℕ). record slave { left = left }) parts.2
+    ∙ sym (waited slave (time + more) stays)
+
+-- a request for what the slave doesn't support
+pub told_by : (slave : SlaveRecord) (sender place : ℕ) (verdict : PrmVerdict) → verdict ≡ prm.Fault true
+    → ((acted slave (prm_act sender place verdict)).diag.prm_fault ≡ true) × ((acted slave (prm_act sender place verdict)).diag.not_supported ≡ true)
+unfolding acted
+told_by slave sender place verdict e = rw e (refl, refl)
+
+-- a slave stays sound
+pub sound_start : (masters : List ℕ) (description : SlaveSpec) → IsSound (starting_slave masters description)
+sound_start masters description = record {
+  held = refl;
+  parameters = refl;
+  watchdog = refl;
+  outputs_zero = λ outside. refl;
+  latest_zero = λ outside. refl;
+  no_sync = λ outside. refl;
+  no_freeze = λ outside. refl;
+  inputs_long = length-replicate _ 0;
+  copy_long = length-replicate _ 0;
+  outputs_long = length-replicate _ 0;
+  latest_long = length-replicate _ 0;
+}
+
+sound_released : (slave : SlaveRecord) → IsSound slave → IsSound (released slave)
+unfolding released
+sound_released slave s = record {
+  held = refl;
+  parameters = refl;
+  watchdog = refl;
+  outputs_zero = λ outside. refl;
+  latest_zero = λ outside. refl;
+  no_sync = λ outside. refl;
+  no_freeze = λ outside. refl;
+  inputs_long = s.inputs_long;
+  copy_long = s.copy_long;
+  outputs_long = length-replicate _ 0;
+  latest_long = length-replicate _ 0;
+}
+
+-- a watchdog is set to its full time, or left
+again_runs : (b : Bool) (left full : Option ℕ) → is_some left ≡ is_some full → is_some (if b then (if is_some left then full else None) else left) ≡ is_some full
+again_runs false left full same = same
+again_runs true None None same = refl
+again_runs true None (Some units) same = absurd cc
+again_runs true (Some units) None same = absurd cc
+again_runs true (Some units) (Some more) same = refl
+
+again_only : (left full : Option ℕ) → is_some left ≡ is_some full → is_some (if is_some left then full else None) ≡ is_some full
+again_only left full same = again_runs true left full same
+
+time_runs : (time : ℕ) (left : Option ℕ) → is_some (option_map (λ units. units - time) left) ≡ is_some left
+time_runs time None = refl
+time_runs time (Some units) = refl
+
+-- in Data_Exch nothing is said of what holds outside
+in_exchange : {X : Type 0} (state : State) → is_in_data_exch state ≡ true → is_in_data_exch state ≡ false → X
+in_exchange state inside outside = absurd (both_ways (is_in_data_exch state) outside inside)
+
+-- who isn't in Wait_Prm is held
+held_by : (state : State) (holder : Option ℕ) → is_in_wait_prm state ≡ is_none holder → not (is_in_wait_prm state) ≡ true → false ≡ is_none holder
+held_by WaitPrm holder held fit = absurd cc
+held_by WaitCfg holder held fit = held
+held_by DataExch holder held fit = held
+
+cleared_long : (clear : Bool) (count : ℕ) (octets : List ℕ) → length octets ≡ count → length (if clear then zeros count else octets) ≡ count
+cleared_long true count octets long = length-replicate count 0
+cleared_long false count octets long = long
+
+chosen_long : (b : Bool) (count : ℕ) (xs ys : List ℕ) → length xs ≡ count → length ys ≡ count → length (if b then xs else ys) ≡ count
+chosen_long true count xs ys one two = one
+chosen_long false count xs ys one two = two
+
+-- time lets go of the slave, or runs the watchdog down
+let_go : (slave : SlaveRecord) (time : ℕ) → runs_out time slave.left ≡ true → acted slave (ticks time) ≡ released slave
+unfolding acted released
+let_go slave time out = rw out refl
+
+sound_waited : (slave : SlaveRecord) (time : ℕ) → IsSound slave → IsSound (record slave { left = option_map (λ units. units - time) slave.left })
+sound_waited slave time s = record {
+  held = s.held;
+  parameters = s.parameters;
+  watchdog = time_runs time slave.left ∙ s.watchdog;
+  outputs_zero = s.outputs_zero;
+  latest_zero = s.latest_zero;
+  no_sync = s.no_sync;
+  no_freeze = s.no_freeze;
+  inputs_long = s.inputs_long;
+  copy_long = s.copy_long;
+  outputs_long = s.outputs_long;
+  latest_long = s.latest_long;
+}
+
+sound_tick : (slave : SlaveRecord) (time : ℕ) → IsSound slave → IsSound (acted slave (ticks time))
+sound_tick slave time s = elim (cases_Bool (runs_out time slave.left)) [
+  | inl out ↦ subst IsSound (sym (let_go slave time out)) (sound_released slave s)
+  | inr stays ↦ subst IsSound (sym (waited slave time stays)) (sound_waited slave time s)
+]
+
+sound_act : (slave : SlaveRecord) (act : Act) → IsSound slave → fits slave act ≡ true → IsSound (acted slave act)
+unfolding acted released
+sound_act slave (locks sender place prm) s fit = record {
+  held = refl;
+  parameters = refl;
+  watchdog = refl;
+  outputs_zero = λ outside. refl;
+  latest_zero = λ outside. refl;
+  no_sync = λ outside. refl;
+  no_freeze = λ outside. refl;
+  inputs_long = s.inputs_long;
+  copy_long = s.copy_long;
+  outputs_long = length-replicate _ 0;
+  latest_long = length-replicate _ 0;
+}
+sound_act slave (faults not_supported) s fit = record {
+  held = refl;
+  parameters = refl;
+  watchdog = refl;
+  outputs_zero = λ outside. refl;
+  latest_zero = λ outside. refl;
+  no_sync = λ outside. refl;
+  no_freeze = λ outside. refl;
+  inputs_long = s.inputs_long;
+  copy_long = s.copy_long;
+  outputs_long = length-replicate _ 0;
+  latest_long = length-replicate _ 0;
+}
+sound_act slave unlocks s fit = sound_released slave s
+sound_act slave (sets_min_tsdr sender octet) s fit = record {
+  held = s.held;
+  parameters = s.parameters;
+  watchdog = again_runs (is_held_by sender slave) slave.left (full_time slave) s.watchdog;
+  outputs_zero = s.outputs_zero;
+  latest_zero = s.latest_zero;
+  no_sync = s.no_sync;
+  no_freeze = s.no_freeze;
+  inputs_long = s.inputs_long;
+  copy_long = s.copy_long;
+  outputs_long = s.outputs_long;
+  latest_long = s.latest_long;
+}
+sound_act slave (configures number) s fit = record {
+  held = held_by slave.state slave.holder s.held fit;
+  parameters = s.parameters;
+  watchdog = again_only slave.left (full_time slave) s.watchdog;
+  outputs_zero = λ outside. absurd cc;
+  latest_zero = λ outside. absurd cc;
+  no_sync = λ outside. absurd cc;
+  no_freeze = λ outside. absurd cc;
+  inputs_long = s.inputs_long;
+  copy_long = s.copy_long;
+  outputs_long = s.outputs_long;
+  latest_long = s.latest_long;
+}
+sound_act slave misconfigures s fit = record {
+  held = refl;
+  parameters = refl;
+  watchdog = refl;
+  outputs_zero = λ outside. refl;
+  latest_zero = λ outside. refl;
+  no_sync = λ outside. refl;
+  no_freeze = λ outside. refl;
+  inputs_long = s.inputs_long;
+  copy_long = s.copy_long;
+  outputs_long = length-replicate _ 0;
+  latest_long = length-replicate _ 0;
+}
+sound_act slave (exchanges octets) s fit =
+    let parts = and_parts (is_in_data_exch slave.state) (eqb (length octets) (output_length slave)) fit in
+    let long = eqb-true _ _ parts.1 in
+    record {
+      held = s.held;
+      parameters = s.parameters;
+      watchdog = again_only slave.left (full_time slave) s.watchdog;
+      outputs_zero = in_exchange slave.state parts.0;
+      latest_zero = in_exchange slave.state parts.0;
+      no_sync = s.no_sync;
+      no_freeze = s.no_freeze;
+      inputs_long = s.inputs_long;
+      copy_long = s.copy_long;
+      outputs_long = chosen_long slave.sync_mode (output_length slave) slave.outputs octets s.outputs_long long;
+      latest_long = long;
+    }
+sound_act slave (tells_diagnosis sender) s fit = record {
+  held = s.held;
+  parameters = s.parameters;
+  watchdog = again_runs (is_held_by sender slave) slave.left (full_time slave) s.watchdog;
+  outputs_zero = s.outputs_zero;
+  latest_zero = s.latest_zero;
+  no_sync = s.no_sync;
+  no_freeze = s.no_freeze;
+  inputs_long = s.inputs_long;
+  copy_long = s.copy_long;
+  outputs_long = s.outputs_long;
+  latest_long = s.latest_long;
+}
+sound_act slave is_read s fit = s
+sound_act slave (is_controlled control) s fit = record {
+  held = s.held;
+  parameters = s.parameters;
+  watchdog = again_only slave.left (full_time slave) s.watchdog;
+  outputs_zero = in_exchange slave.state fit;
+  latest_zero = in_exchange slave.state fit;
+  no_sync = in_exchange slave.state fit;
+  no_freeze = in_exchange slave.state fit;
+  inputs_long = s.inputs_long;
+  copy_long = chosen_long (is_frozen_by slave control) (input_length slave) slave.inputs slave.copy s.inputs_long s.copy_long;
+  outputs_long = chosen_long _ (output_length slave) (cleared_by slave control slave.latest) (cleared_by slave control slave.outputs)
+      (cleared_long control.clear_data (output_length slave) slave.latest s.latest_long) (cleared_long control.clear_data (output_length slave) slave.outputs s.outputs_long);
+  latest_long = cleared_long control.clear_data (output_length slave) slave.latest s.latest_long;
+}
+sound_act slave (is_fed octets) s fit = record {
+  held = s.held;
+  parameters = s.parameters;
+  watchdog = s.watchdog;
+  outputs_zero = s.outputs_zero;
+  latest_zero = s.latest_zero;
+  no_sync = s.no_sync;
+  no_freeze = s.no_freeze;
+  inputs_long = eqb-true _ _ fit;
+  copy_long = s.copy_long;
+  outputs_long = s.outputs_long;
+  latest_long = s.latest_long;
+}
+sound_act slave (reports ext stat overflow octets) s fit = record {
+  held = s.held;
+  parameters = s.parameters;
+  watchdog = s.watchdog;
+  outputs_zero = s.outputs_zero;
+  latest_zero = s.latest_zero;
+  no_sync = s.no_sync;
+  no_freeze = s.no_freeze;
+  inputs_long = s.inputs_long;
+  copy_long = s.copy_long;
+  outputs_long = s.outputs_long;
+  latest_long = s.latest_long;
+}
+sound_act slave (is_marked point busy) s fit = record {
+  held = s.held;
+  parameters = s.parameters;
+  watchdog = s.watchdog;
+  outputs_zero = s.outputs_zero;
+  latest_zero = s.latest_zero;
+  no_sync = s.no_sync;
+  no_freeze = s.no_freeze;
+  inputs_long = s.inputs_long;
+  copy_long = s.copy_long;
+  outputs_long = s.outputs_long;
+  latest_long = s.latest_long;
+}
+sound_act slave (ticks time) s fit = sound_tick slave time s
+sound_act slave halts s fit = sound_released slave s
+
+pub sound_after : (acts : List Act) (slave : SlaveRecord) → IsSound slave → all_fit slave acts ≡ true → IsSound (acts_after slave acts)
+sound_after [] slave s fit = s
+sound_after (act ∷ acts) slave s fit =
+    let parts = and_parts (fits slave act) (all_fit (acted slave act) acts) fit in
+    sound_after acts (acted slave act) (sound_act slave act s parts.0) parts.1

@@ -1,0 +1,12 @@
+pub mod SlaveRecord
+pub mod SlaveParts
+pub mod SlaveLengths
+pub mod Acts
+pub mod Fields
+pub mod Controls
+pub mod Services
+pub mod Lives
+pub mod View
+pub mod Codes
+pub mod Names
+pub mod SlaveExamples

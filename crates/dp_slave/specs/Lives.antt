@@ -1,0 +1,42 @@
+-- What a slave goes through: acts one after another, each let through by the verdict on its request or by the line.
+use Rattle.std.specs.Prelude.{◌≡◌, ◌==◌, ◌&&◌, not, Bool, true, false, List, [], ◌∷◌, length, is_some, is_none}
+use Rattle.dp_diag.specs.DiagnosisText.{is_in_data_exch, is_in_wait_prm}
+use Rattle.dp_slave.specs.SlaveRecord.{SlaveRecord, full_time, input_length, output_length, zeros}
+use Rattle.dp_slave.specs.Acts.{Act, configures, misconfigures, exchanges, is_controlled, is_fed}
+use Rattle.dp_slave.specs.Fields.{acted}
+
+-- in this state the slave can meet the act: Chk_Cfg comes from a holder, Data_Exchange and Global_Control come in Data_Exch alone;
+-- outputs and inputs that come are as many as the slave has
+abbrev pub fits : SlaveRecord → Act → Bool
+fits slave (configures number) = not (is_in_wait_prm slave.state)
+fits slave misconfigures = not (is_in_wait_prm slave.state)
+fits slave (exchanges octets) = is_in_data_exch slave.state && length octets == output_length slave
+fits slave (is_controlled control) = is_in_data_exch slave.state
+fits slave (is_fed octets) = length octets == input_length slave
+fits slave act = true
+
+abbrev pub all_fit : SlaveRecord → List Act → Bool
+all_fit slave [] = true
+all_fit slave (act ∷ acts) = fits slave act && all_fit (acted slave act) acts
+
+abbrev pub acts_after : SlaveRecord → List Act → SlaveRecord
+acts_after slave [] = slave
+acts_after slave (act ∷ acts) = acts_after (acted slave act) acts
+
+-- what holds of a slave whatever it went through
+pub record IsSound (slave : SlaveRecord) : Type 0 where
+  -- it is in Wait_Prm exactly where nobody holds it, and then it has no parameters
+  pub held : is_in_wait_prm slave.state ≡ is_none slave.holder
+  pub parameters : is_some slave.prm ≡ is_some slave.holder
+  -- a watchdog runs exactly where the parameters ask for one, and so only under a holder
+  pub watchdog : is_some slave.left ≡ is_some (full_time slave)
+  -- outside Data_Exch outputs and latest data are zero, and neither mode is on
+  pub outputs_zero : is_in_data_exch slave.state ≡ false → slave.outputs ≡ zeros (output_length slave)
+  pub latest_zero : is_in_data_exch slave.state ≡ false → slave.latest ≡ zeros (output_length slave)
+  pub no_sync : is_in_data_exch slave.state ≡ false → slave.sync_mode ≡ false
+  pub no_freeze : is_in_data_exch slave.state ≡ false → slave.freeze_mode ≡ false
+  -- lengths
+  pub inputs_long : length slave.inputs ≡ input_length slave
+  pub copy_long : length slave.copy ≡ input_length slave
+  pub outputs_long : length slave.outputs ≡ output_length slave
+  pub latest_long : length slave.latest ≡ output_length slave

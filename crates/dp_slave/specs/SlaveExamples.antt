@@ -1,0 +1,159 @@
+-- Slave 5 of a line with masters 1 and 2: ident number 80A1, two octets of outputs and two of inputs, with Sync and Freeze.
+use Rattle.std.specs.Prelude.{◌≡◌, ℕ, List, [], ◌∷◌, true, false, Option, Some, None, refl}
+use Rattle.dp_telegram.specs.FunctionCode.{user_error}
+use Rattle.dp_sap.specs.declared.state.State.TheVariants.{WaitPrm, WaitCfg, DataExch}
+use Rattle.dp_sap.specs.AccessTable.{data_exchange, rd_outp, slave_diag, set_prm, chk_cfg, global_control}
+use Rattle.dp_responder.specs.declared.rule.Rule.TheVariants.{Length}
+use Rattle.dp_responder.specs.declared.judgement.Judged.TheVariants.{Refuse}
+use Rattle.dp_responder.specs.Judgement.{judgement}
+use Rattle.dp_diag.specs.DiagnosisText.{diagnosis_text}
+use Rattle.dp_slave.specs.declared.description.SlaveSpec.{SlaveSpec}
+use Rattle.dp_slave.specs.declared.description.Device.TheVariants.{Still}
+use Rattle.dp_slave.specs.SlaveRecord.{SlaveRecord, starting_slave, released, points_of, diag_facts}
+use Rattle.dp_slave.specs.Acts.{is_fed, ticks, reports, releases}
+use Rattle.dp_slave.specs.Fields.{acted}
+use Rattle.dp_slave.specs.Services.{low, service_act, service_answer}
+
+abbrev pub slave_5 : SlaveSpec
+slave_5 = record {
+  address = 5;
+  ident = 0x80A1;
+  cfg = record { items = 0x21 ∷ 0x11 ∷ [] };
+  sync = true;
+  freeze = true;
+  user_max = 237;
+  device = Still;
+}
+
+-- a request of a master to a point, at this place of the journal
+unfoldable pub requested : ℕ → ℕ → Option ℕ → List ℕ → SlaveRecord → SlaveRecord
+requested sender place point octets slave = acted slave (service_act slave sender place point octets)
+
+-- it starts, and its inputs are set to AA 55
+unfoldable pub fed : SlaveRecord
+fed = acted (starting_slave (1 ∷ 2 ∷ []) slave_5) (is_fed (0xAA ∷ 0x55 ∷ []))
+
+-- master 1 locks it: watchdog of 2 times 5 units, min TSDR 11, group 1
+unfoldable pub locked : SlaveRecord
+locked = requested 1 2 set_prm (0x88 ∷ 0x02 ∷ 0x05 ∷ 0x0B ∷ 0x80 ∷ 0xA1 ∷ 0x01 ∷ []) fed
+
+pub set_prm_locks_state : locked.state ≡ WaitCfg
+unfolding locked requested fed acted
+set_prm_locks_state = refl
+
+pub set_prm_locks_holder : locked.holder ≡ Some 1
+unfolding locked requested fed acted
+set_prm_locks_holder = refl
+
+pub set_prm_locks_since : locked.since ≡ 2
+unfolding locked requested fed acted
+set_prm_locks_since = refl
+
+pub set_prm_locks_watchdog : locked.left ≡ Some 10
+unfolding locked requested fed acted
+set_prm_locks_watchdog = refl
+
+-- the holder locks again, with min TSDR 12: it keeps its place
+pub relock_keeps_the_place : (requested 1 9 set_prm (0x80 ∷ 0x00 ∷ 0x00 ∷ 0x0C ∷ 0x80 ∷ 0xA1 ∷ 0x01 ∷ []) locked).since ≡ 2
+unfolding locked requested fed acted
+relock_keeps_the_place = refl
+
+pub relock_sets_min_tsdr : (requested 1 9 set_prm (0x80 ∷ 0x00 ∷ 0x00 ∷ 0x0C ∷ 0x80 ∷ 0xA1 ∷ 0x01 ∷ []) locked).min_tsdr ≡ 12
+unfolding locked requested fed acted
+relock_sets_min_tsdr = refl
+
+-- its configuration is good
+unfoldable pub configured : SlaveRecord
+configured = requested 1 3 chk_cfg (0x21 ∷ 0x11 ∷ []) locked
+
+pub chk_cfg_good : configured.state ≡ DataExch
+unfolding configured locked requested fed acted
+chk_cfg_good = refl
+
+-- data 12 34 come, and the inputs are answered
+unfoldable pub exchanged : SlaveRecord
+exchanged = requested 1 4 data_exchange (0x12 ∷ 0x34 ∷ []) configured
+
+pub data_exchange_first : exchanged.outputs ≡ 0x12 ∷ 0x34 ∷ []
+unfolding exchanged configured locked requested fed acted
+data_exchange_first = refl
+
+pub data_exchange_answers : service_answer configured data_exchange ≡ low (0xAA ∷ 0x55 ∷ [])
+unfolding configured locked requested fed acted
+data_exchange_answers = refl
+
+-- three octets are refused with UE, so that the outputs stay
+pub wrong_length_keeps_outputs :
+    judgement (points_of exchanged) None 1 0x7D (record { dsap = None; ssap = None; payload = record { items = 0x12 ∷ 0x34 ∷ 0x56 ∷ [] } }) ≡ Refuse user_error Length
+unfolding exchanged configured locked requested fed acted
+wrong_length_keeps_outputs = refl
+
+-- with Sync_Req, Sync, data 56 78 that wait, and Unsync that puts them out
+unfoldable pub synced_slave : SlaveRecord
+synced_slave =
+    requested 1 6 global_control (0x20 ∷ 0x00 ∷ [])
+    (requested 1 5 data_exchange (0x12 ∷ 0x34 ∷ [])
+    (requested 1 4 chk_cfg (0x21 ∷ 0x11 ∷ [])
+    (requested 1 3 set_prm (0xA8 ∷ 0x02 ∷ 0x05 ∷ 0x0B ∷ 0x80 ∷ 0xA1 ∷ 0x01 ∷ []) fed)))
+
+unfoldable pub waiting : SlaveRecord
+waiting = requested 1 7 data_exchange (0x56 ∷ 0x78 ∷ []) synced_slave
+
+pub sync_keeps_outputs : service_answer waiting rd_outp ≡ low (0x12 ∷ 0x34 ∷ [])
+unfolding waiting synced_slave requested fed acted
+sync_keeps_outputs = refl
+
+pub unsync_puts_out : service_answer (requested 1 8 global_control (0x10 ∷ 0x00 ∷ []) waiting) rd_outp ≡ low (0x56 ∷ 0x78 ∷ [])
+unfolding waiting synced_slave requested fed acted
+unsync_puts_out = refl
+
+-- 10 units let go of it, 9 leave one
+pub watchdog_releases : releases exchanged (ticks 10) ≡ true
+unfolding exchanged configured locked requested fed acted
+watchdog_releases = refl
+
+pub released_by_time : (acted exchanged (ticks 10)).state ≡ WaitPrm
+unfolding exchanged configured locked requested fed acted
+released_by_time = refl
+
+pub one_unit_is_left : (acted exchanged (ticks 9)).left ≡ Some 1
+unfolding exchanged configured locked requested fed acted
+one_unit_is_left = refl
+
+-- another ident number: the diagnosis tells the fault, and the slave is let go
+pub wrong_ident_faults :
+    diagnosis_text (diag_facts (requested 1 6 set_prm (0x88 ∷ 0x02 ∷ 0x05 ∷ 0x0B ∷ 0x80 ∷ 0xA2 ∷ 0x01 ∷ []) exchanged))
+    ≡ 0x42 ∷ 0x05 ∷ 0x00 ∷ 0xFF ∷ 0x80 ∷ 0xA1 ∷ []
+unfolding exchanged configured locked requested fed acted
+wrong_ident_faults = refl
+
+-- an unlock lets go of it
+pub unlock_releases : requested 1 6 set_prm (0x40 ∷ 0 ∷ 0 ∷ 0 ∷ 0 ∷ 0 ∷ 0 ∷ []) exchanged ≡ released exchanged
+unfolding exchanged configured locked requested fed acted released
+unlock_releases = refl
+
+-- a wrong configuration: Cfg_Fault, and the slave is let go
+pub wrong_configuration_faults :
+    diagnosis_text (diag_facts (requested 1 5 chk_cfg (0x21 ∷ 0x00 ∷ []) configured)) ≡ 0x06 ∷ 0x05 ∷ 0x00 ∷ 0xFF ∷ 0x80 ∷ 0xA1 ∷ []
+unfolding configured locked requested fed acted
+wrong_configuration_faults = refl
+
+-- a report is due until the holder reads it
+unfoldable pub reporting : SlaveRecord
+reporting = acted exchanged (reports true false false (0x03 ∷ 0x01 ∷ 0xFF ∷ []))
+
+pub diagnosis_due : service_answer reporting data_exchange ≡ record { high = true; octets = 0xAA ∷ 0x55 ∷ [] }
+unfolding reporting exchanged configured locked requested fed acted
+diagnosis_due = refl
+
+pub diagnosis_read : service_answer reporting slave_diag ≡ low (0x08 ∷ 0x0C ∷ 0x00 ∷ 0x01 ∷ 0x80 ∷ 0xA1 ∷ 0x03 ∷ 0x01 ∷ 0xFF ∷ [])
+unfolding reporting exchanged configured locked requested fed acted
+diagnosis_read = refl
+
+pub strangers_reading_leaves_it_due : service_answer (requested 2 6 slave_diag [] reporting) data_exchange ≡ record { high = true; octets = 0xAA ∷ 0x55 ∷ [] }
+unfolding reporting exchanged configured locked requested fed acted
+strangers_reading_leaves_it_due = refl
+
+pub holders_reading_ends_it : service_answer (requested 1 6 slave_diag [] reporting) data_exchange ≡ low (0xAA ∷ 0x55 ∷ [])
+unfolding reporting exchanged configured locked requested fed acted
+holders_reading_ends_it = refl

@@ -1,0 +1,11 @@
+-- A slave in the line's lists: its record, and its links, of which the policy says nothing (own).
+use Rattle.dp_owners.specs.declared.links.Links.{Links}
+use Rattle.dp_slave.specs.SlaveRecord.{SlaveRecord}
+
+pub record SlaveParts : Type 0 where
+  pub slave : SlaveRecord
+  pub links : Links
+
+-- the slave alone changes
+abbrev pub with_slave : SlaveParts → SlaveRecord → SlaveParts
+with_slave parts slave = record parts { slave = slave }

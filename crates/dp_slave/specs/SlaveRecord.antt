@@ -1,0 +1,136 @@
+-- What a DP slave is at one moment (IEC 61158-6-3, slave state machine).
+use Rattle.std.specs.Prelude.{◌≡◌, ℕ, ◌==◌, Bool, false, if◌then◌else◌, List, replicate, Option, None, is_some}
+use Rattle.std.specs.Option.{option_map_or, option_and_then}
+use Rattle.dp_sap.specs.declared.state.State.{State}
+use Rattle.dp_sap.specs.declared.state.State.TheVariants.{WaitPrm}
+use Rattle.dp_sap.specs.AccessTable.{BusyMarks, PointsView, no_marks}
+use Rattle.dp_responder.specs.Memory.{MasterMemory, no_memory}
+use Rattle.dp_prm.specs.declared.prm.Prm.{Prm}
+use Rattle.dp_prm.specs.declared.limits.Limits.{Limits}
+use Rattle.dp_cfg.specs.Reading.{input_octets, output_octets}
+use Rattle.dp_diag.specs.declared.diag.Diag.{Diag}
+use Rattle.dp_diag.specs.declared.facts.DiagFacts.{DiagFacts}
+use Rattle.dp_diag.specs.Diagnosis.{no_diagnosis}
+use Rattle.dp_slave.specs.declared.description.SlaveSpec.{SlaveSpec}
+
+-- one slave: its description, and what events change
+pub record SlaveRecord : Type 0 where
+  pub description : SlaveSpec
+  pub state : State
+  -- the master that locked it, and the place of the event by which it did so first; 0 where nobody holds it
+  pub holder : Option ℕ
+  pub since : ℕ
+  -- the shortest time to a reply, in bit times
+  pub min_tsdr : ℕ
+  -- the parameters of its holder, and the number of the configuration in force
+  pub prm : Option Prm
+  pub cfg : Option ℕ
+  -- the inputs, and the copy of them that Freeze made
+  pub inputs : List ℕ
+  pub copy : List ℕ
+  -- the outputs, and the data that came last, which differ in sync mode
+  pub outputs : List ℕ
+  pub latest : List ℕ
+  pub sync_mode : Bool
+  pub freeze_mode : Bool
+  -- the watchdog's remaining time in units of 10 ms, None where it is off
+  pub left : Option ℕ
+  pub diag : Diag
+  pub busy : BusyMarks
+  pub memory : List MasterMemory
+
+-- how many octets of inputs and of outputs it has, by its configuration (IEC 61158-6-3, configuration identifiers)
+abbrev pub input_length : SlaveRecord → ℕ
+input_length slave = input_octets slave.description.cfg.items
+
+abbrev pub output_length : SlaveRecord → ℕ
+output_length slave = output_octets slave.description.cfg.items
+
+-- so many octets of zero
+abbrev pub zeros : ℕ → List ℕ
+zeros count = replicate count 0
+
+-- its points: state, holder and output length, which decide what is on, and the busy marks
+abbrev pub points_of : SlaveRecord → PointsView
+points_of slave = record { state = slave.state; holder = slave.holder; out_len = output_length slave; busy = slave.busy }
+
+-- what it takes of parameters
+abbrev pub limits_of : SlaveRecord → Limits
+limits_of slave = record {
+  ident = slave.description.ident;
+  sync = slave.description.sync;
+  freeze = slave.description.freeze;
+  user_max = slave.description.user_max;
+}
+
+-- the inputs that a master sees: in freeze mode the copy that Freeze made (IEC 61158-6-3, Global_Control request)
+abbrev pub shown_inputs : SlaveRecord → List ℕ
+shown_inputs slave = if slave.freeze_mode then slave.copy else slave.inputs
+
+-- the master is the one that holds it
+abbrev pub is_held_by : ℕ → SlaveRecord → Bool
+is_held_by master slave = option_map_or (λ holder. holder == master) slave.holder false
+
+abbrev pub is_held : SlaveRecord → Bool
+is_held slave = is_some slave.holder
+
+-- the full time of its watchdog, None where the parameters have none (IEC 61158-6-3, Set_Prm request, WD_Fact_1 and WD_Fact_2)
+abbrev pub full_time : SlaveRecord → Option ℕ
+full_time slave = option_and_then (λ prm. prm.watchdog) slave.prm
+
+-- what its diagnosis tells (IEC 61158-6-3, Slave_Diag response)
+abbrev pub diag_facts : SlaveRecord → DiagFacts
+diag_facts slave = record {
+  state = slave.state;
+  holder = slave.holder;
+  ident = slave.description.ident;
+  wd_on = is_some slave.left;
+  freeze_mode = slave.freeze_mode;
+  sync_mode = slave.sync_mode;
+  diag = slave.diag;
+}
+
+-- a slave that no master holds: state, holder, its place, parameters, configuration, outputs, latest data, modes and watchdog are as at
+-- the start; inputs and their copy, min TSDR, diagnosis with its faults, busy marks and frame memories stay (own)
+unfoldable pub released : SlaveRecord → SlaveRecord
+released slave = record slave {
+  state = WaitPrm;
+  holder = None;
+  since = 0;
+  prm = None;
+  cfg = None;
+  outputs = zeros (output_length slave);
+  latest = zeros (output_length slave);
+  sync_mode = false;
+  freeze_mode = false;
+  left = None;
+}
+
+abbrev pub IsReleased : SlaveRecord → Type 0
+IsReleased slave = released slave ≡ slave
+
+-- min TSDR until a master sets another, in bit times (IEC 61158-6-3, Set_Prm request)
+abbrev pub first_min_tsdr : ℕ
+first_min_tsdr = 11
+
+-- a slave starts released, with inputs of zero, no diagnosis, no busy mark and nothing remembered of the line's masters (own)
+abbrev pub starting_slave : List ℕ → SlaveSpec → SlaveRecord
+starting_slave masters description = record {
+  description = description;
+  state = WaitPrm;
+  holder = None;
+  since = 0;
+  min_tsdr = first_min_tsdr;
+  prm = None;
+  cfg = None;
+  inputs = zeros (input_octets description.cfg.items);
+  copy = zeros (input_octets description.cfg.items);
+  outputs = zeros (output_octets description.cfg.items);
+  latest = zeros (output_octets description.cfg.items);
+  sync_mode = false;
+  freeze_mode = false;
+  left = None;
+  diag = no_diagnosis;
+  busy = no_marks;
+  memory = no_memory masters;
+}

@@ -1,0 +1,59 @@
+//! The parts of a Global_Control (IEC 61158-6-3, Global_Control request).
+
+ghost use Rattle.std.specs.Prelude.{◌≡◌};
+ghost use Rattle.dp_slave.specs.SlaveParts.{with_slave};
+ghost use Rattle.dp_slave.specs.Controls.{cleared, frozen, retriggered, synced, unfrozen, unsynced};
+
+use crate::slave::Slave;
+
+impl Slave {
+    /// Clear_Data: outputs and latest data are zero.
+    pub fn clear_data(&mut self)
+        ensures { self.new ≡ with_slave self.old (cleared self.old.slave) }
+    {
+        self.outputs.clear();
+        self.latest.clear();
+    }
+
+    /// Unsync: sync mode ends, and the latest data are put out.
+    pub fn unsync(&mut self)
+        ensures { self.new ≡ with_slave self.old (unsynced self.old.slave) }
+    {
+        self.sync_mode = false;
+        self.outputs.set(self.latest.as_slice());
+    }
+
+    /// Sync: the latest data are put out, and sync mode starts, where the parameters asked for Sync.
+    pub fn sync(&mut self)
+        ensures { self.new ≡ with_slave self.old (synced self.old.slave) }
+    {
+        if self.prm.as_ref().is_some_and(|prm| prm.sync_req) {
+            self.sync_mode = true;
+            self.outputs.set(self.latest.as_slice());
+        }
+    }
+
+    /// Unfreeze: freeze mode ends.
+    pub fn unfreeze(&mut self)
+        ensures { self.new ≡ with_slave self.old (unfrozen self.old.slave) }
+    {
+        self.freeze_mode = false;
+    }
+
+    /// Freeze: the inputs are copied, and freeze mode starts, where the parameters asked for Freeze.
+    pub fn freeze(&mut self)
+        ensures { self.new ≡ with_slave self.old (frozen self.old.slave) }
+    {
+        if self.prm.as_ref().is_some_and(|prm| prm.freeze_req) {
+            self.freeze_mode = true;
+            self.copy.set(self.inputs.as_slice());
+        }
+    }
+
+    /// A watchdog that runs has its full time again.
+    pub fn retrigger(&mut self)
+        ensures { self.new ≡ with_slave self.old (retriggered self.old.slave) }
+    {
+        self.left = self.left_again();
+    }
+}

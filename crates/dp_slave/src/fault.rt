@@ -1,0 +1,35 @@
+//! Why inputs are refused.
+
+ghost use Rattle.std.specs.Prelude.{◌≡◌};
+ghost use Rattle.dp_slave.specs.Codes.{input_fault_code};
+ghost use Rattle.dp_slave.specs.Names.{input_fault_name};
+
+use thiserror::Error;
+
+/// Why inputs are refused.
+#[derive(Clone, Copy, Debug, PartialEq, Eq, Error)]
+#[error("{}", self.name())]
+pub enum InputFault {
+    /// There are more or fewer octets than the slave has inputs (own).
+    WrongLength,
+}
+
+impl InputFault {
+    /// The number of the fault (own).
+    pub const fn code(self) -> u8
+        ensures { result ≡ input_fault_code self }
+    {
+        match self {
+            InputFault::WrongLength => 1,
+        }
+    }
+
+    /// Its name in texts (own).
+    pub const fn name(self) -> &'static str
+        ensures { result.now ≡ input_fault_name self }
+    {
+        match self {
+            InputFault::WrongLength => "WrongLength",
+        }
+    }
+}

@@ -1,0 +1,59 @@
+//! Laws of a slave: each is what an empty function ensures.
+
+ghost use Rattle.std.specs.Prelude.{◌≡◌, ◌+◌, ℕ, List, true, false};
+ghost use Rattle.dp_prm.specs.Requests.{AsksUnsupported, IsLocking};
+ghost use Rattle.dp_slave.specs.declared.description.SlaveSpec.{SlaveSpec};
+ghost use Rattle.dp_slave.specs.SlaveRecord.{SlaveRecord, limits_of, released, starting_slave};
+ghost use Rattle.dp_slave.specs.Acts.{Act, Control, exchanges, halts, is_controlled, releases, ticks};
+ghost use Rattle.dp_slave.specs.Fields.{acted};
+ghost use Rattle.dp_slave.specs.Services.{set_prm_act};
+ghost use Rattle.dp_slave.specs.Lives.{acts_after, all_fit, IsSound};
+
+/// A released slave stays as it is when it is released again, and a halt releases.
+pub fn released_is_a_fixed_point()
+    ensures again { (slave : SlaveRecord) → released (released slave) ≡ released slave }
+    ensures halt { (slave : SlaveRecord) → acted slave halts ≡ released slave }
+{}
+
+/// After any acts from the start, each of which the verdict or the line lets through: outside
+/// Data_Exch outputs and latest data are zero and neither mode is on; the slave is in Wait_Prm
+/// exactly where nobody holds it, and a watchdog runs exactly where the holder's parameters ask for
+/// one; inputs, their copy, outputs and latest data keep their lengths.
+pub fn a_slave_stays_sound()
+    ensures { (masters : List ℕ) (description : SlaveSpec) (acts : List Act)
+        → all_fit (starting_slave masters description) acts ≡ true
+        → IsSound (acts_after (starting_slave masters description) acts) }
+{}
+
+/// A locking request for an unsupported Sync or Freeze is told as Not_Supported beside the parameter
+/// fault, whatever else is wrong with it, as another ident number.
+pub fn an_unsupported_request_is_told()
+    ensures fault { (slave : SlaveRecord) (sender place : ℕ) (octets : List ℕ)
+        → IsLocking octets
+        → AsksUnsupported octets (limits_of slave)
+        → (acted slave (set_prm_act slave sender place octets)).diag.prm_fault ≡ true }
+    ensures told { (slave : SlaveRecord) (sender place : ℕ) (octets : List ℕ)
+        → IsLocking octets
+        → AsksUnsupported octets (limits_of slave)
+        → (acted slave (set_prm_act slave sender place octets)).diag.not_supported ≡ true }
+{
+    dp_prm::laws::not_supported_is_sync_or_freeze();
+}
+
+/// In sync mode data leave the outputs, and Unsync puts the latest data out.
+pub fn sync_waits_for_unsync()
+    ensures waits { (slave : SlaveRecord) (octets : List ℕ)
+        → slave.sync_mode ≡ true
+        → (acted slave (exchanges octets)).outputs ≡ slave.outputs }
+    ensures put_out { (slave : SlaveRecord) (octets : List ℕ) (control : Control)
+        → control.unsync ≡ true
+        → control.clear_data ≡ false
+        → (acted (acted slave (exchanges octets)) (is_controlled control)).outputs ≡ octets }
+{}
+
+/// Where no time lets go of the slave, time passes as a whole as in parts.
+pub fn time_adds_up()
+    ensures { (slave : SlaveRecord) (time more : ℕ)
+        → releases slave (ticks (time + more)) ≡ false
+        → acted (acted slave (ticks time)) (ticks more) ≡ acted slave (ticks (time + more)) }
+{}

@@ -1,0 +1,22 @@
+//! One DP-V0 slave (IEC 61158-6-3, slave state machine): what its services do and answer, what its
+//! device and its application change, and what time and a Global_Control do.
+#![tactic(auto)]
+
+mod changes;
+mod controls;
+mod description;
+mod fault;
+pub mod laws;
+mod linked;
+mod process_data;
+mod services;
+mod slave;
+mod view;
+
+pub use description::{Device, SlaveSpec};
+pub use fault::InputFault;
+pub use slave::Slave;
+pub use view::SlaveView;
+
+#[cfg(test)]
+mod tests;

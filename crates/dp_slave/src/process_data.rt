@@ -1,0 +1,66 @@
+//! Inputs and outputs.
+
+ghost use Rattle.std.specs.Prelude.{◌≡◌, ◌≤◌, length};
+ghost use Rattle.dp_sap.specs.AccessTable.{most_data};
+ghost use Rattle.dp_slave.specs.SlaveRecord.{zeros};
+
+use arrayvec::ArrayVec;
+use dp_sap::MOST_DATA;
+use std::marker::Model;
+
+/// Octets of inputs or of outputs, 0 to 244 of them, which keep their number.
+#[derive(Debug, Drop)]
+pub(crate) struct ProcessData {
+    octets: ArrayVec<u8, MOST_DATA>,
+}
+
+impl Model for ProcessData {
+    ghost use Rattle.std.specs.Prelude.{List, ℕ};
+
+    ghost Value = { List ℕ };
+
+    ghost view = { λ d. d.octets.items };
+}
+
+impl ProcessData {
+    /// So many octets of zero.
+    pub(crate) fn zeros(count: u8) -> ProcessData
+        requires { count ≤ most_data }
+        ensures { result ≡ zeros count }
+    {
+        let zeros = [0; MOST_DATA];
+        ProcessData {
+            octets: ArrayVec::try_from(&zeros[..usize::from(count)]).unwrap(),
+        }
+    }
+
+    /// Sets each octet to zero.
+    pub(crate) fn clear(&mut self)
+        ensures { self.new ≡ zeros (length self.old) }
+    {
+        self.octets.as_mut_slice().fill(0);
+    }
+
+    /// Sets the octets to others, of which there are as many.
+    pub(crate) fn set(&mut self, octets: &[u8])
+        requires { length octets.now ≡ length self.old }
+        ensures { self.new ≡ octets.now }
+    {
+        self.octets.as_mut_slice().copy_from_slice(octets);
+    }
+
+    /// The octets.
+    pub(crate) fn as_slice(&self) -> &[u8]
+        ensures value { result.now ≡ self.now }
+        ensures most { length result.now ≤ most_data }
+    {
+        self.octets.as_slice()
+    }
+
+    /// A copy of the octets, to be shown.
+    pub(crate) fn copied(&self) -> ArrayVec<u8, MOST_DATA>
+        ensures { result.items ≡ self.now }
+    {
+        ArrayVec::try_from(self.octets.as_slice()).unwrap()
+    }
+}

@@ -1,0 +1,229 @@
+//! What the services of a slave do (IEC 61158-6-3, DP-V0 services): each has the condition that the
+//! request passed the rows of the verdict.
+
+ghost use Rattle.std.specs.Prelude.{◌≡◌, ◌≤◌, length, Some};
+ghost use Rattle.dp_sap.specs.AccessTable.{most_data};
+ghost use Rattle.dp_prm.specs.Meaning.{most_octets as most_parameters};
+ghost use Rattle.dp_diag.specs.Diagnosis.{is_due_high};
+ghost use Rattle.dp_diag.specs.DiagnosisText.{diagnosis_text};
+ghost use Rattle.dp_slave.specs.SlaveRecord.{diag_facts, is_held_by as is_held_by_master, limits_of, output_length, released};
+ghost use Rattle.dp_slave.specs.SlaveParts.{with_slave};
+ghost use Rattle.dp_slave.specs.Acts.{configures, exchanges, faults, locks, misconfigures, sets_min_tsdr, tells_diagnosis, unlocks};
+ghost use Rattle.dp_slave.specs.Fields.{acted, left_again as left_again_of};
+ghost use Rattle.dp_slave.specs.Services.{chk_cfg_act, its_cfg, same_octets, set_prm_act};
+
+use crate::slave::Slave;
+use arrayvec::ArrayVec;
+use dp_diag::DiagFacts;
+use dp_prm::{Limits, Prm, PrmVerdict, read};
+use dp_sap::{MOST_DATA, State};
+
+/// The number of a slave's configuration (own).
+const ITS_CFG: u8 = 0;
+
+impl Slave {
+    /// Set_Prm by the sender, a master 0 to 126, at this place of the journal, with 0 to 244 octets:
+    /// by their meaning the sender locks the slave or keeps it, it is let go, or only min TSDR is
+    /// set. It is always answered without data.
+    pub fn set_prm(&mut self, sender: u8, number: u32, octets: &[u8])
+        requires { length octets.now ≤ most_parameters }
+        ensures { self.new ≡ with_slave self.old (acted self.old.slave (set_prm_act self.old.slave sender number octets.now)) }
+    {
+        match read(octets, &self.limits()) {
+            PrmVerdict::MinTsdr(min_tsdr) => self.set_min_tsdr(sender, min_tsdr),
+            PrmVerdict::Unlock => self.unlock(),
+            PrmVerdict::Lock(prm) => self.lock(sender, number, prm),
+            PrmVerdict::Fault { not_supported } => self.refuse_parameters(not_supported),
+        }
+    }
+
+    /// What the slave takes of parameters.
+    fn limits(&self) -> Limits
+        ensures { result ≡ limits_of self.now.slave }
+    {
+        Limits {
+            ident: self.description.ident,
+            sync: self.description.sync,
+            freeze: self.description.freeze,
+            user_max: self.description.user_max,
+        }
+    }
+
+    /// A lock by the sender, at this place of the journal; who holds the slave already keeps its place.
+    #[tactic(auto, unfolding(crate::specs::Fields::acted))]
+    fn lock(&mut self, sender: u8, number: u32, prm: Prm)
+        ensures { self.new ≡ with_slave self.old (acted self.old.slave (locks sender number prm)) }
+    {
+        if !self.is_held_by(sender) {
+            self.since = number;
+        }
+        let out_len = self.points.out_len();
+        self.points.move_to(State::WaitCfg, Some(sender), out_len);
+        if prm.min_tsdr != 0 {
+            self.min_tsdr = prm.min_tsdr;
+        }
+        self.cfg = None;
+        self.outputs.clear();
+        self.latest.clear();
+        self.sync_mode = false;
+        self.freeze_mode = false;
+        self.left = prm.watchdog;
+        self.diag.prm_fault = false;
+        self.diag.cfg_fault = false;
+        self.diag.not_supported = false;
+        self.prm = Some(prm);
+    }
+
+    /// Parameters that are refused: the slave is let go with the fault.
+    #[tactic(auto, unfolding(crate::specs::Fields::acted, crate::specs::SlaveRecord::released))]
+    fn refuse_parameters(&mut self, not_supported: bool)
+        ensures { self.new ≡ with_slave self.old (acted self.old.slave (faults not_supported)) }
+    {
+        self.make_safe();
+        self.diag.prm_fault = true;
+        self.diag.cfg_fault = false;
+        self.diag.not_supported = not_supported;
+    }
+
+    /// An unlock: the slave is let go.
+    #[tactic(auto, unfolding(crate::specs::Fields::acted, crate::specs::SlaveRecord::released))]
+    fn unlock(&mut self)
+        ensures { self.new ≡ with_slave self.old (acted self.old.slave unlocks) }
+    {
+        self.make_safe();
+    }
+
+    /// Min TSDR alone, of which 0 leaves it.
+    #[tactic(auto, unfolding(crate::specs::Fields::acted))]
+    fn set_min_tsdr(&mut self, sender: u8, min_tsdr: u8)
+        ensures { self.new ≡ with_slave self.old (acted self.old.slave (sets_min_tsdr sender min_tsdr)) }
+    {
+        if min_tsdr != 0 {
+            self.min_tsdr = min_tsdr;
+        }
+        if self.is_held_by(sender) {
+            self.left = self.left_again();
+        }
+    }
+
+    /// Chk_Cfg with these octets: data exchange where they are the slave's configuration, and else
+    /// the slave is let go with the fault. It is always answered without data.
+    pub fn chk_cfg(&mut self, octets: &[u8])
+        ensures { self.new ≡ with_slave self.old (acted self.old.slave (chk_cfg_act self.old.slave octets.now)) }
+    {
+        if self.is_configuration(octets) {
+            self.configure();
+        } else {
+            self.refuse_configuration();
+        }
+    }
+
+    /// The octets are those of its configuration.
+    fn is_configuration(&self, octets: &[u8]) -> bool
+        ensures { result ≡ same_octets self.now.slave.description.cfg.items octets.now }
+    {
+        self.get_cfg() == octets
+    }
+
+    /// The configuration is good: data are exchanged from now on.
+    #[tactic(auto, unfolding(crate::specs::Fields::acted))]
+    fn configure(&mut self)
+        ensures { self.new ≡ with_slave self.old (acted self.old.slave (configures its_cfg)) }
+    {
+        let (holder, out_len) = (self.points.holder(), self.points.out_len());
+        self.points.move_to(State::DataExch, holder, out_len);
+        self.cfg = Some(ITS_CFG);
+        self.diag.cfg_fault = false;
+        self.left = self.left_again();
+    }
+
+    /// The configuration is another one: the slave is let go with the fault.
+    #[tactic(auto, unfolding(crate::specs::Fields::acted, crate::specs::SlaveRecord::released))]
+    fn refuse_configuration(&mut self)
+        ensures { self.new ≡ with_slave self.old (acted self.old.slave misconfigures) }
+    {
+        self.make_safe();
+        self.diag.cfg_fault = true;
+    }
+
+    /// Data_Exchange with as many octets as the slave has outputs: they are put out, or wait in sync
+    /// mode. The reply has the inputs of `rd_inp`; true where it is of high priority, since a
+    /// diagnosis is due.
+    #[tactic(auto, unfolding(crate::specs::Fields::acted))]
+    pub fn data_exchange(&mut self, octets: &[u8]) -> bool
+        requires { length octets.now ≡ output_length self.old.slave }
+        ensures slave { self.new ≡ with_slave self.old (acted self.old.slave (exchanges octets.now)) }
+        ensures high { result ≡ is_due_high self.old.slave.diag }
+    {
+        self.latest.set(octets);
+        if !self.sync_mode {
+            self.outputs.set(octets);
+        }
+        self.left = self.left_again();
+        self.diag.due_high()
+    }
+
+    /// Slave_Diag by the sender: the 6 to 244 octets of the diagnosis. The holder has read it then,
+    /// and its watchdog is set to the full time; another master changes nothing.
+    #[tactic(auto, unfolding(crate::specs::Fields::acted))]
+    pub fn slave_diag(&mut self, sender: u8) -> ArrayVec<u8, MOST_DATA>
+        ensures slave { self.new ≡ with_slave self.old (acted self.old.slave (tells_diagnosis sender)) }
+        ensures octets { result.items ≡ diagnosis_text (diag_facts self.old.slave) }
+    {
+        let octets = self.diagnosis();
+        if self.is_held_by(sender) {
+            self.diag.unread = false;
+            self.left = self.left_again();
+        }
+        octets
+    }
+
+    /// The octets of its diagnosis.
+    fn diagnosis(&self) -> ArrayVec<u8, MOST_DATA>
+        ensures { result.items ≡ diagnosis_text (diag_facts self.now.slave) }
+    {
+        dp_diag::octets(&DiagFacts {
+            state: self.points.state(),
+            holder: self.points.holder(),
+            ident: self.description.ident,
+            wd_on: self.left.is_some(),
+            freeze_mode: self.freeze_mode,
+            sync_mode: self.sync_mode,
+            diag: self.diag.clone().unwrap(),
+        })
+    }
+
+    /// The master holds the slave.
+    pub(crate) fn is_held_by(&self, master: u8) -> bool
+        ensures { result ≡ is_held_by_master master self.now.slave }
+    {
+        self.points.holder() == Some(master)
+    }
+
+    /// The full time of its watchdog, in units of 10 ms, where it runs.
+    pub(crate) fn left_again(&self) -> Option<u32>
+        ensures { result ≡ left_again_of self.now.slave }
+    {
+        match &self.prm {
+            Some(prm) if self.left.is_some() => prm.watchdog,
+            _ => None,
+        }
+    }
+
+    /// The slave is let go: the state Released, whatever it was.
+    #[tactic(auto, unfolding(crate::specs::SlaveRecord::released))]
+    pub fn make_safe(&mut self)
+        ensures { self.new ≡ with_slave self.old (released self.old.slave) }
+    {
+        let out_len = self.points.out_len();
+        self.points.move_to(State::WaitPrm, None, out_len);
+        self.since = 0;
+        self.prm = None;
+        self.cfg = None;
+        self.outputs.clear();
+        self.latest.clear();
+        self.sync_mode = false;
+        self.freeze_mode = false;
+        self.left = None;
+    }
+}

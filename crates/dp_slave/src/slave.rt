@@ -1,0 +1,195 @@
+//! A slave.
+
+ghost use Rattle.std.specs.Prelude.{◌≡◌, ◌≤◌, length, Ok, None};
+ghost use Rattle.dp_cfg.specs.Reading.{input_octets, output_octets, reading_of};
+ghost use Rattle.dp_sap.specs.AccessTable.{most_data};
+ghost use Rattle.dp_responder.specs.Memory.{with_remembered};
+ghost use Rattle.dp_slave.specs.SlaveRecord.{input_length, output_length, points_of, shown_inputs, starting_slave};
+ghost use Rattle.dp_slave.specs.SlaveParts.{with_slave};
+
+use crate::description::SlaveSpec;
+use crate::process_data::ProcessData;
+use arrayvec::ArrayVec;
+use dp_cfg::CfgIds;
+use dp_diag::Diag;
+use dp_owners::Links;
+use dp_prm::Prm;
+use dp_responder::FrameMemory;
+use dp_sap::{Points, State};
+use dp_telegram::Octets;
+use std::marker::Model;
+
+/// Min TSDR until a master sets another, in bit times (IEC 61158-6-3, Set_Prm request).
+const FIRST_MIN_TSDR: u8 = 11;
+
+/// A DP-V0 slave of a line (IEC 61158-6-3, slave state machine). Contracts see its record, and its
+/// links, which thread it into the list of the master that holds it.
+#[derive(Drop)]
+pub struct Slave {
+    pub(crate) description: SlaveSpec,
+    pub(crate) points: Points,
+    pub(crate) since: u32,
+    pub(crate) min_tsdr: u8,
+    pub(crate) prm: Option<Prm>,
+    pub(crate) cfg: Option<u8>,
+    pub(crate) inputs: ProcessData,
+    pub(crate) copy: ProcessData,
+    pub(crate) outputs: ProcessData,
+    pub(crate) latest: ProcessData,
+    pub(crate) sync_mode: bool,
+    pub(crate) freeze_mode: bool,
+    pub(crate) left: Option<u32>,
+    pub(crate) diag: Diag,
+    pub(crate) memory: FrameMemory,
+    pub(crate) links: Links,
+}
+
+impl Model for Slave {
+    ghost use Rattle.std.specs.Prelude.{◌≡◌};
+    ghost use Rattle.dp_cfg.specs.Reading.{output_octets};
+    ghost use Rattle.dp_slave.specs.SlaveParts.{SlaveParts};
+    ghost use Rattle.dp_slave.specs.SlaveLengths.{HaveLengths};
+
+    ghost Value = { SlaveParts };
+
+    ghost view = { λ s. record {
+      slave = record {
+        description = s.description;
+        state = s.points.state;
+        holder = s.points.holder;
+        since = s.since;
+        min_tsdr = s.min_tsdr;
+        prm = s.prm;
+        cfg = s.cfg;
+        inputs = s.inputs;
+        copy = s.copy;
+        outputs = s.outputs;
+        latest = s.latest;
+        sync_mode = s.sync_mode;
+        freeze_mode = s.freeze_mode;
+        left = s.left;
+        diag = s.diag;
+        busy = s.points.busy;
+        memory = s.memory;
+      };
+      links = s.links;
+    } };
+
+    ghost invariant = { λ s. HaveLengths s.description.cfg.items s.inputs s.copy s.outputs s.latest
+        × (s.points.out_len ≡ output_octets s.description.cfg.items) };
+}
+
+impl Slave {
+    /// A slave at its start, on a line with these masters. Its configuration is one that can be
+    /// parsed.
+    pub fn open(description: &SlaveSpec, masters: &ArrayVec<u8, 16>) -> Slave
+        requires { reading_of description.now.cfg.items ≡ Ok description.now.cfg.items }
+        ensures slave { result.slave ≡ starting_slave masters.now.items description.now }
+        ensures links { result.links ≡ record { prev = None; next = None } }
+    {
+        let (input_length, output_length) = data_lengths(&description.cfg);
+        Slave {
+            description: copied(description),
+            points: Points::at_state(State::WaitPrm, None, output_length),
+            since: 0,
+            min_tsdr: FIRST_MIN_TSDR,
+            prm: None,
+            cfg: None,
+            inputs: ProcessData::zeros(input_length),
+            copy: ProcessData::zeros(input_length),
+            outputs: ProcessData::zeros(output_length),
+            latest: ProcessData::zeros(output_length),
+            sync_mode: false,
+            freeze_mode: false,
+            left: None,
+            diag: Diag::new(),
+            memory: FrameMemory::new(masters),
+            links: Links {
+                prev: None,
+                next: None,
+            },
+        }
+    }
+
+    /// Its station address, 0 to 126.
+    pub fn address(&self) -> u8
+        ensures { result ≡ self.now.slave.description.address }
+    {
+        self.description.address
+    }
+
+    /// Its service access points, which have its state, its holder and its busy marks.
+    pub fn points(&self) -> &Points
+        ensures { result.now ≡ points_of self.now.slave }
+    {
+        &self.points
+    }
+
+    /// What it remembers of each master.
+    pub fn memory(&self) -> &FrameMemory
+        ensures { result.now ≡ self.now.slave.memory }
+    {
+        &self.memory
+    }
+
+    /// Keeps what a request of the sender that was judged anew leaves, as
+    /// [`FrameMemory::remember`] does.
+    pub fn remember(&mut self, sender: u8, fc: u8, reply: &Octets)
+        ensures { self.new ≡ with_slave self.old (record self.old.slave { memory = with_remembered self.old.slave.memory sender fc reply.now.items }) }
+    {
+        self.memory.remember(sender, fc, reply);
+    }
+
+    /// The inputs that a master sees, 0 to 244 octets: in freeze mode the copy that Freeze made.
+    pub fn rd_inp(&self) -> &[u8]
+        ensures inputs { result.now ≡ shown_inputs self.now.slave }
+        ensures long { length result.now ≡ input_length self.now.slave }
+    {
+        self.shown().as_slice()
+    }
+
+    /// The inputs, or in freeze mode their copy.
+    pub(crate) fn shown(&self) -> &ProcessData
+        ensures inputs { result.now ≡ shown_inputs self.now.slave }
+        ensures long { length result.now ≡ input_length self.now.slave }
+    {
+        if self.freeze_mode {
+            &self.copy
+        } else {
+            &self.inputs
+        }
+    }
+
+    /// The outputs, 0 to 244 octets.
+    pub fn rd_outp(&self) -> &[u8]
+        ensures outputs { result.now ≡ self.now.slave.outputs }
+        ensures long { length result.now ≡ output_length self.now.slave }
+    {
+        self.outputs.as_slice()
+    }
+
+    /// The octets of its configuration, 0 to 244 of them.
+    pub fn get_cfg(&self) -> &[u8]
+        ensures { result.now ≡ self.now.slave.description.cfg.items }
+    {
+        self.description.cfg.as_slice()
+    }
+}
+
+/// The inputs and the outputs of a configuration that can be parsed, 0 to 244 octets each.
+fn data_lengths(cfg: &[u8]) -> (u8, u8)
+    requires parsed { reading_of cfg.now ≡ Ok cfg.now }
+    requires most { length cfg.now ≤ most_data }
+    ensures inputs { result.0 ≡ input_octets cfg.now }
+    ensures outputs { result.1 ≡ output_octets cfg.now }
+    ensures most { (result.0 ≤ most_data) × (result.1 ≤ most_data) }
+{
+    let ids = CfgIds::parse(cfg).unwrap();
+    (ids.input_len(), ids.output_len())
+}
+
+fn copied(description: &SlaveSpec) -> SlaveSpec
+    ensures { result ≡ description.now }
+{
+    description.clone().unwrap()
+}
