@@ -5,8 +5,6 @@ ghost use Rattle.std.specs.Prelude.{◌<◌};
 
 mod cutter;
 mod line;
-#[cfg(test)]
-mod tests;
 
 use cutter::Tally;
 use std::time::Instant;

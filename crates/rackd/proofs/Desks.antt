@@ -1,14 +1,11 @@
 -- A rack in use.
-use Rattle.std.proofs.Common.{◌≡◌, ℕ, List, [], ◌∷◌, map, All, None, Ok, refl, ap, ◌∙◌}
+use Rattle.std.proofs.Common.{◌≡◌, ℕ, ◌<◌, ◌≤◌, List, [], ◌∷◌, map, length, All, None, Ok, refl, ap, ◌∙◌, arith}
 use Rattle.std.specs.List.{AllByRecursion}
-use Rattle.std.proofs.lemmas.List.Elements.{All-from_recursion}
-use Rattle.toml.specs.Parse.{parse_document}
+use Rattle.std.proofs.lemmas.List.{length-map}
+use Rattle.std.proofs.lemmas.List.Elements.{All-from_recursion, recursion_from_All}
 use Rattle.dp_line.specs.World.{description_of, opening_fault}
-use Rattle.rackd.specs.declared.rack.RackLine.{RackLine}
-use Rattle.rackd.specs.Rack.{LineDescription, line_described, rack_described}
-use Rattle.rackd.specs.declared.rack.Rack.{Rack}
-use Rattle.rackd.specs.RackFile.{rack_in}
-use Rattle.rackd.proofs.Accepted.{of_document}
+use Rattle.rack_file.specs.declared.rack.RackLine.{RackLine}
+use Rattle.rack_file.specs.Rack.{LineDescription, line_described}
 use Rattle.rackd.specs.Segments.{Segment, segment_of}
 use Rattle.rackd.specs.ScriptText.{Desk, desk_of}
 
@@ -27,8 +24,13 @@ open_by_recursion : (lines : List RackLine) → AllByRecursion (λ line. opening
 open_by_recursion [] all = tt
 open_by_recursion (x ∷ xs) all = (all.0, open_by_recursion xs all.1)
 
--- each line of an accepted rack can be opened
-pub lines_open : (rack : Rack) (text : List ℕ) → rack_in text ≡ Ok (rack_described rack) → All (λ line. opening_fault (description_of line.spec) ≡ None) rack.lines.items
-lines_open rack text read =
-    All-from_recursion (λ line. opening_fault (description_of line.spec) ≡ None) rack.lines.items
-    (open_by_recursion rack.lines.items (of_document (parse_document text) (rack_described rack) read).open_all)
+-- where each line that is described can be opened, each line can
+pub lines_open : (lines : List RackLine) → All (λ line. opening_fault line.line ≡ None) (map line_described lines)
+    → All (λ line. opening_fault (description_of line.spec) ≡ None) lines
+lines_open lines all =
+    All-from_recursion (λ line. opening_fault (description_of line.spec) ≡ None) lines
+    (open_by_recursion lines (recursion_from_All (λ line. opening_fault line.line ≡ None) (map line_described lines) all))
+
+-- there are as many lines as are described
+pub some_lines : (lines : List RackLine) → 1 ≤ length (map line_described lines) → 0 < length lines
+some_lines lines some = omega (arith, some, length-map lines line_described)

@@ -1,8 +1,6 @@
-mod Elements
-mod Each
-mod Folds
-mod Accepted
-pub mod Words
-pub mod Desks
-pub mod Passing
-pub mod Played
+mod Writing
+mod Readings
+mod Desks
+mod Passing
+mod Played
+mod Sending

@@ -1,23 +1,14 @@
 -- What a run has written so far, and what is left of it.
-use Rattle.std.proofs.Common.{◌≡◌, ℕ, ◌+◌, ◌<◌, List, [], ◌∷◌, ◌++◌, length, get_or, drop, map, Option, Some, None, Result, Ok, Err, refl, sym, ap, subst, ◌∙◌, append_assoc}
-use Rattle.std.specs.Prelude.{option_map}
-use Rattle.std.specs.Io.KnownBytes.{Appends, Keeps}
-use Rattle.std.proofs.lemmas.List.{append-nil, drop_more}
+use Rattle.std.proofs.Common.{◌≡◌, ℕ, ◌+◌, List, [], ◌∷◌, ◌++◌, Option, Some, None, Result, Ok, Err, refl, sym, ap, subst, ◌∙◌, append_assoc}
+use Rattle.std.specs.Io.KnownBytes.{Appends}
+use Rattle.std.proofs.lemmas.List.{append-nil}
+use Rattle.rackd.specs.declared.stop.Stop.TheVariants as stops
 use Rattle.rackd.specs.declared.run_fault.RunFault.TheVariants as runs
-use Rattle.rackd.specs.ScriptText.{Desk, Played, after_line, play, line_obeyed, going_on, script_text}
-use Rattle.rackd.specs.Runs.{Plays, WritesPrefix, RunsText}
-use Rattle.rackd.specs.declared.rack_fault.RackFault.{RackFault}
-use Rattle.rackd.specs.Rack.{RackDescription}
-
-pub appends_none : (old : Option (List ℕ)) → Appends old old []
-appends_none None = tt
-appends_none (Some xs) = sym (append-nil xs)
-
-pub appends_more : (a b c : Option (List ℕ)) (x y : List ℕ) → Appends a b x → Appends b c y → Appends a c (x ++ y)
-appends_more None b c x y first second = tt
-appends_more (Some xs) None c x y first second = absurd first
-appends_more (Some xs) (Some ys) None x y first second = absurd second
-appends_more (Some xs) (Some ys) (Some zs) x y first second = second ∙ ap (λ bs. bs ++ y) first ∙ append_assoc xs x y
+use Rattle.rackd.specs.ScriptText.{Desk, Obeyed, Played, after_line, play, line_obeyed, going_on, script_text}
+use Rattle.rackd.specs.Runs.{Obeys, Plays, WritesPrefix, RunsText}
+use Rattle.rackd.proofs.Writing.{appends_none, appends_more, keeps_more, keeps_same, more_prefix}
+use Rattle.rack_file.specs.declared.fault.RackFault.{RackFault}
+use Rattle.rack_file.specs.Rack.{RackDescription}
 
 -- so much is written, and what is left would complete the run
 pub record SoFar (played : Played) (old new : Option (List ℕ)) (desk : Desk) (n : ℕ) (lines : List (List ℕ)) : Type 0 where
@@ -57,31 +48,39 @@ line_played played old new newer desk next n line more lines s told written = re
 pub line_cut : (played : Played) (old new newer : Option (List ℕ)) (desk next : Desk) (n : ℕ) (line more : List ℕ) (lines : List (List ℕ)) → SoFar played old new desk n (line ∷ lines)
     → line_obeyed desk line ≡ Some (record { desk = next; text = more }) → WritesPrefix new newer more → WritesPrefix old newer played.text
 line_cut played old new newer desk next n line more lines s told cut =
-    let whole : played.text ≡ s.text ++ more ++ (play next (n + 1) lines).text = ap (λ (p : Played). p.text) (sym s.left ∙ line_left s.text desk next n line more lines told) in
-    let split : s.text ++ more ++ (play next (n + 1) lines).text ≡ (s.text ++ cut.0) ++ (cut.1 ++ (play next (n + 1) lines).text) =
-    ap (λ (m : List ℕ). s.text ++ m ++ (play next (n + 1) lines).text) cut.2 ∙ simp append_assoc in
-    (s.text ++ cut.0, cut.1 ++ (play next (n + 1) lines).text, whole ∙ split, appends_more old new newer s.text cut.0 s.written cut.3)
+    more_prefix old new newer s.text more (play next (n + 1) lines).text played.text s.written cut
+    (sym (append_assoc s.text more (play next (n + 1) lines).text) ∙ ap (λ (p : Played). p.text) (sym (line_left s.text desk next n line more lines told) ∙ s.left))
 
-pub keeps_more : (a b c : Option (List ℕ)) (x : List ℕ) → Appends a b x → Keeps b c → Appends a c x
-keeps_more None b c x first same = tt
-keeps_more (Some xs) None c x first same = absurd first
-keeps_more (Some xs) (Some ys) None x first same = absurd same
-keeps_more (Some xs) (Some ys) (Some zs) x first same = same ∙ first
+-- ---- a line that was obeyed, or wasn't
 
--- the line at a place, and the lines behind it
-pub lines_left : {A : Type 0} (f : A → List ℕ) (xs : List A) (i : ℕ) (d : A) → i < length xs → map f (drop i xs) ≡ f (get_or xs i d) ∷ map f (drop (i + 1) xs)
-lines_left f xs i d lt = ap (map f) (drop_more xs i d lt)
+done_by : (played : Played) (old new newer : Option (List ℕ)) (desk next : Desk) (n : ℕ) (line : List ℕ) (lines : List (List ℕ)) (obeyed : Option Obeyed) → line_obeyed desk line ≡ obeyed
+    → SoFar played old new desk n (line ∷ lines) → Obeys obeyed next new newer (Ok tt) → SoFar played old newer next (n + 1) lines
+done_by played old new newer desk next n line lines None is s obeys = absurd obeys
+done_by played old new newer desk next n line lines (Some obeyed) is s obeys =
+    line_played played old new newer desk next n line obeyed.text lines s (is ∙ ap (λ d. Some (record { desk = d; text = obeyed.text })) (sym obeys.0)) obeys.1
 
--- what was obeyed, where it was, by its bytes
-pub told_some : {T : Type 0} (bytes : T → List ℕ) (desk next : Desk) (line more : List ℕ) (obeyed : Option T) (text : T)
-    → option_map (λ t. record { desk = next; text = bytes t }) obeyed ≡ line_obeyed desk line → obeyed ≡ Some text → more ≡ bytes text
-    → line_obeyed desk line ≡ Some (record { desk = next; text = more })
-told_some bytes desk next line more obeyed text told is same =
-    sym told ∙ ap (option_map (λ t. record { desk = next; text = bytes t })) is ∙ ap (λ b. Some (record { desk = next; text = b })) (sym same)
+pub line_done : (played : Played) (old new newer : Option (List ℕ)) (desk next : Desk) (n : ℕ) (line : List ℕ) (lines : List (List ℕ))
+    → SoFar played old new desk n (line ∷ lines) → Obeys (line_obeyed desk line) next new newer (Ok tt) → SoFar played old newer next (n + 1) lines
+line_done played old new newer desk next n line lines s obeys = done_by played old new newer desk next n line lines (line_obeyed desk line) refl s obeys
 
-keeps_same : (old : Option (List ℕ)) → Keeps old old
-keeps_same None = tt
-keeps_same (Some xs) = refl
+none_by : (played : Played) (old new newer : Option (List ℕ)) (desk next : Desk) (n : ℕ) (line : List ℕ) (lines : List (List ℕ)) (obeyed : Option Obeyed) → line_obeyed desk line ≡ obeyed
+    → SoFar played old new desk n (line ∷ lines) → Obeys obeyed next new newer (Err stops.NoCommand) → Plays played old newer (Err (runs.Script n))
+none_by played old new newer desk next n line lines None is s obeys =
+    at_fault played old newer desk n line lines (record { text = s.text; written = keeps_more old new newer s.text s.written obeys; left = s.left }) is
+none_by played old new newer desk next n line lines (Some obeyed) is s obeys = absurd obeys
+
+pub line_is_none : (played : Played) (old new newer : Option (List ℕ)) (desk next : Desk) (n : ℕ) (line : List ℕ) (lines : List (List ℕ))
+    → SoFar played old new desk n (line ∷ lines) → Obeys (line_obeyed desk line) next new newer (Err stops.NoCommand) → Plays played old newer (Err (runs.Script n))
+line_is_none played old new newer desk next n line lines s obeys = none_by played old new newer desk next n line lines (line_obeyed desk line) refl s obeys
+
+fault_by : (played : Played) (old new newer : Option (List ℕ)) (desk next : Desk) (n : ℕ) (line : List ℕ) (lines : List (List ℕ)) (obeyed : Option Obeyed) → line_obeyed desk line ≡ obeyed
+    → SoFar played old new desk n (line ∷ lines) → Obeys obeyed next new newer (Err stops.WriteFault) → WritesPrefix old newer played.text
+fault_by played old new newer desk next n line lines None is s obeys = absurd obeys
+fault_by played old new newer desk next n line lines (Some obeyed) is s obeys = line_cut played old new newer desk obeyed.desk n line obeyed.text lines s is obeys
+
+pub line_written_in_part : (played : Played) (old new newer : Option (List ℕ)) (desk next : Desk) (n : ℕ) (line : List ℕ) (lines : List (List ℕ))
+    → SoFar played old new desk n (line ∷ lines) → Obeys (line_obeyed desk line) next new newer (Err stops.WriteFault) → WritesPrefix old newer played.text
+line_written_in_part played old new newer desk next n line lines s obeys = fault_by played old new newer desk next n line lines (line_obeyed desk line) refl s obeys
 
 -- want of memory before anything is written
 pub memory_told : (rack : Result RackDescription RackFault) (script : List ℕ) (old : Option (List ℕ)) → RunsText rack script old old (Err runs.OutOfMemory)

@@ -6,4 +6,4 @@ use Rattle.rackd.specs.declared.command.Command.TheVariants as read
 abbrev pub command_view : Read → Command
 command_view read.Nothing = nothing
 command_view (read.ChooseLine number) = choose_line number
-command_view (read.Send master octets) = send master octets.items
+command_view (read.Send master octets) = send master octets

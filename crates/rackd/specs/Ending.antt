@@ -1,10 +1,9 @@
 -- How the program ends: its status, and the line on standard error (own).
 use Rattle.std.specs.Prelude.{codes, ℕ, List, ◌++◌}
 use Rattle.std.specs.Fmt.{decimal}
-use Rattle.dp_line.specs.declared.fault.OpenFault.{OpenFault}
-use Rattle.dp_line.specs.declared.fault.OpenFault.TheVariants as opens
-use Rattle.rackd.specs.declared.rack_fault.RackFault.{RackFault}
-use Rattle.rackd.specs.declared.rack_fault.RackFault.TheVariants as racks
+use Rattle.dp_line.specs.Names.{open_fault_name}
+use Rattle.rack_file.specs.declared.fault.RackFault.{RackFault}
+use Rattle.rack_file.specs.declared.fault.RackFault.TheVariants as racks
 use Rattle.rackd.specs.declared.run_fault.RunFault.TheVariants as runs
 use Rattle.rackd.specs.declared.ending.Fault.{Fault}
 use Rattle.rackd.specs.declared.ending.Fault.TheVariants as faults
@@ -17,11 +16,6 @@ status_of (faults.Run (runs.Rack racks.OutOfMemory)) = 3
 status_of (faults.Run (runs.Rack other)) = 2
 status_of (faults.Run (runs.Script line)) = 2
 status_of (faults.Run runs.WriteFault) = 4
-
-abbrev pub open_fault_name : OpenFault → List ℕ
-open_fault_name opens.OutOfMemory = codes "OutOfMemory"
-open_fault_name opens.TwiceAddress = codes "TwiceAddress"
-open_fault_name opens.Limit = codes "Limit"
 
 abbrev pub rack_fault_text : RackFault → List ℕ
 rack_fault_text racks.OutOfMemory = codes "rackd: out of memory"

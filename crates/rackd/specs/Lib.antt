@@ -1,12 +1,6 @@
 pub mod Codes
-pub mod Rack
-pub mod TomlKeys
-pub mod RackFile
-pub mod RackFileExamples
-pub mod Numbers
 pub mod Commands
 pub mod CommandView
-pub mod Answers
 pub mod Segments
 pub mod SegmentExamples
 pub mod ScriptText

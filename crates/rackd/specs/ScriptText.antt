@@ -1,7 +1,8 @@
 -- What a script writes: the answers of its lines, joined (own).
 use Rattle.std.specs.Prelude.{ℕ, ◌+◌, ◌==◌, List, [], ◌∷◌, ◌++◌, map, slice_get, slice_set, Option, Some, None, option_map, option_and_then, position}
-use Rattle.rackd.specs.Commands.{Command, nothing, choose_line, send, command_of, lines_of}
-use Rattle.rackd.specs.Rack.{RackDescription}
+use Rattle.rack_file.specs.Rack.{RackDescription}
+use Rattle.dp_text.specs.Words.{lines_of}
+use Rattle.rackd.specs.Commands.{Command, nothing, choose_line, send, command_of}
 use Rattle.rackd.specs.Segments.{Segment, Sent, segment_of, sent}
 
 -- a rack in use: its lines, and which of them commands speak to

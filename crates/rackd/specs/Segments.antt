@@ -6,7 +6,7 @@ use Rattle.dp_telegram.specs.Stream.{CutStream, cuts_of}
 use Rattle.dp_line.specs.declared.event.Event.TheVariants.{Request}
 use Rattle.dp_line.specs.World.{World, Description, start_of}
 use Rattle.dp_line.specs.Steps.{step}
-use Rattle.rackd.specs.Answers.{answer_text, dropped_text}
+use Rattle.dp_text.specs.Texts.{answer_text, dropped_text}
 
 -- a master's stream: of the octets that came, those that can't be judged yet
 pub record Stream : Type 0 where

@@ -1,38 +1,46 @@
 //! A rack in use: its lines, and the one that commands speak to.
 
-ghost use Rattle.std.specs.Prelude.{◌≡◌, ◌==◌, None, All, map, position, string_bytes, option_map, IfOk};
+ghost use Rattle.std.specs.Prelude.{◌≡◌, ◌<◌, ◌==◌, ℕ, List, Option, None, All, map, position, length, IfOk, IfSome};
 ghost use Rattle.rackd.specs.Commands.{choose_line, send as send_octets};
 ghost use Rattle.dp_line.specs.World.{description_of, opening_fault};
-ghost use Rattle.rackd.specs.Rack.{rack_described};
+ghost use Rattle.rack_file.specs.Rack.{rack_described};
 ghost use Rattle.rackd.specs.CommandView.{command_view};
 ghost use Rattle.rackd.specs.Segments.{segment_of};
 ghost use Rattle.rackd.specs.ScriptText.{desk_of, obeyed};
+ghost use Rattle.rackd.specs.Runs.{Obeys};
 
 use crate::command::Command;
-use crate::rack::{Rack, RackLine};
 use crate::segment::Segment;
+use crate::stop::Stop;
+use dp_text::{HexWords, Text};
+use rack_file::{Rack, RackLine};
 use std::alloc::{AllocError, Global};
+use std::io::Write;
 use std::marker::Model;
 
-/// The lines of a rack in the order of its file, and the chosen one.
+/// The lines of a rack in the order of its file, and the chosen one, which is one of them.
 #[derive(Drop)]
-pub struct Desk {
+pub(crate) struct Desk {
     lines: Vec<Segment>,
     chosen: usize,
 }
 
 impl Model for Desk {
+    ghost use Rattle.std.specs.Prelude.{◌<◌, length};
     ghost use Rattle.rackd.specs.ScriptText.{Desk as View};
 
     ghost Value = { View };
 
     ghost view = { λ d. record { lines = d.lines.items; chosen = d.chosen } };
+
+    ghost invariant = { λ d. d.chosen < length d.lines.items };
 }
 
 impl Desk {
     /// Each line at its start, the first chosen. A fault is want of memory.
-    pub fn open(alloc: Global, rack: &Rack) -> Result<Desk, AllocError>
-        requires { All (λ line. opening_fault (description_of line.spec) ≡ None) rack.now.lines.items }
+    pub(crate) fn open(alloc: Global, rack: &Rack) -> Result<Desk, AllocError>
+        requires some { 0 < length rack.now.lines.items }
+        requires fit { All (λ line. opening_fault (description_of line.spec) ≡ None) rack.now.lines.items }
         ensures { IfOk result (λ desk. desk ≡ desk_of (rack_described rack.now)) }
     {
         Ok(Desk {
@@ -41,47 +49,53 @@ impl Desk {
         })
     }
 
-    /// Obeys a command: what it writes, or None where it can't be obeyed. A fault is want of memory.
-    pub fn obey(&mut self, alloc: Global, command: &Command) -> Result<Option<String>, AllocError>
-        ensures { IfOk result (λ text. option_map (λ t. record { desk = self.new; text = string_bytes t }) text
-            ≡ obeyed self.old (command_view command.now)) }
+    /// Obeys a command, and writes what it writes; it may be one that can't be obeyed.
+    pub(crate) fn obey<W: Write>(
+        &mut self,
+        command: Command<'_>,
+        text: &mut Text,
+        writer: &mut W,
+    ) -> Result<(), Stop>
+        ensures { Obeys (obeyed self.old (command_view command.entry)) self.new (W.contents writer.old) (W.contents writer.new) result }
     {
         match command {
-            Command::Nothing => Ok(Some(String::new(alloc))),
-            Command::ChooseLine(number) => Ok(self.choose(alloc, *number)),
-            Command::Send { master, octets } => self.send(alloc, *master, octets),
+            Command::Nothing => Ok(()),
+            Command::ChooseLine(number) => self.choose(number),
+            Command::Send { master, octets } => self.send(master, octets, text, writer),
         }
     }
 
     /// Speaks to the line of this number from now on, if there is one.
-    fn choose(&mut self, alloc: Global, number: u8) -> Option<String>
-        ensures { option_map (λ t. record { desk = self.new; text = string_bytes t }) result ≡ obeyed self.old (choose_line number) }
+    fn choose(&mut self, number: u8) -> Result<(), Stop>
+        ensures { (contents : Option (List ℕ)) → Obeys (obeyed self.old (choose_line number)) self.new contents contents result }
     {
-        let place = place_of(&self.lines, number)?;
-        self.chosen = place;
-        Some(String::new(alloc))
+        match place_of(&self.lines, number) {
+            Some(place) => {
+                self.chosen = place;
+                Ok(())
+            }
+            None => Err(Stop::NoCommand),
+        }
     }
 
     /// A master sends octets to the chosen line.
-    fn send(
+    fn send<W: Write>(
         &mut self,
-        alloc: Global,
         master: u8,
-        octets: &[u8],
-    ) -> Result<Option<String>, AllocError>
-        ensures { IfOk result (λ text. option_map (λ t. record { desk = self.new; text = string_bytes t }) text
-            ≡ obeyed self.old (send_octets master octets.now)) }
+        octets: HexWords<'_>,
+        text: &mut Text,
+        writer: &mut W,
+    ) -> Result<(), Stop>
+        ensures { Obeys (obeyed self.old (send_octets master octets.entry)) self.new (W.contents writer.old) (W.contents writer.new) result }
     {
-        if self.chosen >= self.lines.len() {
-            return Ok(None);
-        }
-        self.lines[self.chosen].send(alloc, master, octets)
+        self.lines[self.chosen].send(master, octets, text, writer)
     }
 }
 
 /// Where the line of a number stands first.
 fn place_of(lines: &[Segment], number: u8) -> Option<usize>
-    ensures { result ≡ position (λ line. line.number == number) lines.now }
+    ensures place { result ≡ position (λ line. line.number == number) lines.now }
+    ensures bound { IfSome result (λ place. place < length lines.now) }
 {
     lines.iter().position(|line| line.number() == number)
 }

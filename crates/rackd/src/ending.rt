@@ -2,11 +2,10 @@
 
 ghost use Rattle.std.specs.Prelude.{codes, ◌≡◌, ◌++◌, string_bytes, IfOk};
 ghost use Rattle.std.specs.Fmt.{decimal};
-ghost use Rattle.rackd.specs.Ending.{status_of, fault_text, rack_fault_text, open_fault_name};
+ghost use Rattle.rackd.specs.Ending.{status_of, fault_text, rack_fault_text};
 
-use crate::rack_fault::RackFault;
 use crate::run_fault::RunFault;
-use dp_line::OpenFault;
+use rack_file::RackFault;
 use std::alloc::{AllocError, Global};
 
 /// What kept the program from its work.
@@ -63,19 +62,8 @@ fn rack_message(alloc: Global, fault: RackFault) -> Result<String, AllocError>
             let mut text = String::from_str(alloc, "rackd: rack line ")?;
             text.push_str(position.to_string(alloc)?.as_str())?;
             text.push_str(" ")?;
-            text.push_str(name_of(fault))?;
+            text.push_str(fault.name())?;
             Ok(text)
         }
-    }
-}
-
-/// The name of a refusal of a description.
-fn name_of(fault: OpenFault) -> &'static str
-    ensures { result.now ≡ open_fault_name fault }
-{
-    match fault {
-        OpenFault::OutOfMemory => "OutOfMemory",
-        OpenFault::TwiceAddress => "TwiceAddress",
-        OpenFault::Limit => "Limit",
     }
 }

@@ -4,15 +4,11 @@
 //! answers of the script.
 #![tactic(auto)]
 
-mod answer;
 mod command;
 mod desk;
 mod ending;
 mod input;
-mod rack;
-mod rack_fault;
-mod rack_file;
-mod rack_laws;
+mod output;
 #[cfg(test)]
 mod rack_tests;
 mod run;
@@ -21,13 +17,16 @@ mod run_fault;
 mod run_tests;
 mod script;
 mod segment;
+mod stop;
 mod stream_laws;
 #[cfg(test)]
 mod stream_tests;
-mod toml_keys;
+#[cfg(test)]
+mod text_tests;
 
 use clap::Command;
 use ending::{Fault, OUT_OF_MEMORY, message, status};
+pub use rack_file::{Rack, RackFault, RackLine, read_rack};
 use run::run_text;
 use run_fault::RunFault;
 use std::io::{self, BufWriter, ErrorKind, Write};

@@ -1,6 +1,5 @@
-use crate::rack_fault::RackFault;
-use crate::rack_file::read_rack;
 use dp_line::{Device, OpenFault};
+use rack_file::{RackFault, read_rack};
 use std::alloc::{AllocError, Global};
 use std::test::Fail;
 

@@ -1,13 +1,13 @@
 //! A rack text and a script, run.
 
 ghost use Rattle.std.specs.Prelude.{◌≡◌};
-ghost use Rattle.rackd.specs.RackFile.{rack_in};
+ghost use Rattle.rack_file.specs.RackFile.{rack_in};
 ghost use Rattle.rackd.specs.Runs.{RunsText};
 
-use crate::rack_fault::RackFault;
-use crate::rack_file::read_rack;
 use crate::run_fault::RunFault;
 use crate::script::run_script;
+use rack_file::laws::{accepted_lines_can_be_opened, accepted_racks_have_1_to_8_lines};
+use rack_file::{RackFault, read_rack};
 use std::alloc::Global;
 use std::io::Write;
 
@@ -24,6 +24,8 @@ pub fn run_text<W: Write>(
 ) -> Result<(), RunFault>
     ensures { RunsText (rack_in rack.now) script.now (W.contents writer.old) (W.contents writer.new) result }
 {
+    accepted_racks_have_1_to_8_lines();
+    accepted_lines_can_be_opened();
     match read_rack(alloc, rack) {
         Ok(rack) => run_script(alloc, &rack, script, writer),
         Err(RackFault::OutOfMemory) => Err(RunFault::OutOfMemory),

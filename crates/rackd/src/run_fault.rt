@@ -3,7 +3,7 @@
 ghost use Rattle.std.specs.Prelude.{◌≡◌};
 ghost use Rattle.rackd.specs.Codes.{run_fault_code};
 
-use crate::rack_fault::RackFault;
+use rack_file::RackFault;
 use thiserror::Error;
 
 /// Why a run ended early. What was written before stays written.

@@ -1,14 +1,28 @@
 //! A line in use: its number in the rack, and the streams of its masters.
 
-ghost use Rattle.std.specs.Prelude.{◌≡◌, ◌==◌, None, map, position, string_bytes, option_map, IfOk};
+ghost use Rattle.std.specs.Prelude.{◌≡◌, ◌≤◌, ◌==◌, length, None, map, position, IfOk, OnOk, OnErr, IfErr};
+ghost use Rattle.std.specs.Io.KnownBytes.{Appends};
+ghost use Rattle.dp_telegram.specs.declared.cutter.Cut.TheVariants as pieces;
+ghost use Rattle.dp_telegram.specs.Stream.{cut_lent, cut_length};
+ghost use Rattle.dp_telegram.specs.FrameText.{frame_at};
+ghost use Rattle.dp_line.specs.declared.event.Event.TheVariants.{Request};
 ghost use Rattle.dp_line.specs.World.{description_of, opening_fault};
 ghost use Rattle.rackd.specs.Segments.{segment_of, empty_stream, piece_answered, passed, sent};
+ghost use Rattle.rackd.specs.Runs.{WritesPrefix, Sends};
 
-use crate::answer::{answer_line, dropped_line};
+use crate::output::write_whole;
+use crate::stop::Stop;
+use crate::stream_laws::pieces_of_a_stream_do_not_matter;
+use arrayvec::ArrayVec;
 use dp_line::{Event, LineSpec, LineState};
-use dp_telegram::{Cut, Cutter};
+use dp_telegram::{Cutter, Piece};
+use dp_text::{HexWords, Text};
 use std::alloc::{AllocError, Global};
+use std::io::Write;
 use std::marker::Model;
+
+/// Octets that are decoded at once.
+const CHUNK: usize = 64;
 
 /// What a master sends, in whatever pieces it comes.
 #[derive(Drop)]
@@ -18,11 +32,14 @@ struct Stream {
 }
 
 impl Model for Stream {
+    ghost use Rattle.std.specs.Prelude.{◌≤◌, length};
     ghost use Rattle.rackd.specs.Segments.{Stream as View};
 
     ghost Value = { View };
 
     ghost view = { λ s. record { master = s.master; held = s.cutter } };
+
+    ghost invariant = { λ s. length s.cutter ≤ 255 };
 }
 
 /// A line in use. Each of its masters has a stream of its own, which commands go on with.
@@ -62,22 +79,20 @@ impl Segment {
         self.number
     }
 
-    /// A master sends octets: what is written, or None where it isn't the line's. A fault is want of
-    /// memory.
-    pub(crate) fn send(
+    /// A master sends octets, and the answers are written; it may be none of the line's.
+    pub(crate) fn send<W: Write>(
         &mut self,
-        alloc: Global,
         master: u8,
-        octets: &[u8],
-    ) -> Result<Option<String>, AllocError>
-        ensures { IfOk result (λ text. option_map (λ t. record { segment = self.new; text = string_bytes t }) text
-            ≡ sent self.old master octets.now) }
+        octets: HexWords<'_>,
+        text: &mut Text,
+        writer: &mut W,
+    ) -> Result<(), Stop>
+        ensures { Sends (sent self.old master octets.entry) self.new (W.contents writer.old) (W.contents writer.new) result }
     {
         let Some(place) = place_of(&self.streams, master) else {
-            return Ok(None);
+            return Err(Stop::NoCommand);
         };
-        let text = self.streams[place].pass(alloc, &mut self.state, octets)?;
-        Ok(Some(text))
+        self.streams[place].pass_words(&mut self.state, octets, text, writer)
     }
 }
 
@@ -103,24 +118,54 @@ fn place_of(streams: &[Stream], master: u8) -> Option<usize>
 }
 
 impl Stream {
-    /// Octets come: the answers to the pieces that they complete. A fault is want of memory.
-    fn pass(
+    /// Octets come in words, and the answers to the pieces that they complete are written.
+    fn pass_words<W: Write>(
         &mut self,
-        alloc: Global,
+        state: &mut LineState,
+        mut octets: HexWords<'_>,
+        text: &mut Text,
+        writer: &mut W,
+    ) -> Result<(), Stop>
+        ensures world { OnOk result (state.new ≡ (passed state.old self.old octets.entry).world) }
+        ensures stream { OnOk result (self.new ≡ (passed state.old self.old octets.entry).stream) }
+        ensures ok { OnOk result (Appends (W.contents writer.old) (W.contents writer.new) (passed state.old self.old octets.entry).text) }
+        ensures err { OnErr result (WritesPrefix (W.contents writer.old) (W.contents writer.new) (passed state.old self.old octets.entry).text) }
+        ensures fault { IfErr result (λ stop. stop ≡ Stop.WriteFault) }
+    {
+        pieces_of_a_stream_do_not_matter();
+        let mut chunk = [0; CHUNK];
+        loop {
+            let count = octets.fill(&mut chunk);
+            self.pass(state, &chunk[..count], text, writer)?;
+            if count < CHUNK {
+                return Ok(());
+            }
+        }
+    }
+
+    /// Octets come, and the answers to the pieces that they complete are written.
+    fn pass<W: Write>(
+        &mut self,
         state: &mut LineState,
         octets: &[u8],
-    ) -> Result<String, AllocError>
-        ensures { IfOk result (λ text. record { world = state.new; stream = self.new; text = string_bytes text }
-            ≡ passed state.old self.old octets.now) }
+        text: &mut Text,
+        writer: &mut W,
+    ) -> Result<(), Stop>
+        ensures world { OnOk result (state.new ≡ (passed state.old self.old octets.now).world) }
+        ensures stream { OnOk result (self.new ≡ (passed state.old self.old octets.now).stream) }
+        ensures ok { OnOk result (Appends (W.contents writer.old) (W.contents writer.new) (passed state.old self.old octets.now).text) }
+        ensures err { OnErr result (WritesPrefix (W.contents writer.old) (W.contents writer.new) (passed state.old self.old octets.now).text) }
+        ensures fault { IfErr result (λ stop. stop ≡ Stop.WriteFault) }
     {
-        let mut text = String::new(alloc);
         let mut left = octets;
         loop {
-            if let Some(cut) = self.cutter.next() {
-                let answer = answer_piece(alloc, state, self.master, cut)?;
-                text.push_str(&answer)?;
+            if let Some(piece) = self.cutter.front() {
+                let count = piece.size();
+                answer_piece(text, state, self.master, piece);
+                self.cutter.pass(count);
+                write_whole(writer, text.as_bytes())?;
             } else if left.is_empty() {
-                return Ok(text);
+                return Ok(());
             } else {
                 let taken = self.cutter.feed(left);
                 (_, left) = left.split_at(taken);
@@ -129,20 +174,36 @@ impl Stream {
     }
 }
 
-/// The answer to a piece of a master's stream: a frame is one event of the line.
-fn answer_piece(
-    alloc: Global,
-    state: &mut LineState,
-    master: u8,
-    cut: Cut,
-) -> Result<String, AllocError>
-    ensures { IfOk result (λ text. record { world = state.new; text = string_bytes text } ≡ piece_answered state.old master cut) }
+/// Makes the text the answer to a piece of a master's stream: a frame is one event of the line.
+fn answer_piece(text: &mut Text, state: &mut LineState, master: u8, piece: Piece<'_>)
+    requires { cut_length (cut_lent piece) ≤ 255 }
+    ensures { record { world = state.new; text = text.new } ≡ piece_answered state.old master (cut_lent piece.entry) }
 {
-    match cut {
-        Cut::Frame { octets, .. } => {
-            let step = state.take(&Event::Request { master, octets });
-            answer_line(alloc, master, &step.outcome)
-        }
-        Cut::Dropped { fault, count } => dropped_line(alloc, master, fault, count),
+    match piece {
+        Piece::Frame(octets) => answer_frame(text, state, master, octets),
+        Piece::Dropped { fault, count } => text.set_dropped(master, fault, count),
+    }
+}
+
+/// Makes the text the answer to a frame of a master's stream.
+fn answer_frame(text: &mut Text, state: &mut LineState, master: u8, octets: &[u8])
+    requires { length octets.now ≤ 255 }
+    ensures { record { world = state.new; text = text.new }
+        ≡ piece_answered state.old master (pieces.Frame (frame_at octets.now) (record { items = octets.now })) }
+{
+    let step = state.take(&request(master, octets));
+    text.set_answer(master, &step.outcome);
+}
+
+/// The event that a master sends a frame of these octets.
+fn request(master: u8, octets: &[u8]) -> Event
+    requires { length octets.now ≤ 255 }
+    ensures { result ≡ Request master (record { items = octets.now }) }
+{
+    let mut copy = ArrayVec::new();
+    copy.try_extend_from_slice(octets).unwrap();
+    Event::Request {
+        master,
+        octets: copy,
     }
 }

@@ -1,19 +1,20 @@
-use Rattle.std.proofs.Common.{ℕ, List, [], ◌+◌, get_or, map, subst}
-use Rattle.std.specs.Prelude.{string_bytes}
+use Rattle.std.proofs.Common.{List, ℕ, ◌+◌, subst}
+use Rattle.dp_text.specs.Words.{lines_of}
 use Rattle.rackd.specs.ScriptText.{play}
-use Rattle.rackd.proofs.Played.{SoFar, line_played, line_cut, lines_left, told_some}
+use Rattle.rackd.proofs.Played.{SoFar, line_done, line_is_none, line_written_in_part}
 use Rattle.rackd.proofs.script.play_lines.Goals as goal
 
-pub returns-in-Err : goal.returns-in-Err
-returns-in-Err g c =
-    let here = subst (λ (lines : List (List ℕ)). SoFar (play c.args.desk.now 1 (map (λ line. line.now) c.args.lines.now)) (g.W.Write.contents c.args.writer.now) (g.W.Write.contents c.loop-index.writer)
-    c.loop-index.desk (c.loop-index.index + 1) lines) (lines_left (λ line. line.now) c.args.lines.now c.loop-index.index (record { ref_ptr = (0, 0); now = [] }) c.loop-index-test.true) c.loop-index.invariant in
-    let told = told_some string_bytes c.loop-index.desk c.obey_line.new.desk (get_or c.args.lines.now c.loop-index.index (record { ref_ptr = (0, 0); now = [] })).now c.as_bytes.result.now c.in-Ok.obeyed c.in-Some.text c.in-Ok.ensures c.in-Some.is c.as_bytes.ensures.value in
-    line_cut _ _ _ _ _ c.obey_line.new.desk _ _ c.as_bytes.result.now _ here told c.in-Err.ensures.err
+pub returns-in-Err-NoCommand : goal.returns-in-Err-NoCommand
+returns-in-Err-NoCommand g c =
+    let here = subst (SoFar (play c.args.desk.now 1 (lines_of c.args.script.now)) (g.W.Write.contents c.args.writer.now) (g.W.Write.contents c.loop-index.writer) c.loop-index.desk (c.loop-index.index + 1)) c.in-Some.ensures c.loop-index.invariant in
+    line_is_none _ _ (g.W.Write.contents c.loop-index.writer) _ c.loop-index.desk c.obey_line.new.desk (c.loop-index.index + 1) c.in-Some.line.now c.next.new.self here (rw c.in-Err-NoCommand.field-0-is at c.in-Err-NoCommand.ensures)
+
+pub returns-in-Err-WriteFault : goal.returns-in-Err-WriteFault
+returns-in-Err-WriteFault g c =
+    let here = subst (SoFar (play c.args.desk.now 1 (lines_of c.args.script.now)) (g.W.Write.contents c.args.writer.now) (g.W.Write.contents c.loop-index.writer) c.loop-index.desk (c.loop-index.index + 1)) c.in-Some.ensures c.loop-index.invariant in
+    line_written_in_part _ _ (g.W.Write.contents c.loop-index.writer) _ c.loop-index.desk c.obey_line.new.desk (c.loop-index.index + 1) c.in-Some.line.now c.next.new.self here (rw c.in-Err-WriteFault.field-0-is at c.in-Err-WriteFault.ensures)
 
 pub loop-index-preserved : goal.loop-index-preserved
 loop-index-preserved g c =
-    let here = subst (λ (lines : List (List ℕ)). SoFar (play c.args.desk.now 1 (map (λ line. line.now) c.args.lines.now)) (g.W.Write.contents c.args.writer.now) (g.W.Write.contents c.loop-index.writer)
-    c.loop-index.desk (c.loop-index.index + 1) lines) (lines_left (λ line. line.now) c.args.lines.now c.loop-index.index (record { ref_ptr = (0, 0); now = [] }) c.loop-index-test.true) c.loop-index.invariant in
-    let told = told_some string_bytes c.loop-index.desk c.obey_line.new.desk (get_or c.args.lines.now c.loop-index.index (record { ref_ptr = (0, 0); now = [] })).now c.as_bytes.result.now c.in-Ok.obeyed c.in-Some.text c.in-Ok.ensures c.in-Some.is c.as_bytes.ensures.value in
-    line_played _ _ _ _ _ c.obey_line.new.desk _ _ c.as_bytes.result.now _ here told c.in-Ok-write_whole.ensures.ok
+    let here = subst (SoFar (play c.args.desk.now 1 (lines_of c.args.script.now)) (g.W.Write.contents c.args.writer.now) (g.W.Write.contents c.loop-index.writer) c.loop-index.desk (c.loop-index.index + 1)) c.in-Some.ensures c.loop-index.invariant in
+    line_done _ _ (g.W.Write.contents c.loop-index.writer) _ c.loop-index.desk c.obey_line.new.desk (c.loop-index.index + 1) c.in-Some.line.now c.next.new.self here c.in-Ok.ensures

@@ -1,17 +1,43 @@
-use Rattle.std.proofs.Common.{ap, sym, ◌++◌, ◌∙◌}
-use Rattle.std.specs.Prelude.{string_bytes}
-use Rattle.dp_telegram.specs.Stream.{cuts_of}
-use Rattle.rackd.proofs.Passing.{piece_passed, all_passed}
+use Rattle.std.proofs.Common.{◌≡◌, ◌++◌, drop, ap, sym, ◌∙◌}
+use Rattle.dp_telegram.specs.Stream.{cuts_of, with_cut, cut_lent}
+use Rattle.rackd.proofs.Writing.{on_err}
+use Rattle.rackd.proofs.Passing.{piece_written, piece_cut_off, all_passed}
 use Rattle.rackd.proofs.segment.Stream.pass.Goals as goal
 
-pub loop-cut-preserved-in-Some : goal.loop-cut-preserved-in-Some
-loop-cut-preserved-in-Some c =
-    piece_passed c.loop-cut.state c.answer_piece.new.state c.loop-cut.self-inside.master (string_bytes c.loop-cut.text) (string_bytes c.in_ok-answer.answer) _ c.in-Some.cut
-    (cuts_of (c.loop-cut.self-inside.cutter ++ c.loop-cut.left.now)) (cuts_of (c.next.new.self ++ c.loop-cut.left.now)) _
-    c.loop-cut.invariant (c.in-Some.ensures.stream c.loop-cut.left.now) c.in_ok-answer.ensures
-    (c.in_ok-push_str.ensures.bytes ∙ ap (λ more. string_bytes c.loop-cut.text ++ more) c.deref.ensures)
+pub loop-piece-preserved-in-Continue-1 : goal.loop-piece-preserved-in-Continue-1
+loop-piece-preserved-in-Continue-1 g c =
+    let left = c.loop-piece.left.now in
+    let held = c.loop-piece.self-inside.cutter in
+    let piece = cut_lent c.in-Some.piece in
+    let handed : cuts_of (held ++ left) ≡ with_cut piece (cuts_of (c.pass.new.self ++ left)) =
+    c.in-Some.ensures.stream left
+    ∙ ap (λ behind. with_cut piece (cuts_of (behind ++ left))) (c.in-Some.ensures.left ∙ ap (λ count. drop count held) (sym c.size-count.ensures) ∙ sym c.pass.ensures.held) in record {
+      answered =
+          piece_written _ _ (g.W.Write.contents c.loop-piece.writer) _ c.loop-piece.state c.answer_piece.new.state c.loop-piece.self-inside.master piece c.as_bytes.result.now _ _
+          c.loop-piece.invariant.answered handed (ap (λ text. record { world = c.answer_piece.new.state; text = text }) c.as_bytes.ensures ∙ c.answer_piece.ensures) c.in_ok-write_whole.ensures.ok;
+      most = c.pass.ensures.most;
+    }
 
-pub returns-then-is_empty : goal.returns-then-is_empty
-returns-then-is_empty c =
-    all_passed c.loop-cut.state c.loop-cut.self-inside.master (string_bytes c.loop-cut.text) c.loop-cut.self-inside.cutter c.next.new.self c.loop-cut.left.now _
-    c.loop-cut.invariant (sym c.if-is_empty.ensures) c.in_default.ensures.unchanged c.in_default.ensures.rest
+pub returns-in_err-write_whole-clause-err : goal.returns-in_err-write_whole-clause-err
+returns-in_err-write_whole-clause-err g c =
+    let left = c.loop-piece.left.now in
+    let held = c.loop-piece.self-inside.cutter in
+    let piece = cut_lent c.in-Some.piece in
+    let handed : cuts_of (held ++ left) ≡ with_cut piece (cuts_of (c.pass.new.self ++ left)) =
+    c.in-Some.ensures.stream left
+    ∙ ap (λ behind. with_cut piece (cuts_of (behind ++ left))) (c.in-Some.ensures.left ∙ ap (λ count. drop count held) (sym c.size-count.ensures) ∙ sym c.pass.ensures.held) in
+    on_err c.from_residual.result
+    (piece_cut_off _ _ (g.W.Write.contents c.loop-piece.writer) _ c.loop-piece.state c.answer_piece.new.state c.loop-piece.self-inside.master piece c.as_bytes.result.now _ _
+    c.loop-piece.invariant.answered handed (ap (λ text. record { world = c.answer_piece.new.state; text = text }) c.as_bytes.ensures ∙ c.answer_piece.ensures) c.in_err-write_whole.ensures.err)
+
+pub returns-then-is_empty-clause-world : goal.returns-then-is_empty-clause-world
+returns-then-is_empty-clause-world g c =
+    (all_passed _ _ _ c.loop-piece.state c.loop-piece.self-inside.master c.loop-piece.self-inside.cutter c.loop-piece.left.now c.loop-piece.invariant.answered (sym c.if-is_empty.ensures) c.in_default.ensures.rest).world_is
+
+pub returns-then-is_empty-clause-stream : goal.returns-then-is_empty-clause-stream
+returns-then-is_empty-clause-stream g c =
+    (all_passed _ _ _ c.loop-piece.state c.loop-piece.self-inside.master c.loop-piece.self-inside.cutter c.loop-piece.left.now c.loop-piece.invariant.answered (sym c.if-is_empty.ensures) c.in_default.ensures.rest).stream_is
+
+pub returns-then-is_empty-clause-ok : goal.returns-then-is_empty-clause-ok
+returns-then-is_empty-clause-ok g c =
+    (all_passed _ _ _ c.loop-piece.state c.loop-piece.self-inside.master c.loop-piece.self-inside.cutter c.loop-piece.left.now c.loop-piece.invariant.answered (sym c.if-is_empty.ensures) c.in_default.ensures.rest).written

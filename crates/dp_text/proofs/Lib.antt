@@ -1,0 +1,6 @@
+pub mod Decimals
+pub mod Lengths
+pub mod Parts
+pub mod HexSpellings
+pub mod Numerals
+pub mod ReadBack

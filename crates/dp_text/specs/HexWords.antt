@@ -1,0 +1,31 @@
+-- Octets in words of hex digits (own).
+use Rattle.std.specs.Prelude.{ℕ, ◌+◌, ◌*◌, ◌/◌, ◌%◌, ◌==◌, if◌then◌else◌, List, [], ◌∷◌, ◌++◌, length, Option, Some, None, option_map, option_and_then}
+use Rattle.std.specs.Result.{result_ok}
+use Rattle.hex.specs.Hex.{decode_of}
+
+-- the octets of a word of whole pairs of hex digits, in either case; None where the word is empty or isn't such
+abbrev pub octets_of_word : List ℕ → Option (List ℕ)
+octets_of_word word = if length word == 0 then None else result_ok (decode_of word)
+
+-- those of words, joined
+abbrev pub octets_of_words : List (List ℕ) → Option (List ℕ)
+octets_of_words [] = Some []
+octets_of_words (word ∷ words) =
+    option_and_then (λ octets. option_map (λ more. octets ++ more) (octets_of_words words)) (octets_of_word word)
+
+-- ---- the same octets, digit by digit
+
+-- the value of a hex digit: its low four bits, and 9 more for a letter
+abbrev pub digit_value : ℕ → ℕ
+digit_value digit = digit % 16 + 9 * (digit / 64)
+
+-- the octet of two digits
+abbrev pub pair_octet : ℕ → ℕ → ℕ
+pair_octet high low = (16 * digit_value high + digit_value low) % 256
+
+-- the octets that digits spell behind this high digit, or behind none; spaces stand between pairs
+abbrev pub spelt_behind : Option ℕ → List ℕ → List ℕ
+spelt_behind high [] = []
+spelt_behind None (digit ∷ digits) =
+    if digit == 32 then spelt_behind None digits else spelt_behind (Some digit) digits
+spelt_behind (Some high) (low ∷ digits) = pair_octet high low ∷ spelt_behind None digits

@@ -1,0 +1,6 @@
+pub mod Numbers
+pub mod Words
+pub mod Texts
+pub mod HexWords
+pub mod Events
+pub mod TextExamples

@@ -1,0 +1,46 @@
+-- The texts of events and answers (own).
+use Rattle.std.specs.Prelude.{codes, ℕ, List, [], ◌∷◌, ◌++◌, Option, Some, None}
+use Rattle.std.specs.Fmt.{decimal}
+use Rattle.hex.specs.Hex.{encode_lower}
+use Rattle.dp_telegram.specs.declared.fault.FrameFault.{FrameFault}
+use Rattle.dp_telegram.specs.Names.{frame_fault_name}
+use Rattle.dp_sap.specs.declared.state.State.{State}
+use Rattle.dp_sap.specs.Names.{state_name}
+use Rattle.dp_responder.specs.Rules.{rule_name}
+use Rattle.dp_line.specs.declared.event.Event.{Event}
+use Rattle.dp_line.specs.declared.event.Event.TheVariants.{Request}
+use Rattle.dp_line.specs.declared.event.Outcome.{Outcome}
+use Rattle.dp_line.specs.declared.event.Outcome.TheVariants.{Reply, Silence}
+
+-- octets: pairs of digits in lower case, `-` for none
+abbrev pub octets_text : List ℕ → List ℕ
+octets_text [] = codes "-"
+octets_text (octet ∷ octets) = encode_lower (octet ∷ octets)
+
+-- an event: `req M HEX`
+abbrev pub event_text : Event → List ℕ
+event_text (Request master octets) = codes "req " ++ decimal master ++ codes " " ++ octets_text octets.items
+
+-- a holder, or `none`
+abbrev pub holder_text : Option ℕ → List ℕ
+holder_text None = codes "none"
+holder_text (Some master) = decimal master
+
+-- the facts of an event: `none`, or the state of the slave and then its holder
+abbrev pub facts_text : Option (State × Option ℕ) → List ℕ
+facts_text None = codes "none"
+facts_text (Some facts) = state_name facts.0 ++ codes " " ++ holder_text facts.1
+
+-- an outcome: `reply HEX RULE` or `silence RULE`
+abbrev pub outcome_text : Outcome → List ℕ
+outcome_text (Reply octets rule) = codes "reply " ++ encode_lower octets.items ++ codes " " ++ rule_name rule
+outcome_text (Silence rule) = codes "silence " ++ rule_name rule
+
+-- the line that answers a master: `M: OUTCOME`
+abbrev pub answer_text : ℕ → Outcome → List ℕ
+answer_text master outcome = decimal master ++ codes ": " ++ outcome_text outcome ++ codes "\n"
+
+-- the line that tells a master what of its stream was dropped: `M: dropped FAULT COUNT`
+abbrev pub dropped_text : ℕ → FrameFault → ℕ → List ℕ
+dropped_text master fault count =
+    decimal master ++ codes ": dropped " ++ frame_fault_name fault ++ codes " " ++ decimal count ++ codes "\n"

@@ -1,0 +1,116 @@
+//! Octets in words of hex digits, read in place.
+
+ghost use Rattle.std.specs.Prelude.{◌≡◌, ◌<◌, ◌++◌, length, take, min, is_some, None};
+ghost use Rattle.std.specs.List.{list_all};
+ghost use Rattle.hex.specs.Hex.{is_hex_digit as is_digit_of_hex};
+ghost use Rattle.dp_text.specs.Words.{words_of};
+ghost use Rattle.dp_text.specs.HexWords.{octets_of_word, octets_of_words, digit_value, pair_octet, spelt_behind};
+
+use crate::words::Words;
+use std::marker::Model;
+
+const SPACE: u8 = 32;
+
+/// The octets of words of hex digits, decoded where they are asked for. Contracts see those that are
+/// left.
+#[derive(Debug, Drop)]
+pub struct HexWords<'a> {
+    digits: &'a [u8],
+}
+
+impl<'a> Model for HexWords<'a> {
+    ghost use Rattle.std.specs.Prelude.{ℕ, List, None};
+    ghost use Rattle.dp_text.specs.HexWords.{spelt_behind};
+
+    ghost Value = { List ℕ };
+
+    ghost view = { λ h. spelt_behind None h.digits.now };
+}
+
+impl<'a> HexWords<'a> {
+    /// The octets of a text of words, each of whole pairs of hex digits in either case; None where one
+    /// of the words is empty or isn't such.
+    pub fn of(text: &'a [u8]) -> Option<HexWords<'a>>
+        ensures { result ≡ octets_of_words (words_of text.now) }
+    {
+        if are_hex_words(text) {
+            Some(HexWords { digits: text })
+        } else {
+            None
+        }
+    }
+
+    /// Decodes as many octets as there are or as have room, and says how many.
+    pub fn fill(&mut self, octets: &mut [u8]) -> usize
+        ensures count { result ≡ min (length self.old) (length octets.old) }
+        ensures octets { self.old ≡ take result octets.new ++ self.new }
+    {
+        let mut digits = self.digits;
+        let mut count = 0;
+        while count < octets.len() {
+            match digits {
+                [SPACE, rest @ ..] => digits = rest,
+                [high, low, rest @ ..] => {
+                    octets[count] = octet_of(*high, *low);
+                    count += 1;
+                    digits = rest;
+                }
+                _ => break,
+            }
+        }
+        self.digits = digits;
+        count
+    }
+}
+
+/// Each word of the text is one or more whole pairs of hex digits.
+fn are_hex_words(text: &[u8]) -> bool
+    ensures { result ≡ is_some (octets_of_words (words_of text.now)) }
+{
+    let mut words = Words::of(text);
+    while let Some(word) = words.next() {
+        if !is_hex_word(word) {
+            return false;
+        }
+    }
+    true
+}
+
+fn is_hex_word(word: &[u8]) -> bool
+    ensures { result ≡ is_some (octets_of_word word.now) }
+{
+    if word.is_empty() || word.len() % 2 != 0 {
+        return false;
+    }
+    are_hex_digits(word)
+}
+
+fn are_hex_digits(word: &[u8]) -> bool
+    ensures { result ≡ list_all is_digit_of_hex word.now }
+{
+    word.iter().all(|digit| is_hex_digit(*digit))
+}
+
+fn is_hex_digit(digit: u8) -> bool
+    ensures { result ≡ is_digit_of_hex digit }
+{
+    match digit {
+        b'0'..=b'9' | b'A'..=b'F' | b'a'..=b'f' => true,
+        _ => false,
+    }
+}
+
+/// The octet of two hex digits.
+fn octet_of(high: u8, low: u8) -> u8
+    ensures { result ≡ pair_octet high low }
+{
+    ((16 * value_of(high) + value_of(low)) % 256) as u8
+}
+
+/// The value of a hex digit: its low four bits, and 9 more for a letter.
+fn value_of(digit: u8) -> u16
+    ensures value { result ≡ digit_value digit }
+    ensures bound { result < 64 }
+{
+    u16::from(digit % 16 + 9 * (digit / 64))
+}

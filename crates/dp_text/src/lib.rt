@@ -1,0 +1,19 @@
+//! The texts that more than one crate reads or writes: numbers, hex words, events and answers.
+//!
+//! Nothing here takes memory: the words of a line are lent in place, and a [`Text`] has room for the
+//! longest.
+#![tactic(auto)]
+
+mod events;
+mod hex_words;
+pub mod laws;
+mod number;
+mod text;
+mod texts;
+mod words;
+
+pub use events::{event_in, is_text, octets_in};
+pub use hex_words::HexWords;
+pub use number::{number_in, octet_in};
+pub use text::{LONGEST, Text};
+pub use words::{Lines, Words};

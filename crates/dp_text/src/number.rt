@@ -1,0 +1,50 @@
+//! Reading plain decimal numbers.
+
+ghost use Rattle.std.specs.Prelude.{◌≡◌, ◌≤◌, ◌&&◌, nat_le, if◌then◌else◌, IfSome, Some, None};
+ghost use Rattle.std.specs.Str.{all_ascii_digits};
+ghost use Rattle.std.specs.Str.Parse.{digits_value};
+ghost use Rattle.dp_text.specs.Numbers.{number_to, octet_number};
+
+/// The number, 0 to the most, that a word is in plain decimal: digits without a sign, and no leading
+/// zero but 0 itself.
+pub fn number_in(word: &[u8], most: u32) -> Option<u32>
+    ensures number { result ≡ number_to most word.now }
+    ensures bound { IfSome result (λ number. number ≤ most) }
+{
+    match word {
+        [] => None,
+        [b'0', _, ..] => None,
+        [_, ..] => digits_in(word, most),
+    }
+}
+
+/// The number from 0 to 255 that a word is in plain decimal.
+pub fn octet_in(word: &[u8]) -> Option<u8>
+    ensures { result ≡ octet_number word.now }
+{
+    match number_in(word, 255) {
+        Some(number) => Some(number as u8),
+        None => None,
+    }
+}
+
+/// The number, 0 to the most, that a word of digits writes.
+fn digits_in(word: &[u8], most: u32) -> Option<u32>
+    ensures number { result ≡ (if all_ascii_digits word.now && nat_le (digits_value 10 word.now) most then Some (digits_value 10 word.now) else None) }
+    ensures bound { IfSome result (λ number. number ≤ most) }
+{
+    let limit = u64::from(most);
+    let mut value = 0u64;
+    let mut left = word;
+    while let [digit, rest @ ..] = left {
+        if !digit.is_ascii_digit() {
+            return None;
+        }
+        value = value * 10 + u64::from(*digit - b'0');
+        if value > limit {
+            return None;
+        }
+        left = rest;
+    }
+    Some(value as u32)
+}

@@ -1,0 +1,105 @@
+//! The lines of a text and the words of a line, lent where they lie.
+
+ghost use Rattle.std.specs.Prelude.{◌≡◌, ◌<◌, ◌==◌, [], ◌∷◌, length, position, MatchOption, IfSome};
+ghost use Rattle.std.specs.List.{slice_split};
+ghost use Rattle.dp_text.specs.Words.{lines_of, words_of, parts_left};
+
+use std::marker::Model;
+
+const LF: u8 = 10;
+
+const SPACE: u8 = 32;
+
+/// The lines of a text, one after another. Contracts see those that are left.
+#[derive(Drop)]
+pub struct Lines<'a> {
+    rest: Option<&'a [u8]>,
+}
+
+impl<'a> Model for Lines<'a> {
+    ghost use Rattle.std.specs.Prelude.{ℕ, List};
+    ghost use Rattle.dp_text.specs.Words.{lines_of, parts_left};
+
+    ghost Value = { List (List ℕ) };
+
+    ghost view = { λ l. parts_left lines_of l.rest };
+}
+
+impl<'a> Lines<'a> {
+    /// The lines of a text, which end in LF; what follows the last LF is a line too.
+    pub fn of(text: &'a [u8]) -> Lines<'a>
+        ensures { result ≡ lines_of text.now }
+    {
+        Lines { rest: Some(text) }
+    }
+
+    /// The next line, without its LF.
+    pub fn next(&mut self) -> Option<&'a [u8]>
+        ensures { MatchOption result ((self.old ≡ []) × (self.new ≡ [])) (λ line. self.old ≡ line.now ∷ self.new) }
+    {
+        let text = self.rest?;
+        let (line, rest) = first_part(text, LF);
+        self.rest = rest;
+        Some(line)
+    }
+}
+
+/// The words of a line, one after another. Contracts see those that are left.
+#[derive(Drop)]
+pub struct Words<'a> {
+    rest: Option<&'a [u8]>,
+}
+
+impl<'a> Model for Words<'a> {
+    ghost use Rattle.std.specs.Prelude.{ℕ, List};
+    ghost use Rattle.dp_text.specs.Words.{words_of, parts_left};
+
+    ghost Value = { List (List ℕ) };
+
+    ghost view = { λ w. parts_left words_of w.rest };
+}
+
+impl<'a> Words<'a> {
+    /// The words of a line, which one space each parts.
+    pub fn of(line: &'a [u8]) -> Words<'a>
+        ensures { result ≡ words_of line.now }
+    {
+        Words { rest: Some(line) }
+    }
+
+    /// The next word.
+    pub fn next(&mut self) -> Option<&'a [u8]>
+        ensures { MatchOption result ((self.old ≡ []) × (self.new ≡ [])) (λ word. self.old ≡ word.now ∷ self.new) }
+    {
+        let line = self.rest?;
+        let (word, rest) = first_part(line, SPACE);
+        self.rest = rest;
+        Some(word)
+    }
+
+    /// The text of the words that are left, if any is.
+    pub fn rest(&self) -> Option<&'a [u8]>
+        ensures { self.now ≡ parts_left words_of result }
+    {
+        self.rest
+    }
+}
+
+/// The text before the first octet of this value, and the text behind it, where there is one.
+fn first_part(text: &[u8], parting: u8) -> (&[u8], Option<&[u8]>)
+    ensures { slice_split (λ octet. octet == parting) text.now
+        ≡ result.0.now ∷ parts_left (slice_split (λ octet. octet == parting)) result.1 }
+{
+    match place_of(text, parting) {
+        Some(place) => (&text[..place], Some(&text[place + 1..])),
+        None => (text, None),
+    }
+}
+
+/// Where the first octet of this value stands.
+fn place_of(text: &[u8], value: u8) -> Option<usize>
+    ensures place { result ≡ position (λ octet. octet == value) text.now }
+    ensures bound { IfSome result (λ place. place < length text.now) }
+{
+    text.iter().position(|octet| *octet == value)
+}

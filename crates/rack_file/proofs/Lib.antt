@@ -1,0 +1,4 @@
+mod Elements
+mod Each
+mod Folds
+mod Accepted

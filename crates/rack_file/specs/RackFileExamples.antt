@@ -1,0 +1,156 @@
+-- The rack of one line with masters 1 and 2 and slave 5, ident number 80A1, as a document.
+use Rattle.std.specs.Prelude.{◌≡◌, ⊤, ℕ, pos, [], ◌∷◌, codes, true, false, None, Some, Ok, Err, refl}
+use Rattle.hex.proofs.OnLiterals.{hex_on_literals}
+use Rattle.toml.proofs.OnLiterals.{toml_on_literals}
+use Rattle.toml.specs.Data.{Data, string, integer, boolean, array, table, Items, no_items, item, Members, no_members, member}
+use Rattle.dp_line.specs.declared.description.Device.TheVariants.{Still, Mirror}
+use Rattle.dp_line.specs.declared.fault.OpenFault.TheVariants.{TwiceAddress}
+use Rattle.rack_file.specs.declared.fault.RackFault.TheVariants.{NotToml, BadKey, TwiceLine, Open}
+use Rattle.rack_file.specs.Rack.{LineDescription}
+use Rattle.rack_file.specs.TomlKeys.{required, optional, array_of, number_to, octets_of, each_of}
+use Rattle.rack_file.specs.RackFile.{configuration_of, device_of, slave_of, masters_of, slaves_of, port_of, line_of, workers_of, lines_of, all_open, rack_of, rack_in}
+
+-- what computes a document's rack
+unfoldable rack_on_literals : ⊤
+unfolding hex_on_literals toml_on_literals required optional array_of number_to octets_of each_of configuration_of device_of slave_of masters_of slaves_of port_of line_of workers_of lines_of all_open rack_of
+rack_on_literals = tt
+
+-- `[[line.slave]]` with this ident number
+abbrev slave_5 : ℕ → Data
+slave_5 ident =
+    table (member (codes "address") (integer (pos 5))
+    (member (codes "cfg") (string (codes "2111"))
+    (member (codes "freeze") (boolean true)
+    (member (codes "ident") (integer (pos ident))
+    (member (codes "sync") (boolean true) no_members)))))
+
+-- `[[line]]` with this number and this second master, and one slave
+abbrev line_with : ℕ → ℕ → Data → Data
+line_with number second slave =
+    table (member (codes "capacity") (integer (pos 1000))
+    (member (codes "masters") (array (item (integer (pos 1)) (item (integer (pos second)) no_items)))
+    (member (codes "number") (integer (pos number))
+    (member (codes "slave") (array (item slave no_items)) no_members))))
+
+abbrev file : Items → Members
+file lines = member (codes "line") (array lines) no_members
+
+abbrev line_1 : LineDescription
+line_1 = record {
+  line = record {
+    number = 1;
+    places = 1000;
+    masters = 1 ∷ 2 ∷ [];
+    slaves = record {
+      address = 5;
+      ident = 0x80A1;
+      cfg = record { items = 0x21 ∷ 0x11 ∷ [] };
+      sync = true;
+      freeze = true;
+      user_max = 237;
+      device = Still;
+    } ∷ [];
+  };
+  listen = None;
+  operator = None;
+}
+
+pub one_line : rack_of (file (item (line_with 1 2 (slave_5 0x80A1)) no_items)) ≡ Ok (record { workers = 4; lines = line_1 ∷ [] })
+unfolding rack_on_literals
+one_line = refl
+
+pub no_key : rack_of no_members ≡ Err BadKey
+unfolding rack_on_literals
+no_key = refl
+
+pub unknown_key : rack_of (member (codes "lines") (array no_items) no_members) ≡ Err BadKey
+unfolding rack_on_literals
+unknown_key = refl
+
+pub wide_ident : rack_of (file (item (line_with 1 2 (slave_5 65536)) no_items)) ≡ Err BadKey
+unfolding rack_on_literals
+wide_ident = refl
+
+pub one_number_twice : rack_of (file (item (line_with 1 2 (slave_5 1)) (item (line_with 1 3 (slave_5 2)) no_items))) ≡ Err TwiceLine
+unfolding rack_on_literals
+one_number_twice = refl
+
+pub master_with_the_slaves_address : rack_of (file (item (line_with 1 2 (slave_5 1)) (item (line_with 2 5 (slave_5 2)) no_items))) ≡ Err (Open 2 TwiceAddress)
+unfolding rack_on_literals
+master_with_the_slaves_address = refl
+
+-- ---- each key
+
+-- `[[line.slave]]` with each key, and this device
+abbrev whole_slave : Data → Data
+whole_slave device =
+    table (member (codes "address") (integer (pos 5))
+    (member (codes "cfg") (string (codes "21"))
+    (member (codes "device") device
+    (member (codes "freeze") (boolean false)
+    (member (codes "ident") (integer (pos 1))
+    (member (codes "sync") (boolean true)
+    (member (codes "user_max") (integer (pos 0)) no_members)))))))
+
+-- one `[[line]]` with each key, and these workers and this device
+abbrev whole_file : ℕ → Data → Members
+whole_file workers device =
+    member (codes "line") (array (item (table (member (codes "capacity") (integer (pos 2))
+    (member (codes "listen") (integer (pos 65535))
+    (member (codes "masters") (array (item (integer (pos 1)) no_items))
+    (member (codes "number") (integer (pos 1))
+    (member (codes "operator") (integer (pos 0))
+    (member (codes "slave") (array (item (whole_slave device) no_items)) no_members))))))) no_items))
+    (member (codes "workers") (integer (pos workers)) no_members)
+
+abbrev whole_line : LineDescription
+whole_line = record {
+  line = record {
+    number = 1;
+    places = 2;
+    masters = 1 ∷ [];
+    slaves = record {
+      address = 5;
+      ident = 1;
+      cfg = record { items = 0x21 ∷ [] };
+      sync = true;
+      freeze = false;
+      user_max = 0;
+      device = Mirror;
+    } ∷ [];
+  };
+  listen = Some 65535;
+  operator = Some 0;
+}
+
+pub each_key : rack_of (whole_file 32 (string (codes "mirror"))) ≡ Ok (record { workers = 32; lines = whole_line ∷ [] })
+unfolding rack_on_literals
+each_key = refl
+
+pub no_worker : rack_of (whole_file 0 (string (codes "mirror"))) ≡ Err BadKey
+unfolding rack_on_literals
+no_worker = refl
+
+pub many_workers : rack_of (whole_file 33 (string (codes "mirror"))) ≡ Err BadKey
+unfolding rack_on_literals
+many_workers = refl
+
+pub unknown_device : rack_of (whole_file 32 (string (codes "Mirror"))) ≡ Err BadKey
+unfolding rack_on_literals
+unknown_device = refl
+
+-- ---- texts
+
+pub no_toml : rack_in (codes "[[line") ≡ Err NotToml
+unfolding rack_on_literals
+no_toml = refl
+
+pub empty_text : rack_in [] ≡ Err BadKey
+unfolding rack_on_literals
+empty_text = refl
+
+pub one_text :
+    rack_in (codes "[[line]]\nnumber = 1\ncapacity = 1000\nmasters = [1, 2]\n[[line.slave]]\naddress = 5\nident = 0x80A1\ncfg = \"2111\"\nsync = true\nfreeze = true\n")
+    ≡ Ok (record { workers = 4; lines = line_1 ∷ [] })
+unfolding rack_on_literals
+one_text = refl

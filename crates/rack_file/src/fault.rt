@@ -1,0 +1,58 @@
+//! Why a rack file isn't accepted.
+
+ghost use Rattle.std.specs.Prelude.{◌≡◌};
+ghost use Rattle.rack_file.specs.Codes.{rack_fault_code};
+ghost use Rattle.rack_file.specs.Names.{rack_fault_name};
+
+use dp_line::OpenFault;
+use thiserror::Error;
+
+/// Why a rack file isn't accepted. The first that applies is told: `NotToml`, `BadKey`, `TwiceLine`,
+/// `Open` of the first line of the file that is refused; want of memory is `OutOfMemory`, wherever it
+/// comes.
+#[derive(Clone, Copy, Debug, PartialEq, Eq, Error)]
+pub enum RackFault {
+    /// Memory was refused.
+    #[error("{}", self.name())]
+    OutOfMemory,
+    /// The text is no TOML.
+    #[error("{}", self.name())]
+    NotToml,
+    /// A key is unknown or missing, or its value is of a wrong type or outside its range.
+    #[error("{}", self.name())]
+    BadKey,
+    /// Two lines have one number.
+    #[error("{}", self.name())]
+    TwiceLine,
+    /// The line at this position of the file, from 1, can't be opened for this reason.
+    #[error("line {0} {1}")]
+    Open(u8, OpenFault),
+}
+
+impl RackFault {
+    /// The number of the fault, 1 to 5 (own).
+    pub const fn code(self) -> u8
+        ensures { result ≡ rack_fault_code self }
+    {
+        match self {
+            RackFault::OutOfMemory => 1,
+            RackFault::NotToml => 2,
+            RackFault::BadKey => 3,
+            RackFault::TwiceLine => 4,
+            RackFault::Open(_, _) => 5,
+        }
+    }
+
+    /// Its name in texts (own).
+    pub const fn name(self) -> &'static str
+        ensures { result.now ≡ rack_fault_name self }
+    {
+        match self {
+            RackFault::OutOfMemory => "OutOfMemory",
+            RackFault::NotToml => "NotToml",
+            RackFault::BadKey => "BadKey",
+            RackFault::TwiceLine => "TwiceLine",
+            RackFault::Open(_, _) => "Open",
+        }
+    }
+}

@@ -1,5 +1,0 @@
-use Rattle.std.proofs.Common.{length}
-use Rattle.rackd.proofs.rack_file.+check_openings.Given as goal
-
-abbrev pub decreases-check_openings : goal.decreases-check_openings
-decreases-check_openings l = length l.lines.now

@@ -1,5 +1,0 @@
-use Rattle.std.proofs.Common.{length}
-use Rattle.rackd.proofs.rack_file.+has_number_twice.Given as goal
-
-abbrev pub decreases-has_number_twice : goal.decreases-has_number_twice
-decreases-has_number_twice l = length l.lines.now

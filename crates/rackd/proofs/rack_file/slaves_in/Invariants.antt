@@ -1,8 +1,0 @@
-use Rattle.std.proofs.Common.{◌≡◌, map, take, Ok}
-use Rattle.toml.specs.View.{view}
-use Rattle.rackd.specs.TomlKeys.{each_of}
-use Rattle.rackd.specs.RackFile.{slave_of}
-use Rattle.rackd.proofs.rack_file.slaves_in.Given as goal
-
-abbrev pub invariant-loop-value : goal.invariant-loop-value
-invariant-loop-value l = each_of slave_of (map view (take l.value-index l.values)) ≡ Ok l.slaves.items

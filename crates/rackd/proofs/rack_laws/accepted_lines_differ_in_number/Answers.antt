@@ -1,6 +1,0 @@
-use Rattle.toml.specs.Parse.{parse_document}
-use Rattle.rackd.proofs.Accepted.{of_document}
-use Rattle.rackd.proofs.rack_laws.accepted_lines_differ_in_number.Goals as goal
-
-pub returns : goal.returns
-returns c = λ text rack e. (of_document (parse_document text) rack e).differ

@@ -1,9 +1,0 @@
-use Rattle.toml.specs.Parse.{parse_document}
-use Rattle.rackd.proofs.Accepted.{of_document}
-use Rattle.rackd.proofs.rack_laws.accepted_racks_have_1_to_8_lines.Goals as goal
-
-pub returns-clause-least : goal.returns-clause-least
-returns-clause-least c = λ text rack e. (of_document (parse_document text) rack e).least
-
-pub returns-clause-most : goal.returns-clause-most
-returns-clause-most c = λ text rack e. (of_document (parse_document text) rack e).most

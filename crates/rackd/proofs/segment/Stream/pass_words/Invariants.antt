@@ -1,0 +1,11 @@
+use Rattle.std.proofs.Common.{length}
+use Rattle.rackd.specs.Segments.{passed}
+use Rattle.rackd.proofs.Passing.{WordsSoFar}
+use Rattle.rackd.proofs.segment.Stream.pass_words.Given as goal
+
+abbrev pub invariant-loop : goal.invariant-loop
+invariant-loop g l =
+    WordsSoFar (passed l.fn.state l.fn.self l.fn.octets) (g.W.Write.contents l.fn.writer) (g.W.Write.contents l.writer) l.state l.self l.octets
+
+abbrev pub decreases-loop : goal.decreases-loop
+decreases-loop g l = length l.octets

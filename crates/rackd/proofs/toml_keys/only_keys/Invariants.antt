@@ -1,9 +1,0 @@
-use Rattle.std.proofs.Common.{◌≡◌, map}
-use Rattle.toml.specs.View.{members_view}
-use Rattle.rackd.specs.TomlKeys.{has_only}
-use Rattle.rackd.proofs.toml_keys.only_keys.Given as goal
-
-abbrev pub invariant-loop-key : goal.invariant-loop-key
-invariant-loop-key l =
-    (goal.iterator-loop-key).can_next l.key-iterator × (goal.iterator-loop-key).is_finite l.key-iterator
-    × (has_only (map (λ key. key.now) l.known) (members_view l.key-iterator) ≡ has_only (map (λ key. key.now) l.known) (members_view l.table.entries))
