@@ -6,7 +6,7 @@ use Rattle.std.specs.Option.{option_or}
 use Rattle.std.proofs.lemmas.List.{map_more, length-map, length-take, length-drop, nil_from_length, append-nil, take_all}
 use Rattle.std.proofs.lemmas.List.Elements.{filter_map-append}
 use Rattle.std.proofs.lemmas.Bool.{eqb-true, ne_eqb, eq-eqb, cases_eq}
-use Rattle.dp_line.specs.declared.description.SlaveSpec.{SlaveSpec}
+use Rattle.dp_slave.specs.declared.description.SlaveSpec.{SlaveSpec}
 use Rattle.dp_line.specs.SlaveRecord.{SlaveRecord, released, address_of_slave}
 use Rattle.dp_line.specs.Stations.{place_of, IsIndexed}
 use Rattle.dp_line.specs.World.{described_at, ascending}

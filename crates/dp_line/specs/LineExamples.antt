@@ -1,8 +1,8 @@
 -- A line with masters 1 and 2 and slave 5, ident number 80A1, before any event.
 use Rattle.std.specs.Prelude.{◌≡◌, [], ◌∷◌, true, false, Some, None, refl}
 use Rattle.dp_sap.specs.declared.state.State.TheVariants.{WaitPrm}
-use Rattle.dp_line.specs.declared.description.SlaveSpec.{SlaveSpec}
-use Rattle.dp_line.specs.declared.description.Device.TheVariants.{Still}
+use Rattle.dp_slave.specs.declared.description.SlaveSpec.{SlaveSpec}
+use Rattle.dp_slave.specs.declared.description.Device.TheVariants.{Still}
 use Rattle.dp_line.specs.declared.event.Outcome.TheVariants.{Reply, Silence}
 use Rattle.dp_line.specs.declared.event.Event.TheVariants.{Request}
 use Rattle.dp_responder.specs.declared.rule.Rule.TheVariants as rules

@@ -5,7 +5,7 @@ use Rattle.dp_sap.specs.declared.state.State.TheVariants.{WaitPrm}
 use Rattle.dp_diag.specs.declared.diag.Diag.{Diag}
 use Rattle.dp_diag.specs.declared.facts.DiagFacts.{DiagFacts}
 use Rattle.dp_diag.specs.Diagnosis.{no_diagnosis}
-use Rattle.dp_line.specs.declared.description.SlaveSpec.{SlaveSpec}
+use Rattle.dp_slave.specs.declared.description.SlaveSpec.{SlaveSpec}
 
 -- one slave: its description, and what events change (IEC 61158-6-3, slave state machine)
 pub record SlaveRecord : Type 0 where

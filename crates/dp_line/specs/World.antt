@@ -1,7 +1,7 @@
 -- What a line is at one moment, and at its start.
 use Rattle.std.specs.Prelude.{ℕ, ◌+◌, Bool, false, not, ◌&&◌, ◌||◌, ◌==◌, nat_le, if◌then◌else◌, List, [], ◌∷◌, ◌++◌, length, map, find, Option, Some, None}
 use Rattle.std.specs.List.{list_all, list_any, filter_map, range_with_len}
-use Rattle.dp_line.specs.declared.description.SlaveSpec.{SlaveSpec}
+use Rattle.dp_slave.specs.declared.description.SlaveSpec.{SlaveSpec}
 use Rattle.dp_line.specs.declared.description.LineSpec.{LineSpec}
 use Rattle.dp_line.specs.declared.fault.OpenFault.{OpenFault}
 use Rattle.dp_line.specs.declared.fault.OpenFault.TheVariants.{TwiceAddress, Limit}

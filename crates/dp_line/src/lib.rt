@@ -16,8 +16,9 @@ mod reply;
 mod slave;
 mod stations;
 
-pub use description::{Device, LineSpec, SlaveSpec};
+pub use description::LineSpec;
 pub use dp_responder::Rule;
+pub use dp_slave::{Device, SlaveSpec};
 pub use event::{Event, Facts, Outcome, Step};
 pub use fault::OpenFault;
 pub use line_state::LineState;

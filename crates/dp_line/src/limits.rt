@@ -5,9 +5,10 @@ ghost use Rattle.std.specs.List.{list_all};
 ghost use Rattle.dp_telegram.specs.Access.{is_station as is_station_address};
 ghost use Rattle.dp_line.specs.World.{is_within_limits, slave_is_within_limits, stations, has_twice, opening_fault, description_of};
 
-use crate::description::{LineSpec, SlaveSpec};
+use crate::description::LineSpec;
 use crate::fault::OpenFault;
 use arrayvec::ArrayVec;
+use dp_slave::SlaveSpec;
 use dp_telegram::is_station;
 
 /// The most slaves of a line.

@@ -5,10 +5,10 @@ ghost use Rattle.dp_diag.specs.DiagnosisText.{diagnosis_text};
 ghost use Rattle.dp_line.specs.SlaveRecord.{starting_slave, released, diag_facts, is_held};
 ghost use Rattle.dp_line.specs.Steps.{state_and_holder};
 
-use crate::description::SlaveSpec;
 use arrayvec::ArrayVec;
 use dp_diag::{Diag, DiagFacts};
 use dp_sap::State;
+use dp_slave::SlaveSpec;
 use std::marker::Model;
 
 /// A slave: its description, and what events change.

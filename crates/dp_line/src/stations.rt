@@ -6,10 +6,10 @@ ghost use Rattle.dp_line.specs.SlaveRecord.{starting_slave, released, is_held, a
 ghost use Rattle.dp_line.specs.Stations.{place_of};
 ghost use Rattle.dp_line.specs.World.{ascending, described_at};
 
-use crate::description::SlaveSpec;
 use crate::limits::MOST_SLAVES;
 use crate::slave::Slave;
 use arrayvec::ArrayVec;
+use dp_slave::SlaveSpec;
 use dp_telegram::LAST_STATION;
 use std::alloc::{AllocError, Global};
 use std::marker::Model;

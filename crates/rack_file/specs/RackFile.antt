@@ -3,9 +3,9 @@ use Rattle.std.specs.Prelude.{ℕ, ◌+◌, false, ◌&&◌, nat_le, if◌then�
 use Rattle.std.specs.Str.{bytes_eq}
 use Rattle.toml.specs.Data.{Data, Members}
 use Rattle.toml.specs.Parse.{parse_document}
-use Rattle.dp_line.specs.declared.description.SlaveSpec.{SlaveSpec}
-use Rattle.dp_line.specs.declared.description.Device.{Device}
-use Rattle.dp_line.specs.declared.description.Device.TheVariants.{Still, Counter, Mirror}
+use Rattle.dp_slave.specs.declared.description.SlaveSpec.{SlaveSpec}
+use Rattle.dp_slave.specs.declared.description.Device.{Device}
+use Rattle.dp_slave.specs.declared.description.Device.TheVariants.{Still, Counter, Mirror}
 use Rattle.dp_line.specs.declared.fault.OpenFault.{OpenFault}
 use Rattle.dp_line.specs.World.{opening_fault, has_twice}
 use Rattle.rack_file.specs.declared.fault.RackFault.{RackFault}

@@ -3,7 +3,7 @@ use Rattle.std.specs.Prelude.{◌≡◌, ⊤, ℕ, pos, [], ◌∷◌, codes, tr
 use Rattle.hex.proofs.OnLiterals.{hex_on_literals}
 use Rattle.toml.proofs.OnLiterals.{toml_on_literals}
 use Rattle.toml.specs.Data.{Data, string, integer, boolean, array, table, Items, no_items, item, Members, no_members, member}
-use Rattle.dp_line.specs.declared.description.Device.TheVariants.{Still, Mirror}
+use Rattle.dp_slave.specs.declared.description.Device.TheVariants.{Still, Mirror}
 use Rattle.dp_line.specs.declared.fault.OpenFault.TheVariants.{TwiceAddress}
 use Rattle.rack_file.specs.declared.fault.RackFault.TheVariants.{NotToml, BadKey, TwiceLine, Open}
 use Rattle.rack_file.specs.Rack.{LineDescription}

@@ -3,7 +3,7 @@
 ghost use Rattle.std.specs.Prelude.{◌≡◌, ◌≤◌, ◌<◌, ◌+◌, ◌==◌, map, length, codes, vec_len, None, Ok, IfOk, IfErr};
 ghost use Rattle.std.specs.List.{list_any};
 ghost use Rattle.toml.specs.View.{view, table_view};
-ghost use Rattle.dp_line.specs.declared.description.Device.TheVariants.{Still};
+ghost use Rattle.dp_slave.specs.declared.description.Device.TheVariants.{Still};
 ghost use Rattle.dp_line.specs.World.{description_of, opening_fault, has_twice};
 ghost use Rattle.rack_file.specs.Rack.{line_described, rack_described};
 ghost use Rattle.rack_file.specs.TomlKeys.{Gives, Fails, required, optional, number_to, each_of};
