@@ -13,7 +13,7 @@ use Rattle.hex.proofs.HexLemmas.{decode_of-ok, decode_of-digits, decode_of-even}
 use Rattle.dp_text.specs.Events.{few_octets, frame_octets}
 use Rattle.dp_text.specs.HexWords.{octets_of_word, octets_of_words, digit_value, pair_octet, spelt_behind}
 
-abbrev Read : Type 0
+abbrev pub Read : Type 0
 Read = Result (List ℕ) FromHexError
 
 -- ---- which words are hex digits
@@ -58,11 +58,11 @@ words_parts : (word : List ℕ) (words : List (List ℕ)) (all : List ℕ) → o
 unfolding joined_by
 words_parts word words all e = joined_parts (octets_of_word word) (octets_of_words words) all e
 
-ok_part : (read : Read) (octets : List ℕ) → result_ok read ≡ Some octets → read ≡ Ok octets
+pub ok_part : (read : Read) (octets : List ℕ) → result_ok read ≡ Some octets → read ≡ Ok octets
 ok_part (Ok x) octets e = cc
 ok_part (Err fault) octets e = absurd cc
 
-word_read : (word octets : List ℕ) → octets_of_word word ≡ Some octets → decode_pairs 0 word ≡ Ok octets
+pub word_read : (word octets : List ℕ) → octets_of_word word ≡ Some octets → decode_pairs 0 word ≡ Ok octets
 word_read word octets e = elim (cases_eq (length word) 0) [
   | inl none ↦ absurd (let o : octets_of_word word ≡ None = cond-true (length word == 0) None (result_ok (decode_of word)) (eq-eqb (length word) 0 none) in cc)
   | inr some ↦
@@ -70,14 +70,14 @@ word_read word octets e = elim (cases_eq (length word) 0) [
       sym (decode_of-even word (decode_of-ok word octets read).0) ∙ read
 ]
 
-value_of_digit : (digit value : ℕ) → hex_digit_value digit ≡ Some value → (digit_value digit ≡ value) × (value < 16)
+pub value_of_digit : (digit value : ℕ) → hex_digit_value digit ≡ Some value → (digit_value digit ≡ value) × (value < 16)
 value_of_digit digit value e = (grind (arith, nat_tests), grind (arith, nat_tests))
 
-digit_read : (digit i value : ℕ) (read : Option ℕ) → digit_or_error digit i read ≡ Ok value → read ≡ Some value
+pub digit_read : (digit i value : ℕ) (read : Option ℕ) → digit_or_error digit i read ≡ Ok value → read ≡ Some value
 digit_read digit i value (Some v) ok = cc
 digit_read digit i value None ok = absurd cc
 
-bind_ok : {A B : Type 0} (read : Result A FromHexError) (f : A → Result B FromHexError) (y : B) → (read >>= f) ≡ Ok y → (x : A) × (read ≡ Ok x) × (f x ≡ Ok y)
+pub bind_ok : {A B : Type 0} (read : Result A FromHexError) (f : A → Result B FromHexError) (y : B) → (read >>= f) ≡ Ok y → (x : A) × (read ≡ Ok x) × (f x ≡ Ok y)
 bind_ok (Ok x) f y e = (x, refl, e)
 bind_ok (Err fault) f y e = absurd cc
 
@@ -90,11 +90,11 @@ pair_read high low i value e =
     let sum : h * 16 + l ≡ value = cc in
     omega (arith, left, right, small_left, small_right, sum)
 
-no_octet : (i : ℕ) (octets : List ℕ) → decode_pairs i [] ≡ Ok octets → [] ≡ octets
+pub no_octet : (i : ℕ) (octets : List ℕ) → decode_pairs i [] ≡ Ok octets → [] ≡ octets
 unfolding decode_pairs
 no_octet i octets e = cc
 
-no_pair : (i digit : ℕ) (octets : List ℕ) → decode_pairs i (digit ∷ []) ≡ Ok octets → ⊥
+pub no_pair : (i digit : ℕ) (octets : List ℕ) → decode_pairs i (digit ∷ []) ≡ Ok octets → ⊥
 unfolding decode_pairs
 no_pair i digit octets e = cc
 

@@ -4,3 +4,4 @@ pub mod Parts
 pub mod HexSpellings
 pub mod Numerals
 pub mod ReadBack
+pub mod ReadExactly

@@ -22,7 +22,7 @@ use Rattle.dp_text.specs.Events.{few_octets, frame_octets, event_octets, request
 use Rattle.arrayvec.specs.ArrayVec.{ArrayVec}
 use Rattle.dp_line.specs.declared.event.Event.TheVariants.{Request}
 
-own : IsNumeralModel (λ ds. all_ascii_digits ds ≡ true) (digits_value 10)
+pub own : IsNumeralModel (λ ds. all_ascii_digits ds ≡ true) (digits_value 10)
 own = numerals_by_value (λ ds. all_ascii_digits ds ≡ true) tells_all_ascii_digits
 
 -- ---- numbers

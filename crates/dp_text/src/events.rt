@@ -3,11 +3,10 @@
 ghost use Rattle.std.specs.Prelude.{◌≡◌, option_map, length, ◌≤◌};
 ghost use Rattle.std.specs.List.{list_any};
 ghost use Rattle.std.specs.Char.{is_ascii_uppercase};
-ghost use Rattle.dp_text.specs.Words.{same_text};
 ghost use Rattle.dp_text.specs.Events.{frame_octets, event_octets, request_of, event_of_words, event_of};
 
 use crate::number::octet_in;
-use crate::words::Words;
+use crate::words::{Words, is_text};
 use arrayvec::ArrayVec;
 use dp_line::Event;
 use dp_telegram::Octets;
@@ -92,11 +91,4 @@ fn has_upper_case(word: &[u8]) -> bool
     ensures { result ≡ list_any is_ascii_uppercase word.now }
 {
     word.iter().any(|octet| octet.is_ascii_uppercase())
-}
-
-/// The word is this text.
-pub fn is_text(word: &[u8], text: &[u8]) -> bool
-    ensures { result ≡ same_text word.now text.now }
-{
-    word == text
 }

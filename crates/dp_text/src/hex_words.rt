@@ -6,10 +6,8 @@ ghost use Rattle.hex.specs.Hex.{is_hex_digit as is_digit_of_hex};
 ghost use Rattle.dp_text.specs.Words.{words_of};
 ghost use Rattle.dp_text.specs.HexWords.{octets_of_word, octets_of_words, digit_value, pair_octet, spelt_behind};
 
-use crate::words::Words;
+use crate::words::{SPACE, Words};
 use std::marker::Model;
-
-const SPACE: u8 = 32;
 
 /// The octets of words of hex digits, decoded where they are asked for. Contracts see those that are
 /// left.

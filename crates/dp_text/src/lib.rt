@@ -12,8 +12,8 @@ mod text;
 mod texts;
 mod words;
 
-pub use events::{event_in, is_text, octets_in};
+pub use events::{event_in, octets_in};
 pub use hex_words::HexWords;
 pub use number::{number_in, octet_in};
 pub use text::{LONGEST, Text};
-pub use words::{Lines, Words};
+pub use words::{Lines, Words, is_text};

@@ -2,13 +2,15 @@
 
 ghost use Rattle.std.specs.Prelude.{◌≡◌, ◌<◌, ◌==◌, [], ◌∷◌, length, position, MatchOption, IfSome};
 ghost use Rattle.std.specs.List.{slice_split};
-ghost use Rattle.dp_text.specs.Words.{lines_of, words_of, parts_left};
+ghost use Rattle.dp_text.specs.Words.{lines_of, words_of, same_text, parts_left};
 
 use std::marker::Model;
 
+/// What ends a line.
 const LF: u8 = 10;
 
-const SPACE: u8 = 32;
+/// What parts the words of a line.
+pub(crate) const SPACE: u8 = 32;
 
 /// The lines of a text, one after another. Contracts see those that are left.
 #[derive(Drop)]
@@ -102,4 +104,11 @@ fn place_of(text: &[u8], value: u8) -> Option<usize>
     ensures bound { IfSome result (λ place. place < length text.now) }
 {
     text.iter().position(|octet| *octet == value)
+}
+
+/// The word is this text.
+pub fn is_text(word: &[u8], text: &[u8]) -> bool
+    ensures { result ≡ same_text word.now text.now }
+{
+    word == text
 }
