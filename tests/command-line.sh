@@ -4,6 +4,7 @@
 set -u
 top=$(cd "$(dirname "$0")/.." && pwd)
 rackd=$top/rackd
+program=$top/crates/rackd/out/rackd
 passed=0
 failed=0
 work=$(mktemp -d)
@@ -23,8 +24,22 @@ expect() {
 
 # run INPUT WORD..: runs the program on an input (printf escapes) with these words
 run() {
-  printf "$1" | "$rackd" "${@:2}" >"$work/out" 2>"$work/err"
+  printf "$1" | "$program" "${@:2}" >"$work/out" 2>"$work/err"
   status=$?
+}
+
+# says TEXT LINE: whether a text has this line
+says() { [[ $'\n'$1$'\n' == *$'\n'"$2"$'\n'* ]]; }
+
+# hold NAME COMMAND..: counts a case by whether the command holds
+hold() {
+  if "${@:2}"; then
+    passed=$((passed + 1))
+  else
+    failed=$((failed + 1))
+    echo "FAILED $1: status $status"
+    head -n 5 "$work/out" "$work/err"
+  fi
 }
 
 rack='[[line]]\nnumber = 1\ncapacity = 1000\nmasters = [1, 2]\n[[line.slave]]\naddress = 5\nident = 0x80A1\ncfg = "2111"\nsync = true\nfreeze = true\n'
@@ -79,19 +94,153 @@ expect 'each line has its own world' 0 "$reply"$'\n'"$reply"$'\n'"$reply"$'\n1: 
 run '\xff\n'; expect 'input that is not UTF-8' 2 '' 'rackd: cannot read -'
 run "$rack%%%%\n\xff\n"; expect 'a script that is not UTF-8' 2 '' 'rackd: cannot read -'
 
-printf "$rack" | "$rackd" word >"$work/out" 2>"$work/err"
-status=$?
-if [ "$status" = 2 ] && [ ! -s "$work/out" ] && [ -s "$work/err" ]; then passed=$((passed + 1)); else failed=$((failed + 1)); echo "FAILED a word: status $status"; fi
+# ---- parting
 
-printf "$rack%%%%\n$slave_diag\n" | "$rackd" >&- 2>"$work/err"
+crlf=${rack//'\n'/'\r\n'}
+run "$crlf"; expect 'a rack with CR LF' 0 '' ''
+run "$crlf%%%%\n$slave_diag\n"; expect 'a rack with CR LF and a script' 0 "$reply" ''
+run "$crlf%%%%\r\n"; expect 'two percent signs and CR part nothing' 2 '' 'rackd: rack NotToml'
+run "$rack %%%%\n$slave_diag\n"; expect 'a space and two percent signs part nothing' 2 '' 'rackd: rack NotToml'
+run "${rack}# %%%%\n%%%%\n$slave_diag\n"; expect 'two percent signs within a line part nothing' 0 "$reply" ''
+run "$rack%%%%\n\n"; expect 'an empty line as script' 0 '' ''
+run "${rack%'\n'}"; expect 'a rack without its last LF' 0 '' ''
+
+# ---- words
+
+run '' --help
+hold 'help' eval '[ "$status" = 0 ] && [ ! -s "$work/err" ] && [[ $(cat "$work/out") == *"exactly %%"*"Exit statuses"* ]]'
+cp "$work/out" "$work/help"
+help=$(cat "$work/help")
+example='[[line]]'${help#*'[[line]]'}
+"$program" <<<"${example%%$'\n\n'*}" >"$work/out" 2>"$work/err"
 status=$?
-: >"$work/out"
-expect 'standard output closed' 4 '' 'rackd: cannot write'
+hold 'the example of the help' eval '[ "$status" = 0 ] && [ -s "$work/out" ] && says "$help" "$(cat "$work/out")"'
+run '' --version; expect 'version' 0 'rackd 0.1.0' ''
+for words in word -h -V --hel --help=1 --version=1 '' 'run rack script' '--line 1'; do
+  if [ "$words" ]; then read -ra list <<<"$words"; else list=(''); fi
+  run "$rack%%%%\n$slave_diag\n" "${list[@]}"
+  hold "wrong words: $words" eval '[ "$status" = 2 ] && [ ! -s "$work/out" ] && [ -s "$work/err" ]'
+done
+run "$rack" $'\xff'; expect 'a word that is not UTF-8' 2 '' 'rackd: a word is not UTF-8'
+run "$rack" --help $'\xff'; expect 'help and a word that is not UTF-8' 2 '' 'rackd: a word is not UTF-8'
+
+# ---- standard error closed or full: no status changes
+# silent NAME STATUS INPUT WORD..
+silent() {
+  local name=$1 wanted=$2 input=$3
+  printf "$input" | "$program" "${@:4}" >"$work/out" 2>&-
+  status=$?
+  : >"$work/err"
+  hold "$name, standard error closed" [ "$status" = "$wanted" ]
+  printf "$input" | "$program" "${@:4}" >"$work/out" 2>/dev/full
+  status=$?
+  hold "$name, standard error full" [ "$status" = "$wanted" ]
+  printf "$input" | "$program" "${@:4}" >&- 2>&-
+  status=$?
+  hold "$name, both closed" [ "$status" = "${closed:-$wanted}" ]
+}
+
+silent 'a script that is done' 0 "$rack"
+closed=4 silent 'a reply' 0 "$rack%%%%\n$slave_diag\n"
+closed=4 silent 'help' 0 '' --help
+closed=4 silent 'version' 0 '' --version
+silent 'a wrong word' 2 "$rack" word
+silent 'a word that is not UTF-8' 2 "$rack" $'\xff'
+silent 'input that is not UTF-8' 2 '\xff'
+silent 'broken TOML' 2 '[[line'
+silent 'an unknown key' 2 "colour = 1\n$rack"
+silent 'two lines with one number' 2 "$rack$rack"
+silent 'a rack that is refused' 2 "${rack/1000/1}"
+silent 'no command' 2 "$rack%%%%\nx\n"
+closed=4 silent 'a reply and no command' 2 "$rack%%%%\n$slave_diag\nx\n"
+
+for closing in '<&-' '<&- 2>&-' '<&- >&-'; do
+  eval "\"\$program\" $closing >\"\$work/out\" 2>\"\$work/err\""
+  status=$?
+  hold "standard input closed ($closing)" [ "$status" = 2 ]
+done
+
+# ---- standard output closed or full
+
+# unwritten NAME COMMAND..: the command's output has gone nowhere
+unwritten() {
+  : >"$work/out"
+  expect "$1" 4 '' 'rackd: cannot write'
+}
+
+printf "$rack%%%%\n$slave_diag\n" >"$work/one"
+"$program" <"$work/one" >&- 2>"$work/err"; status=$?; unwritten 'standard output closed'
+"$program" <"$work/one" >/dev/full 2>"$work/err"; status=$?; unwritten 'standard output full'
+"$program" --help >&- 2>"$work/err"; status=$?; unwritten 'help, standard output closed'
+"$program" --help >/dev/full 2>"$work/err"; status=$?; unwritten 'help, standard output full'
+"$program" --version >/dev/full 2>"$work/err"; status=$?; unwritten 'version, standard output full'
+printf "$rack%%%%\n$slave_diag\nx\n" >"$work/both"
+"$program" <"$work/both" >/dev/full 2>"$work/err"; status=$?; unwritten 'a fault of the output before one of the script'
 
 { printf "$rack%%%%\n"; for _ in $(seq 2000); do echo "$slave_diag"; done; } >"$work/long"
-{ "$rackd" <"$work/long" 2>"$work/err"; echo $? >"$work/status"; } | head -c 0
+{ "$program" <"$work/long" 2>"$work/err"; echo $? >"$work/status"; } | head -c 0
 status=$(cat "$work/status")
-expect 'a reader that goes away' 4 '' 'rackd: cannot write'
+unwritten 'a reader that goes away'
+
+# ---- the start script
+
+# started NAME SCRIPT: the script starts the program, and says nothing of its own
+started() {
+  "$2" --version >"$work/out" 2>"$work/err"
+  status=$?
+  expect "$1" 0 'rackd 0.1.0' ''
+}
+
+ln -s "$rackd" "$work/absolute"
+ln -s absolute "$work/chained"
+mkdir "$work/below" "$work/linked"
+ln -s ../chained "$work/below/relative"
+ln -s "$top" "$work/linked/top"
+started 'a symbolic link' "$work/absolute"
+started 'a chain of links' "$work/chained"
+started 'a relative link' "$work/below/relative"
+started 'a folder that is a link' "$work/linked/top/rackd"
+cd "$work/below" && started 'from another folder' ./relative
+cd "$top" || exit 1
+"$rackd" 'two words' >"$work/out" 2>"$work/err"
+status=$?
+hold 'words go to the program as they are' eval '[ "$status" = 2 ] && [[ $(cat "$work/err") == *"two words"* ]]'
+
+touch -r "$program" "$work/built"
+touch "$top/crates/rackd/src/input.rt" "$top/crates/dp_line/src/lib.rt"
+started 'a source that was touched' "$rackd"
+hold 'a source that was touched builds nothing' [ ! "$program" -nt "$work/built" ]
+
+# a tree of its own, with what stands in for rt and for the program
+mkdir -p "$work/bin" "$work/tree/crates/rackd/src" "$work/tree/crates/rackd/out"
+for tool in bash readlink env; do ln -s "$(command -v "$tool")" "$work/bin/$tool"; done
+cp "$rackd" "$work/tree/rackd"
+# tree WORD..: runs the script of that tree, where there is no other rt
+tree() {
+  PATH=$work/bin "$work/tree/rackd" "$@" >"$work/out" 2>"$work/err"
+  status=$?
+}
+
+no_program='rackd: there is no program that is built from these sources, and no rt on the PATH to build it'
+tree word; expect 'no rt and no program' 70 '' "$no_program"
+echo '//! old' >"$work/tree/crates/rackd/src/main.rt"
+touch -d 2001-01-01 "$work/tree/crates/rackd/src/main.rt"
+printf '#!/usr/bin/env bash\necho "runs $*"\nexit 5\n' >"$work/tree/crates/rackd/out/rackd"
+chmod +x "$work/tree/crates/rackd/out/rackd"
+tree one 'two  three'; expect 'no rt and a program' 5 'runs one two  three' ''
+touch -d 2101-01-01 "$work/tree/crates/rackd/src/main.rt"
+tree word; expect 'no rt and an old program' 70 '' "$no_program"
+
+printf '#!/usr/bin/env bash\necho an output of no use\necho "rt: chose --jobs 4 for low" >&2\necho "so far: 1 of 2 functions checked" >&2\n' >"$work/bin/rt"
+printf 'echo "fn low::f: proved" >&2\necho "src/lib.rt:1:1: error: wrong" >&2\nexit "$FAKE_STATUS"\n' >>"$work/bin/rt"
+chmod +x "$work/bin/rt"
+FAKE_STATUS=0 tree word; expect 'how far rt is' 5 'runs word' 'rackd: proving low: 1 of 2 functions'
+FAKE_STATUS=1 tree word
+expect 'rt fails' 70 '' $'rackd: proving low: 1 of 2 functions\nsrc/lib.rt:1:1: error: wrong\nrackd: the program could not be built'
+hold 'and the program is still there' [ -x "$work/tree/crates/rackd/out/rackd" ]
+rm "$work/tree/crates/rackd/out/rackd"
+FAKE_STATUS=1 tree word
+hold 'rt fails, and there is no program' eval '[ "$status" = 70 ] && [[ $(head -n 1 "$work/err") == *"from nothing"* ]]'
 
 echo "$passed passed, $failed failed"
 [ "$failed" = 0 ]

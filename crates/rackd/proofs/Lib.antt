@@ -1,6 +1,7 @@
 mod Writing
 mod Readings
 mod Desks
+mod Parting
 mod Passing
 mod Played
 mod Sending

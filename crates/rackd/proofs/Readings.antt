@@ -1,12 +1,11 @@
 -- The commands that words are.
-use Rattle.std.proofs.Common.{◌≡◌, ℕ, ◌+◌, List, [], ◌∷◌, length, Some, refl, sym, ap, ◌∙◌, arith}
+use Rattle.std.proofs.Common.{◌≡◌, ℕ, List, [], ◌∷◌, length, Some, sym, ap, ◌∙◌, arith}
 use Rattle.std.specs.Prelude.{nat_eq, option_map, option_and_then}
-use Rattle.std.specs.List.{count_by}
 use Rattle.std.proofs.lemmas.List.Splits.{length-slice_split}
 use Rattle.dp_text.specs.Numbers.{octet_number}
 use Rattle.dp_text.specs.Words.{words_of}
 use Rattle.dp_text.specs.HexWords.{octets_of_words}
-use Rattle.rackd.specs.Commands.{Command, send, send_of}
+use Rattle.rackd.specs.Commands.{send, send_of}
 
 send_by_words : (master : List ℕ) (number : ℕ) (octets text : List ℕ) (words : List (List ℕ)) → words ≡ words_of text
     → Some number ≡ octet_number master → Some octets ≡ octets_of_words words → Some (send number octets) ≡ send_of (master ∷ words)

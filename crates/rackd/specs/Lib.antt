@@ -5,4 +5,6 @@ pub mod Segments
 pub mod SegmentExamples
 pub mod ScriptText
 pub mod Runs
+pub mod Input
+pub mod InputExamples
 pub mod Ending

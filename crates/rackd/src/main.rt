@@ -1,10 +1,11 @@
 //! The rack of simulated DP slaves: the program.
 //!
 //! Without words it reads a rack text, a line `%%` and a script from standard input, and writes the
-//! answers of the script.
+//! answers of the script. `--help` and `--version` are answered on standard output.
 #![tactic(auto)]
 
 mod command;
+mod command_line;
 mod desk;
 mod ending;
 mod input;
@@ -24,26 +25,45 @@ mod stream_tests;
 #[cfg(test)]
 mod text_tests;
 
-use clap::Command;
-use ending::{Fault, OUT_OF_MEMORY, message, status};
+use clap::error::ErrorKind as Answer;
+use ending::{Fault, status};
 pub use rack_file::{Rack, RackFault, RackLine, read_rack};
 use run::run_text;
 use run_fault::RunFault;
 use std::io::{self, BufWriter, ErrorKind, Write};
 use std::process::ExitCode;
 
-/// No words are known: `clap` refuses each, and prints why.
-fn check_words(rt: &HostRuntime) -> io::Result<Option<ExitCode>> {
-    let alloc = rt.alloc();
-    let words: Vec<String> = std::env::args(rt)?.collect(alloc)?;
-    let command = Command::new(alloc, "rackd")
-        .disable_help_flag(true)
-        .disable_version_flag(true);
-    match command.try_get_matches_from(words.as_slice()) {
-        Ok(_) => Ok(None),
-        Err(error) => {
-            error.print(rt)?;
-            Ok(Some(ExitCode::from(2)))
+fn main(rt: HostRuntime) -> ExitCode {
+    match obey_words(&rt) {
+        Ok(code) => code,
+        Err(fault) => {
+            // A closed or full standard error changes no status.
+            let _ = rt.eprintln(fault);
+            ExitCode::from(status(fault))
+        }
+    }
+}
+
+/// Does what the words ask for.
+fn obey_words(rt: &HostRuntime) -> Result<ExitCode, Fault> {
+    match command_line::answer_to_words(rt)? {
+        None => run_input(rt).map(|()| ExitCode::SUCCESS),
+        Some(answer) => tell(rt, &answer),
+    }
+}
+
+/// Tells what `clap` answers: help and the version on standard output, what is wrong with the words on
+/// standard error.
+fn tell(rt: &HostRuntime, answer: &clap::Error) -> Result<ExitCode, Fault> {
+    match answer.kind() {
+        Answer::OutOfMemory => Err(Fault::Run(RunFault::OutOfMemory)),
+        Answer::DisplayHelp | Answer::DisplayVersion => match answer.print(rt) {
+            Ok(()) => Ok(ExitCode::SUCCESS),
+            Err(_) => Err(Fault::Run(RunFault::WriteFault)),
+        },
+        _ => {
+            let _ = answer.print(rt);
+            Ok(ExitCode::from(2))
         }
     }
 }
@@ -60,8 +80,7 @@ fn read_input(rt: &HostRuntime) -> Result<String, Fault> {
 fn run_input(rt: &HostRuntime) -> Result<(), Fault> {
     let text = read_input(rt)?;
     let (rack, script) = input::parted(text.as_str());
-    let output = BufWriter::new(rt.alloc(), io::writer(rt));
-    let Ok(mut output) = output else {
+    let Ok(mut output) = BufWriter::new(rt.alloc(), io::writer(rt)) else {
         return Err(Fault::Run(RunFault::OutOfMemory));
     };
     let ran = run_text(rt.alloc(), rack, script, &mut output);
@@ -69,23 +88,4 @@ fn run_input(rt: &HostRuntime) -> Result<(), Fault> {
         return Err(Fault::Run(RunFault::WriteFault));
     }
     ran.map_err(Fault::Run)
-}
-
-fn main(rt: HostRuntime) -> io::Result<ExitCode> {
-    if let Some(code) = check_words(&rt)? {
-        return Ok(code);
-    }
-    match run_input(&rt) {
-        Ok(()) => Ok(ExitCode::SUCCESS),
-        Err(fault) => end(&rt, fault),
-    }
-}
-
-/// Tells a fault on standard error, and ends with its status.
-fn end(rt: &HostRuntime, fault: Fault) -> io::Result<ExitCode> {
-    match message(rt.alloc(), fault) {
-        Ok(text) => rt.eprintln(text.as_str())?,
-        Err(_) => rt.eprintln(OUT_OF_MEMORY)?,
-    }
-    Ok(ExitCode::from(status(fault)))
 }

@@ -1,25 +1,23 @@
 //! Why a run ended early.
 
-ghost use Rattle.std.specs.Prelude.{◌≡◌};
+ghost use Rattle.std.specs.Prelude.{◌≡◌, Some};
 ghost use Rattle.rackd.specs.Codes.{run_fault_code};
+ghost use Rattle.rackd.specs.Ending.{run_fault_text};
 
 use rack_file::RackFault;
-use thiserror::Error;
+use std::error::Error;
+use std::fmt;
 
 /// Why a run ended early. What was written before stays written.
-#[derive(Clone, Copy, Debug, PartialEq, Eq, Error)]
+#[derive(Clone, Copy, Debug, PartialEq, Eq)]
 pub enum RunFault {
     /// Memory was refused.
-    #[error("out of memory")]
     OutOfMemory,
     /// The rack isn't accepted.
-    #[error("{0}")]
     Rack(RackFault),
     /// The script's line of this number, from 1, is no command.
-    #[error("script line {0}")]
     Script(u64),
     /// A write failed, or took no octet.
-    #[error("cannot write")]
     WriteFault,
 }
 
@@ -36,3 +34,27 @@ impl RunFault {
         }
     }
 }
+
+impl fmt::Display for RunFault {
+    ghost output = { λ fault. Some (run_fault_text fault) };
+
+    fn fmt<W: fmt::Write>(&self, f: &mut fmt::Formatter<W>) -> fmt::Result {
+        match self {
+            RunFault::OutOfMemory | RunFault::Rack(RackFault::OutOfMemory) => {
+                f.write_str("out of memory")
+            }
+            RunFault::Rack(RackFault::Open(position, fault)) => {
+                let name = fault.name();
+                write!(f, "rack line {position} {name}")
+            }
+            RunFault::Rack(fault) => {
+                let name = fault.name();
+                write!(f, "rack {name}")
+            }
+            RunFault::Script(line) => write!(f, "script line {line}"),
+            RunFault::WriteFault => f.write_str("cannot write"),
+        }
+    }
+}
+
+impl Error for RunFault {}

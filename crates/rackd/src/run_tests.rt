@@ -1,4 +1,4 @@
-use crate::ending::{Fault, message, status};
+use crate::ending::{Fault, status};
 use crate::run::run_text;
 use crate::run_fault::RunFault;
 use std::test::Fail;
@@ -31,7 +31,7 @@ fn ends_at_a_line_that_is_no_command(rt: HostRuntime) -> Result<(), Fail> {
 fn tells_how_it_ends(rt: HostRuntime) -> Result<(), Fail> {
     let fault = Fault::Run(RunFault::Script(2));
     assert_eq!(rt; status(fault), 2);
-    let text = message(rt.alloc(), fault)?;
+    let text = fault.to_string(rt.alloc())?;
     assert_eq!(rt; text.as_str(), "rackd: script line 2");
     assert_eq!(rt; status(Fault::Run(RunFault::WriteFault)), 4);
     assert_eq!(rt; status(Fault::CannotRead), 2);

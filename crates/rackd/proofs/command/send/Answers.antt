@@ -1,4 +1,3 @@
-use Rattle.std.proofs.Common.{sym}
 use Rattle.rackd.proofs.Readings.{sends_words}
 use Rattle.rackd.proofs.command.send.Goals as goal
 

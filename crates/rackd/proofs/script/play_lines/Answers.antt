@@ -1,4 +1,4 @@
-use Rattle.std.proofs.Common.{List, ℕ, ◌+◌, subst}
+use Rattle.std.proofs.Common.{◌+◌, subst}
 use Rattle.dp_text.specs.Words.{lines_of}
 use Rattle.rackd.specs.ScriptText.{play}
 use Rattle.rackd.proofs.Played.{SoFar, line_done, line_is_none, line_written_in_part}
