@@ -64,7 +64,7 @@ impl Command {
     }
 
     /// Does to a slave in Data_Exch what it asks for, in this order (own): Clear_Data; Unsync, or
-    /// else Sync; Unfreeze, or else Freeze. The watchdog is set to its full time.
+    /// else Sync; Unfreeze, or else Freeze. A watchdog that runs is set to its full time.
     #[tactic(auto, unfolding(dp_slave::specs::Fields::acted))]
     pub fn apply(&self, slave: &mut Slave)
         ensures { slave.new ≡ with_slave slave.old (acted slave.old.slave (is_controlled (control_in self.now))) }

@@ -102,7 +102,7 @@ unrecorded addresses = record {
   halted = option_map (λ items. record { items = items }) addresses;
 }
 
--- one step: a halted line stays as it is; at the last place the halt is recorded in the event's stead; else the event takes effect
+-- one step: a halted line stays as it is; at the last place the halt is recorded instead of the event; else the event takes effect
 abbrev pub step : World → Event → Stepped
 step world event =
     if world.halted then record { world = world; answer = unrecorded None }

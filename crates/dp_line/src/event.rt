@@ -44,6 +44,6 @@ pub struct Step {
     /// The answer.
     pub outcome: Outcome,
     /// Addresses of the slaves let go, ascending, where this event met the last place and the halt
-    /// was recorded in its stead; else None.
+    /// was recorded instead of it; else None.
     pub halted: Option<ArrayVec<u8, 64>>,
 }

@@ -6,7 +6,7 @@ ghost use Rattle.dp_line.specs.Names.{open_fault_name};
 
 use thiserror::Error;
 
-/// Why a line isn't opened. The first that applies is told: `Limit`, `TwiceAddress`, `OutOfMemory`.
+/// Why a line isn't opened. The first that applies is reported: `Limit`, `TwiceAddress`, `OutOfMemory`.
 #[derive(Clone, Copy, Debug, PartialEq, Eq, Error)]
 #[error("{}", self.name())]
 pub enum OpenFault {

@@ -11,7 +11,7 @@ ghost use Rattle.dp_line.specs.Verdict.{verdict_of};
 ghost use Rattle.dp_line.specs.Steps.{run, outcome_of};
 
 /// After every list of events each request is answered as the written policy answers it in the world
-/// that the events before it left: the octets, or the silence with its cause. That holds on a halted
+/// that the events before it left: the octets, or no reply and the reason. That holds on a halted
 /// line and at the last place too.
 pub fn every_answer_is_the_policys()
     ensures { (line : Description) (before later : List Event) (master : ℕ) (octets : ArrayVec ℕ) (answer : Step)

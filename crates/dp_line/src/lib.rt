@@ -1,5 +1,5 @@
-//! One line of DP slaves: octets of masters in, replies or silence with its cause out, as the
-//! written policy says.
+//! One line of DP slaves: takes the octets of masters, and answers with a reply, or with no reply and
+//! the reason, as the written policy says.
 //!
 //! A [`LineState`] is opened from a [`LineSpec`]; [`LineState::take`] takes one [`Event`] and answers
 //! one [`Step`]. What an event does is the definition `step` of `specs/Steps`; the verdict on a

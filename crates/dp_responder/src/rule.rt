@@ -22,13 +22,14 @@ pub enum Rule {
     BadFunction,
     /// An announced extension octet is missing or not plain: silence.
     BadExtension,
-    /// A function for one station is sent to all: silence.
+    /// A telegram to all stations that no station takes as such: silence.
     BadBroadcast,
     /// No slave has the destination address: silence.
     NoStation,
     /// FDL status is answered.
     Status,
-    /// The function is none that the slave has at this point: RS.
+    /// SDA, ident or LSAP status, at any point, or SRD and SDN at a point of the other: RS to all but
+    /// SDN, and silence to that.
     NoService,
     /// A repeated request: the stored reply.
     Repeat,

@@ -25,9 +25,9 @@ pub fn a_slave_stays_sound()
         → IsSound (acts_after (starting_slave masters description) acts) }
 {}
 
-/// A locking request for an unsupported Sync or Freeze is told as Not_Supported beside the parameter
-/// fault, whatever else is wrong with it, as another ident number.
-pub fn an_unsupported_request_is_told()
+/// A locking request for an unsupported Sync or Freeze is reported as Not_Supported beside the
+/// parameter fault, whatever else is wrong with it, as another ident number.
+pub fn an_unsupported_request_is_reported()
     ensures fault { (slave : SlaveRecord) (sender place : ℕ) (octets : List ℕ)
         → IsLocking octets
         → AsksUnsupported octets (limits_of slave)

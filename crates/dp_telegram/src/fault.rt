@@ -6,7 +6,7 @@ ghost use Rattle.dp_telegram.specs.Names.{frame_fault_name};
 
 use thiserror::Error;
 
-/// Why octets are no frame. The first that applies is told: no octet at all is `Short`; then
+/// Why octets are no frame. The first that applies is reported: no octet at all is `Short`; then
 /// `NoStart`, `Short` for want of a whole head, `BadHead`, `Short` for want of a whole frame,
 /// `BadEnd`, `Long`.
 #[derive(Clone, Copy, Debug, PartialEq, Eq, Error)]

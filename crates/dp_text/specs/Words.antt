@@ -8,7 +8,7 @@ use Rattle.std.specs.Cmp.Lexicographic.{pointwise}
 abbrev pub lines_of : List ℕ → List (List ℕ)
 lines_of text = slice_split (λ octet. octet == 10) text
 
--- words are parted by one space each
+-- one space separates two words
 abbrev pub words_of : List ℕ → List (List ℕ)
 words_of line = slice_split (λ octet. octet == 32) line
 

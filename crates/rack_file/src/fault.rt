@@ -7,7 +7,7 @@ ghost use Rattle.rack_file.specs.Names.{rack_fault_name};
 use dp_line::OpenFault;
 use thiserror::Error;
 
-/// Why a rack file isn't accepted. The first that applies is told: `NotToml`, `BadKey`, `TwiceLine`,
+/// Why a rack file isn't accepted. The first that applies is reported: `NotToml`, `BadKey`, `TwiceLine`,
 /// `Open` of the first line of the file that is refused; want of memory is `OutOfMemory`, wherever it
 /// comes.
 #[derive(Clone, Copy, Debug, PartialEq, Eq, Error)]

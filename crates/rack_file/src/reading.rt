@@ -311,9 +311,9 @@ fn rack_in_document(alloc: Global, file: &Table) -> Result<Rack, RackFault>
 ///   octets; `sync` and `freeze`, false where they are missing; `user_max`, 0 to 255, and 237 where
 ///   it is missing; `device`, "still", "counter" or "mirror", and still where it is missing.
 ///
-/// The first fault that applies is told: `NotToml`; `BadKey` for an unknown or missing key, a wrong
+/// The first fault that applies is reported: `NotToml`; `BadKey` for an unknown or missing key, a wrong
 /// type, text that isn't hex or no device, or a number or list outside its range; `TwiceLine`; `Open`
-/// of the first line that can't be opened. `OutOfMemory` may come in place of each.
+/// of the first line that can't be opened. `OutOfMemory` may come instead of each.
 pub fn read_rack(alloc: Global, text: &str) -> Result<Rack, RackFault>
     // The rack is the one that the text describes.
     ensures ok { IfOk result (λ rack. rack_in text.now ≡ Ok (rack_described rack)) }

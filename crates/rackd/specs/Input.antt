@@ -1,4 +1,4 @@
--- How standard input is parted into a rack text and a script (own).
+-- How standard input is split into a rack text and a script (own).
 use Rattle.std.specs.Prelude.{codes, ℕ, Bool, ◌==◌, nat_eq, if◌then◌else◌, List, [], ◌∷◌, ◌++◌}
 use Rattle.std.specs.List.{list_any, slice_split, before_first, after_first, join_with_byte}
 use Rattle.std.specs.Cmp.Lexicographic.{pointwise}
@@ -16,7 +16,7 @@ is_lf octet = octet == 10
 abbrev pub lines_in : List ℕ → List (List ℕ)
 lines_in text = slice_split is_lf text
 
--- the line that parts the rack text from the script: two percent signs, and nothing else
+-- the line that separates the rack text from the script: two percent signs, and nothing else
 abbrev pub is_mark : List ℕ → Bool
 is_mark line = pointwise nat_eq line (codes "%%")
 

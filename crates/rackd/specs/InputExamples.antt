@@ -1,4 +1,4 @@
--- Inputs, and how they are parted.
+-- Inputs, and how they are split.
 use Rattle.std.specs.Prelude.{◌≡◌, codes, refl}
 use Rattle.rackd.specs.Input.{parts_of}
 

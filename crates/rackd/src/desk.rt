@@ -37,7 +37,7 @@ impl Model for Desk {
 }
 
 impl Desk {
-    /// Each line at its start, the first chosen. A fault is want of memory.
+    /// Each line at its start, the first chosen; or memory was refused.
     pub(crate) fn open(alloc: Global, rack: &Rack) -> Result<Desk, AllocError>
         requires some { 0 < length rack.now.lines.items }
         requires fit { All (λ line. opening_fault (description_of line.spec) ≡ None) rack.now.lines.items }

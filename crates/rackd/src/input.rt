@@ -3,10 +3,10 @@
 ghost use Rattle.std.specs.Prelude.{◌≡◌, ◌++◌, List, ℕ};
 ghost use Rattle.rackd.specs.Input.{parts_of};
 
-/// The rack text and the script of an input. They are parted by the first line that is exactly `%%`:
+/// The rack text and the script of an input. The first line that is exactly `%%` separates them:
 /// what stands before it is the rack text, line ends and all, and what follows its LF is the script.
 /// Without such a line all of it is the rack text, and the script is empty.
-pub fn parted(input: &str) -> (&str, &str)
+pub fn split_input(input: &str) -> (&str, &str)
     ensures { record { rack = result.0.now; script = result.1.now } ≡ parts_of input.now }
 {
     let mut rest = input;

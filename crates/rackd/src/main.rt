@@ -79,7 +79,7 @@ fn read_input(rt: &HostRuntime) -> Result<String, Fault> {
 /// Runs the script of standard input on its rack.
 fn run_input(rt: &HostRuntime) -> Result<(), Fault> {
     let text = read_input(rt)?;
-    let (rack, script) = input::parted(text.as_str());
+    let (rack, script) = input::split_input(text.as_str());
     let Ok(mut output) = BufWriter::new(rt.alloc(), io::writer(rt)) else {
         return Err(Fault::Run(RunFault::OutOfMemory));
     };

@@ -15,7 +15,8 @@ pub enum RunFault {
     OutOfMemory,
     /// The rack isn't accepted.
     Rack(RackFault),
-    /// The script's line of this number, from 1, is no command.
+    /// The script's line of this number, from 1, is no command, or can't be obeyed: it chooses a line
+    /// that isn't in the rack, or names a master that isn't one of the line's.
     Script(u64),
     /// A write failed, or took no octet.
     WriteFault,

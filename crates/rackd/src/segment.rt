@@ -59,7 +59,7 @@ impl Model for Segment {
 }
 
 impl Segment {
-    /// The line at its start. A fault is want of memory.
+    /// The line at its start; or memory was refused.
     pub(crate) fn open(alloc: Global, line: &LineSpec) -> Result<Segment, AllocError>
         requires { opening_fault (description_of line.now) ≡ None }
         ensures { IfOk result (λ segment. segment ≡ segment_of (description_of line.now)) }

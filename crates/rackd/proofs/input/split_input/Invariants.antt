@@ -2,7 +2,7 @@ use Rattle.std.proofs.Common.{length}
 use denote.Shadow.{shadow}
 use denote.Text.{Utf8}
 use Rattle.rackd.proofs.Parting.{SoFar}
-use Rattle.rackd.proofs.input.parted.Given as goal
+use Rattle.rackd.proofs.input.split_input.Given as goal
 
 -- no line that was passed is a mark
 abbrev pub invariant-loop-line : goal.invariant-loop-line

@@ -1,5 +1,5 @@
 use Rattle.dp_slave.proofs.Lives.{told_by}
-use Rattle.dp_slave.proofs.laws.an_unsupported_request_is_told.Goals as goal
+use Rattle.dp_slave.proofs.laws.an_unsupported_request_is_reported.Goals as goal
 
 pub returns-clause-fault : goal.returns-clause-fault
 returns-clause-fault c slave sender place octets locking unsupported =

@@ -2,7 +2,7 @@ use Rattle.std.proofs.Common.{arith, rules, sym}
 use Rattle.std.specs.Prelude.{Some, None}
 use Rattle.std.proofs.lemmas.Str.Pattern.{split_once_first}
 use Rattle.rackd.proofs.Parting.{line_passed, parted_at_mark, parted_at_last_mark, not_parted}
-use Rattle.rackd.proofs.input.parted.Goals as goal
+use Rattle.rackd.proofs.input.split_input.Goals as goal
 
 pub returns-then-eq : goal.returns-then-eq
 returns-then-eq c =
