@@ -88,20 +88,20 @@ impl<'a> Words<'a> {
 }
 
 /// The text before the first octet of this value, and the text behind it, where there is one.
-fn first_part(text: &[u8], parting: u8) -> (&[u8], Option<&[u8]>)
-    ensures { slice_split (λ octet. octet == parting) text.now
-        ≡ result.0.now ∷ parts_left (slice_split (λ octet. octet == parting)) result.1 }
+fn first_part(text: &[u8], separator: u8) -> (&[u8], Option<&[u8]>)
+    ensures { slice_split (λ octet. octet == separator) text.now
+        ≡ result.0.now ∷ parts_left (slice_split (λ octet. octet == separator)) result.1 }
 {
-    match place_of(text, parting) {
-        Some(place) => (&text[..place], Some(&text[place + 1..])),
+    match index_of(text, separator) {
+        Some(index) => (&text[..index], Some(&text[index + 1..])),
         None => (text, None),
     }
 }
 
 /// Where the first octet of this value stands.
-fn place_of(text: &[u8], value: u8) -> Option<usize>
-    ensures place { result ≡ position (λ octet. octet == value) text.now }
-    ensures bound { IfSome result (λ place. place < length text.now) }
+fn index_of(text: &[u8], value: u8) -> Option<usize>
+    ensures index { result ≡ position (λ octet. octet == value) text.now }
+    ensures bound { IfSome result (λ index. index < length text.now) }
 {
     text.iter().position(|octet| *octet == value)
 }
