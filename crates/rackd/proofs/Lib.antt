@@ -1,6 +1,6 @@
 mod Writing
 mod Readings
-mod Desks
+mod RacksInUse
 mod Parting
 mod Passing
 mod Played

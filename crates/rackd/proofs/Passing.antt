@@ -6,7 +6,7 @@ use Rattle.std.proofs.lemmas.Bool.{eqb-true}
 use Rattle.dp_telegram.specs.declared.cutter.Cut.{Cut}
 use Rattle.dp_telegram.specs.Stream.{CutStream, cuts_of, with_cut, uncut}
 use Rattle.dp_line.specs.World.{World}
-use Rattle.rackd.specs.Segments.{Answered, Stream, Passed, piece_answered, pieces_answered, cut_passed, passed, then_passed}
+use Rattle.rackd.specs.LinesInUse.{Answered, Stream, Passed, piece_answered, pieces_answered, cut_passed, passed, then_passed}
 use Rattle.rackd.specs.Runs.{WritesPrefix}
 use Rattle.rackd.proofs.Writing.{appends_none, appends_more, more_prefix}
 

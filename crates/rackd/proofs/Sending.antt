@@ -8,53 +8,53 @@ use Rattle.dp_line.specs.World.{World}
 use Rattle.rackd.specs.declared.stop.Stop.{Stop}
 use Rattle.rackd.specs.declared.stop.Stop.TheVariants as stops
 use Rattle.rackd.specs.Commands.{send}
-use Rattle.rackd.specs.Segments.{Segment, Sent, Stream, passed, sent_at, sent}
-use Rattle.rackd.specs.ScriptText.{Desk, Obeyed, obeyed, obeyed_by_line}
+use Rattle.rackd.specs.LinesInUse.{LineInUse, Sent, Stream, passed, sent_at, sent}
+use Rattle.rackd.specs.ScriptText.{RackInUse, Obeyed, obeyed, obeyed_by_line}
 use Rattle.rackd.specs.Runs.{WritesPrefix, Sends, Obeys}
 
 -- ---- a line
 
-ends : (sending : Sent) (segment : Segment) (old new : Option (List ℕ)) (r : Result (Unit {0}) Stop) → OnOk r (segment ≡ sending.segment) → OnOk r (Appends old new sending.text)
-    → OnErr r (WritesPrefix old new sending.text) → IfErr r (λ stop. stop ≡ stops.WriteFault) → Sends (Some sending) segment old new r
-ends sending segment old new (Ok done) leaves ok err fault = (leaves, ok)
-ends sending segment old new (Err stops.WriteFault) leaves ok err fault = err
-ends sending segment old new (Err stops.NoCommand) leaves ok err fault = absurd cc
+ends : (sending : Sent) (line_in_use : LineInUse) (old new : Option (List ℕ)) (r : Result (Unit {0}) Stop) → OnOk r (line_in_use ≡ sending.line_in_use) → OnOk r (Appends old new sending.text)
+    → OnErr r (WritesPrefix old new sending.text) → IfErr r (λ stop. stop ≡ stops.WriteFault) → Sends (Some sending) line_in_use old new r
+ends sending line_in_use old new (Ok done) leaves ok err fault = (leaves, ok)
+ends sending line_in_use old new (Err stops.WriteFault) leaves ok err fault = err
+ends sending line_in_use old new (Err stops.NoCommand) leaves ok err fault = absurd cc
 
 on_both : {T E A B C : Type 0} (r : Result T E) → (A → B → C) → OnOk r A → OnOk r B → OnOk r C
 on_both (Ok x) f a b = f a b
 on_both (Err e) f a b = tt
 
-pub record IsFound (streams : List Stream) (master place : ℕ) (stream : Stream) : Type 0 where
-  pub place_is : position (λ s. eqb s.master master) streams ≡ Some place
-  pub stream_is : slice_get streams place ≡ Some stream
+pub record IsFound (streams : List Stream) (master index : ℕ) (stream : Stream) : Type 0 where
+  pub place_is : position (λ s. eqb s.master master) streams ≡ Some index
+  pub stream_is : slice_get streams index ≡ Some stream
 
-pub found : (streams : List Stream) (master place : ℕ) (stream : Stream) → Some place ≡ position (λ s. eqb s.master master) streams → stream ≡ get_or streams place stream
-    → IsFound streams master place stream
-found streams master place stream is read =
-    let within = (position-Some (λ s. eqb s.master master) streams place stream (sym is)).0 in record {
+pub found : (streams : List Stream) (master index : ℕ) (stream : Stream) → Some index ≡ position (λ s. eqb s.master master) streams → stream ≡ get_or streams index stream
+    → IsFound streams master index stream
+found streams master index stream is read =
+    let within = (position-Some (λ s. eqb s.master master) streams index stream (sym is)).0 in record {
       place_is = sym is;
-      stream_is = slice_get_read streams (length streams) place stream refl within read;
+      stream_is = slice_get_read streams (length streams) index stream refl within read;
     }
 
-pub sends : (number : ℕ) (world next : World) (streams : List Stream) (master place : ℕ) (octets : List ℕ) (stream following : Stream) (old new : Option (List ℕ)) (r : Result (Unit {0}) Stop)
-    → IsFound streams master place stream
+pub sends : (number : ℕ) (world next : World) (streams : List Stream) (master index : ℕ) (octets : List ℕ) (stream following : Stream) (old new : Option (List ℕ)) (r : Result (Unit {0}) Stop)
+    → IsFound streams master index stream
     → OnOk r (next ≡ (passed world stream octets).world) → OnOk r (following ≡ (passed world stream octets).stream) → OnOk r (Appends old new (passed world stream octets).text)
     → OnErr r (WritesPrefix old new (passed world stream octets).text) → IfErr r (λ stop. stop ≡ stops.WriteFault)
-    → Sends (sent (record { number = number; world = world; streams = streams }) master octets) (record { number = number; world = next; streams = set streams place following }) old new r
-sends number world next streams master place octets stream following old new r at world_is stream_is ok err fault =
-    let segment : Segment = record { number = number; world = world; streams = streams } in
-    let sending = sent_at segment octets place stream in
-    let is : sent segment master octets ≡ Some sending =
-    ap (option_and_then (λ place. option_map (sent_at segment octets place) (slice_get streams place))) at.place_is ∙ ap (option_map (sent_at segment octets place)) at.stream_is in
+    → Sends (sent (record { number = number; world = world; streams = streams }) master octets) (record { number = number; world = next; streams = set streams index following }) old new r
+sends number world next streams master index octets stream following old new r at world_is stream_is ok err fault =
+    let line_in_use : LineInUse = record { number = number; world = world; streams = streams } in
+    let sending = sent_at line_in_use octets index stream in
+    let is : sent line_in_use master octets ≡ Some sending =
+    ap (option_and_then (λ index. option_map (sent_at line_in_use octets index) (slice_get streams index))) at.place_is ∙ ap (option_map (sent_at line_in_use octets index)) at.stream_is in
     let leaves = on_both r (λ (w : next ≡ (passed world stream octets).world) (s : following ≡ (passed world stream octets).stream).
-    ap (λ v. record { number = number; world = v; streams = set streams place following }) w
-    ∙ ap (λ f. record { number = number; world = (passed world stream octets).world; streams = set streams place f }) s) world_is stream_is in
-    subst (λ (o : Option Sent). Sends o (record { number = number; world = next; streams = set streams place following }) old new r) (sym is)
-    (ends sending (record { number = number; world = next; streams = set streams place following }) old new r leaves ok err fault)
+    ap (λ v. record { number = number; world = v; streams = set streams index following }) w
+    ∙ ap (λ f. record { number = number; world = (passed world stream octets).world; streams = set streams index f }) s) world_is stream_is in
+    subst (λ (o : Option Sent). Sends o (record { number = number; world = next; streams = set streams index following }) old new r) (sym is)
+    (ends sending (record { number = number; world = next; streams = set streams index following }) old new r leaves ok err fault)
 
 -- ---- a rack
 
-by_line : (lines : List Segment) (chosen : ℕ) (following : Segment) (old new : Option (List ℕ)) (r : Result (Unit {0}) Stop) (sending : Option Sent) → Sends sending following old new r
+by_line : (lines : List LineInUse) (chosen : ℕ) (following : LineInUse) (old new : Option (List ℕ)) (r : Result (Unit {0}) Stop) (sending : Option Sent) → Sends sending following old new r
     → Obeys (option_map (obeyed_by_line (record { lines = lines; chosen = chosen })) sending) (record { lines = set lines chosen following; chosen = chosen }) old new r
 by_line lines chosen following old new (Ok done) (Some sending) s = (ap (λ f. record { lines = set lines chosen f; chosen = chosen }) s.0, s.1)
 by_line lines chosen following old new (Err stops.WriteFault) (Some sending) s = s
@@ -63,12 +63,12 @@ by_line lines chosen following old new (Ok done) None s = absurd s
 by_line lines chosen following old new (Err stops.WriteFault) None s = absurd s
 by_line lines chosen following old new (Err stops.NoCommand) None s = s
 
-pub obeys_send : (lines : List Segment) (chosen : ℕ) (line following : Segment) (master : ℕ) (octets : List ℕ) (old new : Option (List ℕ)) (r : Result (Unit {0}) Stop)
+pub obeys_send : (lines : List LineInUse) (chosen : ℕ) (line following : LineInUse) (master : ℕ) (octets : List ℕ) (old new : Option (List ℕ)) (r : Result (Unit {0}) Stop)
     → slice_get lines chosen ≡ Some line → Sends (sent line master octets) following old new r
     → Obeys (obeyed (record { lines = lines; chosen = chosen }) (send master octets)) (record { lines = set lines chosen following; chosen = chosen }) old new r
 obeys_send lines chosen line following master octets old new r is s =
-    let desk : Desk = record { lines = lines; chosen = chosen } in
-    let here : obeyed desk (send master octets) ≡ option_map (obeyed_by_line desk) (sent line master octets) =
-    ap (option_and_then (λ line. option_map (obeyed_by_line desk) (sent line master octets))) is in
+    let rack_in_use : RackInUse = record { lines = lines; chosen = chosen } in
+    let here : obeyed rack_in_use (send master octets) ≡ option_map (obeyed_by_line rack_in_use) (sent line master octets) =
+    ap (option_and_then (λ line. option_map (obeyed_by_line rack_in_use) (sent line master octets))) is in
     subst (λ (o : Option Obeyed). Obeys o (record { lines = set lines chosen following; chosen = chosen }) old new r) (sym here)
     (by_line lines chosen following old new r (sent line master octets) s)

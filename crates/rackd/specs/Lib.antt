@@ -1,8 +1,8 @@
 pub mod Codes
 pub mod Commands
 pub mod CommandView
-pub mod Segments
-pub mod SegmentExamples
+pub mod LinesInUse
+pub mod LineInUseExamples
 pub mod ScriptText
 pub mod Runs
 pub mod Input

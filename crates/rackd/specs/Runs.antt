@@ -7,8 +7,8 @@ use Rattle.rackd.specs.declared.run_fault.RunFault.{RunFault}
 use Rattle.rackd.specs.declared.run_fault.RunFault.TheVariants as runs
 use Rattle.rackd.specs.declared.stop.Stop.{Stop}
 use Rattle.rackd.specs.declared.stop.Stop.TheVariants as stops
-use Rattle.rackd.specs.Segments.{Segment, Sent}
-use Rattle.rackd.specs.ScriptText.{Desk, Obeyed, Played, script_text}
+use Rattle.rackd.specs.LinesInUse.{LineInUse, Sent}
+use Rattle.rackd.specs.ScriptText.{RackInUse, Obeyed, Played, script_text}
 
 -- known bytes grow by a prefix of the text
 abbrev pub WritesPrefix : Option (List ℕ) → Option (List ℕ) → List ℕ → Type 0
@@ -16,20 +16,20 @@ WritesPrefix old new text = (front back : List ℕ) × (text ≡ front ++ back) 
 
 -- a command to a line: at the end the line is as it leaves it, and the writer has its whole text; a prefix where a write failed; and
 -- where it is none nothing is written
-abbrev pub Sends : Option Sent → Segment → Option (List ℕ) → Option (List ℕ) → Result (Unit {0}) Stop → Type 0
-Sends (Some sending) segment old new (Ok done) = (segment ≡ sending.segment) × Appends old new sending.text
-Sends (Some sending) segment old new (Err stops.WriteFault) = WritesPrefix old new sending.text
-Sends (Some sending) segment old new (Err stops.NoCommand) = ⊥
-Sends None segment old new (Err stops.NoCommand) = Keeps old new
-Sends None segment old new other = ⊥
+abbrev pub Sends : Option Sent → LineInUse → Option (List ℕ) → Option (List ℕ) → Result (Unit {0}) Stop → Type 0
+Sends (Some sending) line_in_use old new (Ok done) = (line_in_use ≡ sending.line_in_use) × Appends old new sending.text
+Sends (Some sending) line_in_use old new (Err stops.WriteFault) = WritesPrefix old new sending.text
+Sends (Some sending) line_in_use old new (Err stops.NoCommand) = ⊥
+Sends None line_in_use old new (Err stops.NoCommand) = Keeps old new
+Sends None line_in_use old new other = ⊥
 
 -- the same of a command to a rack in use
-abbrev pub Obeys : Option Obeyed → Desk → Option (List ℕ) → Option (List ℕ) → Result (Unit {0}) Stop → Type 0
-Obeys (Some obeyed) desk old new (Ok done) = (desk ≡ obeyed.desk) × Appends old new obeyed.text
-Obeys (Some obeyed) desk old new (Err stops.WriteFault) = WritesPrefix old new obeyed.text
-Obeys (Some obeyed) desk old new (Err stops.NoCommand) = ⊥
-Obeys None desk old new (Err stops.NoCommand) = Keeps old new
-Obeys None desk old new other = ⊥
+abbrev pub Obeys : Option Obeyed → RackInUse → Option (List ℕ) → Option (List ℕ) → Result (Unit {0}) Stop → Type 0
+Obeys (Some obeyed) rack_in_use old new (Ok done) = (rack_in_use ≡ obeyed.rack_in_use) × Appends old new obeyed.text
+Obeys (Some obeyed) rack_in_use old new (Err stops.WriteFault) = WritesPrefix old new obeyed.text
+Obeys (Some obeyed) rack_in_use old new (Err stops.NoCommand) = ⊥
+Obeys None rack_in_use old new (Err stops.NoCommand) = Keeps old new
+Obeys None rack_in_use old new other = ⊥
 
 -- at the end of a run the writer has the whole text; where a line is no command, the text of the lines before it; and else a prefix
 abbrev pub Plays : Played → Option (List ℕ) → Option (List ℕ) → Result (Unit {0}) RunFault → Type 0

@@ -3,38 +3,38 @@ use Rattle.std.specs.Prelude.{ℕ, ◌+◌, ◌==◌, List, [], ◌∷◌, ◌++
 use Rattle.rack_file.specs.Rack.{RackDescription}
 use Rattle.dp_text.specs.Words.{lines_of}
 use Rattle.rackd.specs.Commands.{Command, nothing, choose_line, send, command_of}
-use Rattle.rackd.specs.Segments.{Segment, Sent, segment_of, sent}
+use Rattle.rackd.specs.LinesInUse.{LineInUse, Sent, line_at_start, sent}
 
 -- a rack in use: its lines, and which of them commands speak to
-pub record Desk : Type 0 where
-  pub lines : List Segment
+pub record RackInUse : Type 0 where
+  pub lines : List LineInUse
   pub chosen : ℕ
 
 -- at the start each line is at its start, and the first is chosen
-abbrev pub desk_of : RackDescription → Desk
-desk_of rack = record { lines = map (λ line. segment_of line.line) rack.lines; chosen = 0 }
+abbrev pub rack_at_start : RackDescription → RackInUse
+rack_at_start rack = record { lines = map (λ line. line_at_start line.line) rack.lines; chosen = 0 }
 
 -- what a command leaves and writes
 pub record Obeyed : Type 0 where
-  pub desk : Desk
+  pub rack_in_use : RackInUse
   pub text : List ℕ
 
 -- what a command to the chosen line leaves and writes
-abbrev pub obeyed_by_line : Desk → Sent → Obeyed
-obeyed_by_line desk sending =
-    record { desk = record desk { lines = slice_set desk.lines desk.chosen sending.segment }; text = sending.text }
+abbrev pub obeyed_by_line : RackInUse → Sent → Obeyed
+obeyed_by_line rack_in_use sending =
+    record { rack_in_use = record rack_in_use { lines = slice_set rack_in_use.lines rack_in_use.chosen sending.line_in_use }; text = sending.text }
 
 -- None where the command can't be obeyed: a line that isn't in the rack, a master that isn't the line's
-abbrev pub obeyed : Desk → Command → Option Obeyed
-obeyed desk nothing = Some (record { desk = desk; text = [] })
-obeyed desk (choose_line number) =
-    option_map (λ place. record { desk = record desk { chosen = place }; text = [] }) (position (λ line. line.number == number) desk.lines)
-obeyed desk (send master octets) =
-    option_and_then (λ line. option_map (obeyed_by_line desk) (sent line master octets)) (slice_get desk.lines desk.chosen)
+abbrev pub obeyed : RackInUse → Command → Option Obeyed
+obeyed rack_in_use nothing = Some (record { rack_in_use = rack_in_use; text = [] })
+obeyed rack_in_use (choose_line number) =
+    option_map (λ index. record { rack_in_use = record rack_in_use { chosen = index }; text = [] }) (position (λ line. line.number == number) rack_in_use.lines)
+obeyed rack_in_use (send master octets) =
+    option_and_then (λ line. option_map (obeyed_by_line rack_in_use) (sent line master octets)) (slice_get rack_in_use.lines rack_in_use.chosen)
 
 -- a line of a script that is no command, or can't be obeyed, is None
-abbrev pub line_obeyed : Desk → List ℕ → Option Obeyed
-line_obeyed desk line = option_and_then (obeyed desk) (command_of line)
+abbrev pub line_obeyed : RackInUse → List ℕ → Option Obeyed
+line_obeyed rack_in_use line = option_and_then (obeyed rack_in_use) (command_of line)
 
 -- what lines write, and the number of the first that is no command, where the script stops
 pub record Played : Type 0 where
@@ -45,15 +45,15 @@ abbrev pub after_line : List ℕ → Played → Played
 after_line text played = record { text = text ++ played.text; fault = played.fault }
 
 -- the script stops at a line that can't be obeyed, and else goes on with what the line left
-abbrev pub going_on : Option Obeyed → ℕ → (Desk → Played) → Played
+abbrev pub going_on : Option Obeyed → ℕ → (RackInUse → Played) → Played
 going_on None n others = record { text = []; fault = Some n }
-going_on (Some first) n others = after_line first.text (others first.desk)
+going_on (Some first) n others = after_line first.text (others first.rack_in_use)
 
 -- lines from number n on
-abbrev pub play : Desk → ℕ → List (List ℕ) → Played
-play desk n [] = record { text = []; fault = None }
-play desk n (line ∷ lines) = going_on (line_obeyed desk line) n (λ next. play next (n + 1) lines)
+abbrev pub play : RackInUse → ℕ → List (List ℕ) → Played
+play rack_in_use n [] = record { text = []; fault = None }
+play rack_in_use n (line ∷ lines) = going_on (line_obeyed rack_in_use line) n (λ next. play next (n + 1) lines)
 
 -- what a script writes on a rack, up to the first line that is no command
 abbrev pub script_text : RackDescription → List ℕ → Played
-script_text rack script = play (desk_of rack) 1 (lines_of script)
+script_text rack script = play (rack_at_start rack) 1 (lines_of script)

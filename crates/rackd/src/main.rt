@@ -6,10 +6,11 @@
 
 mod command;
 mod command_line;
-mod desk;
 mod ending;
 mod input;
+mod line_in_use;
 mod output;
+mod rack_in_use;
 #[cfg(test)]
 mod rack_tests;
 mod run;
@@ -17,7 +18,6 @@ mod run_fault;
 #[cfg(test)]
 mod run_tests;
 mod script;
-mod segment;
 mod stop;
 mod stream_laws;
 #[cfg(test)]

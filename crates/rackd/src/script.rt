@@ -8,7 +8,7 @@ ghost use Rattle.rackd.specs.ScriptText.{line_obeyed, play, script_text};
 ghost use Rattle.rackd.specs.Runs.{Obeys, Plays};
 
 use crate::command::command_in;
-use crate::desk::Desk;
+use crate::rack_in_use::RackInUse;
 use crate::run_fault::RunFault;
 use crate::stop::Stop;
 use dp_text::{Lines, Text};
@@ -30,15 +30,19 @@ pub(crate) fn run_script<W: Write>(
     requires fit { All (λ line. opening_fault (description_of line.spec) ≡ None) rack.now.lines.items }
     ensures { Plays (script_text (rack_described rack.now) script.now) (W.contents writer.old) (W.contents writer.new) result }
 {
-    let Ok(mut desk) = Desk::open(alloc, rack) else {
+    let Ok(mut rack_in_use) = RackInUse::open(alloc, rack) else {
         return Err(RunFault::OutOfMemory);
     };
-    play_lines(&mut desk, script.as_bytes(), writer)
+    play_lines(&mut rack_in_use, script.as_bytes(), writer)
 }
 
 /// Obeys the lines of a script in turn, and writes what each writes.
-fn play_lines<W: Write>(desk: &mut Desk, script: &[u8], writer: &mut W) -> Result<(), RunFault>
-    ensures { Plays (play desk.old 1 (lines_of script.now)) (W.contents writer.old) (W.contents writer.new) result }
+fn play_lines<W: Write>(
+    rack_in_use: &mut RackInUse,
+    script: &[u8],
+    writer: &mut W,
+) -> Result<(), RunFault>
+    ensures { Plays (play rack_in_use.old 1 (lines_of script.now)) (W.contents writer.old) (W.contents writer.new) result }
 {
     let mut text = Text::new();
     let mut lines = Lines::of(script);
@@ -46,7 +50,7 @@ fn play_lines<W: Write>(desk: &mut Desk, script: &[u8], writer: &mut W) -> Resul
         let Some(line) = lines.next() else {
             return Ok(());
         };
-        match obey_line(desk, line, &mut text, writer) {
+        match obey_line(rack_in_use, line, &mut text, writer) {
             Ok(()) => {}
             Err(Stop::NoCommand) => return Err(RunFault::Script(index + 1)),
             Err(Stop::WriteFault) => return Err(RunFault::WriteFault),
@@ -57,15 +61,15 @@ fn play_lines<W: Write>(desk: &mut Desk, script: &[u8], writer: &mut W) -> Resul
 
 /// Obeys one line; it may be no command, or one that can't be obeyed.
 fn obey_line<W: Write>(
-    desk: &mut Desk,
+    rack_in_use: &mut RackInUse,
     line: &[u8],
     text: &mut Text,
     writer: &mut W,
 ) -> Result<(), Stop>
-    ensures { Obeys (line_obeyed desk.old line.now) desk.new (W.contents writer.old) (W.contents writer.new) result }
+    ensures { Obeys (line_obeyed rack_in_use.old line.now) rack_in_use.new (W.contents writer.old) (W.contents writer.new) result }
 {
     match command_in(line) {
-        Some(command) => desk.obey(command, text, writer),
+        Some(command) => rack_in_use.obey(command, text, writer),
         None => Err(Stop::NoCommand),
     }
 }

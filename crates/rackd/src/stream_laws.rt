@@ -2,7 +2,7 @@
 
 ghost use Rattle.std.specs.Prelude.{◌≡◌, ℕ, List, ◌++◌};
 ghost use Rattle.dp_line.specs.World.{World};
-ghost use Rattle.rackd.specs.Segments.{Stream, passed, then_passed};
+ghost use Rattle.rackd.specs.LinesInUse.{Stream, passed, then_passed};
 
 use dp_telegram::stream_laws::later_octets_change_no_piece;
 

@@ -1,6 +1,6 @@
 use Rattle.rack_file.specs.RackFile.{rack_in}
 use Rattle.rack_file.specs.Rack.{rack_described}
-use Rattle.rackd.proofs.Desks.{lines_open, some_lines}
+use Rattle.rackd.proofs.RacksInUse.{lines_open, some_lines}
 use Rattle.rackd.proofs.Played.{memory_told}
 use Rattle.rackd.proofs.run.run_text.Goals as goal
 

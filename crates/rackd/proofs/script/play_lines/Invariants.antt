@@ -6,4 +6,4 @@ use Rattle.rackd.proofs.script.play_lines.Given as goal
 
 abbrev pub invariant-loop-index : goal.invariant-loop-index
 invariant-loop-index g l =
-    SoFar (play l.fn.desk 1 (lines_of l.script)) (g.W.Write.contents l.fn.writer) (g.W.Write.contents l.writer) l.desk (l.index + 1) l.lines
+    SoFar (play l.fn.rack_in_use 1 (lines_of l.script)) (g.W.Write.contents l.fn.writer) (g.W.Write.contents l.writer) l.rack_in_use (l.index + 1) l.lines

@@ -2,7 +2,7 @@ use Rattle.std.proofs.Common.{◌≡◌, None, ap, ◌∙◌}
 use Rattle.std.proofs.lemmas.List.Elements.{All-get_or}
 use Rattle.dp_line.specs.World.{description_of, opening_fault}
 use Rattle.rack_file.specs.declared.rack.RackLine.{RackLine}
-use Rattle.rackd.proofs.desk.lines_of.Goals as goal
+use Rattle.rackd.proofs.rack_in_use.lines_of.Goals as goal
 
 pub open-requires : goal.open-requires
 open-requires c =

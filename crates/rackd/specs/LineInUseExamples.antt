@@ -3,7 +3,7 @@ use Rattle.std.specs.Prelude.{◌≡◌, ⊤, ℕ, List, [], ◌∷◌, codes, S
 use Rattle.std.specs.Fmt.{digits}
 use Rattle.hex.proofs.OnLiterals.{hex_on_literals}
 use Rattle.dp_line.specs.LineExamples.{fresh}
-use Rattle.rackd.specs.Segments.{Stream, Segment, Sent, sent}
+use Rattle.rackd.specs.LinesInUse.{Stream, LineInUse, Sent, sent}
 
 -- what computes a text
 unfoldable text_on_literals : ⊤
@@ -11,14 +11,14 @@ unfolding hex_on_literals digits
 text_on_literals = tt
 
 -- the line, before anything came
-abbrev line_1 : Segment
+abbrev line_1 : LineInUse
 line_1 = record { number = 1; world = fresh; streams = record { master = 1; held = [] } ∷ record { master = 2; held = [] } ∷ [] }
 
 abbrev text_of_sent : Sent → List ℕ
 text_of_sent sending = sending.text
 
 abbrev streams_of_sent : Sent → List Stream
-streams_of_sent sending = sending.segment.streams
+streams_of_sent sending = sending.line_in_use.streams
 
 -- a telegram with a bad end and the request of the slave's status, in one piece
 pub bad_end_then_status :

@@ -7,7 +7,7 @@ ghost use Rattle.dp_telegram.specs.Stream.{cut_lent, cut_length};
 ghost use Rattle.dp_telegram.specs.FrameText.{frame_at};
 ghost use Rattle.dp_line.specs.declared.event.Event.TheVariants.{Request};
 ghost use Rattle.dp_line.specs.World.{description_of, opening_fault};
-ghost use Rattle.rackd.specs.Segments.{segment_of, empty_stream, piece_answered, passed, sent};
+ghost use Rattle.rackd.specs.LinesInUse.{line_at_start, empty_stream, piece_answered, passed, sent};
 ghost use Rattle.rackd.specs.Runs.{WritesPrefix, Sends};
 
 use crate::output::write_whole;
@@ -33,7 +33,7 @@ struct Stream {
 
 impl Model for Stream {
     ghost use Rattle.std.specs.Prelude.{◌≤◌, length};
-    ghost use Rattle.rackd.specs.Segments.{Stream as View};
+    ghost use Rattle.rackd.specs.LinesInUse.{Stream as View};
 
     ghost Value = { View };
 
@@ -44,28 +44,28 @@ impl Model for Stream {
 
 /// A line in use. Each of its masters has a stream of its own, which commands go on with.
 #[derive(Drop)]
-pub(crate) struct Segment {
+pub(crate) struct LineInUse {
     number: u8,
     state: LineState,
     streams: Vec<Stream>,
 }
 
-impl Model for Segment {
-    ghost use Rattle.rackd.specs.Segments.{Segment as View};
+impl Model for LineInUse {
+    ghost use Rattle.rackd.specs.LinesInUse.{LineInUse as View};
 
     ghost Value = { View };
 
     ghost view = { λ s. record { number = s.number; world = s.state; streams = s.streams.items } };
 }
 
-impl Segment {
+impl LineInUse {
     /// The line at its start; or memory was refused.
-    pub(crate) fn open(alloc: Global, line: &LineSpec) -> Result<Segment, AllocError>
+    pub(crate) fn open(alloc: Global, line: &LineSpec) -> Result<LineInUse, AllocError>
         requires { opening_fault (description_of line.now) ≡ None }
-        ensures { IfOk result (λ segment. segment ≡ segment_of (description_of line.now)) }
+        ensures { IfOk result (λ line_in_use. line_in_use ≡ line_at_start (description_of line.now)) }
     {
         let state = LineState::open(alloc, line).map_err(|_| AllocError)?;
-        Ok(Segment {
+        Ok(LineInUse {
             number: line.number,
             state,
             streams: empty_streams(alloc, &line.masters)?,
@@ -89,10 +89,10 @@ impl Segment {
     ) -> Result<(), Stop>
         ensures { Sends (sent self.old master octets.entry) self.new (W.contents writer.old) (W.contents writer.new) result }
     {
-        let Some(place) = place_of(&self.streams, master) else {
+        let Some(index) = index_of(&self.streams, master) else {
             return Err(Stop::NoCommand);
         };
-        self.streams[place].pass_words(&mut self.state, octets, text, writer)
+        self.streams[index].pass_words(&mut self.state, octets, text, writer)
     }
 }
 
@@ -111,7 +111,7 @@ fn empty_streams(alloc: Global, masters: &[u8]) -> Result<Vec<Stream>, AllocErro
 }
 
 /// Where the stream of a master stands.
-fn place_of(streams: &[Stream], master: u8) -> Option<usize>
+fn index_of(streams: &[Stream], master: u8) -> Option<usize>
     ensures { result ≡ position (λ stream. stream.master == master) streams.now }
 {
     streams.iter().position(|stream| stream.master == master)

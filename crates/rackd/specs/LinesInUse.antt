@@ -14,7 +14,7 @@ pub record Stream : Type 0 where
   pub held : List ℕ
 
 -- a line in use: its number in the rack, its world, and a stream for each of its masters
-pub record Segment : Type 0 where
+pub record LineInUse : Type 0 where
   pub number : ℕ
   pub world : World
   pub streams : List Stream
@@ -24,8 +24,8 @@ abbrev pub empty_stream : ℕ → Stream
 empty_stream master = record { master = master; held = [] }
 
 -- the line at its start
-abbrev pub segment_of : Description → Segment
-segment_of line = record { number = line.number; world = start_of line; streams = map empty_stream line.masters }
+abbrev pub line_at_start : Description → LineInUse
+line_at_start line = record { number = line.number; world = start_of line; streams = map empty_stream line.masters }
 
 -- what pieces of a stream leave and write
 pub record Answered : Type 0 where
@@ -71,21 +71,21 @@ then_passed before octets =
 
 -- what a command to a line leaves and writes
 pub record Sent : Type 0 where
-  pub segment : Segment
+  pub line_in_use : LineInUse
   pub text : List ℕ
 
--- octets on the stream at this place
-abbrev pub sent_at : Segment → List ℕ → ℕ → Stream → Sent
-sent_at segment octets place stream =
-    let passing = passed segment.world stream octets in
+-- octets on the stream at this index
+abbrev pub sent_at : LineInUse → List ℕ → ℕ → Stream → Sent
+sent_at line_in_use octets index stream =
+    let passing = passed line_in_use.world stream octets in
     record {
-      segment = record segment { world = passing.world; streams = slice_set segment.streams place passing.stream };
+      line_in_use = record line_in_use { world = passing.world; streams = slice_set line_in_use.streams index passing.stream };
       text = passing.text;
     }
 
 -- a master sends octets; None where it isn't the line's
-abbrev pub sent : Segment → ℕ → List ℕ → Option Sent
-sent segment master octets =
+abbrev pub sent : LineInUse → ℕ → List ℕ → Option Sent
+sent line_in_use master octets =
     option_and_then
-    (λ place. option_map (sent_at segment octets place) (slice_get segment.streams place))
-    (position (λ stream. stream.master == master) segment.streams)
+    (λ index. option_map (sent_at line_in_use octets index) (slice_get line_in_use.streams index))
+    (position (λ stream. stream.master == master) line_in_use.streams)

@@ -6,18 +6,18 @@ use Rattle.std.proofs.lemmas.List.Elements.{All-from_recursion, recursion_from_A
 use Rattle.dp_line.specs.World.{description_of, opening_fault}
 use Rattle.rack_file.specs.declared.rack.RackLine.{RackLine}
 use Rattle.rack_file.specs.Rack.{LineDescription, line_described}
-use Rattle.rackd.specs.Segments.{Segment, segment_of}
-use Rattle.rackd.specs.ScriptText.{Desk, desk_of}
+use Rattle.rackd.specs.LinesInUse.{LineInUse, line_at_start}
+use Rattle.rackd.specs.ScriptText.{RackInUse, rack_at_start}
 
 map-map : {A B C : Type 0} (f : B → C) (g : A → B) (xs : List A) → map (λ x. f (g x)) xs ≡ map f (map g xs)
 map-map f g [] = refl
 map-map f g (x ∷ xs) = ap (λ ys. f (g x) ∷ ys) (map-map f g xs)
 
-pub desk_opened : (workers : ℕ) (lines : List RackLine) (segments : List Segment) (desk : Desk)
-    → desk ≡ record { lines = segments; chosen = 0 } → segments ≡ map (λ line. segment_of (description_of line.spec)) lines
-    → desk ≡ desk_of (record { workers = workers; lines = map line_described lines })
-desk_opened workers lines segments desk made opened =
-    made ∙ ap (λ ss. record { lines = ss; chosen = 0 }) (opened ∙ map-map (λ (line : LineDescription). segment_of line.line) line_described lines)
+pub rack_opened : (workers : ℕ) (lines : List RackLine) (lines_in_use : List LineInUse) (rack_in_use : RackInUse)
+    → rack_in_use ≡ record { lines = lines_in_use; chosen = 0 } → lines_in_use ≡ map (λ line. line_at_start (description_of line.spec)) lines
+    → rack_in_use ≡ rack_at_start (record { workers = workers; lines = map line_described lines })
+rack_opened workers lines lines_in_use rack_in_use made opened =
+    made ∙ ap (λ ss. record { lines = ss; chosen = 0 }) (opened ∙ map-map (λ (line : LineDescription). line_at_start line.line) line_described lines)
 
 open_by_recursion : (lines : List RackLine) → AllByRecursion (λ line. opening_fault line.line ≡ None) (map line_described lines)
     → AllByRecursion (λ line. opening_fault (description_of line.spec) ≡ None) lines

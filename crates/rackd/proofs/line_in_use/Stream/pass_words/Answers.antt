@@ -1,7 +1,7 @@
 use Rattle.std.proofs.Common.{◌≡◌, ℕ, ◌≤◌, ◌<◌, min, List, take, length, ap, ◌∙◌, arith, ◌++◌, length-append, length-take}
 use Rattle.rackd.proofs.Writing.{on_err}
 use Rattle.rackd.proofs.Passing.{words_more, words_cut_off, words_done}
-use Rattle.rackd.proofs.segment.Stream.pass_words.Goals as goal
+use Rattle.rackd.proofs.line_in_use.Stream.pass_words.Goals as goal
 
 none_left : (octets chunk rest : List ℕ) (count room : ℕ) → count ≡ min (length octets) room → count < room → room ≤ length chunk → octets ≡ take count chunk ++ rest → length rest ≡ 0
 none_left octets chunk rest count room counted fewer fits split =

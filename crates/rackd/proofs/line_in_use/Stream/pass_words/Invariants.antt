@@ -1,7 +1,7 @@
 use Rattle.std.proofs.Common.{length}
-use Rattle.rackd.specs.Segments.{passed}
+use Rattle.rackd.specs.LinesInUse.{passed}
 use Rattle.rackd.proofs.Passing.{WordsSoFar}
-use Rattle.rackd.proofs.segment.Stream.pass_words.Given as goal
+use Rattle.rackd.proofs.line_in_use.Stream.pass_words.Given as goal
 
 abbrev pub invariant-loop : goal.invariant-loop
 invariant-loop g l =

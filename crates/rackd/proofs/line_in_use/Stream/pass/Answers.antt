@@ -2,7 +2,7 @@ use Rattle.std.proofs.Common.{◌≡◌, ◌++◌, drop, ap, sym, ◌∙◌}
 use Rattle.dp_telegram.specs.Stream.{cuts_of, with_cut, cut_lent}
 use Rattle.rackd.proofs.Writing.{on_err}
 use Rattle.rackd.proofs.Passing.{piece_written, piece_cut_off, all_passed}
-use Rattle.rackd.proofs.segment.Stream.pass.Goals as goal
+use Rattle.rackd.proofs.line_in_use.Stream.pass.Goals as goal
 
 pub loop-piece-preserved-in-Continue-1 : goal.loop-piece-preserved-in-Continue-1
 loop-piece-preserved-in-Continue-1 g c =

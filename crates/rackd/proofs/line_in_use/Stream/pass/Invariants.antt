@@ -1,8 +1,8 @@
 use Rattle.std.proofs.Common.{◌+◌, ◌≤◌, ◌++◌, length}
 use Rattle.dp_telegram.specs.Stream.{cuts_of}
-use Rattle.rackd.specs.Segments.{passed}
+use Rattle.rackd.specs.LinesInUse.{passed}
 use Rattle.rackd.proofs.Passing.{SoFar}
-use Rattle.rackd.proofs.segment.Stream.pass.Given as goal
+use Rattle.rackd.proofs.line_in_use.Stream.pass.Given as goal
 
 -- what is answered so far, and then what is held and what is left, is what there is to answer
 abbrev pub invariant-loop-piece : goal.invariant-loop-piece

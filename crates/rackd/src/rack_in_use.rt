@@ -5,12 +5,12 @@ ghost use Rattle.rackd.specs.Commands.{choose_line, send as send_octets};
 ghost use Rattle.dp_line.specs.World.{description_of, opening_fault};
 ghost use Rattle.rack_file.specs.Rack.{rack_described};
 ghost use Rattle.rackd.specs.CommandView.{command_view};
-ghost use Rattle.rackd.specs.Segments.{segment_of};
-ghost use Rattle.rackd.specs.ScriptText.{desk_of, obeyed};
+ghost use Rattle.rackd.specs.LinesInUse.{line_at_start};
+ghost use Rattle.rackd.specs.ScriptText.{rack_at_start, obeyed};
 ghost use Rattle.rackd.specs.Runs.{Obeys};
 
 use crate::command::Command;
-use crate::segment::Segment;
+use crate::line_in_use::LineInUse;
 use crate::stop::Stop;
 use dp_text::{HexWords, Text};
 use rack_file::{Rack, RackLine};
@@ -20,14 +20,14 @@ use std::marker::Model;
 
 /// The lines of a rack in the order of its file, and the chosen one, which is one of them.
 #[derive(Drop)]
-pub(crate) struct Desk {
-    lines: Vec<Segment>,
+pub(crate) struct RackInUse {
+    lines: Vec<LineInUse>,
     chosen: usize,
 }
 
-impl Model for Desk {
+impl Model for RackInUse {
     ghost use Rattle.std.specs.Prelude.{◌<◌, length};
-    ghost use Rattle.rackd.specs.ScriptText.{Desk as View};
+    ghost use Rattle.rackd.specs.ScriptText.{RackInUse as View};
 
     ghost Value = { View };
 
@@ -36,14 +36,14 @@ impl Model for Desk {
     ghost invariant = { λ d. d.chosen < length d.lines.items };
 }
 
-impl Desk {
+impl RackInUse {
     /// Each line at its start, the first chosen; or memory was refused.
-    pub(crate) fn open(alloc: Global, rack: &Rack) -> Result<Desk, AllocError>
+    pub(crate) fn open(alloc: Global, rack: &Rack) -> Result<RackInUse, AllocError>
         requires some { 0 < length rack.now.lines.items }
         requires fit { All (λ line. opening_fault (description_of line.spec) ≡ None) rack.now.lines.items }
-        ensures { IfOk result (λ desk. desk ≡ desk_of (rack_described rack.now)) }
+        ensures { IfOk result (λ rack_in_use. rack_in_use ≡ rack_at_start (rack_described rack.now)) }
     {
-        Ok(Desk {
+        Ok(RackInUse {
             lines: lines_of(alloc, &rack.lines)?,
             chosen: 0,
         })
@@ -69,9 +69,9 @@ impl Desk {
     fn choose(&mut self, number: u8) -> Result<(), Stop>
         ensures { (contents : Option (List ℕ)) → Obeys (obeyed self.old (choose_line number)) self.new contents contents result }
     {
-        match place_of(&self.lines, number) {
-            Some(place) => {
-                self.chosen = place;
+        match index_of(&self.lines, number) {
+            Some(index) => {
+                self.chosen = index;
                 Ok(())
             }
             None => Err(Stop::NoCommand),
@@ -93,21 +93,21 @@ impl Desk {
 }
 
 /// Where the line of a number stands first.
-fn place_of(lines: &[Segment], number: u8) -> Option<usize>
-    ensures place { result ≡ position (λ line. line.number == number) lines.now }
-    ensures bound { IfSome result (λ place. place < length lines.now) }
+fn index_of(lines: &[LineInUse], number: u8) -> Option<usize>
+    ensures index { result ≡ position (λ line. line.number == number) lines.now }
+    ensures bound { IfSome result (λ index. index < length lines.now) }
 {
     lines.iter().position(|line| line.number() == number)
 }
 
 /// The lines at their start.
-fn lines_of(alloc: Global, lines: &[RackLine]) -> Result<Vec<Segment>, AllocError>
+fn lines_of(alloc: Global, lines: &[RackLine]) -> Result<Vec<LineInUse>, AllocError>
     requires { All (λ line. opening_fault (description_of line.spec) ≡ None) lines.now }
-    ensures { IfOk result (λ segments. segments.items ≡ map (λ line. segment_of (description_of line.spec)) lines.now) }
+    ensures { IfOk result (λ lines_in_use. lines_in_use.items ≡ map (λ line. line_at_start (description_of line.spec)) lines.now) }
 {
-    let mut segments = Vec::new(alloc);
+    let mut lines_in_use = Vec::new(alloc);
     for line in lines {
-        segments.push(Segment::open(alloc, &line.spec)?)?;
+        lines_in_use.push(LineInUse::open(alloc, &line.spec)?)?;
     }
-    Ok(segments)
+    Ok(lines_in_use)
 }
