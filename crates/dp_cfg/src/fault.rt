@@ -1,18 +1,18 @@
 //! Why octets are no configuration.
 
 ghost use Rattle.std.specs.Prelude.{◌≡◌};
+ghost use Rattle.dp_cfg.specs.Names.{cfg_fault_name};
 ghost use Rattle.dp_cfg.specs.Reading.{fault_code};
 
 use thiserror::Error;
 
 /// Why octets are no configuration. `Cut` goes first: octets that are cut have no sums.
 #[derive(Clone, Copy, Debug, PartialEq, Eq, Error)]
+#[error("{}", self.name())]
 pub enum CfgFault {
     /// The octets end within an identifier (IEC 61158-6-3, configuration identifiers).
-    #[error("an identifier is cut")]
     Cut,
     /// The inputs or the outputs are more than 244 octets (IEC 61158-6-3, Data_Exchange).
-    #[error("more than 244 octets of inputs or of outputs")]
     TooLong,
 }
 
@@ -24,6 +24,16 @@ impl CfgFault {
         match self {
             CfgFault::Cut => 1,
             CfgFault::TooLong => 2,
+        }
+    }
+
+    /// Its name in texts (own).
+    pub const fn name(self) -> &'static str
+        ensures { result.now ≡ cfg_fault_name self }
+    {
+        match self {
+            CfgFault::Cut => "Cut",
+            CfgFault::TooLong => "TooLong",
         }
     }
 }

@@ -116,4 +116,6 @@ fn sums_of(configuration: &CfgIds) -> (u8, u8)
 fn fault_codes(rt: HostRuntime) {
     assert_eq!(rt; CfgFault::Cut.code(), 1);
     assert_eq!(rt; CfgFault::TooLong.code(), 2);
+    assert_eq!(rt; CfgFault::Cut.name(), "Cut");
+    assert_eq!(rt; CfgFault::TooLong.name(), "TooLong");
 }

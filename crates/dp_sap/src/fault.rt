@@ -1,15 +1,16 @@
 //! Why a busy mark is refused.
 
 ghost use Rattle.std.specs.Prelude.{◌≡◌};
+ghost use Rattle.dp_sap.specs.Names.{sap_fault_name};
 ghost use Rattle.dp_sap.specs.SapFault.{fault_code};
 
 use thiserror::Error;
 
 /// Why a busy mark is refused.
 #[derive(Clone, Copy, Debug, PartialEq, Eq, Error)]
+#[error("{}", self.name())]
 pub enum SapFault {
     /// The point is not in the access table (own).
-    #[error("no such point")]
     UnknownPoint,
 }
 
@@ -20,6 +21,15 @@ impl SapFault {
     {
         match self {
             SapFault::UnknownPoint => 1,
+        }
+    }
+
+    /// Its name in texts (own).
+    pub const fn name(self) -> &'static str
+        ensures { result.now ≡ sap_fault_name self }
+    {
+        match self {
+            SapFault::UnknownPoint => "UnknownPoint",
         }
     }
 }

@@ -90,6 +90,7 @@ fn numbers_outside_the_table(rt: HostRuntime) {
         assert!(rt; !point.active && !point.busy, "at {number}");
     }
     assert_eq!(rt; SapFault::UnknownPoint.code(), 1);
+    assert_eq!(rt; SapFault::UnknownPoint.name(), "UnknownPoint");
 }
 
 #[test]
