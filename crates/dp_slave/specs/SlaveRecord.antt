@@ -78,6 +78,10 @@ is_held slave = is_some slave.holder
 abbrev pub full_time : SlaveRecord → Option ℕ
 full_time slave = option_and_then (λ prm. prm.watchdog) slave.prm
 
+-- the groups that it belongs to, a bit for each; none without parameters (IEC 61158-6-3, Set_Prm request, Group_Ident)
+abbrev pub group_of : SlaveRecord → ℕ
+group_of slave = option_map_or (λ prm. prm.group) slave.prm 0
+
 -- what its diagnosis tells (IEC 61158-6-3, Slave_Diag response)
 abbrev pub diag_facts : SlaveRecord → DiagFacts
 diag_facts slave = record {

@@ -4,7 +4,7 @@ ghost use Rattle.std.specs.Prelude.{◌≡◌, ◌≤◌, length, Ok, None};
 ghost use Rattle.dp_cfg.specs.Reading.{input_octets, output_octets, reading_of};
 ghost use Rattle.dp_sap.specs.AccessTable.{most_data};
 ghost use Rattle.dp_responder.specs.Memory.{with_remembered};
-ghost use Rattle.dp_slave.specs.SlaveRecord.{input_length, output_length, points_of, shown_inputs, starting_slave};
+ghost use Rattle.dp_slave.specs.SlaveRecord.{group_of, input_length, output_length, points_of, shown_inputs, starting_slave};
 ghost use Rattle.dp_slave.specs.SlaveParts.{with_slave};
 
 use crate::description::SlaveSpec;
@@ -144,6 +144,7 @@ impl Slave {
     pub fn rd_inp(&self) -> &[u8]
         ensures inputs { result.now ≡ shown_inputs self.now.slave }
         ensures long { length result.now ≡ input_length self.now.slave }
+        ensures most { length result.now ≤ most_data }
     {
         self.shown().as_slice()
     }
@@ -164,15 +165,28 @@ impl Slave {
     pub fn rd_outp(&self) -> &[u8]
         ensures outputs { result.now ≡ self.now.slave.outputs }
         ensures long { length result.now ≡ output_length self.now.slave }
+        ensures most { length result.now ≤ most_data }
     {
         self.outputs.as_slice()
     }
 
     /// The octets of its configuration, 0 to 244 of them.
     pub fn get_cfg(&self) -> &[u8]
-        ensures { result.now ≡ self.now.slave.description.cfg.items }
+        ensures octets { result.now ≡ self.now.slave.description.cfg.items }
+        ensures most { length result.now ≤ most_data }
     {
         self.description.cfg.as_slice()
+    }
+
+    /// The groups that it belongs to, a bit for each, as its holder's parameters say; 0 where it has
+    /// no parameters (IEC 61158-6-3, Set_Prm request, Group_Ident).
+    pub fn group(&self) -> u8
+        ensures { result ≡ group_of self.now.slave }
+    {
+        match &self.prm {
+            Some(prm) => prm.group,
+            None => 0,
+        }
     }
 }
 
