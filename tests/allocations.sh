@@ -1,6 +1,7 @@
 #!/usr/bin/env bash
 # Refuses memory to the program, and looks at how it ends: with status 3 and 'rackd: out of memory', or, where the
-# memory suffices, as it does without a limit. The last line is 'N passed, M failed'.
+# memory suffices, as it does without a limit. Memory is refused by a limit, raised step by step, and by making each
+# allocation fail in turn. The last line is 'N passed, M failed'.
 set -u
 top=$(cd "$(dirname "$0")/.." && pwd)
 program=$top/crates/rackd/out/rackd
@@ -96,17 +97,54 @@ sweep 'eight lines' 4 "$work/lines"
 sweep 'many comments' 64 "$work/comments"
 sweep 'noise' 16 "$work/noise"
 
-# One allocation fails, and those behind it don't. rt makes the program anew for each of these, so only a few have
-# their turn.
-for n in 1 5 10; do
-  (cd "$top/crates/rackd" && rt try --fail-alloc "$n") <"$work/small" >"$work/out" 2>&1
+# in_turn NAME INPUT WORD..: makes each allocation of a run fail in turn, and no other. The program ends for want of
+# memory, or as it does without, where it can do without that memory.
+in_turn() {
+  local name=$1 input=$2 number=1 refused=0 wanted
+  shift 2
+  "$program" "$@" <"$input" >"$work/whole" 2>"$work/told"
+  wanted=$?
+  while :; do
+    python3 "$top/tests/fail_allocation.py" "$number" "$program" "$@" <"$input" >"$work/out" 2>"$work/err"
+    status=$?
+    if [ "$status" = 96 ]; then break; fi
+    if is_refused; then
+      refused=$((refused + 1))
+    elif [ "$status" != "$wanted" ] || ! same out whole || ! same err told; then
+      break
+    fi
+    number=$((number + 1))
+  done
+  if [ "$status" = 96 ] && [ "$refused" -gt 0 ]; then
+    pass "$name: each of $((number - 1)) allocations failed in turn, $refused times out of memory"
+  else
+    fail "$name: with allocation $number failing alone status $status (wanted 3): $(head -c 200 "$work/err")"
+  fi
+}
+
+# alone N: the same of one allocation, by rt, which makes the program anew for it
+alone() {
+  (cd "$top/crates/rackd" && rt try --fail-alloc "$1") <"$work/small" >"$work/out" 2>&1
   status=$?
   if [ "$status" = 3 ] && [[ $'\n'$(cat "$work/out")$'\n' == *$'\nrackd: out of memory\n'* ]]; then
-    pass "allocation $n alone fails: out of memory"
+    pass "allocation $1 alone fails: out of memory"
   else
-    fail "allocation $n alone fails: status $status (wanted 3): $(tail -n 5 "$work/out")"
+    fail "allocation $1 alone fails: status $status (wanted 3): $(tail -n 5 "$work/out")"
   fi
-done
+}
+
+# 98: no program may be followed here, so a few allocations have to do
+python3 "$top/tests/fail_allocation.py" 1 "$program" --version >/dev/null 2>&1
+if [ $? = 98 ]; then
+  echo 'no program can be followed here: three allocations fail, not each'
+  for n in 1 5 10; do alone "$n"; done
+else
+  in_turn 'help' /dev/null --help
+  in_turn 'a wrong word' /dev/null word
+  in_turn 'a bad rack' "$work/bad"
+  in_turn 'a small rack' "$work/small"
+  in_turn 'noise' "$work/noise"
+fi
 
 echo "$passed passed, $failed failed"
 [ "$failed" = 0 ]
