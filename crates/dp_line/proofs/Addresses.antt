@@ -1,190 +1,158 @@
--- Slaves by their addresses: the table of places, the slaves in ascending order, and a release.
-use Rattle.std.proofs.Common.{◌≡◌, ℕ, zero, suc, ◌+◌, ◌≤◌, ◌<◌, Bool, true, false, cond, eqb, List, [], ◌∷◌, ◌++◌, length, get_or, map, take, drop, set, subst, inl, inr, get_or-set_same, get_or-set_other, Option, Some, None, refl, sym, ap, ◌∙◌, arith}
-use Rattle.std.specs.Prelude.{find, option_map, option_and_then, slice_get, slice_index_or, is_some}
-use Rattle.std.specs.List.{filter_map, range_with_len, cons_option}
-use Rattle.std.specs.Option.{option_or}
-use Rattle.std.proofs.lemmas.List.{map_more, length-map, length-take, length-drop, nil_from_length, append-nil, take_all}
-use Rattle.std.proofs.lemmas.List.Elements.{filter_map-append}
-use Rattle.std.proofs.lemmas.Bool.{eqb-true, ne_eqb, eq-eqb, cases_eq}
-use Rattle.dp_slave.specs.declared.description.SlaveSpec.{SlaveSpec}
-use Rattle.dp_line.specs.SlaveRecord.{SlaveRecord, released, address_of_slave}
-use Rattle.dp_line.specs.Stations.{place_of, IsIndexed}
-use Rattle.dp_line.specs.World.{described_at, ascending}
+-- Slaves by their addresses and their indices.
+use Rattle.std.proofs.Common.{◌≡◌, ℕ, zero, suc, ◌+◌, ◌<◌, Bool, true, false, cond, eqb, List, [], ◌∷◌, ◌++◌, length, get_or, map, take, Option, Some, None, refl, sym, ap, subst, ◌∙◌, arith}
+use Rattle.std.specs.Prelude.{find, option_map, slice_get, slice_index_or}
+use Rattle.std.specs.Option.{option_and_then}
+use Rattle.std.specs.List.{AllByRecursion}
+use Rattle.std.proofs.lemmas.Bool.{eqb-true, ne_eqb, eq-eqb}
+use Rattle.std.proofs.lemmas.List.{map_more, map-append, length-map}
+use Rattle.dp_slave.specs.SlaveRecord.{SlaveRecord}
+use Rattle.dp_slave.specs.SlaveParts.{SlaveParts}
+use Rattle.dp_line.specs.World.{address_of_slave}
+use Rattle.dp_line.specs.Stations.{AreAbove, Ascend, IsIndexed, at_index, index_of, slaves_of}
 
-push_more : (b : Bool) (after before : Option ℕ) (last : Bool) (n : ℕ) → after ≡ option_or before (cond last (Some n) None)
-    → cond b (Some 0) (option_map (λ place. place + 1) after) ≡ option_or (cond b (Some 0) (option_map (λ place. place + 1) before)) (cond last (Some (suc n)) None)
-push_more true after before last n e = refl
-push_more false after (Some p) last n e = ap (option_map (λ (place : ℕ). place + 1)) e
-push_more false after None true n e = ap (option_map (λ (place : ℕ). place + 1)) e ∙ (let more : n + 1 ≡ suc n = omega arith in ap Some more)
-push_more false after None false n e = ap (option_map (λ (place : ℕ). place + 1)) e
+-- what is true of all is true of each
+pub all_at : {A : Type 0} (P : A → Type 0) (xs : List A) (i : ℕ) (d : A) → AllByRecursion P xs → i < length xs → P (get_or xs i d)
+all_at P [] i d all below = absurd (omega arith)
+all_at P (x ∷ xs) zero d all below = all.0
+all_at P (x ∷ xs) (suc i) d all below = all_at P xs i d all.1 (omega arith)
 
--- one more address behind the others
-pub place_of-push : (xs : List ℕ) (y a : ℕ) → place_of (xs ++ y ∷ []) a ≡ option_or (place_of xs a) (cond (eqb y a) (Some (length xs)) None)
-place_of-push [] y a = refl
-place_of-push (x ∷ xs) y a = push_more (eqb x a) (place_of (xs ++ y ∷ []) a) (place_of xs a) (eqb y a) (length xs) (place_of-push xs y a)
+-- the slave of an index, as it is read
+pub slave_read : (xs : List SlaveParts) (i : ℕ) (x : SlaveParts) → i < length xs → x ≡ get_or xs i x → slice_get (slaves_of xs) i ≡ Some x.slave
+slave_read [] i x below is = absurd (omega arith)
+slave_read (y ∷ xs) zero x below is = ap (λ (parts : SlaveParts). Some parts.slave) (sym is)
+slave_read (y ∷ xs) (suc i) x below is = slave_read xs i x (omega arith) is
 
-find_more : (b : Bool) (x : SlaveRecord) (xs : List SlaveRecord) (found : Option SlaveRecord) (place : Option ℕ) → found ≡ option_and_then (λ p. slice_get xs p) place
-    → cond b (Some x) found ≡ option_and_then (λ p. slice_get (x ∷ xs) p) (cond b (Some 0) (option_map (λ p. p + 1) place))
-find_more true x xs found place e = refl
+-- the address of the slave of an index
+abbrev pub address_at : List SlaveParts → ℕ → Option ℕ
+address_at xs index = option_map address_of_slave (slice_get (slaves_of xs) index)
+
+-- one more address
+pub addresses_more : (xs : List SlaveParts) (indices addresses after : List ℕ) (n index address : ℕ) (x : SlaveParts)
+    → AllByRecursion (λ i. i < length xs) indices → n < length indices → index ≡ get_or indices n 0 → x ≡ get_or xs index x → address ≡ address_of_slave x.slave
+    → after ≡ addresses ++ address ∷ [] → map Some addresses ≡ map (address_at xs) (take n indices)
+    → map Some after ≡ map (address_at xs) (take (n + 1) indices)
+addresses_more xs indices addresses after n index address x inside below at is told pushed found =
+    let within : index < length xs = subst (λ i. i < length xs) (sym at) (all_at (λ i. i < length xs) indices n 0 inside below) in
+    let here : address_at xs index ≡ Some address = ap (option_map address_of_slave) (slave_read xs index x within is) ∙ ap Some (sym told) in
+    ap (map Some) pushed ∙ map-append Some addresses (address ∷ [])
+    ∙ ap (λ (l : List (Option ℕ)). l ++ Some address ∷ []) found
+    ∙ ap (λ (o : Option ℕ). map (address_at xs) (take n indices) ++ o ∷ []) (sym here ∙ ap (address_at xs) at)
+    ∙ sym (map_more (address_at xs) indices n 0 below)
+
+find_more : (b : Bool) (x : SlaveRecord) (xs : List SlaveRecord) (found : Option SlaveRecord) (index : Option ℕ) → found ≡ option_and_then (λ i. slice_get xs i) index
+    → cond b (Some x) found ≡ option_and_then (λ i. slice_get (x ∷ xs) i) (cond b (Some 0) (option_map (λ i. i + 1) index))
+find_more true x xs found index e = refl
 find_more false x xs found None e = e
-find_more false x xs found (Some p) e = let more : suc p ≡ p + 1 = omega arith in e ∙ ap (λ k. slice_get (x ∷ xs) k) more
+find_more false x xs found (Some i) e = let more : suc i ≡ i + 1 = omega arith in e ∙ ap (λ k. slice_get (x ∷ xs) k) more
 
 -- the slave with an address stands where the address stands first
-pub find_at_place : (slaves : List SlaveRecord) (address : ℕ)
-    → find (λ slave. eqb (address_of_slave slave) address) slaves ≡ option_and_then (λ place. slice_get slaves place) (place_of (map address_of_slave slaves) address)
-find_at_place [] address = refl
-find_at_place (x ∷ xs) address =
-    find_more (eqb (address_of_slave x) address) x xs (find (λ slave. eqb (address_of_slave slave) address) xs) (place_of (map address_of_slave xs) address) (find_at_place xs address)
+pub find_at_index : (slaves : List SlaveRecord) (address : ℕ)
+    → find (λ slave. eqb (address_of_slave slave) address) slaves ≡ option_and_then (λ i. slice_get slaves i) (index_of (map address_of_slave slaves) address)
+find_at_index [] address = refl
+find_at_index (x ∷ xs) address =
+    find_more (eqb (address_of_slave x) address) x xs (find (λ slave. eqb (address_of_slave slave) address) xs) (index_of (map address_of_slave xs) address) (find_at_index xs address)
 
 -- what the table says of an address is the slave that has it
-pub find-indexed : (slaves : List SlaveRecord) (places : List (Option ℕ)) (address : ℕ) → IsIndexed slaves places → address < 256
-    → find (λ slave. eqb (address_of_slave slave) address) slaves ≡ option_and_then (λ place. slice_get slaves place) (slice_index_or places address None)
-find-indexed slaves places address indexed small =
-    find_at_place slaves address ∙ ap (option_and_then (λ place. slice_get slaves place)) (sym (indexed.each address small))
+pub find-indexed : (slaves : List SlaveRecord) (indices : List (Option ℕ)) (address index : ℕ) (told : Option ℕ) → IsIndexed slaves indices → address < 256 → index ≡ address → slice_index_or indices index None ≡ told
+    → find (λ slave. eqb (address_of_slave slave) address) slaves ≡ option_and_then (λ i. slice_get slaves i) told
+find-indexed slaves indices address index told indexed small same tells =
+    find_at_index slaves address ∙ ap (option_and_then (λ i. slice_get slaves i)) (sym (indexed.each address small) ∙ ap (λ i. slice_index_or indices i None) (sym same) ∙ tells)
 
--- a release leaves the addresses
-pub addresses-released : (slaves : List SlaveRecord) → map address_of_slave (map released slaves) ≡ map address_of_slave slaves
-addresses-released [] = refl
-addresses-released (x ∷ xs) = ap (λ (addresses : List ℕ). address_of_slave x ∷ addresses) (addresses-released xs)
+-- a slave of this address, at this index
+pub record IsThere (slaves : List SlaveRecord) (address index : ℕ) : Type 0 where
+  pub slave : SlaveRecord
+  pub here : slice_get slaves index ≡ Some slave
+  pub address_is : address_of_slave slave ≡ address
 
--- one more address in the range
-range-push : (a n : ℕ) → range_with_len a (suc n) ≡ range_with_len a n ++ (a + n) ∷ []
-range-push a zero = let same : a ≡ a + 0 = omega arith in ap (λ k. k ∷ []) same
-range-push a (suc n) =
-    let same : a + 1 + n ≡ a + suc n = omega arith in
-    ap (λ (l : List ℕ). a ∷ l) (range-push (a + 1) n ∙ ap (λ k. range_with_len (a + 1) n ++ k ∷ []) same)
+there_by : (x : SlaveRecord) (xs : List SlaveRecord) (address index : ℕ) (b : Bool) (rest : Option ℕ) → eqb (address_of_slave x) address ≡ b → ((i : ℕ) → rest ≡ Some i → IsThere xs address i)
+    → cond b (Some 0) (option_map (λ i. i + 1) rest) ≡ Some index → IsThere (x ∷ xs) address index
+there_by x xs address index true rest e more found =
+    let first : index ≡ 0 = cc in
+    record { slave = x; here = ap (λ k. slice_get (x ∷ xs) k) first; address_is = eqb-true (address_of_slave x) address e }
+there_by x xs address index false None e more found = absurd cc
+there_by x xs address index false (Some i) e more found =
+    let one : i + 1 ≡ index = cc in
+    let next : index ≡ suc i = omega arith in
+    let there = more i refl in
+    record { slave = there.slave; here = ap (λ k. slice_get (x ∷ xs) k) next ∙ there.here; address_is = there.address_is }
 
--- the slaves that are described below one more address
-pub ascending_more : (slaves : List SlaveSpec) (n : ℕ)
-    → filter_map (described_at slaves) (range_with_len 0 (n + 1)) ≡ filter_map (described_at slaves) (range_with_len 0 n) ++ filter_map (described_at slaves) (n ∷ [])
-ascending_more slaves n =
-    let more : n + 1 ≡ suc n = omega arith in
-    let same : 0 + n ≡ n = omega arith in
-    ap (λ k. filter_map (described_at slaves) (range_with_len 0 k)) more
-    ∙ ap (filter_map (described_at slaves)) (range-push 0 n ∙ ap (λ k. range_with_len 0 n ++ k ∷ []) same)
-    ∙ filter_map-append (described_at slaves) (range_with_len 0 n) (n ∷ [])
+is_there : (slaves : List SlaveRecord) (address index : ℕ) → index_of (map address_of_slave slaves) address ≡ Some index → IsThere slaves address index
+is_there [] address index found = absurd cc
+is_there (x ∷ xs) address index found = there_by x xs address index (eqb (address_of_slave x) address) (index_of (map address_of_slave xs) address) refl (λ i e. is_there xs address i e) found
 
--- how often an address stands in a list
-times : ℕ → List ℕ → ℕ
-times x [] = 0
-times x (a ∷ addresses) = cond (eqb x a) 1 0 + times x addresses
+-- the table tells where a slave is
+pub there-indexed : (slaves : List SlaveRecord) (indices : List (Option ℕ)) (address index at : ℕ) → IsIndexed slaves indices → address < 256 → at ≡ address → slice_index_or indices at None ≡ Some index → IsThere slaves address index
+there-indexed slaves indices address index at indexed small same tells =
+    is_there slaves address index (sym (indexed.each address small) ∙ ap (λ i. slice_index_or indices i None) (sym same) ∙ tells)
 
-times_below : (x a n : ℕ) → x < a → times x (range_with_len a n) ≡ 0
-unfolding times
-times_below x a zero low = refl
-times_below x a (suc n) low = rw (ne_eqb x a (λ e. omega arith)) (omega (arith, times_below x (a + 1) n (omega arith)))
+-- the slave of one address changed
+abbrev pub at_address : ℕ → (SlaveRecord → SlaveRecord) → SlaveRecord → SlaveRecord
+at_address address change slave = cond (eqb (address_of_slave slave) address) (change slave) slave
 
-times_cases : (b : Bool) (x a n : ℕ) → eqb x a ≡ b → times x (range_with_len (a + 1) n) ≤ 1 → cond b 1 0 + times x (range_with_len (a + 1) n) ≤ 1
-times_cases true x a n same few = let same : x ≡ a = eqb-true x a same in omega (arith, times_below x (a + 1) n (omega arith))
-times_cases false x a n same few = omega arith
+absent_by : (x : SlaveRecord) (xs later : List SlaveRecord) (address : ℕ) (change : SlaveRecord → SlaveRecord) (b : Bool) (rest : Option ℕ) → (rest ≡ None → xs ≡ later)
+    → cond b (Some 0) (option_map (λ i. i + 1) rest) ≡ None → x ∷ xs ≡ cond b (change x) x ∷ later
+absent_by x xs later address change true rest more e = absurd cc
+absent_by x xs later address change false None more e = ap (λ (l : List SlaveRecord). x ∷ l) (more refl)
+absent_by x xs later address change false (Some i) more e = absurd cc
 
--- no address stands twice in a range
-times_in_range : (x a n : ℕ) → times x (range_with_len a n) ≤ 1
-unfolding times
-times_in_range x a zero = omega arith
-times_in_range x a (suc n) = times_cases (eqb x a) x a n refl (times_in_range x (a + 1) n)
+-- where no slave has the address, all stay
+absent : (slaves : List SlaveRecord) (address : ℕ) (change : SlaveRecord → SlaveRecord) → index_of (map address_of_slave slaves) address ≡ None → slaves ≡ map (at_address address change) slaves
+absent [] address change e = refl
+absent (x ∷ xs) address change e =
+    absent_by x xs (map (at_address address change) xs) address change (eqb (address_of_slave x) address) (index_of (map address_of_slave xs) address) (absent xs address change) e
 
-few_cases : (b : Bool) (found : Option SlaveSpec) (x : SlaveSpec) (more fewer : List SlaveSpec) (n : ℕ) → length more ≤ n + length fewer
-    → length (cons_option (cond b (Some x) found) more) ≤ cond b 1 0 + n + length (cons_option found fewer)
-few_cases true None x more fewer n few = omega arith
-few_cases true (Some y) x more fewer n few = omega arith
-few_cases false None x more fewer n few = omega arith
-few_cases false (Some y) x more fewer n few = omega arith
+pub absent-indexed : (slaves : List SlaveRecord) (indices : List (Option ℕ)) (address at : ℕ) (change : SlaveRecord → SlaveRecord) → IsIndexed slaves indices → address < 256 → at ≡ address → slice_index_or indices at None ≡ None
+    → slaves ≡ map (at_address address change) slaves
+absent-indexed slaves indices address at change indexed small same tells =
+    absent slaves address change (sym (indexed.each address small) ∙ ap (λ i. slice_index_or indices i None) (sym same) ∙ tells)
 
-few_more : (x : SlaveSpec) (slaves : List SlaveSpec) (addresses : List ℕ)
-    → length (filter_map (described_at (x ∷ slaves)) addresses) ≤ times x.address addresses + length (filter_map (described_at slaves) addresses)
-unfolding times
-few_more x slaves [] = omega arith
-few_more x slaves (a ∷ addresses) =
-    few_cases (eqb x.address a) (described_at slaves a) x (filter_map (described_at (x ∷ slaves)) addresses) (filter_map (described_at slaves) addresses)
-    (times x.address addresses) (few_more x slaves addresses)
+above_at : (address index : ℕ) (slaves : List SlaveRecord) (slave : SlaveRecord) → AreAbove address slaves → slice_get slaves index ≡ Some slave → address < address_of_slave slave
+above_at address index [] slave above here = absurd cc
+above_at address zero (z ∷ slaves) slave above here = let same : z ≡ slave = cc in subst (λ (s : SlaveRecord). address < address_of_slave s) same above.0
+above_at address (suc index) (z ∷ slaves) slave above here = above_at address index slaves slave above.1 here
 
-none_described : (addresses : List ℕ) → filter_map (described_at []) addresses ≡ []
-none_described [] = refl
-none_described (a ∷ addresses) = none_described addresses
+others_stay : (address : ℕ) (change : SlaveRecord → SlaveRecord) (slaves : List SlaveRecord) → AreAbove address slaves → slaves ≡ map (at_address address change) slaves
+others_stay address change [] above = refl
+others_stay address change (z ∷ slaves) above =
+    rw (ne_eqb (address_of_slave z) address (λ e. omega (arith, above.0))) (ap (λ (l : List SlaveRecord). z ∷ l) (others_stay address change slaves above.1))
 
-few_below : (slaves : List SlaveSpec) (n : ℕ) → length (filter_map (described_at slaves) (range_with_len 0 n)) ≤ length slaves
-few_below [] n = omega (arith, ap length (none_described (range_with_len 0 n)))
-few_below (x ∷ slaves) n = omega (arith, few_more x slaves (range_with_len 0 n), times_in_range x.address 0 n, few_below slaves n)
+-- one write at one index is the map by address
+pub at_index-map : (slaves : List SlaveRecord) (index : ℕ) (change : SlaveRecord → SlaveRecord) (slave : SlaveRecord) → Ascend slaves → slice_get slaves index ≡ Some slave
+    → at_index index change slaves ≡ map (at_address (address_of_slave slave) change) slaves
+at_index-map [] index change slave ascend here = refl
+at_index-map (z ∷ slaves) zero change slave ascend here =
+    let same : z ≡ slave = cc in
+    let address : address_of_slave z ≡ address_of_slave slave = ap (λ (s : SlaveRecord). address_of_slave s) same in
+    rw (eq-eqb (address_of_slave z) (address_of_slave slave) address) (ap (λ (l : List SlaveRecord). change z ∷ l) (subst (λ (a : ℕ). slaves ≡ map (at_address a change) slaves) address (others_stay (address_of_slave z) change slaves ascend.0)))
+at_index-map (z ∷ slaves) (suc index) change slave ascend here =
+    let less : address_of_slave z < address_of_slave slave = above_at (address_of_slave z) index slaves slave ascend.0 here in
+    rw (ne_eqb (address_of_slave z) (address_of_slave slave) (λ e. omega arith)) (ap (λ (l : List SlaveRecord). z ∷ l) (at_index-map slaves index change slave ascend.1 here))
 
--- there are no more slaves in ascending order than are described
-pub ascending_few : (slaves : List SlaveSpec) → length (ascending slaves) ≤ length slaves
-unfolding ascending
-ascending_few slaves = few_below slaves 127
+-- slaves with the same addresses ascend alike, and are found alike
+pub addresses_kept : (index : ℕ) (change : SlaveRecord → SlaveRecord) (slaves : List SlaveRecord) → ((slave : SlaveRecord) → address_of_slave (change slave) ≡ address_of_slave slave)
+    → map address_of_slave (at_index index change slaves) ≡ map address_of_slave slaves
+addresses_kept index change [] same = refl
+addresses_kept zero change (z ∷ slaves) same = ap (λ (a : ℕ). a ∷ map address_of_slave slaves) (same z)
+addresses_kept (suc index) change (z ∷ slaves) same = ap (λ (l : List ℕ). address_of_slave z ∷ l) (addresses_kept index change slaves same)
 
--- one more slave in the table: the first of an address stays
-pub places_more : (slaves : List SlaveRecord) (n address : ℕ) (x : SlaveRecord) → n < length slaves → x ≡ get_or slaves n x
-    → place_of (map address_of_slave (take (n + 1) slaves)) address
-    ≡ option_or (place_of (map address_of_slave (take n slaves)) address) (cond (eqb (address_of_slave x) address) (Some n) None)
-places_more slaves n address x lt is =
-    let more : map address_of_slave (take (n + 1) slaves) ≡ map address_of_slave (take n slaves) ++ address_of_slave x ∷ [] =
-    map_more address_of_slave slaves n x lt ∙ ap (λ (s : SlaveRecord). map address_of_slave (take n slaves) ++ address_of_slave s ∷ []) (sym is) in
-    let size : length (map address_of_slave (take n slaves)) ≡ n = simp (length-map, length-take) (omega arith) in
-    ap (λ xs. place_of xs address) more ∙ place_of-push (map address_of_slave (take n slaves)) (address_of_slave x) address
-    ∙ ap (λ k. option_or (place_of (map address_of_slave (take n slaves)) address) (cond (eqb (address_of_slave x) address) (Some k) None)) size
+above-same : (address : ℕ) (xs ys : List SlaveRecord) → map address_of_slave xs ≡ map address_of_slave ys → AreAbove address ys → AreAbove address xs
+above-same address [] ys same above = tt
+above-same address (x ∷ xs) [] same above = absurd cc
+above-same address (x ∷ xs) (y ∷ ys) same above =
+    let first : address_of_slave y ≡ address_of_slave x = cc in
+    let rest : map address_of_slave xs ≡ map address_of_slave ys = cc in
+    (subst (λ (a : ℕ). address < a) first above.0, above-same address xs ys rest above.1)
 
--- released slaves are found as before
-pub indexed-written : (slaves new : List SlaveRecord) (places : List (Option ℕ)) (len : ℕ) → IsIndexed slaves places → new ≡ map released slaves → len ≡ length slaves
-    → IsIndexed (take len (new ++ drop (length new) slaves)) places
-indexed-written slaves new places len indexed written size =
-    let same : length new ≡ length slaves = ap length written ∙ simp length-map in
-    let nothing : drop (length new) slaves ≡ [] = nil_from_length _ (simp length-drop (omega arith)) in
-    let whole : take len (new ++ drop (length new) slaves) ≡ map released slaves =
-    ap (λ (rest : List SlaveRecord). take len (new ++ rest)) nothing ∙ ap (take len) (append-nil new) ∙ take_all len new (omega arith) ∙ written in
-    let released_indexed : IsIndexed (map released slaves) places = record {
-      each = λ address small. indexed.each address small ∙ ap (λ (xs : List ℕ). place_of xs address) (sym (addresses-released slaves));
-      few = simp length-map indexed.few;
-    } in
-    subst (λ (xs : List SlaveRecord). IsIndexed xs places) (sym whole) released_indexed
+pub ascend-same : (xs ys : List SlaveRecord) → map address_of_slave xs ≡ map address_of_slave ys → Ascend ys → Ascend xs
+ascend-same [] ys same ascend = tt
+ascend-same (x ∷ xs) [] same ascend = absurd cc
+ascend-same (x ∷ xs) (y ∷ ys) same ascend =
+    let first : address_of_slave y ≡ address_of_slave x = cc in
+    let rest : map address_of_slave xs ≡ map address_of_slave ys = cc in
+    (above-same (address_of_slave x) xs ys rest (subst (λ (a : ℕ). AreAbove a ys) first ascend.0), ascend-same xs ys rest ascend.1)
 
--- what a look at the table and at the slaves gives is the slave that has the address
-pub slave_found : (slaves inside : List SlaveRecord) (places : List (Option ℕ)) (address index place k : ℕ) (found : Option SlaveRecord)
-    → inside ≡ slaves → IsIndexed inside places → address < 256 → index ≡ address → slice_index_or places index None ≡ Some place → found ≡ slice_get inside k → k ≡ place
-    → found ≡ find (λ slave. eqb (address_of_slave slave) address) slaves
-slave_found slaves inside places address index place k found view indexed small same told got at =
-    let here : slice_index_or places address None ≡ Some place = ap (λ i. slice_index_or places i None) (sym same) ∙ told in
-    got ∙ ap (slice_get inside) at
-    ∙ sym (find-indexed inside places address indexed small ∙ ap (option_and_then (λ p. slice_get inside p)) here)
-    ∙ ap (find (λ slave. eqb (address_of_slave slave) address)) view
-
-pub slave_absent : (slaves inside : List SlaveRecord) (places : List (Option ℕ)) (address index : ℕ)
-    → inside ≡ slaves → IsIndexed inside places → address < 256 → index ≡ address → slice_index_or places index None ≡ None
-    → None ≡ find (λ slave. eqb (address_of_slave slave) address) slaves
-slave_absent slaves inside places address index view indexed small same told =
-    let here : slice_index_or places address None ≡ None = ap (λ i. slice_index_or places i None) (sym same) ∙ told in
-    sym (find-indexed inside places address indexed small ∙ ap (option_and_then (λ p. slice_get inside p)) here)
-    ∙ ap (find (λ slave. eqb (address_of_slave slave) address)) view
-
-or_none : (old : Option ℕ) → old ≡ option_or old None
-or_none None = refl
-or_none (Some p) = refl
-
-or_some : (old other : Option ℕ) → is_some old ≡ true → old ≡ option_or old other
-or_some None other e = absurd cc
-or_some (Some p) other e = refl
-
-none_or : (old other : Option ℕ) → is_some old ≡ false → other ≡ option_or old other
-none_or None other e = refl
-none_or (Some p) other e = absurd cc
-
--- an address that is new to the table is written, and one that stands there stays
-pub table_written : (places : List (Option ℕ)) (n a address : ℕ) (old : Option ℕ) → a < length places → get_or places address None ≡ old → is_some (get_or places a None) ≡ false
-    → get_or (set places a (Some n)) address None ≡ option_or old (cond (eqb a address) (Some n) None)
-table_written places n a address old room before free = elim (cases_eq a address) [
-  | inl e ↦
-      let at : get_or places a None ≡ old = ap (λ k. get_or places k None) e ∙ before in
-      let gone : is_some old ≡ false = ap is_some (sym at) ∙ free in
-      ap (λ k. get_or (set places a (Some n)) k None) (sym e) ∙ get_or-set_same places a (Some n) None room ∙ none_or old (Some n) gone
-      ∙ ap (option_or old) (sym (ap (λ b. cond b (Some n) None) (eq-eqb a address e)))
-  | inr ne ↦
-      get_or-set_other places a address (Some n) None (λ e. ne (sym e)) ∙ before ∙ or_none old ∙ ap (option_or old) (sym (ap (λ b. cond b (Some n) None) (ne_eqb a address ne)))
-]
-
-pub table_kept : (places : List (Option ℕ)) (n a address : ℕ) (old : Option ℕ) → get_or places address None ≡ old → is_some (get_or places a None) ≡ true
-    → get_or places address None ≡ option_or old (cond (eqb a address) (Some n) None)
-table_kept places n a address old before taken = elim (cases_eq a address) [
-  | inl e ↦
-      let at : get_or places a None ≡ old = ap (λ k. get_or places k None) e ∙ before in
-      before ∙ or_some old (cond (eqb a address) (Some n) None) (ap is_some (sym at) ∙ taken)
-  | inr ne ↦ before ∙ or_none old ∙ ap (option_or old) (sym (ap (λ b. cond b (Some n) None) (ne_eqb a address ne)))
-]
+pub indexed-same : (xs ys : List SlaveRecord) (indices : List (Option ℕ)) → map address_of_slave xs ≡ map address_of_slave ys → IsIndexed ys indices → IsIndexed xs indices
+indexed-same xs ys indices same indexed = record {
+  each = λ address small. indexed.each address small ∙ ap (λ (l : List ℕ). index_of l address) (sym same);
+  few = omega (arith, length-map xs address_of_slave, length-map ys address_of_slave, ap (λ (l : List ℕ). length l) same, indexed.few);
+}

@@ -1,5 +1,13 @@
+pub mod Judging
+pub mod Passing
+pub mod Hearings
+pub mod Table
+pub mod Starting
 pub mod Addresses
+pub mod Orders
+pub mod Writes
+pub mod Moves
+pub mod Kept
+pub mod Holders
 pub mod Events
-pub mod Verdicts
 pub mod Runs
-mod StatusRequests

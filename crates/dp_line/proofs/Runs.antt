@@ -1,18 +1,35 @@
 -- Runs of a line, one step for each event.
-use Rattle.std.proofs.Common.{◌≡◌, ℕ, ◌+◌, ◌<◌, Bool, true, false, cond, List, [], ◌∷◌, ◌++◌, length, Some, refl, sym, ap, subst, ◌∙◌, arith}
+use Rattle.std.proofs.Common.{◌≡◌, ◌≢◌, ℕ, zero, suc, ◌+◌, ◌<◌, Bool, true, false, cond, eqb, List, [], ◌∷◌, ◌++◌, length, take, get_or, Option, Some, None, refl, sym, ap, subst, ◌∙◌, arith}
 use Rattle.std.specs.Prelude.{slice_get, ◌||◌}
-use Rattle.std.proofs.lemmas.Bool.{cond-true, cond-false}
+use Rattle.std.specs.Option.{option_and_then}
+use Rattle.std.proofs.lemmas.Bool.{cond-true, cond-false, eqb-true}
 use Rattle.std.proofs.lemmas.Grind.{common_steps}
 use Rattle.arrayvec.specs.ArrayVec.{ArrayVec}
+use Rattle.dp_telegram.specs.declared.frame.Telegram.{Telegram}
+use Rattle.dp_telegram.specs.declared.access.Parts.{Parts}
+use Rattle.dp_telegram.specs.Access.{address_of}
+use Rattle.dp_responder.specs.Memory.{MasterMemory}
+use Rattle.dp_responder.specs.Rules.{first_row}
+use Rattle.dp_responder.specs.declared.rule.Rule.{Rule}
 use Rattle.dp_responder.specs.declared.rule.Rule.TheVariants as rules
+use Rattle.dp_slave.specs.SlaveRecord.{SlaveRecord}
 use Rattle.dp_line.specs.declared.event.Event.{Event}
 use Rattle.dp_line.specs.declared.event.Event.TheVariants.{Request}
 use Rattle.dp_line.specs.declared.event.Step.{Step}
-use Rattle.dp_line.specs.declared.event.Outcome.{Outcome}
 use Rattle.dp_line.specs.declared.event.Outcome.TheVariants.{Silence}
-use Rattle.dp_line.specs.World.{World, takes_no_more, is_last_place}
-use Rattle.dp_line.specs.Steps.{step, effect, run, outcome_of, Stepped}
-use Rattle.dp_line.proofs.Verdicts.{outcome_silent}
+use Rattle.dp_line.specs.World.{World, address_of_slave, slave_at, takes_no_more, is_last_place}
+use Rattle.dp_line.specs.Hearing.{Hearing, heard, telegram_of_frame}
+use Rattle.dp_line.specs.Verdict.{verdict_of, line_rows, rows_where_known, rule_at, concerns_a_slave}
+use Rattle.dp_line.specs.Served.{executed, served}
+use Rattle.dp_line.specs.Effects.{Stepped, effect, effect_of_request, outcome_of, served_where_asked, slave_after}
+use Rattle.dp_line.specs.Steps.{step, run}
+use Rattle.dp_line.proofs.Hearings.{unanswered}
+use Rattle.dp_line.proofs.Events.{step_halted, step_at_last_place, step_is_effect}
+
+-- one event more at the end of a run
+pub run_more : (world : World) (events : List Event) (event : Event) → (run world (events ++ event ∷ [])).world ≡ (step (run world events).world event).world
+run_more world [] event = refl
+run_more world (e ∷ events) event = run_more (step world e).world events event
 
 -- the answer to an event of a run is its step's in the world that the events before it left
 pub answer_at : (world : World) (before : List Event) (event : Event) (later : List Event)
@@ -21,69 +38,189 @@ answer_at world [] event later = refl
 answer_at world (e ∷ before) event later = answer_at (step world e).world before event later
 
 -- a line that takes no more is silent, by the first row of the verdict
-halted_outcome : (world : World) (master : ℕ) (octets : List ℕ) → takes_no_more world ≡ true → Silence rules.Halted ≡ outcome_of world master octets
-halted_outcome world master octets over = outcome_silent world master octets rules.Halted refl (cond-true (takes_no_more world) _ _ over)
+over_verdict : (world : World) (master : ℕ) (octets : List ℕ) → takes_no_more world ≡ true → verdict_of (heard world master octets) ≡ rules.Halted
+unfolding verdict_of heard
+over_verdict world master octets over = cond-true (takes_no_more world) _ _ over
 
-pick : (halted last : Bool) (a b c : Stepped) (x : Outcome)
-    → ((halted || last) ≡ true → a.answer.outcome ≡ x) → ((halted || last) ≡ true → b.answer.outcome ≡ x) → ((halted || last) ≡ false → c.answer.outcome ≡ x)
-    → (cond halted a (cond last b c)).answer.outcome ≡ x
-pick true last a b c x over end on = over refl
-pick false true a b c x over end on = end refl
-pick false false a b c x over end on = on refl
+over_outcome : (world : World) (master : ℕ) (octets : List ℕ) → takes_no_more world ≡ true → Silence rules.Halted ≡ outcome_of world master octets
+unfolding outcome_of
+over_outcome world master octets over = (unanswered (heard world master octets) 0 [] rules.Halted refl (over_verdict world master octets over)).outcome
+
+by_halt : (world : World) (master : ℕ) (octets : ArrayVec ℕ) (halted last : Bool) → world.halted ≡ halted → is_last_place world ≡ last
+    → (step world (Request master octets)).answer.outcome ≡ outcome_of world master octets.items
+unfolding effect_of_request
+by_halt world master octets true last h l =
+    ap (λ (s : Stepped). s.answer.outcome) (step_halted world (Request master octets) h) ∙ over_outcome world master octets.items (ap (λ b. b || is_last_place world) h)
+by_halt world master octets false true h l =
+    ap (λ (s : Stepped). s.answer.outcome) (step_at_last_place world (Request master octets) h l)
+    ∙ over_outcome world master octets.items (ap (λ b. b || is_last_place world) h ∙ l)
+by_halt world master octets false false h l = ap (λ (s : Stepped). s.answer.outcome) (step_is_effect world (Request master octets) h l)
 
 -- whatever a step does, its answer to a request is the policy's
 step_outcome : (world : World) (master : ℕ) (octets : ArrayVec ℕ) → (step world (Request master octets)).answer.outcome ≡ outcome_of world master octets.items
-step_outcome world master octets =
-    pick world.halted (is_last_place world) _ _ _ (outcome_of world master octets.items)
-    (halted_outcome world master octets.items) (halted_outcome world master octets.items) (λ free. refl)
+step_outcome world master octets = by_halt world master octets world.halted (is_last_place world) refl refl
 
-step_is_effect : (world : World) (event : Event) → world.halted ≡ false → is_last_place world ≡ false → step world event ≡ effect world event
-step_is_effect world event running room = cond-false world.halted _ _ running ∙ cond-false (is_last_place world) _ _ room
+pub request_outcome : (world : World) (event : Event) (answer : Step) (master : ℕ) (octets : ArrayVec ℕ) → answer ≡ (step world event).answer → event ≡ Request master octets
+    → answer.outcome ≡ outcome_of world master octets.items
+request_outcome world event answer master octets is request =
+    ap (λ (a : Step). a.outcome) (is ∙ ap (λ e. (step world e).answer) request) ∙ step_outcome world master octets
 
+-- by every rule but Done the fields of a slave stay
+executed_stays : (slave : SlaveRecord) (sender place : ℕ) (parts : Parts) (rule : Rule) (memory : List MasterMemory) → rule ≢ rules.Done
+    → record (executed slave sender place parts rule) { memory = memory } ≡ record slave { memory = memory }
+executed_stays slave sender place parts rules.Done memory other = absurd (other refl)
+executed_stays slave sender place parts rules.Halted memory other = refl
+executed_stays slave sender place parts rules.NoFrame memory other = refl
+executed_stays slave sender place parts rules.NoMaster memory other = refl
+executed_stays slave sender place parts rules.ForeignSender memory other = refl
+executed_stays slave sender place parts rules.Token memory other = refl
+executed_stays slave sender place parts rules.NotRequest memory other = refl
+executed_stays slave sender place parts rules.BadFunction memory other = refl
+executed_stays slave sender place parts rules.BadExtension memory other = refl
+executed_stays slave sender place parts rules.BadBroadcast memory other = refl
+executed_stays slave sender place parts rules.NoStation memory other = refl
+executed_stays slave sender place parts rules.Status memory other = refl
+executed_stays slave sender place parts rules.NoService memory other = refl
+executed_stays slave sender place parts rules.Repeat memory other = refl
+executed_stays slave sender place parts rules.NotActive memory other = refl
+executed_stays slave sender place parts rules.NotHolder memory other = refl
+executed_stays slave sender place parts rules.Busy memory other = refl
+executed_stays slave sender place parts rules.Length memory other = refl
+executed_stays slave sender place parts rules.NotSelected memory other = refl
+
+-- the rows of the line concern no slave: where a slave is concerned, the rows behind them decide
+abbrev NoneConcern : List (Bool × Rule) → Type 0
+NoneConcern [] = Unit {0}
+NoneConcern (row ∷ rows) = (concerns_a_slave row.1 ≡ false) × NoneConcern rows
+
+past_by : (b : Bool) (rule other last : Rule) → concerns_a_slave rule ≡ false → concerns_a_slave (cond b rule other) ≡ true
+    → (concerns_a_slave other ≡ true → other ≡ last) → cond b rule other ≡ last
+past_by true rule other last silent concerns more = absurd cc
+past_by false rule other last silent concerns more = more concerns
+
+past_silent : (rows others : List (Bool × Rule)) → NoneConcern rows → concerns_a_slave (first_row (rows ++ others)) ≡ true
+    → first_row (rows ++ others) ≡ first_row others
+past_silent [] others none concerns = refl
+past_silent (row ∷ rows) others none concerns =
+    past_by row.0 row.1 (first_row (rows ++ others)) (first_row others) none.0 concerns (λ more. past_silent rows others none.1 more)
+
+concerned_verdict : (hearing : Hearing) → concerns_a_slave (verdict_of hearing) ≡ true
+    → verdict_of hearing ≡ first_row (rows_where_known hearing.sender (option_and_then telegram_of_frame hearing.frame) hearing.parts hearing.slave)
+unfolding verdict_of
+concerned_verdict hearing concerns =
+    past_silent (line_rows hearing) (rows_where_known hearing.sender (option_and_then telegram_of_frame hearing.frame) hearing.parts hearing.slave)
+    (refl, (refl, (refl, (refl, (refl, (refl, (refl, (refl, (refl, (refl, tt)))))))))) concerns
+
+reached_rule : (hearing : Hearing) (telegram : Telegram) (parts : Parts) (slave : SlaveRecord) → concerns_a_slave (verdict_of hearing) ≡ true
+    → option_and_then telegram_of_frame hearing.frame ≡ Some telegram → hearing.parts ≡ Some parts → hearing.slave ≡ Some slave
+    → verdict_of hearing ≡ rule_at hearing.sender telegram parts slave
+unfolding rule_at
+reached_rule hearing telegram parts slave concerns spelt read found =
+    concerned_verdict hearing concerns
+    ∙ ap (λ t. first_row (rows_where_known hearing.sender t hearing.parts hearing.slave)) spelt
+    ∙ ap (λ p. first_row (rows_where_known hearing.sender (Some telegram) p hearing.slave)) read
+    ∙ ap (λ s. first_row (rows_where_known hearing.sender (Some telegram) (Some parts) s)) found
+
+refused_served : (slave : SlaveRecord) (sender place : ℕ) (telegram : Telegram) (parts : Parts) → rule_at sender telegram parts slave ≢ rules.Done
+    → record (served slave sender place telegram parts) { memory = slave.memory } ≡ slave
+unfolding served
+refused_served slave sender place telegram parts other = executed_stays slave sender place parts (rule_at sender telegram parts slave) slave.memory other
+
+by_asked : (hearing : Hearing) (place : ℕ) (slave : SlaveRecord) (telegram : Telegram) (parts : Parts) (asked : Bool)
+    → eqb (address_of_slave slave) (address_of telegram.da) ≡ asked
+    → (asked ≡ true → rule_at hearing.sender telegram parts slave ≢ rules.Done)
+    → record (cond asked (served slave hearing.sender place telegram parts) slave) { memory = slave.memory } ≡ slave
+by_asked hearing place slave telegram parts true e other = refused_served slave hearing.sender place telegram parts (other refl)
+by_asked hearing place slave telegram parts false e other = refl
+
+refused_known : (hearing : Hearing) (place : ℕ) (slave : SlaveRecord) (telegram : Option Telegram) (parts : Option Parts)
+    → concerns_a_slave (verdict_of hearing) ≡ true → verdict_of hearing ≢ rules.Done
+    → option_and_then telegram_of_frame hearing.frame ≡ telegram → hearing.parts ≡ parts
+    → ((t : Telegram) → telegram ≡ Some t → address_of_slave slave ≡ address_of t.da → hearing.slave ≡ Some slave)
+    → record (served_where_asked hearing.sender place telegram parts slave) { memory = slave.memory } ≡ slave
+refused_known hearing place slave None parts concerns refused spelt read found = refl
+refused_known hearing place slave (Some telegram) None concerns refused spelt read found = refl
+refused_known hearing place slave (Some telegram) (Some parts) concerns refused spelt read found =
+    by_asked hearing place slave telegram parts (eqb (address_of_slave slave) (address_of telegram.da)) refl
+    (λ asked done. refused (reached_rule hearing telegram parts slave concerns spelt read (found telegram refl (eqb-true (address_of_slave slave) (address_of telegram.da) asked)) ∙ done))
+
+by_concern : (hearing : Hearing) (place : ℕ) (slave : SlaveRecord) (concerned : Bool) → concerns_a_slave (verdict_of hearing) ≡ concerned → verdict_of hearing ≢ rules.Done
+    → ((t : Telegram) → option_and_then telegram_of_frame hearing.frame ≡ Some t → address_of_slave slave ≡ address_of t.da → hearing.slave ≡ Some slave)
+    → record (cond concerned (served_where_asked hearing.sender place (option_and_then telegram_of_frame hearing.frame) hearing.parts slave) slave) { memory = slave.memory } ≡ slave
+by_concern hearing place slave false concerns refused found = refl
+by_concern hearing place slave true concerns refused found =
+    refused_known hearing place slave (option_and_then telegram_of_frame hearing.frame) hearing.parts concerns refused refl refl found
+
+addressed : (world : World) (master : ℕ) (octets : List ℕ) (slave : SlaveRecord) (telegram : Telegram) → slave_at world (address_of_slave slave) ≡ Some slave
+    → option_and_then telegram_of_frame (heard world master octets).frame ≡ Some telegram → address_of_slave slave ≡ address_of telegram.da
+    → (heard world master octets).slave ≡ Some slave
+unfolding heard
+addressed world master octets slave telegram here spelt same =
+    ap (option_and_then (λ (t : Telegram). slave_at world (address_of t.da))) spelt ∙ ap (slave_at world) (sym same) ∙ here
+
+pub refusal_stays : (world : World) (master : ℕ) (octets : ArrayVec ℕ) (slave : SlaveRecord) → slave_at world (address_of_slave slave) ≡ Some slave
+    → verdict_of (heard world master octets.items) ≢ rules.Done
+    → record (slave_after world (Request master octets) slave) { memory = slave.memory } ≡ slave
+unfolding slave_after
+refusal_stays world master octets slave here refused =
+    by_concern (heard world master octets.items) (world.count + 1) slave (concerns_a_slave (verdict_of (heard world master octets.items))) refl refused
+    (λ telegram spelt same. addressed world master octets.items slave telegram here spelt same)
+
+pub nobody_stays : (world : World) (master : ℕ) (octets : ArrayVec ℕ) (slave : SlaveRecord) → concerns_a_slave (verdict_of (heard world master octets.items)) ≡ false
+    → slave_after world (Request master octets) slave ≡ slave
+unfolding slave_after
+nobody_stays world master octets slave silent = cond-false (concerns_a_slave (verdict_of (heard world master octets.items))) _ _ silent
+
+-- places in turn
 is_open : (world : World) → world.count + 1 < world.places → is_last_place world ≡ false
 is_open world room = grind (arith, common_steps)
 
 some_same : {A : Type 0} (x y : A) → Some x ≡ Some y → x ≡ y
 some_same x y e = cc
 
-pub run_outcome : (world : World) (before later : List Event) (master : ℕ) (octets : ArrayVec ℕ) (answer : Step)
-    → slice_get (run world (before ++ Request master octets ∷ later)).answers (length before) ≡ Some answer
-    → answer.outcome ≡ outcome_of (run world before).world master octets.items
-run_outcome world before later master octets answer here =
-    let same : answer ≡ (step (run world before).world (Request master octets)).answer = some_same _ _ (sym here ∙ answer_at world before (Request master octets) later) in
-    ap (λ (a : Step). a.outcome) same ∙ step_outcome (run world before).world master octets
-
--- a recorded event leaves slaves and places, and counts one
 record Recorded (world next : World) : Type 0 where
-  slaves : next.slaves ≡ world.slaves
   places : next.places ≡ world.places
   halted : next.halted ≡ false
   count : next.count ≡ world.count + 1
 
 effect_recorded : (world : World) (event : Event) → world.halted ≡ false → Recorded world (effect world event).world
-effect_recorded world (Request master octets) running = record { slaves = refl; places = refl; halted = running; count = refl }
+unfolding effect_of_request
+effect_recorded world (Request master octets) running = record { places = refl; halted = running; count = refl }
 
 recorded : (world : World) (event : Event) → world.halted ≡ false → world.count + 1 < world.places → Recorded world (step world event).world
 recorded world event running room =
     subst (λ (s : Stepped). Recorded world s.world) (sym (step_is_effect world event running (is_open world room))) (effect_recorded world event running)
 
-pub slaves_stay : (world : World) (events : List Event) → world.halted ≡ false → world.count + length events < world.places → (run world events).world.slaves ≡ world.slaves
-slaves_stay world [] running room = refl
-slaves_stay world (e ∷ events) running room =
-    let first = recorded world e running (omega arith) in
-    slaves_stay (step world e).world events first.halted (omega (arith, first.count, first.places)) ∙ first.slaves
+effect_place : (world : World) (event : Event) → (effect world event).answer.place ≡ Some (world.count + 1)
+unfolding effect_of_request
+effect_place world (Request master octets) = refl
 
-pub places_in_turn : (world : World) (before : List Event) (event : Event) → world.halted ≡ false → world.count + length before + 1 < world.places
+places_in_turn : (world : World) (before : List Event) (event : Event) → world.halted ≡ false → world.count + length before + 1 < world.places
     → (step (run world before).world event).answer.place ≡ Some (world.count + length before + 1)
-places_in_turn world [] (Request master octets) running room =
-    ap (λ (s : Stepped). s.answer.place) (step_is_effect world (Request master octets) running (is_open world (omega arith)))
+places_in_turn world [] event running room =
+    ap (λ (s : Stepped). s.answer.place) (step_is_effect world event running (is_open world (omega arith)))
+    ∙ effect_place world event
     ∙ ap Some (let same : world.count + 1 ≡ world.count + 0 + 1 = omega arith in same)
 places_in_turn world (e ∷ before) event running room =
     let first = recorded world e running (omega arith) in
-    places_in_turn (step world e).world before event first.halted (omega (arith, first.count, first.places)) ∙ ap Some (let same : (step world e).world.count + length before + 1 ≡ world.count + length (e ∷ before) + 1 = omega (arith, first.count) in same)
+    places_in_turn (step world e).world before event first.halted (omega (arith, first.count, first.places))
+    ∙ ap Some (let same : (step world e).world.count + length before + 1 ≡ world.count + length (e ∷ before) + 1 = omega (arith, first.count) in same)
 
 pub run_places : (world : World) (before later : List Event) (event : Event) (answer : Step) → world.halted ≡ false → world.count + length before + 1 < world.places
     → slice_get (run world (before ++ event ∷ later)).answers (length before) ≡ Some answer → answer.place ≡ Some (world.count + length before + 1)
 run_places world before later event answer running room here =
     let same : answer ≡ (step (run world before).world event).answer = some_same _ _ (sym here ∙ answer_at world before event later) in
     ap (λ (a : Step). a.place) same ∙ places_in_turn world before event running room
+
+-- the next of the events
+run_next : (world : World) (events : List Event) (n : ℕ) (event : Event) → n < length events → event ≡ get_or events n event
+    → (run world (take (suc n) events)).world ≡ (step (run world (take n events)).world event).world
+run_next world [] n event within is = absurd (omega (arith, within))
+run_next world (e ∷ events) zero event within is = ap (λ (x : Event). (step world x).world) (sym is)
+run_next world (e ∷ events) (suc n) event within is = run_next (step world e).world events n event (omega (arith, within)) is
+
+pub run_taken : (world now after : World) (events : List Event) (n : ℕ) (event : Event) → n < length events → event ≡ get_or events n event
+    → now ≡ (run world (take n events)).world → after ≡ (step now event).world → after ≡ (run world (take (n + 1) events)).world
+run_taken world now after events n event within is so taken =
+    let next : n + 1 ≡ suc n = omega arith in
+    taken ∙ ap (λ (w : World). (step w event).world) so ∙ sym (run_next world events n event within is) ∙ sym (ap (λ (k : ℕ). (run world (take k events)).world) next)

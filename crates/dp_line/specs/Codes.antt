@@ -8,3 +8,4 @@ abbrev pub open_fault_code : OpenFault → ℕ
 open_fault_code faults.OutOfMemory = 1
 open_fault_code faults.TwiceAddress = 2
 open_fault_code faults.Limit = 3
+open_fault_code faults.BadCfg = 4

@@ -1,10 +1,13 @@
 pub mod Codes
-pub mod SlaveRecord
+pub mod Names
 pub mod World
+pub mod Owned
+pub mod Hearing
 pub mod Verdict
 pub mod ReplyText
+pub mod Served
+pub mod Effects
 pub mod Steps
 pub mod Stations
-pub mod Answering
+pub mod Serving
 pub mod LineExamples
-pub mod Names

@@ -7,3 +7,4 @@ abbrev pub open_fault_name : OpenFault → List ℕ
 open_fault_name faults.OutOfMemory = codes "OutOfMemory"
 open_fault_name faults.TwiceAddress = codes "TwiceAddress"
 open_fault_name faults.Limit = codes "Limit"
+open_fault_name faults.BadCfg = codes "BadCfg"

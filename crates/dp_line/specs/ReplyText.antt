@@ -5,11 +5,12 @@ use Rattle.dp_telegram.specs.declared.frame.Telegram.{Telegram}
 use Rattle.dp_telegram.specs.declared.access.Parts.{Parts}
 use Rattle.dp_telegram.specs.FrameText.{text_of, sc_text}
 use Rattle.dp_telegram.specs.Access.{address_of}
-use Rattle.dp_telegram.specs.FunctionCode.{ok, user_error, not_activated, data_low}
-use Rattle.dp_diag.specs.DiagnosisText.{diagnosis_text}
+use Rattle.dp_telegram.specs.FunctionCode.{function_of, asks_sdn, ok, user_error, no_resource, not_activated, data_low, data_high}
+use Rattle.dp_responder.specs.Memory.{kept_reply, remembered_of}
 use Rattle.dp_responder.specs.declared.rule.Rule.{Rule}
 use Rattle.dp_responder.specs.declared.rule.Rule.TheVariants as rules
-use Rattle.dp_line.specs.SlaveRecord.{SlaveRecord, diag_facts}
+use Rattle.dp_slave.specs.SlaveRecord.{SlaveRecord}
+use Rattle.dp_slave.specs.Services.{ServiceAnswer, service_answer}
 
 -- a reply without data: SD1 with the addresses exchanged, and no extension (IEC 61158-4-3, response telegrams)
 abbrev pub short_reply : Telegram → ℕ → List ℕ
@@ -22,24 +23,44 @@ short_reply telegram function = text_of (frames.Telegram (record {
 
 -- a reply with data: the address octets exchanged as they stand, the source point first and then the destination point
 -- (IEC 61158-4-3, address extension)
-abbrev pub data_reply : Telegram → Parts → List ℕ → List ℕ
-data_reply telegram parts octets = text_of (frames.Telegram (record {
+abbrev pub data_reply : Telegram → Parts → ℕ → List ℕ → List ℕ
+data_reply telegram parts function octets = text_of (frames.Telegram (record {
   da = telegram.sa;
   sa = telegram.da;
-  fc = data_low;
+  fc = function;
   du = record { items = option_to_list parts.ssap ++ option_to_list parts.dsap ++ octets };
 }))
 
--- a positive reply: without data it is the short acknowledgement
-abbrev pub positive_reply : Telegram → Parts → List ℕ → List ℕ
-positive_reply telegram parts octets =
-    if length octets == 0 then sc_text else data_reply telegram parts octets
+-- a positive reply: with data SD2 of data high or low; without data the short acknowledgement, or SD1 of data high where a diagnosis
+-- is due (own)
+abbrev pub positive_reply : Telegram → Parts → ServiceAnswer → List ℕ
+positive_reply telegram parts answer =
+    if length answer.octets == 0 then if answer.high then short_reply telegram data_high else sc_text
+    else data_reply telegram parts (if answer.high then data_high else data_low) answer.octets
 
--- what a slave replies to a telegram by this rule; None is silence
-abbrev pub reply_text : SlaveRecord → Telegram → Parts → Rule → Option (List ℕ)
-reply_text slave telegram parts rules.Status = Some (short_reply telegram ok)
-reply_text slave telegram parts rules.NoService = Some (short_reply telegram not_activated)
-reply_text slave telegram parts rules.NotActive = Some (short_reply telegram not_activated)
-reply_text slave telegram parts rules.Length = Some (short_reply telegram user_error)
-reply_text slave telegram parts rules.Done = Some (positive_reply telegram parts (diagnosis_text (diag_facts slave)))
-reply_text slave telegram parts silent = None
+-- an SDN gets no reply
+abbrev pub unless_sdn : Telegram → List ℕ → Option (List ℕ)
+unless_sdn telegram reply = if asks_sdn (function_of telegram.fc) then None else Some reply
+
+-- what a slave replies to the sender's telegram by each rule, with the functions that the rows of its judgement name; None where nothing
+-- is replied
+unfoldable pub reply_text : SlaveRecord → ℕ → Telegram → Parts → Rule → Option (List ℕ)
+reply_text slave sender telegram parts rules.Halted = None
+reply_text slave sender telegram parts rules.NoFrame = None
+reply_text slave sender telegram parts rules.NoMaster = None
+reply_text slave sender telegram parts rules.ForeignSender = None
+reply_text slave sender telegram parts rules.Token = None
+reply_text slave sender telegram parts rules.NotRequest = None
+reply_text slave sender telegram parts rules.BadFunction = None
+reply_text slave sender telegram parts rules.BadExtension = None
+reply_text slave sender telegram parts rules.BadBroadcast = None
+reply_text slave sender telegram parts rules.NoStation = None
+reply_text slave sender telegram parts rules.Status = Some (short_reply telegram ok)
+reply_text slave sender telegram parts rules.NoService = unless_sdn telegram (short_reply telegram not_activated)
+reply_text slave sender telegram parts rules.Repeat = Some (kept_reply (remembered_of slave.memory sender))
+reply_text slave sender telegram parts rules.NotActive = unless_sdn telegram (short_reply telegram not_activated)
+reply_text slave sender telegram parts rules.NotHolder = unless_sdn telegram (short_reply telegram not_activated)
+reply_text slave sender telegram parts rules.Busy = unless_sdn telegram (short_reply telegram no_resource)
+reply_text slave sender telegram parts rules.Length = unless_sdn telegram (short_reply telegram user_error)
+reply_text slave sender telegram parts rules.NotSelected = None
+reply_text slave sender telegram parts rules.Done = unless_sdn telegram (positive_reply telegram parts (service_answer slave parts.dsap))

@@ -1,25 +1,23 @@
 -- The verdict on a request: the first row of the table that applies (own order).
-use Rattle.std.specs.Prelude.{ℕ, Bool, true, false, not, ◌||◌, ◌==◌, List, [], ◌∷◌, length, Option, is_none}
-use Rattle.std.specs.Option.{option_map_or}
-use Rattle.std.specs.List.{list_any}
+use Rattle.std.specs.Prelude.{ℕ, Bool, true, false, not, ◌&&◌, ◌==◌, List, [], ◌∷◌, ◌++◌, Option, Some, is_none}
+use Rattle.std.specs.Option.{option_and_then, option_map_or}
 use Rattle.dp_telegram.specs.declared.frame.Frame.{Frame}
 use Rattle.dp_telegram.specs.declared.frame.Frame.TheVariants as frames
 use Rattle.dp_telegram.specs.declared.frame.Telegram.{Telegram}
 use Rattle.dp_telegram.specs.declared.access.Parts.{Parts}
-use Rattle.dp_telegram.specs.FrameText.{frame_of}
-use Rattle.dp_telegram.specs.Access.{address_of, global_address, parts_of, source_of}
-use Rattle.dp_telegram.specs.FunctionCode.{asks_srd, function_of, is_request}
+use Rattle.dp_telegram.specs.Access.{address_of, global_address, source_of}
+use Rattle.dp_telegram.specs.FunctionCode.{function_of, is_request}
 use Rattle.dp_telegram.specs.declared.function_code.Function.{Function}
 use Rattle.dp_telegram.specs.declared.function_code.Function.TheVariants.{SdaLow, SdnLow, SdaHigh, SdnHigh, FdlStatus, SrdLow, SrdHigh, Ident, LsapStatus, Reserved}
-use Rattle.dp_sap.specs.AccessTable.{same_point, slave_diag}
+use Rattle.dp_sap.specs.AccessTable.{same_point, global_control}
+use Rattle.dp_responder.specs.Memory.{remembered_of}
+use Rattle.dp_responder.specs.Judgement.{judgement_rows, rules_of}
 use Rattle.dp_responder.specs.Rules.{first_row}
 use Rattle.dp_responder.specs.declared.rule.Rule.{Rule}
 use Rattle.dp_responder.specs.declared.rule.Rule.TheVariants as rules
-use Rattle.dp_line.specs.World.{World, slave_at, takes_no_more}
-
--- a telegram is a request (IEC 61158-4-3, function code)
-abbrev pub telegram_is_request : Telegram → Bool
-telegram_is_request telegram = is_request telegram.fc
+use Rattle.dp_slave.specs.SlaveRecord.{SlaveRecord, group_of, points_of}
+use Rattle.dp_globalctl.specs.Command.{command_of, selects}
+use Rattle.dp_line.specs.Hearing.{Hearing, telegram_of_frame}
 
 -- Request FDL Status (IEC 61158-4-3, function code)
 abbrev pub asks_fdl_status : Function → Bool
@@ -48,13 +46,29 @@ asks_unserved SrdLow = false
 asks_unserved SrdHigh = false
 asks_unserved Reserved = false
 
+-- a function outside those of this profile (own)
+abbrev pub asks_reserved : Function → Bool
+asks_reserved Reserved = true
+asks_reserved SdaLow = false
+asks_reserved SdnLow = false
+asks_reserved SdaHigh = false
+asks_reserved SdnHigh = false
+asks_reserved FdlStatus = false
+asks_reserved SrdLow = false
+asks_reserved SrdHigh = false
+asks_reserved Ident = false
+asks_reserved LsapStatus = false
+
 abbrev pub is_fdl_status : Telegram → Bool
 is_fdl_status telegram = asks_fdl_status (function_of telegram.fc)
 
 abbrev pub is_unserved : Telegram → Bool
 is_unserved telegram = asks_unserved (function_of telegram.fc)
 
--- the frame has a source address, and its address isn't the sender (own)
+abbrev pub has_reserved_function : Telegram → Bool
+has_reserved_function telegram = asks_reserved (function_of telegram.fc)
+
+-- the frame has a source address, and it isn't that of the event's master (own)
 abbrev pub has_foreign_sender : ℕ → Frame → Bool
 has_foreign_sender sender frame = option_map_or (λ source. not (source == sender)) (source_of frame) false
 
@@ -63,78 +77,76 @@ is_token (frames.Token da sa) = true
 is_token frames.Ack = false
 is_token (frames.Telegram telegram) = false
 
--- a condition on the frame's telegram, which doesn't hold of a frame that is none
-abbrev pub telegram_has : (Telegram → Bool) → Frame → Bool
-telegram_has condition (frames.Token da sa) = false
-telegram_has condition frames.Ack = false
-telegram_has condition (frames.Telegram telegram) = condition telegram
-
--- a short acknowledgement, a token or a response
+-- a short acknowledgement or a response, and a token, which the row before has taken (IEC 61158-4-3, function code)
 abbrev pub is_no_request : Frame → Bool
-is_no_request frame = not (telegram_has telegram_is_request frame)
+is_no_request (frames.Token da sa) = true
+is_no_request frames.Ack = true
+is_no_request (frames.Telegram telegram) = not (is_request telegram.fc)
 
--- a function outside those of this profile, and Send Data with No acknowledge, which no point takes (own)
-abbrev pub has_reserved_function : Frame → Bool
-has_reserved_function = telegram_has (λ telegram. not (asks_srd (function_of telegram.fc) || is_fdl_status telegram || is_unserved telegram))
+-- DA is the global address; as long as no broadcast is taken, each request to it is refused
+abbrev pub is_to_all : Telegram → Bool
+is_to_all telegram = address_of telegram.da == global_address
 
--- an announced extension octet is missing or not plain (own)
-abbrev pub has_bad_extension : Frame → Bool
-has_bad_extension = telegram_has (λ telegram. is_none (parts_of telegram))
+-- a condition on the frame or on its telegram, which doesn't hold where there is none
+abbrev pub frame_has : (Frame → Bool) → Hearing → Bool
+frame_has condition hearing = option_map_or condition hearing.frame false
 
--- sent to all stations
-abbrev pub is_broadcast : Frame → Bool
-is_broadcast = telegram_has (λ telegram. address_of telegram.da == global_address)
+abbrev pub telegram_has : (Telegram → Bool) → Hearing → Bool
+telegram_has condition hearing = option_map_or condition (option_and_then telegram_of_frame hearing.frame) false
 
--- no slave has the destination address
-abbrev pub has_no_station : World → Frame → Bool
-has_no_station world = telegram_has (λ telegram. is_none (slave_at world (address_of telegram.da)))
+-- the rows by which no slave is concerned
+abbrev pub line_rows : Hearing → List (Bool × Rule)
+line_rows hearing =
+    (hearing.over, rules.Halted)
+    ∷ (is_none hearing.frame, rules.NoFrame)
+    ∷ (not hearing.is_master, rules.NoMaster)
+    ∷ (frame_has (has_foreign_sender hearing.sender) hearing, rules.ForeignSender)
+    ∷ (frame_has is_token hearing, rules.Token)
+    ∷ (frame_has is_no_request hearing, rules.NotRequest)
+    ∷ (telegram_has has_reserved_function hearing, rules.BadFunction)
+    ∷ (is_none hearing.parts, rules.BadExtension)
+    ∷ (telegram_has is_to_all hearing, rules.BadBroadcast)
+    ∷ (not (telegram_has is_to_all hearing) && is_none hearing.slave, rules.NoStation)
+    ∷ []
 
--- the status of a station is asked for, which it has in every state
-abbrev pub asks_for_status : Frame → Bool
-asks_for_status = telegram_has is_fdl_status
+-- a Global_Control that doesn't select the slave (IEC 61158-6-3, Global_Control request, Group_Select); by the rows before this one it is
+-- an SDN with two octets
+abbrev pub is_not_selected : Parts → SlaveRecord → Bool
+is_not_selected parts slave =
+    same_point parts.dsap global_control && not (selects (command_of parts.payload.items).group (group_of slave))
 
-abbrev pub has_unserved_function : Frame → Bool
-has_unserved_function = telegram_has is_unserved
+-- the rows of a slave for an SRD or an SDN: repeat, point, sender, service, busy mark and length, then the selection
+abbrev pub slave_rows : ℕ → Telegram → Parts → SlaveRecord → List (Bool × Rule)
+slave_rows sender telegram parts slave =
+    rules_of (judgement_rows (points_of slave) (remembered_of slave.memory sender) sender telegram.fc parts)
+    ++ (is_not_selected parts slave, rules.NotSelected)
+    ∷ []
 
--- a condition on the points and the payload of the frame's telegram
-abbrev pub parts_have : (Parts → Bool) → Frame → Bool
-parts_have condition = telegram_has (λ telegram. option_map_or condition (parts_of telegram) false)
+-- the rows of the slave that has the destination address; the functions that are no SRD and no SDN come first
+abbrev pub station_rows : ℕ → Telegram → Parts → SlaveRecord → List (Bool × Rule)
+station_rows sender telegram parts slave =
+    (is_fdl_status telegram, rules.Status)
+    ∷ (is_unserved telegram, rules.NoService)
+    ∷ slave_rows sender telegram parts slave
 
--- every point but Slave_Diag is off (own)
-abbrev pub is_off : Option ℕ → Bool
-is_off point = not (same_point point slave_diag)
+-- these rows where telegram, parts and slave are there; where one is missing, a row of the line applies
+abbrev pub rows_where_known : ℕ → Option Telegram → Option Parts → Option SlaveRecord → List (Bool × Rule)
+rows_where_known sender (Some telegram) (Some parts) (Some slave) = station_rows sender telegram parts slave
+rows_where_known sender telegram parts slave = []
 
-abbrev pub point_is_off : Frame → Bool
-point_is_off = parts_have (λ parts. is_off parts.dsap)
+-- the whole table
+abbrev pub verdict_rows : Hearing → List (Bool × Rule)
+verdict_rows hearing = line_rows hearing ++ rows_where_known hearing.sender (option_and_then telegram_of_frame hearing.frame) hearing.parts hearing.slave
 
--- Slave_Diag takes no octets (IEC 61158-6-3, Slave_Diag request)
-abbrev pub has_wrong_length : Frame → Bool
-has_wrong_length = parts_have (λ parts. not (length parts.payload.items == 0))
+-- the rule by which a request is answered; where no row applies, the service is done
+unfoldable pub verdict_of : Hearing → Rule
+verdict_of hearing = first_row (verdict_rows hearing)
 
--- a condition on the frame that the octets spell, which doesn't hold where they spell none
-abbrev pub frame_has : (Frame → Bool) → List ℕ → Bool
-frame_has condition octets = option_map_or condition (frame_of octets) false
+-- the rule of a slave that a request has reached
+unfoldable pub rule_at : ℕ → Telegram → Parts → SlaveRecord → Rule
+rule_at sender telegram parts slave = first_row (station_rows sender telegram parts slave)
 
--- the rule by which a master's request is answered
-abbrev pub verdict_of : World → ℕ → List ℕ → Rule
-verdict_of world master octets = first_row (
-    (takes_no_more world, rules.Halted)
-    ∷ (is_none (frame_of octets), rules.NoFrame)
-    ∷ (not (list_any (λ other. other == master) world.masters), rules.NoMaster)
-    ∷ (frame_has (has_foreign_sender master) octets, rules.ForeignSender)
-    ∷ (frame_has is_token octets, rules.Token)
-    ∷ (frame_has is_no_request octets, rules.NotRequest)
-    ∷ (frame_has has_reserved_function octets, rules.BadFunction)
-    ∷ (frame_has has_bad_extension octets, rules.BadExtension)
-    ∷ (frame_has is_broadcast octets, rules.BadBroadcast)
-    ∷ (frame_has (has_no_station world) octets, rules.NoStation)
-    ∷ (frame_has asks_for_status octets, rules.Status)
-    ∷ (frame_has has_unserved_function octets, rules.NoService)
-    ∷ (frame_has point_is_off octets, rules.NotActive)
-    ∷ (frame_has has_wrong_length octets, rules.Length)
-    ∷ [])
-
--- the rows from Status on concern one slave; with the rows before, none is concerned (own)
+-- the rules of the line's rows concern no slave; all others concern one
 abbrev pub concerns_a_slave : Rule → Bool
 concerns_a_slave rules.Halted = false
 concerns_a_slave rules.NoFrame = false
@@ -146,4 +158,12 @@ concerns_a_slave rules.BadFunction = false
 concerns_a_slave rules.BadExtension = false
 concerns_a_slave rules.BadBroadcast = false
 concerns_a_slave rules.NoStation = false
-concerns_a_slave other = true
+concerns_a_slave rules.Status = true
+concerns_a_slave rules.NoService = true
+concerns_a_slave rules.Repeat = true
+concerns_a_slave rules.NotActive = true
+concerns_a_slave rules.NotHolder = true
+concerns_a_slave rules.Busy = true
+concerns_a_slave rules.Length = true
+concerns_a_slave rules.NotSelected = true
+concerns_a_slave rules.Done = true

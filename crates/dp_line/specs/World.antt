@@ -1,12 +1,13 @@
 -- What a line is at one moment, and at its start.
-use Rattle.std.specs.Prelude.{ℕ, ◌+◌, Bool, false, not, ◌&&◌, ◌||◌, ◌==◌, nat_le, if◌then◌else◌, List, [], ◌∷◌, ◌++◌, length, map, find, Option, Some, None}
+use Rattle.std.specs.Prelude.{ℕ, ◌+◌, Bool, false, not, ◌&&◌, ◌||◌, ◌==◌, nat_le, if◌then◌else◌, List, [], ◌∷◌, ◌++◌, length, map, find, Option, Some, None, is_ok}
 use Rattle.std.specs.List.{list_all, list_any, filter_map, range_with_len}
+use Rattle.dp_telegram.specs.Access.{global_address, is_station}
+use Rattle.dp_cfg.specs.Reading.{reading_of}
 use Rattle.dp_slave.specs.declared.description.SlaveSpec.{SlaveSpec}
+use Rattle.dp_slave.specs.SlaveRecord.{SlaveRecord, starting_slave}
 use Rattle.dp_line.specs.declared.description.LineSpec.{LineSpec}
 use Rattle.dp_line.specs.declared.fault.OpenFault.{OpenFault}
-use Rattle.dp_line.specs.declared.fault.OpenFault.TheVariants.{TwiceAddress, Limit}
-use Rattle.dp_telegram.specs.Access.{global_address, is_station}
-use Rattle.dp_line.specs.SlaveRecord.{SlaveRecord, starting_slave, address_of_slave}
+use Rattle.dp_line.specs.declared.fault.OpenFault.TheVariants.{TwiceAddress, Limit, BadCfg}
 
 -- a line: its masters, the places of its journal and how many are taken, whether it is halted, and its
 -- slaves in ascending order of address (own)
@@ -17,11 +18,14 @@ pub record World : Type 0 where
   pub halted : Bool
   pub slaves : List SlaveRecord
 
+abbrev pub address_of_slave : SlaveRecord → ℕ
+address_of_slave slave = slave.description.address
+
 -- the slave that has the address
 abbrev pub slave_at : World → ℕ → Option SlaveRecord
 slave_at world address = find (λ slave. address_of_slave slave == address) world.slaves
 
--- only the place of the halt is left
+-- at most the place of the halt is left
 abbrev pub is_last_place : World → Bool
 is_last_place world = nat_le world.places (world.count + 1)
 
@@ -63,14 +67,20 @@ has_twice [] = false
 has_twice (x ∷ xs) = list_any (λ y. x == y) xs || has_twice xs
 
 -- the addresses of the line's stations, masters and slaves together
-abbrev pub stations : Description → List ℕ
-stations line = line.masters ++ map (λ slave. slave.address) line.slaves
+abbrev pub station_addresses : Description → List ℕ
+station_addresses line = line.masters ++ map (λ slave. slave.address) line.slaves
 
--- why a description isn't opened: limits first, then addresses
+-- the octets of the slave's configuration are a list of identifiers, with at most 244 octets of inputs and of outputs (IEC 61158-6-3,
+-- configuration identifiers)
+abbrev pub has_configuration : SlaveSpec → Bool
+has_configuration slave = is_ok (reading_of slave.cfg.items)
+
+-- why a description isn't opened: limits first, then addresses, then configurations
 abbrev pub opening_fault : Description → Option OpenFault
 opening_fault line =
     if not (is_within_limits line) then Some Limit
-    else if has_twice (stations line) then Some TwiceAddress
+    else if has_twice (station_addresses line) then Some TwiceAddress
+    else if not (list_all has_configuration line.slaves) then Some BadCfg
     else None
 
 -- the slave that is described for the address
@@ -88,5 +98,5 @@ start_of line = record {
   places = line.places;
   count = 0;
   halted = false;
-  slaves = map starting_slave (ascending line.slaves);
+  slaves = map (starting_slave line.masters) (ascending line.slaves);
 }

@@ -29,21 +29,31 @@ pub enum Outcome {
     },
     /// No slave replies, for this reason.
     Silence(Rule),
+    /// What gets no reply was done: a Global_Control.
+    Done,
 }
 
-/// State and holder of the one slave that an event concerns, before the event.
+/// State and holder of the one slave that an event concerns, before the event; None where it concerns
+/// none.
 pub type Facts = Option<(State, Option<u8>)>;
 
-/// One event's way through a line.
+/// The answer of a line to one event.
 #[derive(Clone, Debug, Drop, PartialEq, Eq)]
 pub struct Step {
     /// The event's place in the journal, from 1; None where it wasn't recorded.
     pub place: Option<u32>,
-    /// The slave concerned; None where there is none.
+    /// State and holder of the slave concerned, before the event; None where there is none.
     pub facts: Facts,
     /// The answer.
     pub outcome: Outcome,
     /// Addresses of the slaves let go, ascending, where this event met the last place and the halt
     /// was recorded instead of it; else None.
     pub halted: Option<ArrayVec<u8, 64>>,
+}
+
+/// An answer, and the facts of the slave that it concerns.
+#[derive(Drop)]
+pub(crate) struct Answer {
+    pub(crate) facts: Facts,
+    pub(crate) outcome: Outcome,
 }

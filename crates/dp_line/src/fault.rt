@@ -6,7 +6,8 @@ ghost use Rattle.dp_line.specs.Names.{open_fault_name};
 
 use thiserror::Error;
 
-/// Why a line isn't opened. The first that applies is reported: `Limit`, `TwiceAddress`, `OutOfMemory`.
+/// Why a line isn't opened. The first that applies is reported: `Limit`, `TwiceAddress`,
+/// `BadCfg`, `OutOfMemory`.
 #[derive(Clone, Copy, Debug, PartialEq, Eq, Error)]
 #[error("{}", self.name())]
 pub enum OpenFault {
@@ -17,10 +18,13 @@ pub enum OpenFault {
     /// A number of the description is outside its limits: 2 to 65,536 places, 1 to 16 masters, 1 to
     /// 64 slaves, addresses 0 to 126, at most 237 user parameters.
     Limit,
+    /// The configuration of a slave ends within an identifier, or has more than 244 octets of inputs
+    /// or of outputs.
+    BadCfg,
 }
 
 impl OpenFault {
-    /// The number of the fault, 1 to 3 (own).
+    /// The number of the fault, 1 to 4 (own).
     pub const fn code(self) -> u8
         ensures { result ≡ open_fault_code self }
     {
@@ -28,6 +32,7 @@ impl OpenFault {
             OpenFault::OutOfMemory => 1,
             OpenFault::TwiceAddress => 2,
             OpenFault::Limit => 3,
+            OpenFault::BadCfg => 4,
         }
     }
 
@@ -39,6 +44,7 @@ impl OpenFault {
             OpenFault::OutOfMemory => "OutOfMemory",
             OpenFault::TwiceAddress => "TwiceAddress",
             OpenFault::Limit => "Limit",
+            OpenFault::BadCfg => "BadCfg",
         }
     }
 }

@@ -13,12 +13,12 @@ pub mod laws;
 mod limits;
 mod line_state;
 mod reply;
-mod slave;
+mod request;
 mod stations;
 
 pub use description::LineSpec;
 pub use dp_responder::Rule;
-pub use dp_slave::{Device, SlaveSpec};
+pub use dp_slave::{Device, SlaveSpec, SlaveView};
 pub use event::{Event, Facts, Outcome, Step};
 pub use fault::OpenFault;
 pub use line_state::LineState;

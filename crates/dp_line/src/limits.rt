@@ -3,11 +3,12 @@
 ghost use Rattle.std.specs.Prelude.{◌≡◌, ◌≤◌, ◌++◌, length, map};
 ghost use Rattle.std.specs.List.{list_all};
 ghost use Rattle.dp_telegram.specs.Access.{is_station as is_station_address};
-ghost use Rattle.dp_line.specs.World.{is_within_limits, slave_is_within_limits, stations, has_twice, opening_fault, description_of};
+ghost use Rattle.dp_line.specs.World.{is_within_limits, slave_is_within_limits, station_addresses as addresses_of, has_twice, has_configuration, opening_fault, description_of};
 
 use crate::description::LineSpec;
 use crate::fault::OpenFault;
 use arrayvec::ArrayVec;
+use dp_cfg::CfgIds;
 use dp_slave::SlaveSpec;
 use dp_telegram::is_station;
 
@@ -24,7 +25,8 @@ const MOST_USER_PARAMETERS: u8 = 237;
 
 impl LineSpec {
     /// Why no line is opened from the description: `Limit` where a number is outside its limits, else
-    /// `TwiceAddress` where two stations have one address; None where a line is opened.
+    /// `TwiceAddress` where two stations have one address, else `BadCfg` where the octets of a
+    /// slave's configuration are none; None where a line is opened.
     pub fn fault(&self) -> Option<OpenFault>
         ensures { result ≡ opening_fault (description_of self.now) }
     {
@@ -33,6 +35,9 @@ impl LineSpec {
         }
         if stands_twice(&station_addresses(self)) {
             return Some(OpenFault::TwiceAddress);
+        }
+        if !have_configurations(&self.slaves) {
+            return Some(OpenFault::BadCfg);
         }
         None
     }
@@ -73,7 +78,7 @@ fn slave_is_within(slave: &SlaveSpec) -> bool
 fn station_addresses(line: &LineSpec) -> ArrayVec<u8, 80>
     requires masters { length line.now.masters.items ≤ 16 }
     requires slaves { length line.now.slaves.items ≤ 64 }
-    ensures { result.items ≡ stations (description_of line.now) }
+    ensures { result.items ≡ addresses_of (description_of line.now) }
 {
     let mut addresses = ArrayVec::new();
     addresses.try_extend_from_slice(&line.masters).unwrap();
@@ -91,4 +96,16 @@ fn stands_twice(addresses: &[u8]) -> bool
         [] => false,
         [first, others @ ..] => others.contains(first) || stands_twice(others),
     }
+}
+
+fn have_configurations(slaves: &[SlaveSpec]) -> bool
+    ensures { result ≡ list_all has_configuration slaves.now }
+{
+    slaves.iter().all(|slave| is_configured(slave))
+}
+
+fn is_configured(slave: &SlaveSpec) -> bool
+    ensures { result ≡ has_configuration slave.now }
+{
+    CfgIds::parse(&slave.cfg).is_ok()
 }

@@ -1,10 +1,11 @@
 //! A line: its masters, its slaves and the places of its journal.
 
-ghost use Rattle.std.specs.Prelude.{◌≡◌, false, None, IfSome, MatchResult, option_map};
-ghost use Rattle.dp_line.specs.World.{description_of, opening_fault, start_of, takes_no_more};
-ghost use Rattle.dp_line.specs.Steps.{step, effect_of_request, halted_world, let_go, unrecorded as unrecorded_step};
-
-mod answering;
+ghost use Rattle.std.specs.Prelude.{◌≡◌, false, None, Some, IfSome, MatchResult, option_map};
+ghost use Rattle.dp_slave.specs.View.{view_of};
+ghost use Rattle.dp_line.specs.World.{description_of, opening_fault, slave_at, start_of, takes_no_more};
+ghost use Rattle.dp_line.specs.Owned.{owned};
+ghost use Rattle.dp_line.specs.Effects.{effect_of_request, halted_world, let_go};
+ghost use Rattle.dp_line.specs.Steps.{step, unrecorded as unrecorded_step};
 
 use crate::description::LineSpec;
 use crate::event::{Event, Outcome, Step};
@@ -13,13 +14,13 @@ use crate::limits::MOST_SLAVES;
 use crate::stations::Stations;
 use arrayvec::ArrayVec;
 use dp_responder::Rule;
+use dp_slave::SlaveView;
 use std::alloc::Global;
 use std::marker::Model;
 
 /// A line of slaves, opened from its description. Nothing but [`LineState::open`] takes memory.
 #[derive(Drop)]
 pub struct LineState {
-    masters: ArrayVec<u8, 16>,
     places: u32,
     count: u32,
     halted: bool,
@@ -27,27 +28,30 @@ pub struct LineState {
 }
 
 impl Model for LineState {
-    ghost use Rattle.std.specs.Prelude.{◌≡◌, ◌<◌, ◌≤◌, false};
+    ghost use Rattle.std.specs.Prelude.{◌≡◌, ◌+◌, ◌<◌, false};
     ghost use Rattle.dp_line.specs.World.{World};
 
     ghost Value = { World };
 
+    ghost use Rattle.dp_line.specs.Stations.{AreBefore};
+
     ghost view = { λ s. record {
-      masters = s.masters.items;
+      masters = s.stations.masters;
       places = s.places;
       count = s.count;
       halted = s.halted;
-      slaves = s.stations;
+      slaves = s.stations.slaves;
     } };
 
-    ghost invariant = { λ s. s.halted ≡ false → s.count < s.places };
+    ghost invariant = { λ s. (s.halted ≡ false → s.count < s.places) × AreBefore (s.count + 1) s.stations.slaves };
 }
 
 impl LineState {
     /// The line at its start: nothing recorded, every slave without a holder.
     ///
     /// `Limit` exactly where a number is outside its limits; `TwiceAddress` exactly where none is and
-    /// two stations have one address; else `OutOfMemory` where memory was refused (own).
+    /// two stations have one address; `BadCfg` exactly where neither is so and the octets of a
+    /// configuration are none; else `OutOfMemory` where memory was refused (own).
     pub fn open(alloc: Global, line: &LineSpec) -> Result<LineState, OpenFault>
         ensures refused { IfSome (opening_fault (description_of line.now)) (λ fault. result ≡ Err fault) }
         ensures opened { opening_fault (description_of line.now) ≡ None
@@ -56,11 +60,8 @@ impl LineState {
         if let Some(fault) = line.fault() {
             return Err(fault);
         }
-        let stations = Stations::start(alloc, &line.slaves).map_err(|_| OpenFault::OutOfMemory)?;
-        let mut masters = ArrayVec::new();
-        masters.try_extend_from_slice(&line.masters).unwrap();
+        let stations = Stations::start(alloc, line).map_err(|_| OpenFault::OutOfMemory)?;
         Ok(LineState {
-            masters,
             places: line.capacity,
             count: 0,
             halted: false,
@@ -98,16 +99,35 @@ impl LineState {
         self.halted
     }
 
+    /// The addresses of the slaves that a master holds, oldest lock first; none for an address that is
+    /// no master's.
+    pub fn owned_by(&self, master: u8) -> ArrayVec<u8, MOST_SLAVES>
+        ensures { result.items ≡ owned self.now master }
+    {
+        self.stations.owned_by(master)
+    }
+
+    /// What is shown of the slave that has the address; None where no slave has it.
+    pub fn view(&self, address: u8) -> Option<SlaveView>
+        ensures { result ≡ option_map view_of (slave_at self.now address) }
+    {
+        match self.stations.find(address) {
+            Some(slave) => Some(slave.view()),
+            None => None,
+        }
+    }
+
     /// Takes a request that takes a place.
     fn take_request(&mut self, master: u8, octets: &[u8]) -> Step
         requires { takes_no_more self.old ≡ false }
         ensures world { self.new ≡ (effect_of_request self.old master octets.now).world }
         ensures answer { result ≡ (effect_of_request self.old master octets.now).answer }
     {
-        let answer = self.answer(master, octets);
-        self.count += 1;
+        let place = self.count + 1;
+        let answer = self.stations.answer(master, place, octets);
+        self.count = place;
         Step {
-            place: Some(self.count),
+            place: Some(place),
             facts: answer.facts,
             outcome: answer.outcome,
             halted: None,

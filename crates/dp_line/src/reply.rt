@@ -1,10 +1,12 @@
 //! The texts of replies.
 
-ghost use Rattle.std.specs.Prelude.{◌≡◌, ◌≤◌, length};
+ghost use Rattle.std.specs.Prelude.{◌≡◌, ◌≤◌, if◌then◌else◌, length};
+ghost use Rattle.dp_sap.specs.AccessTable.{most_data};
+ghost use Rattle.dp_telegram.specs.FunctionCode.{data_high, data_low};
 ghost use Rattle.dp_line.specs.ReplyText.{short_reply, positive_reply, data_reply};
 
 use arrayvec::ArrayVec;
-use dp_telegram::function_code::DL;
+use dp_telegram::function_code::{DH, DL};
 use dp_telegram::{Frame, Octets, Parts, Telegram, encode};
 
 /// A reply without data.
@@ -19,14 +21,34 @@ pub(crate) fn short(telegram: &Telegram, function: u8) -> Octets
     }))
 }
 
-/// A positive reply with these octets, the short acknowledgement where there are none.
-pub(crate) fn positive(telegram: &Telegram, parts: &Parts, octets: &[u8]) -> Octets
-    requires { length octets.now ≤ 244 }
-    ensures { result.items ≡ positive_reply telegram.now parts.now octets.now }
+/// A positive reply with these octets, of high priority or not; where there are none, it is the short
+/// acknowledgement, or of high priority a reply without data.
+pub(crate) fn positive(telegram: &Telegram, parts: &Parts, octets: &[u8], high: bool) -> Octets
+    requires { length octets.now ≤ most_data }
+    ensures { result.items ≡ positive_reply telegram.now parts.now (record { high = high; octets = octets.now }) }
 {
-    if octets.is_empty() {
-        return encode(&Frame::Ack);
+    if !octets.is_empty() {
+        return with_data(telegram, parts, data_function(high), octets);
     }
+    if high {
+        short(telegram, DH)
+    } else {
+        encode(&Frame::Ack)
+    }
+}
+
+/// The function of a reply with data.
+fn data_function(high: bool) -> u8
+    ensures { result ≡ (if high then data_high else data_low) }
+{
+    if high { DH } else { DL }
+}
+
+/// A reply with data.
+fn with_data(telegram: &Telegram, parts: &Parts, function: u8, octets: &[u8]) -> Octets
+    requires { length octets.now ≤ most_data }
+    ensures { result.items ≡ data_reply telegram.now parts.now function octets.now }
+{
     let mut du = ArrayVec::new();
     du.try_extend_from_slice(parts.ssap.as_slice()).unwrap();
     du.try_extend_from_slice(parts.dsap.as_slice()).unwrap();
@@ -34,7 +56,7 @@ pub(crate) fn positive(telegram: &Telegram, parts: &Parts, octets: &[u8]) -> Oct
     encode(&Frame::Telegram(Telegram {
         da: telegram.sa,
         sa: telegram.da,
-        fc: DL,
+        fc: function,
         du,
     }))
 }

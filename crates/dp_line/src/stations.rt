@@ -1,92 +1,171 @@
-//! The slaves of a line, found by their address in one step.
+//! The stations of a line: its masters, and its slaves, found by their address in one step.
 
-ghost use Rattle.std.specs.Prelude.{◌≡◌, ℕ, ◌≤◌, ◌<◌, ◌==◌, length, map, find, filter, None, slice_get, slice_index_or, IfOk};
+ghost use Rattle.std.specs.Prelude.{◌≡◌, ℕ, ◌≤◌, ◌<◌, ◌==◌, length, map, find, filter, false, true, None, Some, option_map, slice_get, slice_index_or, IfOk, position};
 ghost use Rattle.std.specs.Option.{option_copied};
-ghost use Rattle.dp_line.specs.SlaveRecord.{starting_slave, released, is_held, address_of_slave};
-ghost use Rattle.dp_line.specs.Stations.{place_of};
-ghost use Rattle.dp_line.specs.World.{ascending, described_at};
+ghost use Rattle.std.specs.List.{list_all, list_any};
+ghost use Rattle.dp_slave.specs.SlaveRecord.{released, is_held, is_held_by};
+ghost use Rattle.dp_line.specs.World.{address_of_slave, ascending, described_at, description_of, has_configuration, opening_fault};
+ghost use Rattle.dp_line.specs.Owned.{in_order};
+ghost use Rattle.dp_line.specs.Effects.{served_where_asked, state_and_holder};
+ghost use Rattle.dp_line.specs.Serving.{IsOfProfile, answer_to};
+ghost use Rattle.dp_line.specs.Stations.{AreBefore, AreEmpty, fresh_slave, freed, index_of, slave_asked, slaves_of, started};
 
+mod answering;
+mod lists;
+
+use crate::description::LineSpec;
+use crate::event::Answer;
 use crate::limits::MOST_SLAVES;
-use crate::slave::Slave;
+use crate::request::Request;
 use arrayvec::ArrayVec;
-use dp_slave::SlaveSpec;
+use dp_owners::{Linked, Links, Owners};
+use dp_slave::{Slave, SlaveSpec};
 use dp_telegram::LAST_STATION;
 use std::alloc::{AllocError, Global};
 use std::marker::Model;
 
-/// Of each octet the place of the slave that has it for its address.
-type Places = [Option<u8>; 256];
+/// Of each octet the index of the slave that has it for its address.
+type Indices = [Option<u8>; 256];
 
-/// Slaves in ascending order of address, with the place of each by its address.
+/// The masters of a line, and its slaves in ascending order of address, each in the list of the master
+/// that holds it.
 #[derive(Drop)]
 pub(crate) struct Stations {
+    masters: ArrayVec<u8, 16>,
     slaves: Vec<Slave>,
-    places: Places,
+    indices: Indices,
+    owners: Owners,
 }
 
 impl Model for Stations {
-    ghost use Rattle.std.specs.Prelude.{List};
-    ghost use Rattle.dp_line.specs.SlaveRecord.{SlaveRecord};
+    ghost use Rattle.dp_line.specs.Stations.{StationsView};
 
-    ghost Value = { List SlaveRecord };
+    ghost Value = { StationsView };
 
-    ghost use Rattle.dp_line.specs.Stations.{IsIndexed};
+    ghost use Rattle.dp_line.specs.Stations.{AreStations, slaves_of};
 
-    ghost view = { λ s. s.slaves.items };
+    ghost view = { λ s. record { masters = s.masters.items; slaves = slaves_of s.slaves.items } };
 
-    ghost invariant = { λ s. IsIndexed s.slaves.items s.places };
+    ghost invariant = { λ s. AreStations s.masters.items s.slaves.items s.indices s.owners };
 }
 
 impl Stations {
-    /// The slaves that are described, at their start.
-    pub(crate) fn start(alloc: Global, descriptions: &[SlaveSpec]) -> Result<Stations, AllocError>
-        requires { length descriptions.now ≤ 64 }
-        ensures { IfOk result (λ stations. stations ≡ map starting_slave (ascending descriptions.now)) }
+    /// The stations of a description from which a line is opened, at their start.
+    pub(crate) fn start(alloc: Global, line: &LineSpec) -> Result<Stations, AllocError>
+        requires { opening_fault (description_of line.now) ≡ None }
+        ensures { IfOk result (λ stations. stations ≡ started (description_of line.now)) }
     {
-        let slaves = starting_slaves(alloc, descriptions)?;
-        let places = places_of(&slaves);
-        Ok(Stations { slaves, places })
+        let slaves = starting_slaves(alloc, &line.slaves, &line.masters)?;
+        let indices = indices_of(&slaves);
+        Ok(Stations {
+            masters: ArrayVec::try_from(line.masters.as_slice()).unwrap(),
+            slaves,
+            indices,
+            owners: no_owners(),
+        })
+    }
+
+    /// The address is that of a master.
+    pub(crate) fn has_master(&self, address: u8) -> bool
+        ensures { result ≡ list_any (λ other. other == address) self.now.masters }
+    {
+        self.masters.contains(&address)
     }
 
     /// The slave that has the address.
     pub(crate) fn find(&self, address: u8) -> Option<&Slave>
-        ensures { option_copied result ≡ find (λ slave. address_of_slave slave == address) self.now }
+        ensures { option_map (λ p. p.slave) (option_copied result) ≡ find (λ slave. address_of_slave slave == address) self.now.slaves }
     {
-        match self.places[usize::from(address)] {
-            Some(place) => slave_in(&self.slaves, usize::from(place)),
+        match self.indices[usize::from(address)] {
+            Some(index) => slave_in(&self.slaves, usize::from(index)),
             None => None,
         }
     }
 
+    /// Serves a request at the slave that has its destination address, None where there is no such slave.
+    pub(crate) fn serve(&mut self, request: &Request<'_>) -> Option<Answer>
+        requires function { IsOfProfile request.now }
+        requires master { list_any (λ other. other == request.now.sender) self.old.masters ≡ true }
+        requires later { AreBefore request.now.place self.old.slaves }
+        ensures slaves { self.new ≡ record self.old {
+          slaves = map (served_where_asked request.now.sender request.now.place (Some request.now.telegram.now) (Some request.now.parts.now)) self.old.slaves;
+        } }
+        ensures facts { option_map (λ answer. answer.facts) result
+            ≡ option_map (λ slave. Some (state_and_holder slave)) (slave_asked self.old.slaves request.now) }
+        ensures outcome { option_map (λ answer. answer.outcome) result
+            ≡ option_map (answer_to request.now) (slave_asked self.old.slaves request.now) }
+    {
+        let index = usize::from(self.indices[usize::from(request.telegram.destination())]?);
+        let Stations {
+            masters,
+            slaves,
+            owners,
+            ..
+        } = self;
+        Some(lists::serve_at(slaves, owners, masters, index, request))
+    }
+
     /// Lets go of every holder; the addresses of the slaves that had one, ascending.
     pub(crate) fn release_all(&mut self) -> ArrayVec<u8, MOST_SLAVES>
-        ensures slaves { self.new ≡ map released self.old }
-        ensures let_go { result.items ≡ map address_of_slave (filter is_held self.old) }
+        ensures slaves { self.new ≡ record self.old { slaves = map released self.old.slaves } }
+        ensures let_go { result.items ≡ map address_of_slave (filter is_held self.old.slaves) }
     {
         let let_go = held_addresses(&self.slaves);
-        release_each(&mut self.slaves);
+        free_each(&mut self.slaves);
+        self.owners = no_owners();
         let_go
+    }
+
+    /// The addresses of the slaves that a master holds, oldest lock first.
+    pub(crate) fn owned_by(&self, master: u8) -> ArrayVec<u8, MOST_SLAVES>
+        ensures { result.items ≡ map address_of_slave (in_order (λ slave. slave.since) (filter (is_held_by master) self.now.slaves)) }
+    {
+        match lists::index_in(&self.masters, Some(master)) {
+            Some(index) => lists::addresses(&self.slaves, &self.owners.list(&self.slaves, index)),
+            None => ArrayVec::new(),
+        }
     }
 }
 
+/// Lists that are all empty.
+fn no_owners() -> Owners
+    ensures { AreEmpty result }
+{
+    dp_owners::laws::same_lists_are_threaded_alike();
+    Owners::new()
+}
+
 /// The slaves that are described, at their start, in ascending order of address.
-fn starting_slaves(alloc: Global, descriptions: &[SlaveSpec]) -> Result<Vec<Slave>, AllocError>
-    ensures { IfOk result (λ slaves. slaves.items ≡ map starting_slave (ascending descriptions.now)) }
+fn starting_slaves(
+    alloc: Global,
+    descriptions: &[SlaveSpec],
+    masters: &ArrayVec<u8, 16>,
+) -> Result<Vec<Slave>, AllocError>
+    requires { list_all has_configuration descriptions.now ≡ true }
+    ensures { IfOk result (λ slaves. slaves.items ≡ map (fresh_slave masters.now.items) (ascending descriptions.now)) }
 {
     let mut slaves = Vec::with_capacity(alloc, descriptions.len())?;
     for address in 0..=LAST_STATION {
         if let Some(description) = described(descriptions, address) {
-            slaves.push(Slave::start(description))?;
+            slaves.push(fresh(description, masters))?;
         }
     }
     Ok(slaves)
 }
 
-/// The slave at a place.
-fn slave_in(slaves: &[Slave], place: usize) -> Option<&Slave>
-    ensures { option_copied result ≡ slice_get slaves.now place }
+/// A slave at its start.
+fn fresh(description: &SlaveSpec, masters: &ArrayVec<u8, 16>) -> Slave
+    requires { has_configuration description.now ≡ true }
+    ensures { result ≡ fresh_slave masters.now.items description.now }
 {
-    slaves.get(place)
+    Slave::open(description, masters)
+}
+
+/// The slave of an index.
+fn slave_in(slaves: &[Slave], index: usize) -> Option<&Slave>
+    ensures { option_copied result ≡ slice_get slaves.now index }
+{
+    slaves.get(index)
 }
 
 /// The description of the slave that has the address.
@@ -96,41 +175,51 @@ fn described(descriptions: &[SlaveSpec], address: u8) -> Option<&SlaveSpec>
     descriptions.iter().find(|slave| slave.address == address)
 }
 
-/// The place of each slave by its address.
-fn places_of(slaves: &[Slave]) -> Places
+/// The index of each slave by its address.
+fn indices_of(slaves: &[Slave]) -> Indices
     requires { length slaves.now ≤ 64 }
     ensures each { (address : ℕ) → address < 256
-        → slice_index_or result address None ≡ place_of (map address_of_slave slaves.now) address }
+        → slice_index_or result address None ≡ index_of (map address_of_slave (slaves_of slaves.now)) address }
 {
-    let mut places = [None; 256];
-    for (place, slave) in slaves.iter().enumerate() {
+    let mut indices = [None; 256];
+    for (index, slave) in slaves.iter().enumerate() {
         let address = usize::from(slave.address());
-        if places[address].is_none() {
-            places[address] = Some(place as u8);
+        if indices[address].is_none() {
+            indices[address] = Some(index as u8);
         }
     }
-    places
+    indices
 }
 
 /// The addresses of the slaves that have a holder.
 fn held_addresses(slaves: &[Slave]) -> ArrayVec<u8, MOST_SLAVES>
     requires { length slaves.now ≤ 64 }
-    ensures { result.items ≡ map address_of_slave (filter is_held slaves.now) }
+    ensures { result.items ≡ map address_of_slave (filter is_held (slaves_of slaves.now)) }
 {
     let mut addresses = ArrayVec::new();
     for slave in slaves {
-        if slave.is_held() {
+        if slave.points().holder().is_some() {
             addresses.push(slave.address());
         }
     }
     addresses
 }
 
-/// Lets go of every holder.
-fn release_each(slaves: &mut [Slave])
-    ensures { slaves.new ≡ map released slaves.old }
+/// Lets go of every holder; no slave is in a list then.
+fn free_each(slaves: &mut [Slave])
+    ensures { slaves.new ≡ map freed slaves.old }
 {
     for slave in slaves.iter_mut() {
-        slave.release();
+        free(slave);
     }
+}
+
+fn free(slave: &mut Slave)
+    ensures { slave.new ≡ freed slave.old }
+{
+    slave.make_safe();
+    slave.set_links(Links {
+        prev: None,
+        next: None,
+    });
 }

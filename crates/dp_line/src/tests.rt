@@ -96,8 +96,8 @@ fn silences(rt: HostRuntime) -> Result<(), Fail> {
         (
             1,
             &[0x10, 0x05, 0x01, 0x46, 0x4C, 0x16],
-            Rule::BadFunction,
-            7,
+            Rule::NotActive,
+            14,
         ),
         (
             1,
@@ -230,5 +230,123 @@ fn refused_descriptions(rt: HostRuntime) -> Result<(), Fail> {
         assert_eq!(rt; opened.err(), Some(fault));
         assert_eq!(rt; fault.code(), code);
     }
+    let mut cut = line(rt.alloc(), 1000, &[5, 6])?;
+    for slave in cut.slaves.iter_mut() {
+        slave.cfg = octets(&[0xC1, 0x01])?;
+    }
+    assert_eq!(rt; cut.fault(), Some(OpenFault::BadCfg));
+    assert_eq!(rt;
+        LineState::open(rt.alloc(), &cut).err(),
+        Some(OpenFault::BadCfg)
+    );
+    assert_eq!(rt; OpenFault::BadCfg.code(), 4);
+    Ok(())
+}
+
+fn octets<const N: usize>(octets: &[u8]) -> Result<ArrayVec<u8, N>, Fail> {
+    let mut items = ArrayVec::new();
+    items.try_extend_from_slice(octets)?;
+    Ok(items)
+}
+
+/// A request to a point, with SSAP 62.
+fn to_point(slave: u8, master: u8, fc: u8, point: u8, data: &[u8]) -> Result<Event, Fail> {
+    if slave > 126 || master > 126 || point > 63 || data.len() > 244 {
+        return Err("no request")?;
+    }
+    let frame = dp_telegram::request(slave, master, fc, Some(point), Some(62), data);
+    request(master, &dp_telegram::encode(&frame))
+}
+
+/// Set_Prm with Lock_Req and a watchdog of 100 ms.
+const LOCK: [u8; 7] = [0x88, 0x02, 0x05, 0x0B, 0x80, 0xA1, 0x01];
+
+/// Set_Prm with Unlock_Req.
+const UNLOCK: [u8; 7] = [0x40, 0, 0, 0, 0, 0, 0];
+
+/// The rule of the answer, and whether it is a reply.
+fn told(step: &Step) -> (Rule, bool) {
+    match &step.outcome {
+        Outcome::Reply { rule, .. } => (*rule, true),
+        Outcome::Silence(rule) => (*rule, false),
+        Outcome::Done => (Rule::Done, false),
+    }
+}
+
+#[test]
+fn oldest_lock_first(rt: HostRuntime) -> Result<(), Fail> {
+    let mut state = LineState::open(rt.alloc(), &line(rt.alloc(), 1000, &[5, 6, 7])?)?;
+    let cases: [(u8, u8, &[u8], Rule, &[u8], &[u8]); 8] = [
+        (6, 1, &LOCK, Rule::Done, &[6], &[]),
+        (5, 1, &LOCK, Rule::Done, &[6, 5], &[]),
+        (7, 2, &LOCK, Rule::Done, &[6, 5], &[7]),
+        (6, 2, &LOCK, Rule::NotHolder, &[6, 5], &[7]),
+        (6, 1, &LOCK, Rule::Done, &[6, 5], &[7]),
+        (6, 1, &UNLOCK, Rule::Done, &[5], &[7]),
+        (6, 2, &LOCK, Rule::Done, &[5], &[7, 6]),
+        (5, 1, &UNLOCK, Rule::Done, &[], &[7, 6]),
+    ];
+    for (slave, master, data, rule, first, second) in cases {
+        let step = state.take(&to_point(slave, master, 0x6D, 61, data)?);
+        assert_eq!(rt; told(&step), (rule, true));
+        assert_eq!(rt; state.owned_by(1).as_slice(), first);
+        assert_eq!(rt; state.owned_by(2).as_slice(), second);
+    }
+    assert_eq!(rt; state.owned_by(3).len(), 0);
+    Ok(())
+}
+
+#[test]
+fn set_prm_locks(rt: HostRuntime) -> Result<(), Fail> {
+    let mut state = LineState::open(rt.alloc(), &line(rt.alloc(), 1000, &[5])?)?;
+    let step = state.take(&to_point(5, 1, 0x5D, 61, &LOCK)?);
+    let octets = octets(&[0xE5])?;
+    let rule = Rule::Done;
+    assert_eq!(rt; step.outcome, Outcome::Reply { octets, rule });
+    let Some(view) = state.view(5) else {
+        return Err("a slave")?;
+    };
+    assert_eq!(rt; view.state, State::WaitCfg);
+    assert_eq!(rt; view.holder, Some(1));
+    assert_eq!(rt; view.since, 1);
+    assert_eq!(rt; view.left, Some(10));
+    assert!(rt; state.view(6).is_none());
+    Ok(())
+}
+
+#[test]
+fn global_control_to_one_slave(rt: HostRuntime) -> Result<(), Fail> {
+    let mut state = LineState::open(rt.alloc(), &line(rt.alloc(), 1000, &[5])?)?;
+    let cases: [(u8, u8, u8, &[u8], (Rule, bool)); 7] = [
+        (1, 0x46, 58, &[0x20, 0x00], (Rule::NotActive, false)),
+        (1, 0x6D, 61, &LOCK, (Rule::Done, true)),
+        (1, 0x6D, 62, &[], (Rule::Done, true)),
+        (1, 0x46, 58, &[0x20, 0x00], (Rule::Done, false)),
+        (1, 0x46, 58, &[0x20, 0x02], (Rule::NotSelected, false)),
+        (1, 0x6D, 58, &[0x20, 0x00], (Rule::NoService, true)),
+        (2, 0x46, 58, &[0x20, 0x00], (Rule::NotHolder, false)),
+    ];
+    for (master, fc, point, data, wanted) in cases {
+        let step = state.take(&to_point(5, master, fc, point, data)?);
+        assert_eq!(rt; told(&step), wanted);
+    }
+    Ok(())
+}
+
+#[test]
+fn halt_lets_go(rt: HostRuntime) -> Result<(), Fail> {
+    let mut state = LineState::open(rt.alloc(), &line(rt.alloc(), 4, &[5, 6])?)?;
+    let mut events = Vec::new(rt.alloc());
+    for slave in [6, 5] {
+        events.push(to_point(slave, 1, 0x6D, 61, &LOCK)?)?;
+    }
+    laws::take_each(&mut state, &events);
+    assert_eq!(rt; state.owned_by(1), octets(&[6, 5])?);
+    let before = [to_point(5, 2, 0x6D, 60, &[])?];
+    let step = laws::answer_after(&mut state, &before, &to_point(5, 2, 0x6D, 60, &[])?);
+    assert_eq!(rt; told(&step), (Rule::Halted, false));
+    assert_eq!(rt; step.halted, Some(octets(&[5, 6])?));
+    assert_eq!(rt; state.owned_by(1).len(), 0);
+    assert!(rt; state.is_halted());
     Ok(())
 }

@@ -2,7 +2,7 @@
 use Rattle.std.specs.Prelude.{ℕ, Bool, true, false, not, ◌&&◌, ◌||◌, ◌==◌, if◌then◌else◌, List, [], ◌∷◌, map, find, Option, Some, None, option_and_then}
 use Rattle.dp_telegram.specs.FunctionCode.{function_of, asks_srd, frame_count_bit, frame_count_is_valid}
 
--- the last request of a master that was judged anew: its FCB, and the octets of the reply to it
+-- the last SRD of a master that was judged anew with FCV 1 or FCB 1: its FCB, and the octets of the reply to it
 pub record Remembered : Type 0 where
   pub fcb : Bool
   pub reply : List ℕ

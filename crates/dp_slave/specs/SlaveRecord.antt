@@ -17,7 +17,7 @@ use Rattle.dp_slave.specs.declared.description.SlaveSpec.{SlaveSpec}
 pub record SlaveRecord : Type 0 where
   pub description : SlaveSpec
   pub state : State
-  -- the master that locked it, and the place of the event by which it did so first; 0 where nobody holds it
+  -- the master that holds it, and the place of the event by which its present holding began; 0 where nobody holds it
   pub holder : Option ℕ
   pub since : ℕ
   -- the shortest time to a reply, in bit times

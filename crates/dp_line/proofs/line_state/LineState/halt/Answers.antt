@@ -1,0 +1,11 @@
+use Rattle.std.proofs.Common.{◌+◌, sym, subst}
+use Rattle.dp_line.specs.Stations.{StationsView, AreBefore}
+use Rattle.dp_line.proofs.Events.{released_before}
+use Rattle.dp_line.proofs.line_state.LineState.halt.Goals as goal
+
+pub invariant_of-self : goal.invariant_of-self
+invariant_of-self c = (
+  λ e. absurd cc,
+  subst (λ (s : StationsView). AreBefore (c.self.inside.count + 1 + 1) s.slaves) (sym c.release_all.ensures.slaves)
+      (released_before (c.self.inside.count + 1) c.self.inside.stations.slaves),
+)

@@ -1,0 +1,28 @@
+use Rattle.std.proofs.Common.{◌≡◌, ◌≢◌, false, ap, ◌∙◌, rules}
+use Rattle.dp_sap.specs.AccessTable.{global_control, same_point}
+use Rattle.dp_slave.specs.SlaveParts.{with_slave}
+use Rattle.dp_line.proofs.Passing.{done_rule, no_sdn, other_point, not_controlled, replied, remembered_after}
+use Rattle.dp_line.proofs.request.Request.execute.Goals as goal
+
+pub returns-clause-slave : goal.returns-clause-slave
+returns-clause-slave c =
+    let slave = c.args.slave.now.slave in
+    let request = c.args.self.now in
+    let other : request.parts.now.dsap ≢ global_control = search rules in
+    let point : same_point request.parts.now.dsap global_control ≡ false = other_point request.parts.now.dsap other in
+    let done = replied slave request.sender request.place request.telegram.now request.parts.now c.reply-octets.result.items
+    (done_rule slave request.sender request.telegram.now request.parts.now c.requires.asks.0 c.requires.asks.1 c.requires.passes (not_controlled slave request.parts.now point))
+    (no_sdn slave request.sender request.telegram.now request.parts.now c.requires.passes point) c.reply-octets.ensures.octets in
+    c.remember.ensures
+    ∙ remembered_after c.args.slave.now c.reply-octets.new.slave request.sender request.telegram.now.fc c.reply-octets.result.items _ c.reply-octets.ensures.slave
+    ∙ ap (with_slave c.args.slave.now) done.1
+
+pub returns-clause-answer : goal.returns-clause-answer
+returns-clause-answer c =
+    let slave = c.args.slave.now.slave in
+    let request = c.args.self.now in
+    let other : request.parts.now.dsap ≢ global_control = search rules in
+    let point : same_point request.parts.now.dsap global_control ≡ false = other_point request.parts.now.dsap other in
+    (replied slave request.sender request.place request.telegram.now request.parts.now c.reply-octets.result.items
+    (done_rule slave request.sender request.telegram.now request.parts.now c.requires.asks.0 c.requires.asks.1 c.requires.passes (not_controlled slave request.parts.now point))
+    (no_sdn slave request.sender request.telegram.now request.parts.now c.requires.passes point) c.reply-octets.ensures.octets).0

@@ -1,0 +1,108 @@
+//! The answer to a request: the way of its octets through the rows of the line.
+
+ghost use Rattle.std.specs.Prelude.{◌≡◌, ◌==◌, false, true, map, None, MatchResult};
+ghost use Rattle.std.specs.List.{list_any};
+ghost use Rattle.dp_telegram.specs.declared.frame.Frame.TheVariants as frames;
+ghost use Rattle.dp_line.specs.declared.event.Outcome.{Outcome as Answers};
+ghost use Rattle.dp_line.specs.Effects.{facts_heard, outcome_heard, slave_after_request};
+ghost use Rattle.dp_line.specs.Verdict.{has_foreign_sender};
+ghost use Rattle.dp_line.specs.Stations.{AreBefore, IsAdmitted, IsSilent, heard_by, heard_telegram};
+
+use super::Stations;
+use crate::event::{Answer, Outcome};
+use crate::request::Request;
+use dp_responder::Rule;
+use dp_telegram::function_code::Function;
+use dp_telegram::{Frame, GLOBAL_ADDRESS, Telegram, decode};
+
+impl Stations {
+    /// The answer to a request that takes this place of the journal.
+    pub(crate) fn answer(&mut self, master: u8, place: u32, octets: &[u8]) -> Answer
+        requires later { AreBefore place self.old.slaves }
+        ensures slaves { self.new ≡ record self.old { slaves = map (slave_after_request (heard_by self.old master octets.now) place) self.old.slaves } }
+        ensures facts { result.facts ≡ facts_heard (heard_by self.old master octets.now) }
+        ensures outcome { result.outcome ≡ outcome_heard (heard_by self.old master octets.now) }
+    {
+        let Ok(frame) = decode(octets) else {
+            return silent(Rule::NoFrame);
+        };
+        if !self.has_master(master) {
+            return silent(Rule::NoMaster);
+        }
+        match request_in(&frame, master) {
+            Ok(telegram) => self.answer_telegram(master, place, telegram),
+            Err(rule) => silent(rule),
+        }
+    }
+
+    /// The answer to a telegram of the master itself, which is a request of this profile.
+    fn answer_telegram(&mut self, sender: u8, place: u32, telegram: &Telegram) -> Answer
+        requires admitted { IsAdmitted sender telegram.now }
+        requires master { list_any (λ other. other == sender) self.old.masters ≡ true }
+        requires later { AreBefore place self.old.slaves }
+        ensures slaves { self.new ≡ record self.old { slaves = map (slave_after_request (heard_telegram self.old.slaves sender telegram.now) place) self.old.slaves } }
+        ensures facts { result.facts ≡ facts_heard (heard_telegram self.old.slaves sender telegram.now) }
+        ensures outcome { result.outcome ≡ outcome_heard (heard_telegram self.old.slaves sender telegram.now) }
+    {
+        let Some(parts) = telegram.parts() else {
+            return silent(Rule::BadExtension);
+        };
+        if telegram.destination() == GLOBAL_ADDRESS {
+            return silent(Rule::BadBroadcast);
+        }
+        let request = Request {
+            sender,
+            place,
+            telegram,
+            parts: &parts,
+        };
+        match self.serve(&request) {
+            Some(answer) => answer,
+            None => silent(Rule::NoStation),
+        }
+    }
+}
+
+/// No slave answers.
+fn silent(rule: Rule) -> Answer
+    ensures facts { result.facts ≡ None }
+    ensures outcome { result.outcome ≡ Answers.Silence rule }
+{
+    Answer {
+        facts: None,
+        outcome: Outcome::Silence(rule),
+    }
+}
+
+/// The telegram of a master's own request of a function of this profile, or the rule by which nobody
+/// replies.
+fn request_in(frame: &Frame, master: u8) -> Result<&Telegram, Rule>
+    ensures { MatchResult result
+        (λ telegram. (frame.now ≡ frames.Telegram telegram.now) × IsAdmitted master telegram.now)
+        (λ rule. IsSilent master frame.now rule) }
+{
+    if frame.source().is_some_and(|source| source != master) {
+        return Err(Rule::ForeignSender);
+    }
+    match frame {
+        Frame::Token { .. } => Err(Rule::Token),
+        Frame::Ack => Err(Rule::NotRequest),
+        Frame::Telegram(telegram) => request_of(telegram, master),
+    }
+}
+
+/// The same of a telegram of the master itself.
+fn request_of(telegram: &Telegram, master: u8) -> Result<&Telegram, Rule>
+    requires { has_foreign_sender master (frames.Telegram telegram.now) ≡ false }
+    ensures { MatchResult result
+        (λ request. (telegram.now ≡ request.now) × IsAdmitted master request.now)
+        (λ rule. IsSilent master (frames.Telegram telegram.now) rule) }
+{
+    if !telegram.is_request() {
+        return Err(Rule::NotRequest);
+    }
+    if telegram.function() == Function::Reserved {
+        return Err(Rule::BadFunction);
+    }
+    Ok(telegram)
+}

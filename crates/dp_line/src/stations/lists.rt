@@ -1,0 +1,127 @@
+//! The lists of the masters, which are threaded through the slaves.
+
+ghost use Rattle.std.specs.Prelude.{◌≡◌, ℕ, ◌≤◌, ◌<◌, ◌==◌, List, length, map, Some, IfSome, option_map, slice_get, position};
+ghost use Rattle.std.specs.List.{AllByRecursion};
+ghost use Rattle.dp_owners.specs.declared.owners.TheConstants.{MOST_MASTERS as most_masters};
+ghost use Rattle.dp_owners.specs.Threaded.{IsFree, IsThreaded, IsThreadedWith};
+ghost use Rattle.dp_line.specs.World.{address_of_slave};
+ghost use Rattle.dp_line.specs.Effects.{state_and_holder};
+ghost use Rattle.dp_line.specs.Serving.{IsOfProfile, answer_to, served_to};
+ghost use Rattle.dp_line.specs.Stations.{AreBefore, AreThreaded, IsAt, IsWritten, appended_to, at_index, links_of, master_index, slaves_of, unlinked_from};
+
+use crate::event::Answer;
+use crate::limits::MOST_SLAVES;
+use crate::request::Request;
+use arrayvec::ArrayVec;
+use dp_owners::Owners;
+use dp_slave::Slave;
+
+/// Serves a request at the slave of an index, which goes from the list of the master that held it to
+/// that of the one that holds it then.
+pub(crate) fn serve_at(
+    slaves: &mut [Slave],
+    owners: &mut Owners,
+    masters: &[u8],
+    index: usize,
+    request: &Request<'_>,
+) -> Answer
+    requires function { IsOfProfile request.now }
+    requires threaded { AreThreaded masters.now owners.old slaves.old }
+    requires masters { length masters.now ≤ most_masters }
+    requires few { length slaves.old ≤ 64 }
+    requires index { index < length slaves.old }
+    requires later { AreBefore request.now.place (slaves_of slaves.old) }
+    ensures threaded { AreThreaded masters.now owners.new slaves.new }
+    ensures slaves { slaves_of slaves.new ≡ at_index index (served_to request.now) (slaves_of slaves.old) }
+    ensures facts { Some result.facts ≡ option_map (λ slave. Some (state_and_holder slave)) (slice_get (slaves_of slaves.old) index) }
+    ensures outcome { Some result.outcome ≡ option_map (answer_to request.now) (slice_get (slaves_of slaves.old) index) }
+{
+    let before = slaves[index].points().holder();
+    let answer = request.answer(&mut slaves[index]);
+    move_to_holder(slaves, owners, masters, index, before);
+    answer
+}
+
+/// Takes a slave that was written out of the list of its holder before, and puts it last in that of
+/// the holder that it has now.
+fn move_to_holder(
+    slaves: &mut [Slave],
+    owners: &mut Owners,
+    masters: &[u8],
+    index: usize,
+    before: Option<u8>,
+)
+    requires written { IsWritten masters.now owners.old index before slaves.old }
+    requires masters { length masters.now ≤ most_masters }
+    requires few { length slaves.old ≤ 64 }
+    requires index { index < length slaves.old }
+    ensures threaded { AreThreaded masters.now owners.new slaves.new }
+    ensures slaves { slaves_of slaves.new ≡ slaves_of slaves.old }
+{
+    dp_owners::laws::same_lists_are_threaded_alike();
+    let holder = slaves[index].points().holder();
+    if holder == before {
+        return;
+    }
+    unlink_from(slaves, owners, index_in(masters, before), index);
+    append_to(slaves, owners, index_in(masters, holder), index);
+}
+
+/// Takes a slave out of the list of a master, where it is in one.
+fn unlink_from(slaves: &mut [Slave], owners: &mut Owners, from: Option<usize>, index: usize)
+    requires at { IsThreadedWith owners.old (links_of slaves.old) (IsAt from index) }
+    requires few { length slaves.old ≤ 64 }
+    requires index { index < length slaves.old }
+    ensures threaded { (lists : ℕ → List ℕ) → IsThreaded owners.old (links_of slaves.old) lists → IsAt from index lists
+        → IsThreaded owners.new (links_of slaves.new) (unlinked_from lists from index) × IsFree index (unlinked_from lists from index) }
+    ensures slaves { slaves_of slaves.new ≡ slaves_of slaves.old }
+{
+    dp_owners::laws::an_unlinked_record_is_in_no_list();
+    if let Some(master) = from {
+        owners.unlink(slaves, master, index);
+    }
+}
+
+/// Puts a slave that is in no list last in that of a master, if there is one.
+fn append_to(slaves: &mut [Slave], owners: &mut Owners, to: Option<usize>, index: usize)
+    requires free { IsThreadedWith owners.old (links_of slaves.old) (IsFree index) }
+    requires few { length slaves.old ≤ 64 }
+    requires index { index < length slaves.old }
+    requires master { IfSome to (λ master. master < most_masters) }
+    ensures threaded { (lists : ℕ → List ℕ) → IsThreaded owners.old (links_of slaves.old) lists → IsFree index lists
+        → IsThreaded owners.new (links_of slaves.new) (appended_to lists to index) }
+    ensures slaves { slaves_of slaves.new ≡ slaves_of slaves.old }
+{
+    if let Some(master) = to {
+        owners.append(slaves, master, index);
+    }
+}
+
+/// The index of a master among these, if it is one.
+pub(crate) fn index_in(masters: &[u8], master: Option<u8>) -> Option<usize>
+    ensures index { result ≡ master_index masters.now master }
+    ensures bound { IfSome result (λ index. index < length masters.now) }
+{
+    position_in(masters, master?)
+}
+
+/// Where a master stands among these.
+fn position_in(masters: &[u8], master: u8) -> Option<usize>
+    ensures index { result ≡ position (λ other. other == master) masters.now }
+    ensures bound { IfSome result (λ index. index < length masters.now) }
+{
+    masters.iter().position(|other| *other == master)
+}
+
+/// The addresses of the slaves of these indices.
+pub(crate) fn addresses(slaves: &[Slave], indices: &[u8]) -> ArrayVec<u8, MOST_SLAVES>
+    requires few { length indices.now ≤ 64 }
+    requires inside { AllByRecursion (λ index. index < length slaves.now) indices.now }
+    ensures { map Some result.items ≡ map (λ index. option_map address_of_slave (slice_get (slaves_of slaves.now) index)) indices.now }
+{
+    let mut addresses = ArrayVec::new();
+    for index in indices {
+        addresses.push(slaves[usize::from(*index)].address());
+    }
+    addresses
+}
