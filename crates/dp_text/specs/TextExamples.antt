@@ -5,12 +5,15 @@ use Rattle.hex.proofs.OnLiterals.{hex_on_literals}
 use Rattle.dp_telegram.specs.declared.fault.FrameFault.TheVariants as faults
 use Rattle.dp_sap.specs.declared.state.State.TheVariants as states
 use Rattle.dp_responder.specs.declared.rule.Rule.TheVariants as rules
+use Rattle.dp_slave.specs.SlaveRecord.{starting_slave}
+use Rattle.dp_slave.specs.View.{view_of}
 use Rattle.dp_line.specs.declared.event.Event.TheVariants.{Request}
-use Rattle.dp_line.specs.declared.event.Outcome.TheVariants.{Reply, Silence}
+use Rattle.dp_line.specs.declared.event.Outcome.TheVariants.{Reply, Silence, Done}
+use Rattle.dp_line.specs.LineExamples.{slave_5}
 use Rattle.dp_text.specs.Numbers.{octet_number}
 use Rattle.dp_text.specs.Words.{lines_of, words_of}
 use Rattle.dp_text.specs.HexWords.{octets_of_words}
-use Rattle.dp_text.specs.Texts.{event_text, facts_text, answer_text, dropped_text}
+use Rattle.dp_text.specs.Texts.{event_text, facts_text, answer_text, dropped_text, owned_text, show_text}
 use Rattle.dp_text.specs.Events.{event_of}
 
 -- what computes a text
@@ -28,9 +31,39 @@ pub a_silence : answer_text 126 (Silence rules.ForeignSender) ≡ codes "126: si
 unfolding text_on_literals
 a_silence = refl
 
+pub done : answer_text 2 Done ≡ codes "2: done\n"
+unfolding text_on_literals
+done = refl
+
 pub dropped_octets : dropped_text 2 faults.BadEnd 11 ≡ codes "2: dropped BadEnd 11\n"
 unfolding text_on_literals
 dropped_octets = refl
+
+pub owned_slaves : owned_text (5 ∷ 126 ∷ []) ≡ codes "owned 5 126\n"
+unfolding text_on_literals
+owned_slaves = refl
+
+pub no_owned_slave : owned_text [] ≡ codes "owned\n"
+no_owned_slave = refl
+
+pub a_slave_at_its_start : show_text (Some (view_of (starting_slave (1 ∷ []) slave_5))) ≡ codes "show 5 WaitPrm none in 0000 out 0000 wd off\n"
+unfolding text_on_literals
+a_slave_at_its_start = refl
+
+pub a_slave_in_use :
+    show_text (Some (record (view_of (starting_slave (1 ∷ []) slave_5)) {
+      state = states.DataExch;
+      holder = Some 1;
+      inputs = record { items = 0xAA ∷ 0x55 ∷ [] };
+      outputs = record { items = [] };
+      left = Some 10;
+    }))
+    ≡ codes "show 5 DataExch 1 in aa55 out - wd 10\n"
+unfolding text_on_literals
+a_slave_in_use = refl
+
+pub no_slave : show_text None ≡ codes "refused NoStation\n"
+no_slave = refl
 
 pub no_facts : facts_text None ≡ codes "none"
 no_facts = refl

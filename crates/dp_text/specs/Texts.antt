@@ -7,10 +7,11 @@ use Rattle.dp_telegram.specs.Names.{frame_fault_name}
 use Rattle.dp_sap.specs.declared.state.State.{State}
 use Rattle.dp_sap.specs.Names.{state_name}
 use Rattle.dp_responder.specs.Rules.{rule_name}
+use Rattle.dp_slave.specs.declared.view.SlaveView.{SlaveView}
 use Rattle.dp_line.specs.declared.event.Event.{Event}
 use Rattle.dp_line.specs.declared.event.Event.TheVariants.{Request}
 use Rattle.dp_line.specs.declared.event.Outcome.{Outcome}
-use Rattle.dp_line.specs.declared.event.Outcome.TheVariants.{Reply, Silence}
+use Rattle.dp_line.specs.declared.event.Outcome.TheVariants.{Reply, Silence, Done}
 
 -- octets: pairs of digits in lower case, `-` for none
 abbrev pub octets_text : List ℕ → List ℕ
@@ -31,10 +32,11 @@ abbrev pub facts_text : Option (State × Option ℕ) → List ℕ
 facts_text None = codes "none"
 facts_text (Some facts) = state_name facts.0 ++ codes " " ++ holder_text facts.1
 
--- an outcome: `reply HEX RULE` or `silence RULE`
+-- an outcome: `reply HEX RULE`, `silence RULE` or `done`
 abbrev pub outcome_text : Outcome → List ℕ
 outcome_text (Reply octets rule) = codes "reply " ++ encode_lower octets.items ++ codes " " ++ rule_name rule
 outcome_text (Silence rule) = codes "silence " ++ rule_name rule
+outcome_text Done = codes "done"
 
 -- the line that answers a master: `M: OUTCOME`
 abbrev pub answer_text : ℕ → Outcome → List ℕ
@@ -44,3 +46,30 @@ answer_text master outcome = decimal master ++ codes ": " ++ outcome_text outcom
 abbrev pub dropped_text : ℕ → FrameFault → ℕ → List ℕ
 dropped_text master fault count =
     decimal master ++ codes ": dropped " ++ frame_fault_name fault ++ codes " " ++ decimal count ++ codes "\n"
+
+-- addresses, each behind a space
+abbrev pub addresses_text : List ℕ → List ℕ
+addresses_text [] = []
+addresses_text (address ∷ addresses) = codes " " ++ decimal address ++ addresses_text addresses
+
+-- the line that tells the slaves of a master, in the order of the list: `owned` with ` A` each
+abbrev pub owned_text : List ℕ → List ℕ
+owned_text addresses = codes "owned" ++ addresses_text addresses ++ codes "\n"
+
+-- what a watchdog has left, or `off`
+abbrev pub watchdog_text : Option ℕ → List ℕ
+watchdog_text None = codes "off"
+watchdog_text (Some left) = decimal left
+
+-- the line that shows a slave: `show A STATE HOLDER in HEX out HEX wd N`, its device's inputs and its outputs
+abbrev pub slave_text : SlaveView → List ℕ
+slave_text slave =
+    codes "show " ++ decimal slave.address ++ codes " " ++ facts_text (Some (slave.state, slave.holder))
+    ++ codes " in " ++ octets_text slave.inputs.items
+    ++ codes " out " ++ octets_text slave.outputs.items
+    ++ codes " wd " ++ watchdog_text slave.left ++ codes "\n"
+
+-- the line for a slave, or for an address that no slave has
+abbrev pub show_text : Option SlaveView → List ℕ
+show_text None = codes "refused NoStation\n"
+show_text (Some slave) = slave_text slave
