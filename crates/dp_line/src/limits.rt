@@ -25,8 +25,8 @@ const MOST_USER_PARAMETERS: u8 = 237;
 
 impl LineSpec {
     /// Why no line is opened from the description: `Limit` where a number is outside its limits, else
-    /// `TwiceAddress` where two stations have one address, else `BadCfg` where the octets of a
-    /// slave's configuration are none; None where a line is opened.
+    /// `TwiceAddress` where two stations have one address, else `BadCfg` where the `cfg` of a slave
+    /// is no configuration; None where a line is opened.
     pub fn fault(&self) -> Option<OpenFault>
         ensures { result ≡ opening_fault (description_of self.now) }
     {

@@ -50,8 +50,8 @@ impl LineState {
     /// The line at its start: nothing recorded, every slave without a holder.
     ///
     /// `Limit` exactly where a number is outside its limits; `TwiceAddress` exactly where none is and
-    /// two stations have one address; `BadCfg` exactly where neither is so and the octets of a
-    /// configuration are none; else `OutOfMemory` where memory was refused (own).
+    /// two stations have one address; `BadCfg` exactly where neither is so and the `cfg` of a
+    /// slave is no configuration; else `OutOfMemory` where memory was refused (own).
     pub fn open(alloc: Global, line: &LineSpec) -> Result<LineState, OpenFault>
         ensures refused { IfSome (opening_fault (description_of line.now)) (λ fault. result ≡ Err fault) }
         ensures opened { opening_fault (description_of line.now) ≡ None

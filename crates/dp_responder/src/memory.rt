@@ -12,7 +12,7 @@ use std::marker::Model;
 /// The most masters of a line.
 const MOST_MASTERS: usize = 16;
 
-/// The last request of a master that was judged anew.
+/// The last SRD of a master that was judged anew with FCV 1 or FCB 1.
 #[derive(Debug, Drop)]
 pub(crate) struct Last {
     /// Its frame count bit.
@@ -53,8 +53,8 @@ impl Model for Entry {
     ghost view = { λ e. record { master = e.master; last = e.last } };
 }
 
-/// What a slave remembers of each master of its line: the frame count bit of the last request that
-/// was judged anew, and the reply to it (own). Contracts see the masters in their order, and what is
+/// What a slave remembers of each master of its line: the frame count bit of the last SRD that was
+/// judged anew with FCV 1 or FCB 1, and the reply to it (own). Contracts see the masters in their order, and what is
 /// remembered of each.
 #[derive(Debug, Drop)]
 pub struct FrameMemory {

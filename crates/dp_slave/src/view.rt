@@ -19,7 +19,7 @@ pub struct SlaveView {
     pub state: State,
     /// The address of the master that holds it, 0 to 126, if one does.
     pub holder: Option<u8>,
-    /// The place of the event by which it was locked; 0 where nobody holds it.
+    /// The place of the event by which its holder's hold began; 0 where nobody holds it.
     pub since: u32,
     /// Min TSDR in bit times.
     pub min_tsdr: u8,

@@ -4,7 +4,7 @@ use Rattle.hex.proofs.OnLiterals.{hex_on_literals}
 use Rattle.toml.proofs.OnLiterals.{toml_on_literals}
 use Rattle.toml.specs.Data.{Data, string, integer, boolean, array, table, Items, no_items, item, Members, no_members, member}
 use Rattle.dp_slave.specs.declared.description.Device.TheVariants.{Still, Mirror}
-use Rattle.dp_line.specs.declared.fault.OpenFault.TheVariants.{TwiceAddress}
+use Rattle.dp_line.specs.declared.fault.OpenFault.TheVariants.{TwiceAddress, BadCfg}
 use Rattle.rack_file.specs.declared.fault.RackFault.TheVariants.{NotToml, BadKey, TwiceLine, Open}
 use Rattle.rack_file.specs.Rack.{LineDescription}
 use Rattle.rack_file.specs.TomlKeys.{required, optional, array_of, number_to, octets_of, each_of}
@@ -78,6 +78,15 @@ one_number_twice = refl
 pub master_with_the_slaves_address : rack_of (file (item (line_with 1 2 (slave_5 1)) (item (line_with 2 5 (slave_5 2)) no_items))) ≡ Err (Open 2 TwiceAddress)
 unfolding rack_on_literals
 master_with_the_slaves_address = refl
+
+-- the configuration `c101` ends within its identifier
+pub cut_configuration :
+    rack_of (file (item (line_with 1 2 (table (member (codes "address") (integer (pos 5))
+    (member (codes "cfg") (string (codes "c101"))
+    (member (codes "ident") (integer (pos 1)) no_members))))) no_items))
+    ≡ Err (Open 1 BadCfg)
+unfolding rack_on_literals
+cut_configuration = refl
 
 -- ---- each key
 

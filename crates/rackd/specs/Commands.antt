@@ -9,6 +9,8 @@ pub data Command : Type 0 where
   nothing : Command
   choose_line : ℕ → Command
   send : ℕ → List ℕ → Command
+  list_owned : ℕ → Command
+  show_slave : ℕ → Command
 
 -- `m M HEX..`: master M sends these octets
 abbrev pub send_of : List (List ℕ) → Option Command
@@ -16,10 +18,22 @@ send_of (master ∷ word ∷ words) =
     option_and_then (λ number. option_map (send number) (octets_of_words (word ∷ words))) (octet_number master)
 send_of other = None
 
+-- the number that is the only word
+abbrev pub only_number : List (List ℕ) → Option ℕ
+only_number (number ∷ []) = octet_number number
+only_number other = None
+
 -- `line N`: the line of number N is chosen
 abbrev pub choice_of : List (List ℕ) → Option Command
-choice_of (number ∷ []) = option_map choose_line (octet_number number)
-choice_of other = None
+choice_of words = option_map choose_line (only_number words)
+
+-- `owned M`: which slaves master M holds
+abbrev pub list_of : List (List ℕ) → Option Command
+list_of words = option_map list_owned (only_number words)
+
+-- `show A`: the slave at address A
+abbrev pub show_of : List (List ℕ) → Option Command
+show_of words = option_map show_slave (only_number words)
 
 -- by the first word
 abbrev pub command_of_words : List (List ℕ) → Option Command
@@ -27,6 +41,8 @@ command_of_words [] = None
 command_of_words (word ∷ words) =
     if same_text word (codes "m") then send_of words
     else if same_text word (codes "line") then choice_of words
+    else if same_text word (codes "owned") then list_of words
+    else if same_text word (codes "show") then show_of words
     else None
 
 -- an empty line and a comment do nothing; a line that is no command is None

@@ -2,12 +2,17 @@
 use Rattle.std.specs.Prelude.{◌≡◌, ⊤, ℕ, List, [], ◌∷◌, codes, Some, None, option_map, refl}
 use Rattle.std.specs.Fmt.{digits}
 use Rattle.hex.proofs.OnLiterals.{hex_on_literals}
+use Rattle.dp_line.specs.Hearing.{heard}
+use Rattle.dp_line.specs.Verdict.{verdict_of}
+use Rattle.dp_line.specs.ReplyText.{reply_text}
+use Rattle.dp_line.specs.Effects.{effect_of_request, outcome_of}
+use Rattle.dp_line.specs.Steps.{step}
 use Rattle.dp_line.specs.LineExamples.{fresh}
-use Rattle.rackd.specs.LinesInUse.{Stream, LineInUse, Sent, sent}
+use Rattle.rackd.specs.LinesInUse.{Stream, LineInUse, Sent, sent, owned_line, show_line}
 
 -- what computes a text
 unfoldable text_on_literals : ⊤
-unfolding hex_on_literals digits
+unfolding hex_on_literals digits step effect_of_request heard verdict_of reply_text outcome_of
 text_on_literals = tt
 
 -- the line, before anything came
@@ -52,3 +57,14 @@ other_half = refl
 -- no master of the line
 pub no_master_of_the_line : sent line_1 3 (0x33 ∷ []) ≡ None
 no_master_of_the_line = refl
+
+-- nobody holds the slave
+pub nothing_owned : owned_line line_1 1 ≡ codes "owned\n"
+nothing_owned = refl
+
+pub slave_at_its_start : show_line line_1 5 ≡ codes "show 5 WaitPrm none in 0000 out 0000 wd off\n"
+unfolding text_on_literals
+slave_at_its_start = refl
+
+pub no_slave_there : show_line line_1 6 ≡ codes "refused NoStation\n"
+no_slave_there = refl

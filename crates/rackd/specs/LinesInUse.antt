@@ -4,9 +4,11 @@ use Rattle.dp_telegram.specs.declared.cutter.Cut.{Cut}
 use Rattle.dp_telegram.specs.declared.cutter.Cut.TheVariants as pieces
 use Rattle.dp_telegram.specs.Stream.{CutStream, cuts_of}
 use Rattle.dp_line.specs.declared.event.Event.TheVariants.{Request}
-use Rattle.dp_line.specs.World.{World, Description, start_of}
+use Rattle.dp_slave.specs.View.{view_of}
+use Rattle.dp_line.specs.World.{World, Description, start_of, slave_at}
+use Rattle.dp_line.specs.Owned.{owned}
 use Rattle.dp_line.specs.Steps.{step}
-use Rattle.dp_text.specs.Texts.{answer_text, dropped_text}
+use Rattle.dp_text.specs.Texts.{answer_text, dropped_text, owned_text, show_text}
 
 -- a master's stream: of the octets that came, those that can't be judged yet
 pub record Stream : Type 0 where
@@ -89,3 +91,11 @@ sent line_in_use master octets =
     option_and_then
     (λ index. option_map (sent_at line_in_use octets index) (slice_get line_in_use.streams index))
     (position (λ stream. stream.master == master) line_in_use.streams)
+
+-- which slaves a master holds; none for an address that is no master's
+abbrev pub owned_line : LineInUse → ℕ → List ℕ
+owned_line line_in_use master = owned_text (owned line_in_use.world master)
+
+-- the slave at an address, if one has it
+abbrev pub show_line : LineInUse → ℕ → List ℕ
+show_line line_in_use address = show_text (option_map view_of (slave_at line_in_use.world address))

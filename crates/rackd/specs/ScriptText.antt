@@ -2,8 +2,8 @@
 use Rattle.std.specs.Prelude.{ℕ, ◌+◌, ◌==◌, List, [], ◌∷◌, ◌++◌, map, slice_get, slice_set, Option, Some, None, option_map, option_and_then, position}
 use Rattle.rack_file.specs.Rack.{RackDescription}
 use Rattle.dp_text.specs.Words.{lines_of}
-use Rattle.rackd.specs.Commands.{Command, nothing, choose_line, send, command_of}
-use Rattle.rackd.specs.LinesInUse.{LineInUse, Sent, line_at_start, sent}
+use Rattle.rackd.specs.Commands.{Command, nothing, choose_line, send, list_owned, show_slave, command_of}
+use Rattle.rackd.specs.LinesInUse.{LineInUse, Sent, line_at_start, sent, owned_line, show_line}
 
 -- a rack in use: its lines, and which of them commands speak to
 pub record RackInUse : Type 0 where
@@ -24,6 +24,11 @@ abbrev pub obeyed_by_line : RackInUse → Sent → Obeyed
 obeyed_by_line rack_in_use sending =
     record { rack_in_use = record rack_in_use { lines = slice_set rack_in_use.lines rack_in_use.chosen sending.line_in_use }; text = sending.text }
 
+-- what a command that asks the chosen line writes; it leaves all as it is
+abbrev pub told_by_line : RackInUse → (LineInUse → List ℕ) → Option Obeyed
+told_by_line rack_in_use text =
+    option_map (λ line. record { rack_in_use = rack_in_use; text = text line }) (slice_get rack_in_use.lines rack_in_use.chosen)
+
 -- None where the command can't be obeyed: a line that isn't in the rack, a master that isn't the line's
 abbrev pub obeyed : RackInUse → Command → Option Obeyed
 obeyed rack_in_use nothing = Some (record { rack_in_use = rack_in_use; text = [] })
@@ -31,6 +36,8 @@ obeyed rack_in_use (choose_line number) =
     option_map (λ index. record { rack_in_use = record rack_in_use { chosen = index }; text = [] }) (position (λ line. line.number == number) rack_in_use.lines)
 obeyed rack_in_use (send master octets) =
     option_and_then (λ line. option_map (obeyed_by_line rack_in_use) (sent line master octets)) (slice_get rack_in_use.lines rack_in_use.chosen)
+obeyed rack_in_use (list_owned master) = told_by_line rack_in_use (λ line. owned_line line master)
+obeyed rack_in_use (show_slave address) = told_by_line rack_in_use (λ line. show_line line address)
 
 -- a line of a script that is no command, or can't be obeyed, is None
 abbrev pub line_obeyed : RackInUse → List ℕ → Option Obeyed

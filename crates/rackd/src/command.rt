@@ -1,7 +1,7 @@
 //! The commands of a script.
 
 ghost use Rattle.std.specs.Prelude.{◌≡◌, option_map};
-ghost use Rattle.rackd.specs.Commands.{command_of, command_of_words, send_of, choice_of};
+ghost use Rattle.rackd.specs.Commands.{command_of, command_of_words, send_of, only_number as only_number_of};
 ghost use Rattle.rackd.specs.CommandView.{command_view};
 
 use dp_text::{HexWords, Words, is_text, octet_in};
@@ -20,6 +20,10 @@ pub(crate) enum Command<'a> {
         /// The octets, where they stand in the line.
         octets: HexWords<'a>,
     },
+    /// `owned M`: which slaves this master holds.
+    ListOwned(u8),
+    /// `show A`: the slave at this address.
+    ShowSlave(u8),
 }
 
 /// The command that a line is, if it is one.
@@ -42,18 +46,24 @@ fn by_first_word<'a>(words: &mut Words<'a>) -> Option<Command<'a>>
         return send(words);
     }
     if is_text(first, b"line") {
-        return choice(words);
+        return only_number(words).map(|number| Command::ChooseLine(number));
+    }
+    if is_text(first, b"owned") {
+        return only_number(words).map(|master| Command::ListOwned(master));
+    }
+    if is_text(first, b"show") {
+        return only_number(words).map(|address| Command::ShowSlave(address));
     }
     None
 }
 
-/// The line that is chosen, by its number.
-fn choice<'a>(words: &mut Words<'_>) -> Option<Command<'a>>
-    ensures { option_map command_view result ≡ choice_of words.old }
+/// The number from 0 to 255 that is the only word.
+fn only_number(words: &mut Words<'_>) -> Option<u8>
+    ensures { result ≡ only_number_of words.old }
 {
     let number = words.next()?;
     match words.next() {
-        None => octet_in(number).map(|number| Command::ChooseLine(number)),
+        None => octet_in(number),
         Some(_) => None,
     }
 }

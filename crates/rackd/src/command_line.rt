@@ -16,8 +16,9 @@ rackd simulates a rack of PROFIBUS DP slaves.
 Usage: rackd < INPUT
 
 Standard input is a rack file (TOML: lines with their masters and slaves), a line that is
-exactly %%, and a script of what the masters send, in hex. For each telegram a line goes to
-standard output: the reply, or no reply and the reason. For example, the input
+exactly %%, and a script: 'm M HEX' is what master M sends, 'owned M' lists the slaves that it
+holds, 'show A' shows the slave at address A. For each telegram a line goes to standard output:
+the reply, no reply and the reason, or that it was done. For example, the input
 
 [[line]]
 number = 1

@@ -7,7 +7,7 @@ ghost use Rattle.dp_telegram.specs.Stream.{cut_lent, cut_length};
 ghost use Rattle.dp_telegram.specs.FrameText.{frame_at};
 ghost use Rattle.dp_line.specs.declared.event.Event.TheVariants.{Request};
 ghost use Rattle.dp_line.specs.World.{description_of, opening_fault};
-ghost use Rattle.rackd.specs.LinesInUse.{line_at_start, empty_stream, piece_answered, passed, sent};
+ghost use Rattle.rackd.specs.LinesInUse.{line_at_start, empty_stream, piece_answered, passed, sent, owned_line, show_line};
 ghost use Rattle.rackd.specs.Runs.{WritesPrefix, Sends};
 
 use crate::output::write_whole;
@@ -93,6 +93,20 @@ impl LineInUse {
             return Err(Stop::NoCommand);
         };
         self.streams[index].pass_words(&mut self.state, octets, text, writer)
+    }
+
+    /// Makes the text the list of the slaves that a master holds, oldest lock first.
+    pub(crate) fn list_owned(&self, master: u8, text: &mut Text)
+        ensures { text.new ≡ owned_line self.now master }
+    {
+        text.set_owned(self.state.owned_by(master).as_slice());
+    }
+
+    /// Makes the text what is shown of the slave at an address, which none may have.
+    pub(crate) fn show_slave(&self, address: u8, text: &mut Text)
+        ensures { text.new ≡ show_line self.now address }
+    {
+        text.set_show(&self.state.view(address));
     }
 }
 

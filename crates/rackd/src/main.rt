@@ -9,6 +9,8 @@ mod command_line;
 mod ending;
 mod input;
 mod line_in_use;
+#[cfg(test)]
+mod line_tests;
 mod output;
 mod rack_in_use;
 #[cfg(test)]

@@ -1,7 +1,7 @@
 //! A rack in use: its lines, and the one that commands speak to.
 
 ghost use Rattle.std.specs.Prelude.{◌≡◌, ◌<◌, ◌==◌, ℕ, List, Option, None, All, map, position, length, IfOk, IfSome};
-ghost use Rattle.rackd.specs.Commands.{choose_line, send as send_octets};
+ghost use Rattle.rackd.specs.Commands.{choose_line, send as send_octets, list_owned as owned_asked, show_slave as slave_asked};
 ghost use Rattle.dp_line.specs.World.{description_of, opening_fault};
 ghost use Rattle.rack_file.specs.Rack.{rack_described};
 ghost use Rattle.rackd.specs.CommandView.{command_view};
@@ -11,6 +11,7 @@ ghost use Rattle.rackd.specs.Runs.{Obeys};
 
 use crate::command::Command;
 use crate::line_in_use::LineInUse;
+use crate::output::write_whole;
 use crate::stop::Stop;
 use dp_text::{HexWords, Text};
 use rack_file::{Rack, RackLine};
@@ -62,6 +63,8 @@ impl RackInUse {
             Command::Nothing => Ok(()),
             Command::ChooseLine(number) => self.choose(number),
             Command::Send { master, octets } => self.send(master, octets, text, writer),
+            Command::ListOwned(master) => self.list_owned(master, text, writer),
+            Command::ShowSlave(address) => self.show_slave(address, text, writer),
         }
     }
 
@@ -89,6 +92,22 @@ impl RackInUse {
         ensures { Obeys (obeyed self.old (send_octets master octets.entry)) self.new (W.contents writer.old) (W.contents writer.new) result }
     {
         self.lines[self.chosen].send(master, octets, text, writer)
+    }
+
+    /// Writes which slaves of the chosen line a master holds.
+    fn list_owned<W: Write>(&self, master: u8, text: &mut Text, writer: &mut W) -> Result<(), Stop>
+        ensures { Obeys (obeyed self.now (owned_asked master)) self.now (W.contents writer.old) (W.contents writer.new) result }
+    {
+        self.lines[self.chosen].list_owned(master, text);
+        write_whole(writer, text.as_bytes())
+    }
+
+    /// Writes what is shown of a slave of the chosen line.
+    fn show_slave<W: Write>(&self, address: u8, text: &mut Text, writer: &mut W) -> Result<(), Stop>
+        ensures { Obeys (obeyed self.now (slave_asked address)) self.now (W.contents writer.old) (W.contents writer.new) result }
+    {
+        self.lines[self.chosen].show_slave(address, text);
+        write_whole(writer, text.as_bytes())
     }
 }
 

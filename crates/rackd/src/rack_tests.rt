@@ -259,6 +259,16 @@ fn refuses_lines_that_cannot_be_opened(rt: HostRuntime) -> Result<(), Fail> {
             "address = 5\nident = 1\ncfg = \"\"\nuser_max = 255\n",
             OpenFault::Limit,
         ),
+        (
+            "number = 1\ncapacity = 9\nmasters = [1, 5]\n",
+            "address = 5\nident = 1\ncfg = \"c101\"\n",
+            OpenFault::TwiceAddress,
+        ),
+        (
+            LINE,
+            "address = 5\nident = 1\ncfg = \"807f807f\"\n",
+            OpenFault::BadCfg,
+        ),
     ];
     for (line, slave, fault) in cases {
         let found = fault_of(rt.alloc(), line, slave)?;

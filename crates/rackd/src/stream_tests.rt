@@ -15,13 +15,17 @@ fn written(alloc: Global, script: &str) -> Result<String, Fail> {
 
 #[test]
 fn octet_by_octet(rt: HostRuntime) -> Result<(), Fail> {
-    let ten = "m 1 68\nm 1 05\nm 1 05\nm 1 68\nm 1 85\nm 1 81\nm 1 6D\nm 1 3C\nm 1 3E\nm 1 ED\n";
-    assert_eq!(rt; written(rt.alloc(), ten)?.as_str(), "");
+    // Set_Prm and Chk_Cfg, and then Data_Exchange in eleven lines
+    let before =
+        "m 1 68 0C 0C 68 85 81 5D 3D 3E 88 02 05 0B 80 A1 01 9A 16\nm 1 68 07 07 68 85 81 7D 3E 3E 21 11 31 16\n";
+    let done = "1: reply e5 Done\n1: reply e5 Done\n";
+    let ten = format!(in rt.alloc();
+        "{before}m 1 68\nm 1 05\nm 1 05\nm 1 68\nm 1 05\nm 1 01\nm 1 5D\nm 1 12\nm 1 34\nm 1 A9\n"
+    )?;
+    assert_eq!(rt; written(rt.alloc(), &ten)?.as_str(), done);
     let eleven = format!(in rt.alloc(); "{ten}m 1 16\n")?;
-    assert_eq!(rt;
-        written(rt.alloc(), &eleven)?.as_str(),
-        "1: reply 680b0b688185083e3c020500ff80a1af16 Done\n"
-    );
+    let answers = format!(in rt.alloc(); "{done}1: reply 6805056801050800000e16 Done\n")?;
+    assert_eq!(rt; written(rt.alloc(), &eleven)?.as_str(), answers.as_str());
     Ok(())
 }
 
@@ -70,46 +74,5 @@ fn more_octets_than_the_longest_frame(rt: HostRuntime) -> Result<(), Fail> {
         answers.push_str("1: silence NotRequest\n")?;
     }
     assert_eq!(rt; written(rt.alloc(), &script)?.as_str(), answers.as_str());
-    Ok(())
-}
-
-#[test]
-fn silences(rt: HostRuntime) -> Result<(), Fail> {
-    let cases = [
-        (
-            "m 2 68 05 05 68 85 81 6D 3C 3E ED 16",
-            "2: silence ForeignSender\n",
-        ),
-        ("m 1 DC 02 01", "1: silence Token\n"),
-        ("m 1 E5", "1: silence NotRequest\n"),
-        ("m 1 10 05 01 00 06 16", "1: silence NotRequest\n"),
-        ("m 1 10 05 01 42 48 16", "1: silence BadFunction\n"),
-        (
-            "m 1 68 05 05 68 85 81 6D 7C 3E 2D 16",
-            "1: silence BadExtension\n",
-        ),
-        ("m 1 10 85 01 6D F3 16", "1: silence BadExtension\n"),
-        ("m 1 10 7F 01 49 C9 16", "1: silence BadBroadcast\n"),
-        ("m 1 10 09 01 49 53 16", "1: silence NoStation\n"),
-    ];
-    for (script, answer) in cases {
-        assert_eq!(rt; written(rt.alloc(), script)?.as_str(), answer, "{script}");
-    }
-    Ok(())
-}
-
-#[test]
-fn status_and_refusals(rt: HostRuntime) -> Result<(), Fail> {
-    let cases = [
-        ("m 1 10 05 01 49 4F 16", "1: reply 100105000616 Status\n"),
-        ("m 1 10 05 01 45 4B 16", "1: reply 100105030916 NoService\n"),
-        (
-            "m 1 68 05 05 68 85 81 6D 37 3E E8 16",
-            "1: reply 100105030916 NotActive\n",
-        ),
-    ];
-    for (script, answer) in cases {
-        assert_eq!(rt; written(rt.alloc(), script)?.as_str(), answer, "{script}");
-    }
     Ok(())
 }

@@ -45,12 +45,32 @@ fn writes_answers(rt: HostRuntime) {
     assert_eq!(rt; text.as_bytes(), b"126: reply e5 Done\n".as_slice());
     text.set_answer(0, &Outcome::Silence(Rule::BadFunction));
     assert_eq!(rt; text.as_bytes(), b"0: silence BadFunction\n".as_slice());
+    text.set_answer(3, &Outcome::Done);
+    assert_eq!(rt; text.as_bytes(), b"3: done\n".as_slice());
     text.set_dropped(10, FrameFault::BadEnd, 255);
     assert_eq!(rt; text.as_bytes(), b"10: dropped BadEnd 255\n".as_slice());
     text.clear();
     text.push_hex(&[0x0A, 0xF0]);
     text.push_octet(7);
     assert_eq!(rt; text.as_bytes(), b"0af07".as_slice());
+}
+
+#[test]
+fn writes_what_is_asked_of_a_line(rt: HostRuntime) -> Result<(), Fail> {
+    let rack = read_rack(rt.alloc(), RACK)?;
+    assert_eq!(rt; rack.lines.len(), 1);
+    let spec = &rack.lines[0].spec;
+    assert_eq!(rt; spec.fault(), None);
+    let line = LineState::open(rt.alloc(), spec)?;
+    let mut text = Text::new();
+    text.set_owned(&[5, 126]);
+    assert_eq!(rt; text.as_bytes(), b"owned 5 126\n".as_slice());
+    text.set_show(&line.view(5));
+    let shown = b"show 5 WaitPrm none in 0000 out 0000 wd off\n";
+    assert_eq!(rt; text.as_bytes(), shown.as_slice());
+    text.set_show(&line.view(1));
+    assert_eq!(rt; text.as_bytes(), b"refused NoStation\n".as_slice());
+    Ok(())
 }
 
 #[test]
