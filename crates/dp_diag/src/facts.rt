@@ -42,7 +42,8 @@ pub fn octets(facts: &DiagFacts) -> ArrayVec<u8, MOST_DATA>
         ident_high,
         ident_low,
     ];
-    let mut octets = ArrayVec::try_from(head.as_slice()).unwrap();
+    let mut octets = ArrayVec::new();
+    octets.try_extend_from_slice(&head).unwrap();
     octets.try_extend_from_slice(&facts.diag.octets).unwrap();
     octets
 }

@@ -4,7 +4,7 @@ ghost use Rattle.std.specs.Prelude.{◌≡◌, ◌<◌, ◌≤◌, ◌*◌, ◌&
 ghost use Rattle.dp_prm.specs.Meaning.{meaning_of, most_octets, is_set as is_set_of};
 
 use crate::limits::Limits;
-use crate::prm::{Prm, PrmVerdict};
+use crate::prm::{MOST_USER_PARAMETERS, Prm, PrmVerdict};
 use arrayvec::ArrayVec;
 
 /// The most octets of a parameter telegram (IEC 61158-6-3, data unit).
@@ -73,8 +73,18 @@ pub fn read(octets: &[u8], limits: &Limits) -> PrmVerdict
         freeze_req: is_set(FREEZE_REQ, *status),
         min_tsdr: *min_tsdr,
         group: *group,
-        user: ArrayVec::try_from(user).unwrap(),
+        user: copied(user),
     })
+}
+
+/// The user parameters, to be kept.
+fn copied(user: &[u8]) -> ArrayVec<u8, MOST_USER_PARAMETERS>
+    requires { length user.now ≤ MOST_USER_PARAMETERS }
+    ensures { result.items ≡ user.now }
+{
+    let mut copy = ArrayVec::new();
+    copy.try_extend_from_slice(user).unwrap();
+    copy
 }
 
 /// A watchdog is to run, and a factor of its time is 0.

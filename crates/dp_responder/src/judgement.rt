@@ -2,11 +2,13 @@
 
 ghost use Rattle.std.specs.Prelude.{◌≡◌, ◌≤◌, Some, length};
 ghost use Rattle.dp_sap.specs.AccessTable.{access_row};
+ghost use Rattle.dp_responder.specs.declared.judgement.Judged.TheVariants as verdicts;
 ghost use Rattle.dp_responder.specs.Memory.{is_repeat as is_repeated, remembered_of};
 ghost use Rattle.dp_responder.specs.Judgement.{admits as is_admitted, first_judged, judged_by, judgement, refusal_rows, takes_length as is_taken, the_function, uses as is_used};
 
 use crate::memory::{FrameMemory, Last};
 use crate::rule::Rule;
+use arrayvec::ArrayVec;
 use dp_sap::{Access, Point, Points, Service};
 use dp_telegram::function_code::{self, Function, RR, RS, UE};
 use dp_telegram::{Octets, Parts};
@@ -33,7 +35,7 @@ pub fn judge(points: &Points, memory: &FrameMemory, sender: u8, fc: u8, parts: &
     ensures { result ≡ judgement points.now (remembered_of memory.now sender) sender fc parts.now }
 {
     match memory.last_of(sender) {
-        Some(last) if is_repeat(last, fc) => Judged::Repeat(last.copy_reply()),
+        Some(last) if is_repeat(last, fc) => repeated(last),
         _ => refuse_at(open_point(points, parts.dsap), sender, fc, &parts.payload),
     }
 }
@@ -43,6 +45,15 @@ fn is_repeat(last: &Last, fc: u8) -> bool
     ensures { result ≡ is_repeated (Some last.now) fc }
 {
     Function::of(fc).is_srd() && function_code::fcv(fc) && last.fcb == function_code::fcb(fc)
+}
+
+/// The reply that is remembered, once more.
+fn repeated(last: &Last) -> Judged
+    ensures { result ≡ verdicts.Repeat (record { items = last.now.reply }) }
+{
+    let mut reply = ArrayVec::new();
+    reply.try_extend_from_slice(&last.reply).unwrap();
+    Judged::Repeat(reply)
 }
 
 /// The point that a request names, where it is on.

@@ -29,15 +29,6 @@ impl Model for Last {
     ghost view = { λ l. record { fcb = l.fcb; reply = l.reply.items } };
 }
 
-impl Last {
-    /// The reply, to be handed out again.
-    pub(crate) fn copy_reply(&self) -> Octets
-        ensures { result.items ≡ self.now.reply }
-    {
-        ArrayVec::try_from(self.reply.as_slice()).unwrap()
-    }
-}
-
 /// A master, and what is remembered of it.
 #[derive(Debug, Default, Drop)]
 struct Entry {

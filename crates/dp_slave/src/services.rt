@@ -14,7 +14,7 @@ ghost use Rattle.dp_slave.specs.Services.{chk_cfg_act, its_cfg, same_octets, set
 
 use crate::slave::Slave;
 use arrayvec::ArrayVec;
-use dp_diag::DiagFacts;
+use dp_diag::{Diag, DiagFacts};
 use dp_prm::{Limits, Prm, PrmVerdict, read};
 use dp_sap::{MOST_DATA, State};
 
@@ -170,27 +170,28 @@ impl Slave {
         ensures slave { self.new ≡ with_slave self.old (acted self.old.slave (tells_diagnosis sender)) }
         ensures octets { result.items ≡ diagnosis_text (diag_facts self.old.slave) }
     {
-        let octets = self.diagnosis();
-        if self.is_held_by(sender) {
-            self.diag.unread = false;
-            self.left = self.left_again();
-        }
-        octets
-    }
-
-    /// The octets of its diagnosis.
-    fn diagnosis(&self) -> ArrayVec<u8, MOST_DATA>
-        ensures { result.items ≡ diagnosis_text (diag_facts self.now.slave) }
-    {
-        dp_diag::octets(&DiagFacts {
+        let mut facts = DiagFacts {
             state: self.points.state(),
             holder: self.points.holder(),
             ident: self.description.ident,
             wd_on: self.left.is_some(),
             freeze_mode: self.freeze_mode,
             sync_mode: self.sync_mode,
-            diag: self.diag.clone().unwrap(),
-        })
+            diag: Diag {
+                octets: ArrayVec::new(),
+                ..self.diag
+            },
+        };
+        facts
+            .diag
+            .octets
+            .try_extend_from_slice(&self.diag.octets)
+            .unwrap();
+        if self.is_held_by(sender) {
+            self.diag.unread = false;
+            self.left = self.left_again();
+        }
+        dp_diag::octets(&facts)
     }
 
     /// The master holds the slave.

@@ -37,11 +37,13 @@ impl Telegram {
     {
         let (dsap, rest) = extension(self.da, &self.du)?;
         let (ssap, rest) = extension(self.sa, rest)?;
-        Some(Parts {
+        let mut parts = Parts {
             dsap,
             ssap,
-            payload: ArrayVec::try_from(rest).unwrap(),
-        })
+            payload: ArrayVec::new(),
+        };
+        parts.payload.try_extend_from_slice(rest).unwrap();
+        Some(parts)
     }
 }
 

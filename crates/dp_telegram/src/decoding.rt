@@ -134,10 +134,12 @@ fn telegram_of(body: &[u8]) -> Telegram
     requires most { length body.now ≤ 249 }
     ensures { result ≡ telegram_in body.now }
 {
+    let mut du = ArrayVec::new();
+    du.try_extend_from_slice(&body[3..]).unwrap();
     Telegram {
         da: body[0],
         sa: body[1],
         fc: body[2],
-        du: ArrayVec::try_from(&body[3..]).unwrap(),
+        du,
     }
 }
