@@ -347,7 +347,7 @@ none_mapped f None e = refl
 none_mapped f (Some x) e = absurd cc
 
 pub telegram_lost : (slaves : List SlaveRecord) (sender place : ℕ) (telegram : Telegram) (parts : Parts) → IsAdmitted sender telegram → parts_of telegram ≡ Some parts
-    → is_to_all telegram ≡ false → None ≡ option_map (λ slave. answer_of slave sender telegram parts) (find (λ slave. eqb (address_of_slave slave) (address_of telegram.da)) slaves)
+    → is_to_all telegram ≡ false → None ≡ option_map (λ slave. Some (state_and_holder slave)) (find (λ slave. eqb (address_of_slave slave) (address_of telegram.da)) slaves)
     → IsUnanswered (heard_telegram slaves sender telegram) place slaves rules.NoStation × (map (served_where_asked sender place (Some telegram) (Some parts)) slaves ≡ slaves)
 telegram_lost slaves sender place telegram parts admitted read one lost =
     let slave = find (λ slave. eqb (address_of_slave slave) (address_of telegram.da)) slaves in

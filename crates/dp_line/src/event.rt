@@ -50,10 +50,3 @@ pub struct Step {
     /// was recorded instead of it; else None.
     pub halted: Option<ArrayVec<u8, 64>>,
 }
-
-/// An answer, and the facts of the slave that it concerns.
-#[derive(Drop)]
-pub(crate) struct Answer {
-    pub(crate) facts: Facts,
-    pub(crate) outcome: Outcome,
-}

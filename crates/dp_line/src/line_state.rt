@@ -124,14 +124,17 @@ impl LineState {
         ensures answer { result ≡ (effect_of_request self.old master octets.now).answer }
     {
         let place = self.count + 1;
-        let answer = self.stations.answer(master, place, octets);
-        self.count = place;
-        Step {
+        let mut step = Step {
             place: Some(place),
-            facts: answer.facts,
-            outcome: answer.outcome,
+            facts: None,
+            outcome: Outcome::Done,
             halted: None,
-        }
+        };
+        step.facts = self
+            .stations
+            .answer(master, place, octets, &mut step.outcome);
+        self.count = place;
+        step
     }
 
     /// Records the halt, which lets go of every slave; the addresses of those that had a holder.

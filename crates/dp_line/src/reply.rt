@@ -21,20 +21,25 @@ pub(crate) fn short(telegram: &Telegram, function: u8) -> Octets
     }))
 }
 
-/// A positive reply with these octets, of high priority or not; where there are none, it is the short
-/// acknowledgement, or of high priority a reply without data.
-pub(crate) fn positive(telegram: &Telegram, parts: &Parts, octets: &[u8], high: bool) -> Octets
+/// Writes a positive reply with these octets, of high priority or not; where there are none, it is the
+/// short acknowledgement, or of high priority a reply without data.
+pub(crate) fn positive(
+    telegram: &Telegram,
+    parts: &Parts,
+    octets: &[u8],
+    high: bool,
+    text: &mut Octets,
+)
     requires { length octets.now ≤ most_data }
-    ensures { result.items ≡ positive_reply telegram.now parts.now (record { high = high; octets = octets.now }) }
+    ensures { text.new.items ≡ positive_reply telegram.now parts.now (record { high = high; octets = octets.now }) }
 {
-    if !octets.is_empty() {
-        return with_data(telegram, parts, data_function(high), octets);
-    }
-    if high {
+    *text = if !octets.is_empty() {
+        with_data(telegram, parts, data_function(high), octets)
+    } else if high {
         short(telegram, DH)
     } else {
         encode(&Frame::Ack)
-    }
+    };
 }
 
 /// The function of a reply with data.

@@ -11,8 +11,9 @@ ghost use Rattle.dp_line.specs.Effects.{state_and_holder};
 ghost use Rattle.dp_line.specs.ReplyText.{positive_reply, short_reply};
 ghost use Rattle.dp_line.specs.Serving.{answer_to, served_to, act_of, read_by, judged, Passes, IsOfProfile, AsksForData};
 
-use crate::event::{Answer, Outcome};
+use crate::event::{Facts, Outcome};
 use crate::reply;
+use arrayvec::ArrayVec;
 use dp_globalctl::Command;
 use dp_responder::{Judged, Rule, judge};
 use dp_sap::{CHK_CFG, GET_CFG, GLOBAL_CONTROL, RD_INP, RD_OUTP, SET_PRM, SLAVE_DIAG};
@@ -33,142 +34,152 @@ pub(crate) struct Request<'a> {
 }
 
 impl Request<'_> {
-    /// The answer of the slave that has the destination address, with the slave's state and holder
-    /// before it.
-    pub(crate) fn answer(&self, slave: &mut Slave) -> Answer
+    /// Writes the answer of the slave that has the destination address, and tells the slave's state
+    /// and holder before it.
+    pub(crate) fn answer(&self, slave: &mut Slave, outcome: &mut Outcome) -> Facts
         requires { IsOfProfile self.now }
         ensures slave { slave.new ≡ with_slave slave.old (served_to self.now slave.old.slave) }
-        ensures facts { result.facts ≡ Some (state_and_holder slave.old.slave) }
-        ensures outcome { result.outcome ≡ answer_to self.now slave.old.slave }
+        ensures facts { result ≡ Some (state_and_holder slave.old.slave) }
+        ensures outcome { outcome.new ≡ answer_to self.now slave.old.slave }
     {
         let facts = Some((slave.points().state(), slave.points().holder()));
-        let outcome = self.serve(slave);
-        Answer { facts, outcome }
+        self.serve(slave, outcome);
+        facts
     }
 
-    /// Serves the request.
-    fn serve(&self, slave: &mut Slave) -> Outcome
+    /// Serves the request, and writes the answer.
+    fn serve(&self, slave: &mut Slave, outcome: &mut Outcome)
         requires { IsOfProfile self.now }
         ensures slave { slave.new ≡ with_slave slave.old (served_to self.now slave.old.slave) }
-        ensures answer { result ≡ answer_to self.now slave.old.slave }
+        ensures answer { outcome.new ≡ answer_to self.now slave.old.slave }
     {
         match self.telegram.function() {
-            Function::FdlStatus => self.without_data(OK, Rule::Status),
+            Function::FdlStatus => self.without_data(OK, Rule::Status, outcome),
             Function::SdaLow | Function::SdaHigh | Function::Ident | Function::LsapStatus => {
-                self.without_data(RS, Rule::NoService)
+                self.without_data(RS, Rule::NoService, outcome)
             }
-            _ => self.serve_data(slave),
+            _ => self.serve_data(slave, outcome),
         }
     }
 
-    /// Serves an SRD or an SDN.
-    fn serve_data(&self, slave: &mut Slave) -> Outcome
+    /// Serves an SRD or an SDN, and writes the answer.
+    fn serve_data(&self, slave: &mut Slave, outcome: &mut Outcome)
         requires { AsksForData self.now }
         ensures slave { slave.new ≡ with_slave slave.old (served_to self.now slave.old.slave) }
-        ensures answer { result ≡ answer_to self.now slave.old.slave }
+        ensures answer { outcome.new ≡ answer_to self.now slave.old.slave }
     {
         let (points, memory) = (slave.points(), slave.memory());
         match judge(points, memory, self.sender, self.telegram.fc, self.parts) {
-            Judged::Repeat(octets) => Outcome::Reply {
-                octets,
-                rule: Rule::Repeat,
-            },
-            Judged::Refuse(function, rule) => self.refuse(slave, function, rule),
-            Judged::Silent(rule) => Outcome::Silence(rule),
-            Judged::Pass => self.execute(slave),
+            Judged::Repeat(octets) => {
+                *outcome = Outcome::Reply {
+                    octets,
+                    rule: Rule::Repeat,
+                }
+            }
+            Judged::Refuse(function, rule) => self.refuse(slave, function, rule, outcome),
+            Judged::Silent(rule) => *outcome = Outcome::Silence(rule),
+            Judged::Pass => self.execute(slave, outcome),
         }
     }
 
-    /// An answer without data.
-    fn without_data(&self, function: u8, rule: Rule) -> Outcome
-        ensures { result ≡ Answers.Reply (record { items = short_reply self.now.telegram.now function }) rule }
+    /// Writes an answer without data.
+    fn without_data(&self, function: u8, rule: Rule, outcome: &mut Outcome)
+        ensures { outcome.new ≡ Answers.Reply (record { items = short_reply self.now.telegram.now function }) rule }
     {
-        Outcome::Reply {
+        *outcome = Outcome::Reply {
             octets: reply::short(self.telegram, function),
             rule,
-        }
+        };
     }
 
-    /// Refuses an SRD, whose refusal is remembered.
-    fn refuse(&self, slave: &mut Slave, function: u8, rule: Rule) -> Outcome
+    /// Refuses an SRD: writes the refusal, and remembers it.
+    fn refuse(&self, slave: &mut Slave, function: u8, rule: Rule, outcome: &mut Outcome)
         requires refused { judged self.now slave.old.slave ≡ verdicts.Refuse function rule }
         requires asks { AsksForData self.now }
         ensures slave { slave.new ≡ with_slave slave.old (served_to self.now slave.old.slave) }
-        ensures answer { result ≡ answer_to self.now slave.old.slave }
+        ensures answer { outcome.new ≡ answer_to self.now slave.old.slave }
     {
         let octets = reply::short(self.telegram, function);
         slave.remember(self.sender, self.telegram.fc, &octets);
-        Outcome::Reply { octets, rule }
+        *outcome = Outcome::Reply { octets, rule };
     }
 
-    /// Does the service of a request that no row refuses.
-    fn execute(&self, slave: &mut Slave) -> Outcome
+    /// Does the service of a request that no row refuses, and writes the answer.
+    fn execute(&self, slave: &mut Slave, outcome: &mut Outcome)
         requires passes { Passes self.now slave.old.slave }
         requires asks { AsksForData self.now }
         ensures slave { slave.new ≡ with_slave slave.old (served_to self.now slave.old.slave) }
-        ensures answer { result ≡ answer_to self.now slave.old.slave }
+        ensures answer { outcome.new ≡ answer_to self.now slave.old.slave }
     {
         if self.parts.dsap == Some(GLOBAL_CONTROL) {
-            return self.control(slave);
+            return self.control(slave, outcome);
         }
-        let octets = self.reply(slave);
+        let mut octets = ArrayVec::new();
+        self.reply(slave, &mut octets);
         slave.remember(self.sender, self.telegram.fc, &octets);
-        Outcome::Reply {
+        *outcome = Outcome::Reply {
             octets,
             rule: Rule::Done,
-        }
+        };
     }
 
-    /// Does a Global_Control to the slave, where it selects it.
-    fn control(&self, slave: &mut Slave) -> Outcome
+    /// Does a Global_Control to the slave, where it selects it, and writes whether it did.
+    fn control(&self, slave: &mut Slave, outcome: &mut Outcome)
         requires passes { Passes self.now slave.old.slave }
         requires asks { AsksForData self.now }
         requires point { self.now.parts.now.dsap ≡ global_control }
         ensures slave { slave.new ≡ with_slave slave.old (served_to self.now slave.old.slave) }
-        ensures answer { result ≡ answer_to self.now slave.old.slave }
+        ensures answer { outcome.new ≡ answer_to self.now slave.old.slave }
     {
         let command = Command::read(&self.parts.payload);
         if !command.selects(slave.group()) {
-            return Outcome::Silence(Rule::NotSelected);
+            *outcome = Outcome::Silence(Rule::NotSelected);
+            return;
         }
         command.apply(slave);
-        Outcome::Done
+        *outcome = Outcome::Done;
     }
 
-    /// Does the service of a point, and makes the reply to it.
-    fn reply(&self, slave: &mut Slave) -> Octets
+    /// Does the service of a point, and writes the text of the reply to it.
+    fn reply(&self, slave: &mut Slave, text: &mut Octets)
         requires passes { Passes self.now slave.old.slave }
         requires point { self.now.parts.now.dsap ≢ global_control }
         ensures slave { slave.new ≡ with_slave slave.old (acted slave.old.slave (act_of self.now slave.old.slave)) }
-        ensures octets { result.items ≡ positive_reply self.now.telegram.now self.now.parts.now (service_answer slave.old.slave self.now.parts.now.dsap) }
+        ensures octets { text.new.items ≡ positive_reply self.now.telegram.now self.now.parts.now (service_answer slave.old.slave self.now.parts.now.dsap) }
     {
         match self.parts.dsap {
-            None => self.exchange(slave),
+            None => self.exchange(slave, text),
             Some(SLAVE_DIAG) => {
                 let diagnosis = slave.slave_diag(self.sender);
-                reply::positive(self.telegram, self.parts, &diagnosis, false)
+                reply::positive(self.telegram, self.parts, &diagnosis, false, text)
             }
             Some(SET_PRM) => {
                 slave.set_prm(self.sender, self.place, &self.parts.payload);
-                encode(&Frame::Ack)
+                *text = encode(&Frame::Ack);
             }
             Some(CHK_CFG) => {
                 slave.chk_cfg(&self.parts.payload);
-                encode(&Frame::Ack)
+                *text = encode(&Frame::Ack);
             }
-            Some(point) => reply::positive(self.telegram, self.parts, read_at(slave, point), false),
+            Some(point) => reply::positive(
+                self.telegram,
+                self.parts,
+                read_at(slave, point),
+                false,
+                text,
+            ),
         }
     }
 
-    /// Exchanges data: the reply has the inputs that a master sees.
-    fn exchange(&self, slave: &mut Slave) -> Octets
+    /// Exchanges data: the reply, whose text it writes, has the inputs that a master sees.
+    fn exchange(&self, slave: &mut Slave, text: &mut Octets)
         requires passes { Passes self.now slave.old.slave }
         requires point { self.now.parts.now.dsap ≡ data_exchange }
         ensures slave { slave.new ≡ with_slave slave.old (acted slave.old.slave (act_of self.now slave.old.slave)) }
-        ensures octets { result.items ≡ positive_reply self.now.telegram.now self.now.parts.now (service_answer slave.old.slave self.now.parts.now.dsap) }
+        ensures octets { text.new.items ≡ positive_reply self.now.telegram.now self.now.parts.now (service_answer slave.old.slave self.now.parts.now.dsap) }
     {
         let high = slave.data_exchange(&self.parts.payload);
-        reply::positive(self.telegram, self.parts, slave.rd_inp(), high)
+        reply::positive(self.telegram, self.parts, slave.rd_inp(), high, text)
     }
 }
 

@@ -1,6 +1,6 @@
 //! The stations of a line: its masters, and its slaves, found by their address in one step.
 
-ghost use Rattle.std.specs.Prelude.{◌≡◌, ℕ, ◌≤◌, ◌<◌, ◌==◌, length, map, find, filter, false, true, None, Some, option_map, slice_get, slice_index_or, IfOk, position};
+ghost use Rattle.std.specs.Prelude.{◌≡◌, ℕ, ◌≤◌, ◌<◌, ◌==◌, length, map, find, filter, false, true, None, Some, option_map, slice_get, slice_index_or, IfOk, IfSome, position};
 ghost use Rattle.std.specs.Option.{option_copied};
 ghost use Rattle.std.specs.List.{list_all, list_any};
 ghost use Rattle.dp_slave.specs.SlaveRecord.{released, is_held, is_held_by};
@@ -14,7 +14,7 @@ mod answering;
 mod lists;
 
 use crate::description::LineSpec;
-use crate::event::Answer;
+use crate::event::{Facts, Outcome};
 use crate::limits::MOST_SLAVES;
 use crate::request::Request;
 use arrayvec::ArrayVec;
@@ -82,18 +82,17 @@ impl Stations {
         }
     }
 
-    /// Serves a request at the slave that has its destination address, None where there is no such slave.
-    pub(crate) fn serve(&mut self, request: &Request<'_>) -> Option<Answer>
+    /// Serves a request at the slave that has its destination address: writes the slave's answer, and
+    /// tells its facts before it; None where there is no such slave.
+    pub(crate) fn serve(&mut self, request: &Request<'_>, outcome: &mut Outcome) -> Option<Facts>
         requires function { IsOfProfile request.now }
         requires master { list_any (λ other. other == request.now.sender) self.old.masters ≡ true }
         requires later { AreBefore request.now.place self.old.slaves }
         ensures slaves { self.new ≡ record self.old {
           slaves = map (served_where_asked request.now.sender request.now.place (Some request.now.telegram.now) (Some request.now.parts.now)) self.old.slaves;
         } }
-        ensures facts { option_map (λ answer. answer.facts) result
-            ≡ option_map (λ slave. Some (state_and_holder slave)) (slave_asked self.old.slaves request.now) }
-        ensures outcome { option_map (λ answer. answer.outcome) result
-            ≡ option_map (answer_to request.now) (slave_asked self.old.slaves request.now) }
+        ensures facts { result ≡ option_map (λ slave. Some (state_and_holder slave)) (slave_asked self.old.slaves request.now) }
+        ensures outcome { IfSome result (λ facts. Some outcome.new ≡ option_map (answer_to request.now) (slave_asked self.old.slaves request.now)) }
     {
         let index = usize::from(self.indices[usize::from(request.telegram.destination())]?);
         let Stations {
@@ -102,7 +101,7 @@ impl Stations {
             owners,
             ..
         } = self;
-        Some(lists::serve_at(slaves, owners, masters, index, request))
+        Some(lists::serve_at(slaves, owners, masters, index, request, outcome))
     }
 
     /// Lets go of every holder; the addresses of the slaves that had one, ascending.

@@ -9,69 +9,82 @@ ghost use Rattle.dp_line.specs.Verdict.{has_foreign_sender};
 ghost use Rattle.dp_line.specs.Stations.{AreBefore, IsAdmitted, IsSilent, heard_by, heard_telegram};
 
 use super::Stations;
-use crate::event::{Answer, Outcome};
+use crate::event::{Facts, Outcome};
 use crate::request::Request;
 use dp_responder::Rule;
 use dp_telegram::function_code::Function;
 use dp_telegram::{Frame, GLOBAL_ADDRESS, Telegram, decode};
 
 impl Stations {
-    /// The answer to a request that takes this place of the journal.
-    pub(crate) fn answer(&mut self, master: u8, place: u32, octets: &[u8]) -> Answer
+    /// Writes the answer to a request that takes this place of the journal, and tells the facts of the
+    /// slave that it concerns.
+    pub(crate) fn answer(
+        &mut self,
+        master: u8,
+        place: u32,
+        octets: &[u8],
+        outcome: &mut Outcome,
+    ) -> Facts
         requires later { AreBefore place self.old.slaves }
         ensures slaves { self.new ≡ record self.old { slaves = map (slave_after_request (heard_by self.old master octets.now) place) self.old.slaves } }
-        ensures facts { result.facts ≡ facts_heard (heard_by self.old master octets.now) }
-        ensures outcome { result.outcome ≡ outcome_heard (heard_by self.old master octets.now) }
+        ensures facts { result ≡ facts_heard (heard_by self.old master octets.now) }
+        ensures outcome { outcome.new ≡ outcome_heard (heard_by self.old master octets.now) }
     {
-        let Ok(frame) = decode(octets) else {
-            return silent(Rule::NoFrame);
+        let decoded = decode(octets);
+        let Ok(frame) = &decoded else {
+            return silent(Rule::NoFrame, outcome);
         };
         if !self.has_master(master) {
-            return silent(Rule::NoMaster);
+            return silent(Rule::NoMaster, outcome);
         }
-        match request_in(&frame, master) {
-            Ok(telegram) => self.answer_telegram(master, place, telegram),
-            Err(rule) => silent(rule),
+        match request_in(frame, master) {
+            Ok(telegram) => self.answer_telegram(master, place, telegram, outcome),
+            Err(rule) => silent(rule, outcome),
         }
     }
 
-    /// The answer to a telegram of the master itself, which is a request of this profile.
-    fn answer_telegram(&mut self, sender: u8, place: u32, telegram: &Telegram) -> Answer
+    /// The same of a telegram of the master itself, which is a request of this profile.
+    fn answer_telegram(
+        &mut self,
+        sender: u8,
+        place: u32,
+        telegram: &Telegram,
+        outcome: &mut Outcome,
+    ) -> Facts
         requires admitted { IsAdmitted sender telegram.now }
         requires master { list_any (λ other. other == sender) self.old.masters ≡ true }
         requires later { AreBefore place self.old.slaves }
         ensures slaves { self.new ≡ record self.old { slaves = map (slave_after_request (heard_telegram self.old.slaves sender telegram.now) place) self.old.slaves } }
-        ensures facts { result.facts ≡ facts_heard (heard_telegram self.old.slaves sender telegram.now) }
-        ensures outcome { result.outcome ≡ outcome_heard (heard_telegram self.old.slaves sender telegram.now) }
+        ensures facts { result ≡ facts_heard (heard_telegram self.old.slaves sender telegram.now) }
+        ensures outcome { outcome.new ≡ outcome_heard (heard_telegram self.old.slaves sender telegram.now) }
     {
-        let Some(parts) = telegram.parts() else {
-            return silent(Rule::BadExtension);
+        let read = telegram.parts();
+        let Some(parts) = &read else {
+            return silent(Rule::BadExtension, outcome);
         };
         if telegram.destination() == GLOBAL_ADDRESS {
-            return silent(Rule::BadBroadcast);
+            return silent(Rule::BadBroadcast, outcome);
         }
         let request = Request {
             sender,
             place,
             telegram,
-            parts: &parts,
+            parts,
         };
-        match self.serve(&request) {
-            Some(answer) => answer,
-            None => silent(Rule::NoStation),
+        match self.serve(&request, outcome) {
+            Some(facts) => facts,
+            None => silent(Rule::NoStation, outcome),
         }
     }
 }
 
-/// No slave answers.
-fn silent(rule: Rule) -> Answer
-    ensures facts { result.facts ≡ None }
-    ensures outcome { result.outcome ≡ Answers.Silence rule }
+/// No slave answers: writes that, and tells of no slave.
+fn silent(rule: Rule, outcome: &mut Outcome) -> Facts
+    ensures facts { result ≡ None }
+    ensures outcome { outcome.new ≡ Answers.Silence rule }
 {
-    Answer {
-        facts: None,
-        outcome: Outcome::Silence(rule),
-    }
+    *outcome = Outcome::Silence(rule);
+    None
 }
 
 /// The telegram of a master's own request of a function of this profile, or the rule by which nobody

@@ -9,7 +9,7 @@ ghost use Rattle.dp_line.specs.Effects.{state_and_holder};
 ghost use Rattle.dp_line.specs.Serving.{IsOfProfile, answer_to, served_to};
 ghost use Rattle.dp_line.specs.Stations.{AreBefore, AreThreaded, IsAt, IsWritten, appended_to, at_index, links_of, master_index, slaves_of, unlinked_from};
 
-use crate::event::Answer;
+use crate::event::{Facts, Outcome};
 use crate::limits::MOST_SLAVES;
 use crate::request::Request;
 use arrayvec::ArrayVec;
@@ -17,14 +17,15 @@ use dp_owners::Owners;
 use dp_slave::Slave;
 
 /// Serves a request at the slave of an index, which goes from the list of the master that held it to
-/// that of the one that holds it then.
+/// that of the one that holds it then. Writes the slave's answer, and tells its facts before it.
 pub(crate) fn serve_at(
     slaves: &mut [Slave],
     owners: &mut Owners,
     masters: &[u8],
     index: usize,
     request: &Request<'_>,
-) -> Answer
+    outcome: &mut Outcome,
+) -> Facts
     requires function { IsOfProfile request.now }
     requires threaded { AreThreaded masters.now owners.old slaves.old }
     requires masters { length masters.now ≤ most_masters }
@@ -33,13 +34,13 @@ pub(crate) fn serve_at(
     requires later { AreBefore request.now.place (slaves_of slaves.old) }
     ensures threaded { AreThreaded masters.now owners.new slaves.new }
     ensures slaves { slaves_of slaves.new ≡ at_index index (served_to request.now) (slaves_of slaves.old) }
-    ensures facts { Some result.facts ≡ option_map (λ slave. Some (state_and_holder slave)) (slice_get (slaves_of slaves.old) index) }
-    ensures outcome { Some result.outcome ≡ option_map (answer_to request.now) (slice_get (slaves_of slaves.old) index) }
+    ensures facts { Some result ≡ option_map (λ slave. Some (state_and_holder slave)) (slice_get (slaves_of slaves.old) index) }
+    ensures outcome { Some outcome.new ≡ option_map (answer_to request.now) (slice_get (slaves_of slaves.old) index) }
 {
     let before = slaves[index].points().holder();
-    let answer = request.answer(&mut slaves[index]);
+    let facts = request.answer(&mut slaves[index], outcome);
     move_to_holder(slaves, owners, masters, index, before);
-    answer
+    facts
 }
 
 /// Takes a slave that was written out of the list of its holder before, and puts it last in that of

@@ -10,11 +10,11 @@ returns-clause-slave c =
     let request = c.args.self.now in
     let other : request.parts.now.dsap ≢ global_control = search rules in
     let point : same_point request.parts.now.dsap global_control ≡ false = other_point request.parts.now.dsap other in
-    let done = replied slave request.sender request.place request.telegram.now request.parts.now c.reply-octets.result.items
+    let done = replied slave request.sender request.place request.telegram.now request.parts.now c.reply.new.text.items
     (done_rule slave request.sender request.telegram.now request.parts.now c.requires.asks.0 c.requires.asks.1 c.requires.passes (not_controlled slave request.parts.now point))
-    (no_sdn slave request.sender request.telegram.now request.parts.now c.requires.passes point) c.reply-octets.ensures.octets in
+    (no_sdn slave request.sender request.telegram.now request.parts.now c.requires.passes point) c.reply.ensures.octets in
     c.remember.ensures
-    ∙ remembered_after c.args.slave.now c.reply-octets.new.slave request.sender request.telegram.now.fc c.reply-octets.result.items _ c.reply-octets.ensures.slave
+    ∙ remembered_after c.args.slave.now c.reply.new.slave request.sender request.telegram.now.fc c.reply.new.text.items _ c.reply.ensures.slave
     ∙ ap (with_slave c.args.slave.now) done.1
 
 pub returns-clause-answer : goal.returns-clause-answer
@@ -23,6 +23,6 @@ returns-clause-answer c =
     let request = c.args.self.now in
     let other : request.parts.now.dsap ≢ global_control = search rules in
     let point : same_point request.parts.now.dsap global_control ≡ false = other_point request.parts.now.dsap other in
-    (replied slave request.sender request.place request.telegram.now request.parts.now c.reply-octets.result.items
+    (replied slave request.sender request.place request.telegram.now request.parts.now c.reply.new.text.items
     (done_rule slave request.sender request.telegram.now request.parts.now c.requires.asks.0 c.requires.asks.1 c.requires.passes (not_controlled slave request.parts.now point))
-    (no_sdn slave request.sender request.telegram.now request.parts.now c.requires.passes point) c.reply-octets.ensures.octets).0
+    (no_sdn slave request.sender request.telegram.now request.parts.now c.requires.passes point) c.reply.ensures.octets).0

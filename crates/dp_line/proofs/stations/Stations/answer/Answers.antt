@@ -1,4 +1,5 @@
 use Rattle.std.proofs.Common.{◌≡◌, eqb, true, false, Some, None, map, ap, sym, refl, ◌∙◌, rules}
+use Rattle.std.specs.Result.{result_ok}
 use Rattle.std.specs.List.{list_any}
 use Rattle.dp_telegram.specs.FrameText.{frame_of}
 use Rattle.dp_telegram.specs.declared.frame.Frame.TheVariants as frames
@@ -24,55 +25,55 @@ returns-in_default-clause-outcome c =
 
 pub returns-then-not-has_master-clause-slaves : goal.returns-then-not-has_master-clause-slaves
 returns-then-not-has_master-clause-slaves c =
-    let found : frame_of c.args.octets.now ≡ Some c.in-Ok.frame = sym c.in-Ok.ensures.found in
+    let found : frame_of c.args.octets.now ≡ Some c.in-Ok.frame = sym c.decode-decoded.ensures.found ∙ ap result_ok c.in-Ok.is in
     let stranger : list_any (λ other. eqb other c.args.master) c.args.self.now.masters ≡ false = search rules in
     with_slaves c.args.self.now _ (octets_unanswered c.args.self.now c.args.master c.args.place c.args.octets.now rules_of_line.NoMaster refl (heard_no_master c.args.self.now c.args.master c.args.octets.now c.in-Ok.frame found stranger)).stay
 
 pub returns-then-not-has_master-clause-facts : goal.returns-then-not-has_master-clause-facts
 returns-then-not-has_master-clause-facts c =
-    let found : frame_of c.args.octets.now ≡ Some c.in-Ok.frame = sym c.in-Ok.ensures.found in
+    let found : frame_of c.args.octets.now ≡ Some c.in-Ok.frame = sym c.decode-decoded.ensures.found ∙ ap result_ok c.in-Ok.is in
     let stranger : list_any (λ other. eqb other c.args.master) c.args.self.now.masters ≡ false = search rules in
     c.silent-then-not-has_master.ensures.facts ∙ (octets_unanswered c.args.self.now c.args.master c.args.place c.args.octets.now rules_of_line.NoMaster refl (heard_no_master c.args.self.now c.args.master c.args.octets.now c.in-Ok.frame found stranger)).facts
 
 pub returns-then-not-has_master-clause-outcome : goal.returns-then-not-has_master-clause-outcome
 returns-then-not-has_master-clause-outcome c =
-    let found : frame_of c.args.octets.now ≡ Some c.in-Ok.frame = sym c.in-Ok.ensures.found in
+    let found : frame_of c.args.octets.now ≡ Some c.in-Ok.frame = sym c.decode-decoded.ensures.found ∙ ap result_ok c.in-Ok.is in
     let stranger : list_any (λ other. eqb other c.args.master) c.args.self.now.masters ≡ false = search rules in
     c.silent-then-not-has_master.ensures.outcome ∙ (octets_unanswered c.args.self.now c.args.master c.args.place c.args.octets.now rules_of_line.NoMaster refl (heard_no_master c.args.self.now c.args.master c.args.octets.now c.in-Ok.frame found stranger)).outcome
 
 pub returns-in-Ok-request_in-clause-slaves : goal.returns-in-Ok-request_in-clause-slaves
 returns-in-Ok-request_in-clause-slaves c =
-    let found : frame_of c.args.octets.now ≡ Some (frames.Telegram c.in-Ok-request_in.telegram.now) = sym c.in-Ok.ensures.found ∙ ap Some c.in-Ok-request_in.ensures.0 in
+    let found : frame_of c.args.octets.now ≡ Some (frames.Telegram c.in-Ok-request_in.telegram.now) = sym c.decode-decoded.ensures.found ∙ ap result_ok c.in-Ok.is ∙ ap Some c.in-Ok-request_in.ensures.0 in
     let master : list_any (λ other. eqb other c.args.master) c.args.self.now.masters ≡ true = search rules in
     c.answer_telegram.ensures.slaves
     ∙ ap (λ h. record c.args.self.now { slaves = map (slave_after_request h c.args.place) c.args.self.now.slaves }) (heard_telegram_is c.args.self.now c.args.master c.args.octets.now c.in-Ok-request_in.telegram.now found master)
 
 pub returns-in-Ok-request_in-clause-facts : goal.returns-in-Ok-request_in-clause-facts
 returns-in-Ok-request_in-clause-facts c =
-    let found : frame_of c.args.octets.now ≡ Some (frames.Telegram c.in-Ok-request_in.telegram.now) = sym c.in-Ok.ensures.found ∙ ap Some c.in-Ok-request_in.ensures.0 in
+    let found : frame_of c.args.octets.now ≡ Some (frames.Telegram c.in-Ok-request_in.telegram.now) = sym c.decode-decoded.ensures.found ∙ ap result_ok c.in-Ok.is ∙ ap Some c.in-Ok-request_in.ensures.0 in
     let master : list_any (λ other. eqb other c.args.master) c.args.self.now.masters ≡ true = search rules in
     c.answer_telegram.ensures.facts ∙ ap facts_heard (heard_telegram_is c.args.self.now c.args.master c.args.octets.now c.in-Ok-request_in.telegram.now found master)
 
 pub returns-in-Ok-request_in-clause-outcome : goal.returns-in-Ok-request_in-clause-outcome
 returns-in-Ok-request_in-clause-outcome c =
-    let found : frame_of c.args.octets.now ≡ Some (frames.Telegram c.in-Ok-request_in.telegram.now) = sym c.in-Ok.ensures.found ∙ ap Some c.in-Ok-request_in.ensures.0 in
+    let found : frame_of c.args.octets.now ≡ Some (frames.Telegram c.in-Ok-request_in.telegram.now) = sym c.decode-decoded.ensures.found ∙ ap result_ok c.in-Ok.is ∙ ap Some c.in-Ok-request_in.ensures.0 in
     let master : list_any (λ other. eqb other c.args.master) c.args.self.now.masters ≡ true = search rules in
     c.answer_telegram.ensures.outcome ∙ ap outcome_heard (heard_telegram_is c.args.self.now c.args.master c.args.octets.now c.in-Ok-request_in.telegram.now found master)
 
 pub returns-in-Err-clause-slaves : goal.returns-in-Err-clause-slaves
 returns-in-Err-clause-slaves c =
-    let found : frame_of c.args.octets.now ≡ Some c.in-Ok.frame = sym c.in-Ok.ensures.found in
+    let found : frame_of c.args.octets.now ≡ Some c.in-Ok.frame = sym c.decode-decoded.ensures.found ∙ ap result_ok c.in-Ok.is in
     let master : list_any (λ other. eqb other c.args.master) c.args.self.now.masters ≡ true = search rules in
     with_slaves c.args.self.now _ (octets_unanswered c.args.self.now c.args.master c.args.place c.args.octets.now c.in-Err.rule c.in-Err.ensures.silent (heard_silent c.args.self.now c.args.master c.args.octets.now c.in-Ok.frame c.in-Err.rule found master c.in-Err.ensures)).stay
 
 pub returns-in-Err-clause-facts : goal.returns-in-Err-clause-facts
 returns-in-Err-clause-facts c =
-    let found : frame_of c.args.octets.now ≡ Some c.in-Ok.frame = sym c.in-Ok.ensures.found in
+    let found : frame_of c.args.octets.now ≡ Some c.in-Ok.frame = sym c.decode-decoded.ensures.found ∙ ap result_ok c.in-Ok.is in
     let master : list_any (λ other. eqb other c.args.master) c.args.self.now.masters ≡ true = search rules in
     c.silent-in-Err.ensures.facts ∙ (octets_unanswered c.args.self.now c.args.master c.args.place c.args.octets.now c.in-Err.rule c.in-Err.ensures.silent (heard_silent c.args.self.now c.args.master c.args.octets.now c.in-Ok.frame c.in-Err.rule found master c.in-Err.ensures)).facts
 
 pub returns-in-Err-clause-outcome : goal.returns-in-Err-clause-outcome
 returns-in-Err-clause-outcome c =
-    let found : frame_of c.args.octets.now ≡ Some c.in-Ok.frame = sym c.in-Ok.ensures.found in
+    let found : frame_of c.args.octets.now ≡ Some c.in-Ok.frame = sym c.decode-decoded.ensures.found ∙ ap result_ok c.in-Ok.is in
     let master : list_any (λ other. eqb other c.args.master) c.args.self.now.masters ≡ true = search rules in
     c.silent-in-Err.ensures.outcome ∙ (octets_unanswered c.args.self.now c.args.master c.args.place c.args.octets.now c.in-Err.rule c.in-Err.ensures.silent (heard_silent c.args.self.now c.args.master c.args.octets.now c.in-Ok.frame c.in-Err.rule found master c.in-Err.ensures)).outcome

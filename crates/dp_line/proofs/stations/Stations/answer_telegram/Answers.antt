@@ -7,77 +7,77 @@ use Rattle.dp_line.proofs.stations.Stations.answer_telegram.Goals as goal
 
 pub returns-in_default-clause-slaves : goal.returns-in_default-clause-slaves
 returns-in_default-clause-slaves c =
-    let none : parts_of c.args.telegram.now ≡ None = sym c.parts.ensures.computed ∙ c.in_default.is in
+    let none : parts_of c.args.telegram.now ≡ None = sym c.parts-read.ensures.computed ∙ c.in_default.is in
     with_slaves c.args.self.now _ (telegram_bare c.args.self.now.slaves c.args.sender c.args.place c.args.telegram.now c.requires.admitted none).stay
 
 pub returns-in_default-clause-facts : goal.returns-in_default-clause-facts
 returns-in_default-clause-facts c =
-    let none : parts_of c.args.telegram.now ≡ None = sym c.parts.ensures.computed ∙ c.in_default.is in
+    let none : parts_of c.args.telegram.now ≡ None = sym c.parts-read.ensures.computed ∙ c.in_default.is in
     c.silent.ensures.facts ∙ (telegram_bare c.args.self.now.slaves c.args.sender c.args.place c.args.telegram.now c.requires.admitted none).facts
 
 pub returns-in_default-clause-outcome : goal.returns-in_default-clause-outcome
 returns-in_default-clause-outcome c =
-    let none : parts_of c.args.telegram.now ≡ None = sym c.parts.ensures.computed ∙ c.in_default.is in
+    let none : parts_of c.args.telegram.now ≡ None = sym c.parts-read.ensures.computed ∙ c.in_default.is in
     c.silent.ensures.outcome ∙ (telegram_bare c.args.self.now.slaves c.args.sender c.args.place c.args.telegram.now c.requires.admitted none).outcome
 
 pub returns-then-destination-eq-GLOBAL_ADDRESS-clause-slaves : goal.returns-then-destination-eq-GLOBAL_ADDRESS-clause-slaves
 returns-then-destination-eq-GLOBAL_ADDRESS-clause-slaves c =
-    let read : parts_of c.args.telegram.now ≡ Some c.in-Some.parts = sym c.parts.ensures.computed ∙ c.in-Some.is in
+    let read : parts_of c.args.telegram.now ≡ Some c.in-Some.parts = sym c.parts-read.ensures.computed ∙ c.in-Some.is in
     let global : is_to_all c.args.telegram.now ≡ true = search rules in
     with_slaves c.args.self.now _ (telegram_global c.args.self.now.slaves c.args.sender c.args.place c.args.telegram.now c.in-Some.parts c.requires.admitted read global).stay
 
 pub returns-then-destination-eq-GLOBAL_ADDRESS-clause-facts : goal.returns-then-destination-eq-GLOBAL_ADDRESS-clause-facts
 returns-then-destination-eq-GLOBAL_ADDRESS-clause-facts c =
-    let read : parts_of c.args.telegram.now ≡ Some c.in-Some.parts = sym c.parts.ensures.computed ∙ c.in-Some.is in
+    let read : parts_of c.args.telegram.now ≡ Some c.in-Some.parts = sym c.parts-read.ensures.computed ∙ c.in-Some.is in
     let global : is_to_all c.args.telegram.now ≡ true = search rules in
     c.silent-then-destination-eq-GLOBAL_ADDRESS.ensures.facts
     ∙ (telegram_global c.args.self.now.slaves c.args.sender c.args.place c.args.telegram.now c.in-Some.parts c.requires.admitted read global).facts
 
 pub returns-then-destination-eq-GLOBAL_ADDRESS-clause-outcome : goal.returns-then-destination-eq-GLOBAL_ADDRESS-clause-outcome
 returns-then-destination-eq-GLOBAL_ADDRESS-clause-outcome c =
-    let read : parts_of c.args.telegram.now ≡ Some c.in-Some.parts = sym c.parts.ensures.computed ∙ c.in-Some.is in
+    let read : parts_of c.args.telegram.now ≡ Some c.in-Some.parts = sym c.parts-read.ensures.computed ∙ c.in-Some.is in
     let global : is_to_all c.args.telegram.now ≡ true = search rules in
     c.silent-then-destination-eq-GLOBAL_ADDRESS.ensures.outcome
     ∙ (telegram_global c.args.self.now.slaves c.args.sender c.args.place c.args.telegram.now c.in-Some.parts c.requires.admitted read global).outcome
 
 pub returns-in-Some-serve-clause-slaves : goal.returns-in-Some-serve-clause-slaves
 returns-in-Some-serve-clause-slaves c =
-    let read : parts_of c.args.telegram.now ≡ Some c.in-Some.parts = sym c.parts.ensures.computed ∙ c.in-Some.is in
+    let read : parts_of c.args.telegram.now ≡ Some c.in-Some.parts = sym c.parts-read.ensures.computed ∙ c.in-Some.is in
     let one : is_to_all c.args.telegram.now ≡ false = search rules in
     c.in-Some-serve.ensures.slaves
     ∙ ap (λ (xs : List SlaveRecord). record c.args.self.now { slaves = xs })
-    (telegram_answered c.args.self.now.slaves c.args.sender c.args.place c.args.telegram.now c.in-Some.parts c.in-Some-serve.answer.facts c.in-Some-serve.answer.outcome
+    (telegram_answered c.args.self.now.slaves c.args.sender c.args.place c.args.telegram.now c.in-Some.parts c.in-Some-serve.facts c.serve.new.outcome
     c.requires.admitted one read c.in-Some-serve.ensures.facts c.in-Some-serve.ensures.outcome).each
 
 pub returns-in-Some-serve-clause-facts : goal.returns-in-Some-serve-clause-facts
 returns-in-Some-serve-clause-facts c =
-    let read : parts_of c.args.telegram.now ≡ Some c.in-Some.parts = sym c.parts.ensures.computed ∙ c.in-Some.is in
+    let read : parts_of c.args.telegram.now ≡ Some c.in-Some.parts = sym c.parts-read.ensures.computed ∙ c.in-Some.is in
     let one : is_to_all c.args.telegram.now ≡ false = search rules in
-    (telegram_answered c.args.self.now.slaves c.args.sender c.args.place c.args.telegram.now c.in-Some.parts c.in-Some-serve.answer.facts c.in-Some-serve.answer.outcome
+    (telegram_answered c.args.self.now.slaves c.args.sender c.args.place c.args.telegram.now c.in-Some.parts c.in-Some-serve.facts c.serve.new.outcome
     c.requires.admitted one read c.in-Some-serve.ensures.facts c.in-Some-serve.ensures.outcome).facts
 
 pub returns-in-Some-serve-clause-outcome : goal.returns-in-Some-serve-clause-outcome
 returns-in-Some-serve-clause-outcome c =
-    let read : parts_of c.args.telegram.now ≡ Some c.in-Some.parts = sym c.parts.ensures.computed ∙ c.in-Some.is in
+    let read : parts_of c.args.telegram.now ≡ Some c.in-Some.parts = sym c.parts-read.ensures.computed ∙ c.in-Some.is in
     let one : is_to_all c.args.telegram.now ≡ false = search rules in
-    (telegram_answered c.args.self.now.slaves c.args.sender c.args.place c.args.telegram.now c.in-Some.parts c.in-Some-serve.answer.facts c.in-Some-serve.answer.outcome
+    (telegram_answered c.args.self.now.slaves c.args.sender c.args.place c.args.telegram.now c.in-Some.parts c.in-Some-serve.facts c.serve.new.outcome
     c.requires.admitted one read c.in-Some-serve.ensures.facts c.in-Some-serve.ensures.outcome).outcome
 
 pub returns-in-None-clause-slaves : goal.returns-in-None-clause-slaves
 returns-in-None-clause-slaves c =
-    let read : parts_of c.args.telegram.now ≡ Some c.in-Some.parts = sym c.parts.ensures.computed ∙ c.in-Some.is in
+    let read : parts_of c.args.telegram.now ≡ Some c.in-Some.parts = sym c.parts-read.ensures.computed ∙ c.in-Some.is in
     let one : is_to_all c.args.telegram.now ≡ false = search rules in
-    let lost = telegram_lost c.args.self.now.slaves c.args.sender c.args.place c.args.telegram.now c.in-Some.parts c.requires.admitted read one c.in-None.ensures.outcome in
+    let lost = telegram_lost c.args.self.now.slaves c.args.sender c.args.place c.args.telegram.now c.in-Some.parts c.requires.admitted read one c.in-None.ensures.facts in
     c.in-None.ensures.slaves ∙ ap (λ (xs : List SlaveRecord). record c.args.self.now { slaves = xs }) (lost.1 ∙ lost.0.stay)
 
 pub returns-in-None-clause-facts : goal.returns-in-None-clause-facts
 returns-in-None-clause-facts c =
-    let read : parts_of c.args.telegram.now ≡ Some c.in-Some.parts = sym c.parts.ensures.computed ∙ c.in-Some.is in
+    let read : parts_of c.args.telegram.now ≡ Some c.in-Some.parts = sym c.parts-read.ensures.computed ∙ c.in-Some.is in
     let one : is_to_all c.args.telegram.now ≡ false = search rules in
-    c.silent-in-None.ensures.facts ∙ (telegram_lost c.args.self.now.slaves c.args.sender c.args.place c.args.telegram.now c.in-Some.parts c.requires.admitted read one c.in-None.ensures.outcome).0.facts
+    c.silent-in-None.ensures.facts ∙ (telegram_lost c.args.self.now.slaves c.args.sender c.args.place c.args.telegram.now c.in-Some.parts c.requires.admitted read one c.in-None.ensures.facts).0.facts
 
 pub returns-in-None-clause-outcome : goal.returns-in-None-clause-outcome
 returns-in-None-clause-outcome c =
-    let read : parts_of c.args.telegram.now ≡ Some c.in-Some.parts = sym c.parts.ensures.computed ∙ c.in-Some.is in
+    let read : parts_of c.args.telegram.now ≡ Some c.in-Some.parts = sym c.parts-read.ensures.computed ∙ c.in-Some.is in
     let one : is_to_all c.args.telegram.now ≡ false = search rules in
-    c.silent-in-None.ensures.outcome ∙ (telegram_lost c.args.self.now.slaves c.args.sender c.args.place c.args.telegram.now c.in-Some.parts c.requires.admitted read one c.in-None.ensures.outcome).0.outcome
+    c.silent-in-None.ensures.outcome ∙ (telegram_lost c.args.self.now.slaves c.args.sender c.args.place c.args.telegram.now c.in-Some.parts c.requires.admitted read one c.in-None.ensures.facts).0.outcome

@@ -1,12 +1,12 @@
-use Rattle.std.proofs.Common.{◌≡◌, ◌==◌, List, length, Some, None, true, sym, ap, subst, ◌∙◌, arith}
-use Rattle.std.specs.Prelude.{option_map, slice_get}
+use Rattle.std.proofs.Common.{◌≡◌, ◌==◌, ℕ, List, length, Option, Some, None, true, sym, ap, subst, ◌∙◌, arith}
+use Rattle.std.specs.Prelude.{IfSome, option_map, slice_get}
 use Rattle.std.specs.List.{list_any}
+use Rattle.dp_sap.specs.declared.state.State.{State}
 use Rattle.dp_slave.specs.SlaveRecord.{SlaveRecord}
 use Rattle.dp_slave.specs.SlaveParts.{SlaveParts}
-use Rattle.dp_line.specs.declared.event.Answer.{Answer}
 use Rattle.dp_line.specs.Effects.{state_and_holder}
 use Rattle.dp_line.specs.Serving.{answer_to, served_to}
-use Rattle.dp_line.specs.Stations.{AreThreaded, StationsView, at_index, slaves_of}
+use Rattle.dp_line.specs.Stations.{AreThreaded, StationsView, at_index, slave_asked, slaves_of}
 use Rattle.dp_line.proofs.Kept.{asked_indexed, index_within, slaves_after, slaves_left, stations_after, view_after, view_left}
 use Rattle.dp_line.proofs.stations.Stations.serve.Goals as goal
 
@@ -17,15 +17,13 @@ returns-in_err-self-clause-slaves c =
 
 pub returns-in_err-self-clause-facts : goal.returns-in_err-self-clause-facts
 returns-in_err-self-clause-facts c =
-    ap (option_map (λ (answer : Answer). answer.facts)) c.from_residual.ensures
+    c.from_residual.ensures
     ∙ sym (ap (option_map (λ (slave : SlaveRecord). Some (state_and_holder slave)))
     (asked_indexed c.args.self.now c.args.request.now c.self.inside.masters.items c.self.inside.slaves.items c.self.inside.indices c.self.inside.owners c.from.result None (sym c.self.view_is) c.self.invariant (c.from.ensures ∙ c.destination.ensures) c.in_err-self.was))
 
 pub returns-in_err-self-clause-outcome : goal.returns-in_err-self-clause-outcome
 returns-in_err-self-clause-outcome c =
-    ap (option_map (λ (answer : Answer). answer.outcome)) c.from_residual.ensures
-    ∙ sym (ap (option_map (answer_to c.args.request.now))
-    (asked_indexed c.args.self.now c.args.request.now c.self.inside.masters.items c.self.inside.slaves.items c.self.inside.indices c.self.inside.owners c.from.result None (sym c.self.view_is) c.self.invariant (c.from.ensures ∙ c.destination.ensures) c.in_err-self.was))
+    subst (λ (told : Option (Option (State × Option ℕ))). IfSome told (λ facts. Some c.args.outcome.now ≡ option_map (answer_to c.args.request.now) (slave_asked c.args.self.now.slaves c.args.request.now))) (sym c.from_residual.ensures) tt
 
 pub serve_at-requires-clause-index : goal.serve_at-requires-clause-index
 serve_at-requires-clause-index c =

@@ -10,20 +10,20 @@ use Rattle.dp_line.proofs.stations.lists.serve_at.Goals as goal
 
 pub move_to_holder-requires-clause-written : goal.move_to_holder-requires-clause-written
 move_to_holder-requires-clause-written c =
-    written_by_request c.args.request.now c.args.masters.now c.args.owners.now c.args.slaves.now c.args.index c.index-slaves-index.result c.index-slaves-index-2.result c.answer-answer.new.slave c.points.result.now c.holder-before.result
-    c.requires.threaded c.requires.index c.requires.later c.index-slaves-index.is c.points.ensures c.holder-before.ensures c.index-slaves-index-2.is c.answer-answer.ensures.slave
+    written_by_request c.args.request.now c.args.masters.now c.args.owners.now c.args.slaves.now c.args.index c.index-slaves-index.result c.index-slaves-index-2.result c.answer-facts.new.slave c.points.result.now c.holder-before.result
+    c.requires.threaded c.requires.index c.requires.later c.index-slaves-index.is c.points.ensures c.holder-before.ensures c.index-slaves-index-2.is c.answer-facts.ensures.slave
 
 pub returns-clause-slaves : goal.returns-clause-slaves
 returns-clause-slaves c =
     c.move_to_holder.ensures.slaves
-    ∙ slaves_served c.args.request.now c.args.slaves.now c.args.index c.index-slaves-index-2.result c.answer-answer.new.slave c.requires.index c.index-slaves-index-2.is c.answer-answer.ensures.slave
+    ∙ slaves_served c.args.request.now c.args.slaves.now c.args.index c.index-slaves-index-2.result c.answer-facts.new.slave c.requires.index c.index-slaves-index-2.is c.answer-facts.ensures.slave
 
 pub returns-clause-facts : goal.returns-clause-facts
 returns-clause-facts c =
-    ap Some (c.answer-answer.ensures.facts ∙ ap (λ (p : SlaveParts). Some (state_and_holder p.slave)) (sym c.index-slaves-index-2.is))
+    ap Some (c.answer-facts.ensures.facts ∙ ap (λ (p : SlaveParts). Some (state_and_holder p.slave)) (sym c.index-slaves-index-2.is))
     ∙ sym (ap (option_map (λ (slave : SlaveRecord). Some (state_and_holder slave))) (slave_read c.args.slaves.now c.args.index c.index-slaves-index-2.result c.requires.index c.index-slaves-index-2.is))
 
 pub returns-clause-outcome : goal.returns-clause-outcome
 returns-clause-outcome c =
-    ap Some (c.answer-answer.ensures.outcome ∙ ap (λ (p : SlaveParts). answer_to c.args.request.now p.slave) (sym c.index-slaves-index-2.is))
+    ap Some (c.answer-facts.ensures.outcome ∙ ap (λ (p : SlaveParts). answer_to c.args.request.now p.slave) (sym c.index-slaves-index-2.is))
     ∙ sym (ap (option_map (answer_to c.args.request.now)) (slave_read c.args.slaves.now c.args.index c.index-slaves-index-2.result c.requires.index c.index-slaves-index-2.is))
