@@ -16,7 +16,7 @@ mod state;
 pub use fault::SapFault;
 pub use point::{
     Access, CHK_CFG, GET_CFG, GLOBAL_CONTROL, MOST_DATA, Point, RD_INP, RD_OUTP, SET_PRM,
-    SLAVE_DIAG, Service,
+    SLAVE_DIAG, Service, is_point,
 };
 pub use points::Points;
 pub use state::State;

@@ -2,6 +2,9 @@
 //!
 //! The default point, that of Data_Exchange, has no number: a request without DSAP names it.
 
+ghost use Rattle.std.specs.Prelude.{◌≡◌};
+ghost use Rattle.dp_sap.specs.AccessTable.{is_in_table};
+
 /// The point RD_Inp: the inputs are read (IEC 61158-6-3, service access points).
 pub const RD_INP: u8 = 56;
 
@@ -59,4 +62,15 @@ pub struct Point {
     pub most: u8,
     /// The point is marked busy.
     pub busy: bool,
+}
+
+/// The point is in the access table; `None` is the default point (own).
+pub const fn is_point(number: Option<u8>) -> bool
+    ensures { result ≡ is_in_table number }
+{
+    match number {
+        None => true,
+        Some(RD_INP | RD_OUTP | GLOBAL_CONTROL | GET_CFG | SLAVE_DIAG | SET_PRM | CHK_CFG) => true,
+        Some(_) => false,
+    }
 }

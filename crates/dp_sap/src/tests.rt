@@ -3,7 +3,7 @@ ghost use Rattle.dp_sap.specs.AccessTable.{is_in_table};
 
 use crate::{
     Access, CHK_CFG, GET_CFG, GLOBAL_CONTROL, MOST_DATA, Point, Points, RD_INP, RD_OUTP, SET_PRM,
-    SLAVE_DIAG, SapFault, Service, State, laws,
+    SLAVE_DIAG, SapFault, Service, State, is_point, laws,
 };
 
 const HOLDER: u8 = 3;
@@ -132,6 +132,24 @@ fn state_holder_and_output_length(rt: HostRuntime) {
     assert_eq!(rt; points.state(), State::WaitCfg);
     assert_eq!(rt; points.holder(), Some(126));
     assert_eq!(rt; points.out_len(), 244);
+}
+
+#[test]
+fn points_of_the_table(rt: HostRuntime) {
+    let known = [
+        None,
+        Some(56),
+        Some(57),
+        Some(58),
+        Some(59),
+        Some(60),
+        Some(61),
+        Some(62),
+    ];
+    assert!(rt; known.iter().all(|number| is_point(*number)));
+    assert!(rt; !is_point(Some(0)));
+    assert!(rt; !is_point(Some(55)));
+    assert!(rt; !is_point(Some(63)));
 }
 
 #[test]
