@@ -1,10 +1,9 @@
 -- What a recorded event leaves and answers.
 use Rattle.std.proofs.Common.{◌≡◌, ℕ, ◌+◌, ◌<◌, Bool, true, false, cond, eqb, List, [], ◌∷◌, map, Option, Some, None, refl, sym, ap, subst, ◌∙◌, arith}
-use Rattle.std.specs.Prelude.{find}
+use Rattle.std.specs.Prelude.{◌||◌, filter, find, option_map}
 use Rattle.std.specs.Option.{option_and_then}
 use Rattle.std.specs.List.{list_any}
-use borrow.Enum.Total.{values_d}
-use borrow.Enum.Known.{ValuesAt}
+use Rattle.arrayvec.specs.ArrayVec.{ArrayVec}
 use Rattle.dp_sap.specs.declared.state.State.{State}
 use Rattle.dp_telegram.specs.declared.frame.Telegram.{Telegram}
 use Rattle.dp_telegram.specs.declared.access.Parts.{Parts}
@@ -12,18 +11,23 @@ use Rattle.dp_telegram.specs.FrameText.{frame_of}
 use Rattle.dp_telegram.specs.Access.{address_of, parts_of}
 use Rattle.dp_slave.specs.declared.description.SlaveSpec.{SlaveSpec}
 use Rattle.dp_slave.specs.SlaveRecord.{SlaveRecord, released, starting_slave}
-use Rattle.dp_line.specs.contracts.event.Event.{enum}
+use Rattle.dp_slave.specs.Fields.{acted}
 use Rattle.dp_line.specs.declared.event.Event.{Event}
-use Rattle.dp_line.specs.declared.event.Event.TheVariants.{Request}
+use Rattle.dp_line.specs.declared.event.Event.TheVariants.{Request, Operator}
+use Rattle.dp_line.specs.declared.event.Op.{Op}
+use Rattle.dp_line.specs.declared.event.Op.TheVariants.{Input, Diag, Busy, Tick, Halt}
 use Rattle.dp_line.specs.declared.event.Outcome.{Outcome}
-use Rattle.dp_line.specs.World.{World, address_of_slave, is_last_place, takes_no_more}
+use Rattle.dp_line.specs.declared.event.Outcome.TheVariants.{Released, Done, Refused}
+use Rattle.dp_line.specs.declared.fault.OperatorFault.{OperatorFault}
+use Rattle.dp_line.specs.Events.{address_of_op, is_done_to, is_halt, misfit}
+use Rattle.dp_line.specs.World.{World, address_of_slave, is_last_place, slave_at, takes_no_more}
 use Rattle.dp_line.specs.Hearing.{Hearing, heard, telegram_of_frame, telegram_spelt}
 use Rattle.dp_line.specs.Verdict.{concerns_a_slave, verdict_of}
 use Rattle.dp_line.specs.Served.{served}
-use Rattle.dp_line.specs.Effects.{effect, effect_of_request, facts_heard, facts_of, halted_world, let_go, outcome_heard, outcome_of, served_where_asked, slave_after, slave_after_request}
-use Rattle.dp_line.specs.Steps.{step, unrecorded}
-use Rattle.dp_line.specs.Stations.{AreBefore, IsMove, stays, lets_go, is_locked, StationsView, heard_by}
-use Rattle.dp_line.proofs.Moves.{served_move}
+use Rattle.dp_line.specs.Effects.{effect, facts_heard, facts_of, halted_world, held_addresses, outcome_heard, outcome_of, outcome_of_op, served_where_asked, slave_after, slave_after_op, slave_after_request, state_and_holder}
+use Rattle.dp_line.specs.Steps.{step, step_by_fit, step_of_fitting, told_halted, unrecorded}
+use Rattle.dp_line.specs.Stations.{AreBefore, IsMove, stays, lets_go, is_locked, StationsView, expires, heard_by, operated, slave_among, ticked}
+use Rattle.dp_line.proofs.Moves.{op_move, served_move}
 
 -- what a line that takes events hears
 heard_is : (world : World) (master : ℕ) (octets : List ℕ) → takes_no_more world ≡ false
@@ -49,8 +53,8 @@ heard_here world master places count halted octets stations is free =
 pub request_world : (world : World) (master places count : ℕ) (halted : Bool) (octets : List ℕ) (stations after : StationsView)
     → record { masters = stations.masters; places = places; count = count; halted = halted; slaves = stations.slaves } ≡ world → takes_no_more world ≡ false
     → after ≡ record stations { slaves = map (slave_after_request (heard_by stations master octets) (count + 1)) stations.slaves }
-    → record { masters = after.masters; places = places; count = count + 1; halted = halted; slaves = after.slaves } ≡ (effect_of_request world master octets).world
-unfolding effect_of_request slave_after
+    → record { masters = after.masters; places = places; count = count + 1; halted = halted; slaves = after.slaves } ≡ (effect world (Request master (record { items = octets }))).world
+unfolding effect slave_after
 request_world world master places count halted octets stations after is free left =
     ap (λ (a : StationsView). record { masters = a.masters; places = places; count = count + 1; halted = halted; slaves = a.slaves }) left
     ∙ ap (λ h. record { masters = stations.masters; places = places; count = count + 1; halted = halted; slaves = map (slave_after_request h (count + 1)) stations.slaves })
@@ -60,8 +64,8 @@ request_world world master places count halted octets stations after is free lef
 pub request_answer : (world : World) (master places count : ℕ) (halted : Bool) (octets : List ℕ) (stations : StationsView) (facts : Option (State × Option ℕ)) (outcome : Outcome)
     → record { masters = stations.masters; places = places; count = count; halted = halted; slaves = stations.slaves } ≡ world → takes_no_more world ≡ false
     → facts ≡ facts_heard (heard_by stations master octets) → outcome ≡ outcome_heard (heard_by stations master octets)
-    → record { place = Some (count + 1); facts = facts; outcome = outcome; halted = None } ≡ (effect_of_request world master octets).answer
-unfolding effect_of_request facts_of outcome_of
+    → record { place = Some (count + 1); facts = facts; outcome = outcome; halted = None } ≡ (effect world (Request master (record { items = octets }))).answer
+unfolding effect facts_of outcome_of
 request_answer world master places count halted octets stations facts outcome is free fact answer =
     let same = heard_here world master places count halted octets stations is free in
     ap (λ f. record { place = Some (count + 1); facts = f; outcome = outcome; halted = None }) (fact ∙ ap facts_heard same)
@@ -103,37 +107,138 @@ pub sinces_after_request : (stations after : StationsView) (master count : ℕ) 
 sinces_after_request stations after master count octets before left =
     subst (λ (a : StationsView). AreBefore (count + 1 + 1) a.slaves) (sym left) (since_heard (heard_by stations master octets) (count + 1) stations.slaves before)
 
--- the three ways of a step
-pub step_halted : (world : World) (event : Event) → world.halted ≡ true → step world event ≡ record { world = world; answer = unrecorded None }
+-- the world after what an operator does to one slave, and the answer
+no_halt : (op : Op) (address : ℕ) → address_of_op op ≡ Some address → is_halt (Operator op) ≡ false
+no_halt (Input a octets) address one = refl
+no_halt (Diag a ext stat overflow octets) address one = refl
+no_halt (Busy a point on) address one = refl
+no_halt (Tick time) address one = absurd cc
+no_halt Halt address one = absurd cc
+
+is_done : (world : World) (op : Op) (address : ℕ) → address_of_op op ≡ Some address → Done ≡ outcome_of_op world op
+is_done world (Input a octets) address one = refl
+is_done world (Diag a ext stat overflow octets) address one = refl
+is_done world (Busy a point on) address one = refl
+is_done world (Tick time) address one = absurd cc
+is_done world Halt address one = absurd cc
+
+pub op_world : (world : World) (op : Op) (address places count : ℕ) (halted : Bool) (stations after : StationsView)
+    → record { masters = stations.masters; places = places; count = count; halted = halted; slaves = stations.slaves } ≡ world
+    → address_of_op op ≡ Some address
+    → after ≡ record stations { slaves = map (slave_after_op op) stations.slaves }
+    → record { masters = after.masters; places = places; count = count + 1; halted = halted; slaves = after.slaves } ≡ (effect world (Operator op)).world
+unfolding effect slave_after
+op_world world op address places count halted stations after is one left =
+    ap (λ (a : StationsView). record { masters = a.masters; places = places; count = count + 1; halted = halted; slaves = a.slaves }) left
+    ∙ ap (λ (w : World). record w { count = w.count + 1; slaves = map (slave_after_op op) w.slaves }) is
+    ∙ ap (λ (b : Bool). record world { count = world.count + 1; halted = b || world.halted; slaves = map (slave_after_op op) world.slaves }) (sym (no_halt op address one))
+
+pub op_answer : (world : World) (op : Op) (address places count : ℕ) (halted : Bool) (stations : StationsView) (facts : Option (State × Option ℕ))
+    → record { masters = stations.masters; places = places; count = count; halted = halted; slaves = stations.slaves } ≡ world
+    → address_of_op op ≡ Some address
+    → facts ≡ option_map state_and_holder (slave_among stations.slaves address)
+    → record { place = Some (count + 1); facts = facts; outcome = Done; halted = None } ≡ (effect world (Operator op)).answer
+unfolding effect facts_of outcome_of
+op_answer world op address places count halted stations facts is one fact =
+    ap (λ f. record { place = Some (count + 1); facts = f; outcome = Done; halted = None })
+    (fact ∙ ap (λ (w : World). option_map state_and_holder (slave_at w address)) is
+    ∙ ap (λ (a : Option ℕ). option_map state_and_holder (option_and_then (slave_at world) a)) (sym one))
+    ∙ ap (λ o. record { place = Some (count + 1); facts = option_map state_and_holder (option_and_then (slave_at world) (address_of_op op)); outcome = o; halted = None }) (is_done world op address one)
+    ∙ ap (λ (w : World). record { place = Some (w.count + 1); facts = option_map state_and_holder (option_and_then (slave_at world) (address_of_op op)); outcome = outcome_of_op world op; halted = None }) is
+
+-- after time
+pub tick_world : (world : World) (time places count : ℕ) (halted : Bool) (stations after : StationsView)
+    → record { masters = stations.masters; places = places; count = count; halted = halted; slaves = stations.slaves } ≡ world
+    → after ≡ record stations { slaves = map (ticked time) stations.slaves }
+    → record { masters = after.masters; places = places; count = count + 1; halted = halted; slaves = after.slaves } ≡ (effect world (Operator (Tick time))).world
+unfolding effect slave_after
+tick_world world time places count halted stations after is left =
+    ap (λ (a : StationsView). record { masters = a.masters; places = places; count = count + 1; halted = halted; slaves = a.slaves }) left
+    ∙ ap (λ (w : World). record w { count = w.count + 1; slaves = map (ticked time) w.slaves }) is
+
+pub tick_answer : (world : World) (time places count : ℕ) (halted : Bool) (stations : StationsView) (let_go : ArrayVec ℕ)
+    → record { masters = stations.masters; places = places; count = count; halted = halted; slaves = stations.slaves } ≡ world
+    → let_go.items ≡ map address_of_slave (filter (expires time) stations.slaves)
+    → record { place = Some (count + 1); facts = None; outcome = Released let_go; halted = None } ≡ (effect world (Operator (Tick time))).answer
+unfolding effect facts_of outcome_of
+tick_answer world time places count halted stations let_go is told =
+    ap (λ (l : List ℕ). record { place = Some (count + 1); facts = None; outcome = Released (record { items = l }); halted = None }) told
+    ∙ ap (λ (w : World). record { place = Some (w.count + 1); facts = None; outcome = Released (record { items = map address_of_slave (filter (expires time) w.slaves) }); halted = None }) is
+
+-- after the halt
+released_halted : (slaves : List SlaveRecord) → map released slaves ≡ map (slave_after_op Halt) slaves
+unfolding released acted
+released_halted [] = refl
+released_halted (slave ∷ slaves) = ap (λ (l : List SlaveRecord). released slave ∷ l) (released_halted slaves)
+
+pub halt_world : (world : World) (places count : ℕ) (halted : Bool) (stations after : StationsView)
+    → record { masters = stations.masters; places = places; count = count; halted = halted; slaves = stations.slaves } ≡ world
+    → after ≡ record stations { slaves = map released stations.slaves }
+    → record { masters = after.masters; places = places; count = count + 1; halted = true; slaves = after.slaves } ≡ halted_world world
+unfolding effect slave_after
+halt_world world places count halted stations after is left =
+    ap (λ (a : StationsView). record { masters = a.masters; places = places; count = count + 1; halted = true; slaves = a.slaves }) left
+    ∙ ap (λ (w : World). record w { count = w.count + 1; halted = true; slaves = map released w.slaves }) is
+    ∙ ap (λ (l : List SlaveRecord). record world { count = world.count + 1; halted = true; slaves = l }) (released_halted world.slaves)
+
+pub halt_answer : (world after : World) (addresses : ArrayVec ℕ) (count : ℕ) → after ≡ halted_world world → count ≡ after.count → addresses.items ≡ held_addresses world
+    → record { place = Some count; facts = None; outcome = Released addresses; halted = None } ≡ (effect world (Operator Halt)).answer
+unfolding effect facts_of outcome_of
+halt_answer world after addresses count left is told =
+    ap (λ (n : ℕ). record { place = Some n; facts = None; outcome = Released addresses; halted = None }) (is ∙ ap (λ (w : World). w.count) left)
+    ∙ ap (λ (l : List ℕ). record { place = Some (world.count + 1); facts = None; outcome = Released (record { items = l }); halted = None }) told
+
+-- no slave is locked later for it
+since_done : (op : Op) (slave : SlaveRecord) (place : ℕ) (b : Bool) → slave.since < place → (cond b (operated op slave) slave).since < place + 1
+since_done op slave place true before = since_moved slave (operated op slave) 0 place (op_move op slave 0 place) before
+since_done op slave place false before = omega arith
+
+since_operated : (op : Op) (place : ℕ) (slaves : List SlaveRecord) → AreBefore place slaves → AreBefore (place + 1) (map (slave_after_op op) slaves)
+since_operated op place [] before = tt
+since_operated op place (slave ∷ slaves) before = (since_done op slave place (is_done_to op slave) before.0, since_operated op place slaves before.1)
+
+pub sinces_after_op : (op : Op) (stations after : StationsView) (count : ℕ) → AreBefore (count + 1) stations.slaves
+    → after ≡ record stations { slaves = map (slave_after_op op) stations.slaves } → AreBefore (count + 1 + 1) after.slaves
+sinces_after_op op stations after count before left =
+    subst (λ (a : StationsView). AreBefore (count + 1 + 1) a.slaves) (sym left) (since_operated op (count + 1) stations.slaves before)
+
+-- the ways of a step
+pub step_halted : (world : World) (event : Event) → world.halted ≡ true → step world event ≡ record { world = world; answer = unrecorded (told_halted event) None }
 unfolding step
-step_halted world event halted = ap (λ b. cond b (record { world = world; answer = unrecorded None })
-    (cond (is_last_place world) (record { world = halted_world world; answer = unrecorded (Some (let_go world)) }) (effect world event))) halted
+step_halted world event halted =
+    ap (λ b. cond b (record { world = world; answer = unrecorded (told_halted event) None })
+    (step_by_fit world event (misfit world event))) halted
 
-pub step_at_last_place : (world : World) (event : Event) → world.halted ≡ false → is_last_place world ≡ true
-    → step world event ≡ record { world = halted_world world; answer = unrecorded (Some (let_go world)) }
+pub step_refused : (world : World) (event : Event) (fault : OperatorFault) → world.halted ≡ false → misfit world event ≡ Some fault
+    → step world event ≡ record { world = world; answer = unrecorded (Refused fault) None }
 unfolding step
-step_at_last_place world event running last =
-    ap (λ b. cond b (record { world = world; answer = unrecorded None })
-    (cond (is_last_place world) (record { world = halted_world world; answer = unrecorded (Some (let_go world)) }) (effect world event))) running
-    ∙ ap (λ b. cond b (record { world = halted_world world; answer = unrecorded (Some (let_go world)) }) (effect world event)) last
+step_refused world event fault running fits =
+    ap (λ b. cond b (record { world = world; answer = unrecorded (told_halted event) None })
+    (step_by_fit world event (misfit world event))) running
+    ∙ ap (step_by_fit world event) fits
 
-pub step_is_effect : (world : World) (event : Event) → world.halted ≡ false → is_last_place world ≡ false → step world event ≡ effect world event
+step_fits : (world : World) (event : Event) → world.halted ≡ false → misfit world event ≡ None → step world event ≡ step_of_fitting world event
 unfolding step
-step_is_effect world event running room =
-    ap (λ b. cond b (record { world = world; answer = unrecorded None })
-    (cond (is_last_place world) (record { world = halted_world world; answer = unrecorded (Some (let_go world)) }) (effect world event))) running
-    ∙ ap (λ b. cond b (record { world = halted_world world; answer = unrecorded (Some (let_go world)) }) (effect world event)) room
+step_fits world event running fits =
+    ap (λ b. cond b (record { world = world; answer = unrecorded (told_halted event) None })
+    (step_by_fit world event (misfit world event))) running
+    ∙ ap (step_by_fit world event) fits
 
--- an event of one kind is made of what is read off it
-event_read : (event : Event) (first second : ValuesAt enum.parts 0)
-    → Request (values_d enum 0 first event).0 (values_d enum 0 second event).1.0 ≡ event
-event_read (Request master octets) first second = refl
+pub step_at_last_place : (world : World) (event : Event) → world.halted ≡ false → misfit world event ≡ None → is_last_place world ≡ true
+    → step world event ≡ record { world = halted_world world; answer = unrecorded (told_halted event) (Some (held_addresses world)) }
+step_at_last_place world event running fits last =
+    step_fits world event running fits
+    ∙ ap (λ b. cond b (record { world = halted_world world; answer = unrecorded (told_halted event) (Some (held_addresses world)) }) (effect world event)) last
 
-pub effect_read : (world : World) (event : Event) (first second : ValuesAt enum.parts 0) (octets : List ℕ) → octets ≡ (values_d enum 0 second event).1.0.items
-    → effect_of_request world (values_d enum 0 first event).0 octets ≡ effect world event
-effect_read world event first second octets read =
-    ap (λ (o : List ℕ). effect_of_request world (values_d enum 0 first event).0 o) read
-    ∙ ap (λ (e : Event). effect world e) (event_read event first second)
+pub step_is_effect : (world : World) (event : Event) → world.halted ≡ false → misfit world event ≡ None → is_last_place world ≡ false → step world event ≡ effect world event
+step_is_effect world event running fits room =
+    step_fits world event running fits
+    ∙ ap (λ b. cond b (record { world = halted_world world; answer = unrecorded (told_halted event) (Some (held_addresses world)) }) (effect world event)) room
+
+-- a request by its octets
+pub request_effect : (world : World) (event : Event) (master : ℕ) (octets : ArrayVec ℕ) (read : List ℕ) → event ≡ Request master octets → read ≡ octets.items
+    → effect world (Request master (record { items = read })) ≡ effect world event
+request_effect world event master octets read is same = ap (λ (l : List ℕ). effect world (Request master (record { items = l }))) same ∙ ap (λ (e : Event). effect world e) (sym is)
 
 -- no slave is locked at a later place than the last that is taken: at the start, and after a halt
 pub started_before : (place : ℕ) (masters : List ℕ) (descriptions : List SlaveSpec) → AreBefore (place + 1) (map (starting_slave masters) descriptions)

@@ -11,3 +11,5 @@ pub mod Kept
 pub mod Holders
 pub mod Events
 pub mod Runs
+pub mod Ticks
+pub mod Time

@@ -1,5 +1,5 @@
--- What a request does to the holder of the slave that serves it, and the write of that slave.
-use Rattle.std.proofs.Common.{◌≡◌, ℕ, zero, suc, ◌<◌, Bool, true, false, cond, eqb, List, [], ◌∷◌, length, get_or, set, Option, Some, None, refl, sym, ap, subst, ◌∙◌, arith}
+-- What a request or an operator does to the holder of a slave, and the write of that slave.
+use Rattle.std.proofs.Common.{◌≡◌, ℕ, zero, suc, ◌+◌, ◌<◌, Bool, true, false, cond, eqb, List, [], ◌∷◌, length, get_or, set, Option, Some, None, refl, sym, ap, subst, ◌∙◌, arith}
 use Rattle.std.specs.Prelude.{slice_get}
 use Rattle.std.specs.Option.{option_map_or}
 use Rattle.std.proofs.lemmas.Bool.{eqb-true, eqb-false}
@@ -20,10 +20,13 @@ use Rattle.dp_slave.specs.Acts.{Act, locks, faults, unlocks, sets_min_tsdr, conf
 use Rattle.dp_slave.specs.Fields.{acted}
 use Rattle.dp_slave.specs.Services.{control_of, its_cfg, same_octets, service_act, set_prm_act, chk_cfg_act}
 use Rattle.dp_line.specs.declared.request.Request.{Request}
+use Rattle.dp_line.specs.declared.event.Op.{Op}
+use Rattle.dp_line.specs.declared.event.Op.TheVariants.{Input, Diag, Busy, Tick, Halt}
+use Rattle.dp_line.specs.Events.{act_of_op}
 use Rattle.dp_line.specs.World.{address_of_slave}
 use Rattle.dp_line.specs.Served.{executed, served}
 use Rattle.dp_line.specs.Serving.{served_to}
-use Rattle.dp_line.specs.Stations.{AreBefore, AreThreaded, IsMove, stays, lets_go, is_locked, IsWritten, at_index, links_of, lists_of, slaves_of}
+use Rattle.dp_line.specs.Stations.{AreBefore, AreThreaded, IsMove, stays, lets_go, is_locked, IsWritten, at_index, links_of, lists_of, operated, slaves_of}
 use Rattle.dp_line.proofs.Addresses.{slave_read}
 
 -- an act, which locks by this sender at this place if at all
@@ -113,7 +116,7 @@ pub served_address : (slave : SlaveRecord) (sender place : ℕ) (telegram : Tele
 unfolding served
 served_address slave sender place telegram parts = executed_address slave sender place parts _
 
--- the write of the slave that serves a request
+-- the write of one slave
 links_kept : (xs : List SlaveParts) (i : ℕ) (x y : SlaveParts) → x ≡ get_or xs i x → y.links ≡ x.links → links_of (set xs i y) ≡ links_of xs
 links_kept [] i x y here e = refl
 links_kept (z ∷ xs) zero x y here e = ap (λ (k : Links). k ∷ links_of xs) (e ∙ ap (λ (p : SlaveParts). p.links) here)
@@ -128,18 +131,19 @@ slaves_written : (xs : List SlaveParts) (index : ℕ) (x later : SlaveParts) (af
 slaves_written xs index x later after is =
     map-set (λ (p : SlaveParts). p.slave) xs index later ∙ ap (λ (p : SlaveParts). set (slaves_of xs) index p.slave) is
 
--- what the slave is after the request, as it was read
-served_parts : (request : Request) (xs : List SlaveParts) (index : ℕ) (x later : SlaveParts) → x ≡ get_or xs index x
-    → later ≡ with_slave (get_or xs index x) (served_to request (get_or xs index x).slave) → later ≡ with_slave x (served_to request x.slave)
-served_parts request xs index x later is done = done ∙ ap (λ (p : SlaveParts). with_slave p (served_to request p.slave)) (sym is)
+-- what the slave is after a change, as it was read
+changed_parts : (change : SlaveRecord → SlaveRecord) (xs : List SlaveParts) (index : ℕ) (x later : SlaveParts) → x ≡ get_or xs index x
+    → later ≡ with_slave (get_or xs index x) (change (get_or xs index x).slave) → later ≡ with_slave x (change x.slave)
+changed_parts change xs index x later is done = done ∙ ap (λ (p : SlaveParts). with_slave p (change p.slave)) (sym is)
 
-pub written_by_request : (request : Request) (masters : List ℕ) (owners : Owners) (xs : List SlaveParts) (index : ℕ) (first x later : SlaveParts) (points : PointsView) (before : Option ℕ)
-    → AreThreaded masters owners xs → index < length xs → AreBefore request.place (slaves_of xs)
+pub written_by_change : (change : SlaveRecord → SlaveRecord) (sender place : ℕ) (masters : List ℕ) (owners : Owners) (xs : List SlaveParts) (index : ℕ) (first x later : SlaveParts) (points : PointsView) (before : Option ℕ)
+    → ((slave : SlaveRecord) → IsMove slave (change slave) sender place)
+    → AreThreaded masters owners xs → index < length xs → AreBefore place (slaves_of xs)
     → first ≡ get_or xs index first → points ≡ points_of (get_or xs index first).slave → before ≡ points.holder
-    → x ≡ get_or xs index x → later ≡ with_slave (get_or xs index x) (served_to request (get_or xs index x).slave)
+    → x ≡ get_or xs index x → later ≡ with_slave (get_or xs index x) (change (get_or xs index x).slave)
     → IsWritten masters owners index before (set xs index later)
-written_by_request request masters owners xs index first x later points before threaded within earlier read told got is done =
-    let parts = served_parts request xs index x later is done in
+written_by_change change sender place masters owners xs index first x later points before moves threaded within earlier read told got is done =
+    let parts = changed_parts change xs index x later is done in
     let here = slave_read xs index x within is in
     let same : Some first.slave ≡ Some x.slave = sym (slave_read xs index first within read) ∙ here in
     let one : first.slave ≡ x.slave = cc in
@@ -147,19 +151,71 @@ written_by_request request masters owners xs index first x later points before t
       slaves = slaves_of xs;
       threaded = subst (λ links. IsThreaded owners links (lists_of masters (slaves_of xs))) (sym (links_kept xs index x later is (ap (λ (p : SlaveParts). p.links) parts))) threaded;
       slave = x.slave;
-      after = served_to request x.slave;
+      after = change x.slave;
       here = here;
       holder = sym (got ∙ ap (λ (p : PointsView). p.holder) told ∙ ap (λ (p : SlaveParts). p.slave.holder) (sym read) ∙ ap (λ (s : SlaveRecord). s.holder) one);
-      written = slaves_written xs index x later (served_to request x.slave) parts;
-      sender = request.sender;
-      place = request.place;
+      written = slaves_written xs index x later (change x.slave) parts;
+      sender = sender;
+      place = place;
       earlier = earlier;
-      moves = served_move x.slave request.sender request.place request.telegram.now request.parts.now;
+      moves = moves x.slave;
     }
+
+pub slaves_changed : (change : SlaveRecord → SlaveRecord) (xs : List SlaveParts) (index : ℕ) (x later : SlaveParts) → index < length xs → x ≡ get_or xs index x
+    → later ≡ with_slave (get_or xs index x) (change (get_or xs index x).slave)
+    → slaves_of (set xs index later) ≡ at_index index change (slaves_of xs)
+slaves_changed change xs index x later within is done =
+    slaves_written xs index x later (change x.slave) (changed_parts change xs index x later is done)
+    ∙ sym (at_index-set (slaves_of xs) index change x.slave (slave_read xs index x within is))
+
+-- by a request
+pub written_by_request : (request : Request) (masters : List ℕ) (owners : Owners) (xs : List SlaveParts) (index : ℕ) (first x later : SlaveParts) (points : PointsView) (before : Option ℕ)
+    → AreThreaded masters owners xs → index < length xs → AreBefore request.place (slaves_of xs)
+    → first ≡ get_or xs index first → points ≡ points_of (get_or xs index first).slave → before ≡ points.holder
+    → x ≡ get_or xs index x → later ≡ with_slave (get_or xs index x) (served_to request (get_or xs index x).slave)
+    → IsWritten masters owners index before (set xs index later)
+written_by_request request masters owners xs index first x later points before =
+    written_by_change (served_to request) request.sender request.place masters owners xs index first x later points before
+    (λ slave. served_move slave request.sender request.place request.telegram.now request.parts.now)
 
 pub slaves_served : (request : Request) (xs : List SlaveParts) (index : ℕ) (x later : SlaveParts) → index < length xs → x ≡ get_or xs index x
     → later ≡ with_slave (get_or xs index x) (served_to request (get_or xs index x).slave)
     → slaves_of (set xs index later) ≡ at_index index (served_to request) (slaves_of xs)
-slaves_served request xs index x later within is done =
-    slaves_written xs index x later (served_to request x.slave) (served_parts request xs index x later is done)
-    ∙ sym (at_index-set (slaves_of xs) index (served_to request) x.slave (slave_read xs index x within is))
+slaves_served request = slaves_changed (served_to request)
+
+-- by what an operator does, which locks nothing
+op_lock : (sender place : ℕ) (op : Op) → with_lock sender place (act_of_op op) ≡ act_of_op op
+unfolding with_lock
+op_lock sender place (Input address octets) = refl
+op_lock sender place (Diag address ext stat overflow octets) = refl
+op_lock sender place (Busy address point on) = refl
+op_lock sender place (Tick time) = refl
+op_lock sender place Halt = refl
+
+pub op_move : (op : Op) (slave : SlaveRecord) (sender place : ℕ) → IsMove slave (operated op slave) sender place
+op_move op slave sender place = subst (λ act. IsMove slave (acted slave act) sender place) (op_lock sender place op) (act_move slave sender place (act_of_op op))
+
+pub op_address : (op : Op) (slave : SlaveRecord) → address_of_slave (operated op slave) ≡ address_of_slave slave
+op_address op slave = acted_address slave (act_of_op op)
+
+before_more : (place more : ℕ) (slaves : List SlaveRecord) → AreBefore place slaves → AreBefore (place + more) slaves
+before_more place more [] before = tt
+before_more place more (slave ∷ slaves) before = (omega (arith, before.0), before_more place more slaves before.1)
+
+-- a place that is later than every lock
+abbrev later_place : List SlaveRecord → ℕ
+later_place [] = 0
+later_place (slave ∷ slaves) = later_place slaves + (slave.since + 1)
+
+all_before : (slaves : List SlaveRecord) → AreBefore (later_place slaves) slaves
+all_before [] = tt
+all_before (slave ∷ slaves) = (omega arith, before_more (later_place slaves) (slave.since + 1) slaves (all_before slaves))
+
+pub written_by_op : (op : Op) (masters : List ℕ) (owners : Owners) (xs : List SlaveParts) (index : ℕ) (first x later : SlaveParts) (points : PointsView) (before : Option ℕ)
+    → AreThreaded masters owners xs → index < length xs
+    → first ≡ get_or xs index first → points ≡ points_of (get_or xs index first).slave → before ≡ points.holder
+    → x ≡ get_or xs index x → later ≡ with_slave (get_or xs index x) (operated op (get_or xs index x).slave)
+    → IsWritten masters owners index before (set xs index later)
+written_by_op op masters owners xs index first x later points before threaded within =
+    written_by_change (operated op) 0 (later_place (slaves_of xs)) masters owners xs index first x later points before
+    (λ slave. op_move op slave 0 (later_place (slaves_of xs))) threaded within (all_before (slaves_of xs))

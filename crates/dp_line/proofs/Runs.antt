@@ -1,6 +1,7 @@
 -- Runs of a line, one step for each event.
-use Rattle.std.proofs.Common.{◌≡◌, ◌≢◌, ℕ, zero, suc, ◌+◌, ◌<◌, Bool, true, false, cond, eqb, List, [], ◌∷◌, ◌++◌, length, take, get_or, Option, Some, None, refl, sym, ap, subst, ◌∙◌, arith}
+use Rattle.std.proofs.Common.{◌≡◌, ◌≢◌, ◌⊎◌, ℕ, zero, suc, ◌+◌, ◌<◌, Bool, true, false, cond, eqb, List, [], ◌∷◌, ◌++◌, inl, inr, length, take, get_or, Option, Some, None, refl, sym, ap, subst, ◌∙◌, arith}
 use Rattle.std.specs.Prelude.{slice_get, ◌||◌}
+use Rattle.std.specs.List.{cons_option, filter_map, range_with_len}
 use Rattle.std.specs.Option.{option_and_then}
 use Rattle.std.proofs.lemmas.Bool.{cond-true, cond-false, eqb-true}
 use Rattle.std.proofs.lemmas.Grind.{common_steps}
@@ -16,15 +17,18 @@ use Rattle.dp_slave.specs.SlaveRecord.{SlaveRecord}
 use Rattle.dp_line.specs.declared.event.Event.{Event}
 use Rattle.dp_line.specs.declared.event.Event.TheVariants.{Request}
 use Rattle.dp_line.specs.declared.event.Step.{Step}
-use Rattle.dp_line.specs.declared.event.Outcome.TheVariants.{Silence}
+use Rattle.dp_line.specs.declared.event.Outcome.{Outcome}
+use Rattle.dp_line.specs.declared.event.Outcome.TheVariants.{Refused, Silence}
+use Rattle.dp_line.specs.declared.fault.OperatorFault.{OperatorFault}
+use Rattle.dp_line.specs.Events.{misfit}
 use Rattle.dp_line.specs.World.{World, address_of_slave, slave_at, takes_no_more, is_last_place}
 use Rattle.dp_line.specs.Hearing.{Hearing, heard, telegram_of_frame}
 use Rattle.dp_line.specs.Verdict.{verdict_of, line_rows, rows_where_known, rule_at, concerns_a_slave}
 use Rattle.dp_line.specs.Served.{executed, served}
-use Rattle.dp_line.specs.Effects.{Stepped, effect, effect_of_request, outcome_of, served_where_asked, slave_after}
-use Rattle.dp_line.specs.Steps.{step, run}
+use Rattle.dp_line.specs.Effects.{Stepped, effect, halted_world, held_addresses, outcome_of, served_where_asked, slave_after}
+use Rattle.dp_line.specs.Steps.{step, run, told_halted, unrecorded}
 use Rattle.dp_line.proofs.Hearings.{unanswered}
-use Rattle.dp_line.proofs.Events.{step_halted, step_at_last_place, step_is_effect}
+use Rattle.dp_line.proofs.Events.{step_halted, step_refused, step_at_last_place, step_is_effect}
 
 -- one event more at the end of a run
 pub run_more : (world : World) (events : List Event) (event : Event) → (run world (events ++ event ∷ [])).world ≡ (step (run world events).world event).world
@@ -42,26 +46,26 @@ over_verdict : (world : World) (master : ℕ) (octets : List ℕ) → takes_no_m
 unfolding verdict_of heard
 over_verdict world master octets over = cond-true (takes_no_more world) _ _ over
 
-over_outcome : (world : World) (master : ℕ) (octets : List ℕ) → takes_no_more world ≡ true → Silence rules.Halted ≡ outcome_of world master octets
+over_outcome : (world : World) (master : ℕ) (octets : ArrayVec ℕ) → takes_no_more world ≡ true → Silence rules.Halted ≡ outcome_of world (Request master octets)
 unfolding outcome_of
-over_outcome world master octets over = (unanswered (heard world master octets) 0 [] rules.Halted refl (over_verdict world master octets over)).outcome
+over_outcome world master octets over = (unanswered (heard world master octets.items) 0 [] rules.Halted refl (over_verdict world master octets.items over)).outcome
 
 by_halt : (world : World) (master : ℕ) (octets : ArrayVec ℕ) (halted last : Bool) → world.halted ≡ halted → is_last_place world ≡ last
-    → (step world (Request master octets)).answer.outcome ≡ outcome_of world master octets.items
-unfolding effect_of_request
+    → (step world (Request master octets)).answer.outcome ≡ outcome_of world (Request master octets)
+unfolding effect
 by_halt world master octets true last h l =
-    ap (λ (s : Stepped). s.answer.outcome) (step_halted world (Request master octets) h) ∙ over_outcome world master octets.items (ap (λ b. b || is_last_place world) h)
+    ap (λ (s : Stepped). s.answer.outcome) (step_halted world (Request master octets) h) ∙ over_outcome world master octets (ap (λ b. b || is_last_place world) h)
 by_halt world master octets false true h l =
-    ap (λ (s : Stepped). s.answer.outcome) (step_at_last_place world (Request master octets) h l)
-    ∙ over_outcome world master octets.items (ap (λ b. b || is_last_place world) h ∙ l)
-by_halt world master octets false false h l = ap (λ (s : Stepped). s.answer.outcome) (step_is_effect world (Request master octets) h l)
+    ap (λ (s : Stepped). s.answer.outcome) (step_at_last_place world (Request master octets) h refl l)
+    ∙ over_outcome world master octets (ap (λ b. b || is_last_place world) h ∙ l)
+by_halt world master octets false false h l = ap (λ (s : Stepped). s.answer.outcome) (step_is_effect world (Request master octets) h refl l)
 
 -- whatever a step does, its answer to a request is the policy's
-step_outcome : (world : World) (master : ℕ) (octets : ArrayVec ℕ) → (step world (Request master octets)).answer.outcome ≡ outcome_of world master octets.items
+step_outcome : (world : World) (master : ℕ) (octets : ArrayVec ℕ) → (step world (Request master octets)).answer.outcome ≡ outcome_of world (Request master octets)
 step_outcome world master octets = by_halt world master octets world.halted (is_last_place world) refl refl
 
 pub request_outcome : (world : World) (event : Event) (answer : Step) (master : ℕ) (octets : ArrayVec ℕ) → answer ≡ (step world event).answer → event ≡ Request master octets
-    → answer.outcome ≡ outcome_of world master octets.items
+    → answer.outcome ≡ outcome_of world (Request master octets)
 request_outcome world event answer master octets is request =
     ap (λ (a : Step). a.outcome) (is ∙ ap (λ e. (step world e).answer) request) ∙ step_outcome world master octets
 
@@ -172,45 +176,73 @@ unfolding slave_after
 nobody_stays world master octets slave silent = cond-false (concerns_a_slave (verdict_of (heard world master octets.items))) _ _ silent
 
 -- places in turn
-is_open : (world : World) → world.count + 1 < world.places → is_last_place world ≡ false
+pub is_open : (world : World) → world.count + 1 < world.places → is_last_place world ≡ false
 is_open world room = grind (arith, common_steps)
 
-some_same : {A : Type 0} (x y : A) → Some x ≡ Some y → x ≡ y
-some_same x y e = cc
+-- what a step does to the count: it takes the next place, or it takes none and leaves the count, or it halts the line
+IsCounted : World → Stepped → Type 0
+IsCounted world after =
+    ((after.answer.place ≡ Some (world.count + 1)) × (after.world.count ≡ world.count + 1))
+    ⊎ ((after.answer.place ≡ None) × ((after.world.count ≡ world.count) ⊎ (after.world.halted ≡ true)))
 
-record Recorded (world next : World) : Type 0 where
-  places : next.places ≡ world.places
-  halted : next.halted ≡ false
-  count : next.count ≡ world.count + 1
+halted_halts : (world : World) → (halted_world world).halted ≡ true
+unfolding effect
+halted_halts world = refl
 
-effect_recorded : (world : World) (event : Event) → world.halted ≡ false → Recorded world (effect world event).world
-unfolding effect_of_request
-effect_recorded world (Request master octets) running = record { places = refl; halted = running; count = refl }
+effect_counted : (world : World) (event : Event) → IsCounted world (effect world event)
+unfolding IsCounted effect
+effect_counted world event = inl (refl, refl)
 
-recorded : (world : World) (event : Event) → world.halted ≡ false → world.count + 1 < world.places → Recorded world (step world event).world
-recorded world event running room =
-    subst (λ (s : Stepped). Recorded world s.world) (sym (step_is_effect world event running (is_open world room))) (effect_recorded world event running)
+unrecorded_counted : (world : World) (outcome : Outcome) → IsCounted world (record { world = world; answer = unrecorded outcome None })
+unfolding IsCounted
+unrecorded_counted world outcome = inr (refl, inl refl)
+
+last_counted : (world : World) (outcome : Outcome) → IsCounted world (record { world = halted_world world; answer = unrecorded outcome (Some (held_addresses world)) })
+unfolding IsCounted
+last_counted world outcome = inr (refl, inr (halted_halts world))
+
+counted_by : (world : World) (event : Event) (halted last : Bool) (fit : Option OperatorFault) → world.halted ≡ halted → misfit world event ≡ fit → is_last_place world ≡ last → IsCounted world (step world event)
+counted_by world event true last fit h m l = subst (IsCounted world) (sym (step_halted world event h)) (unrecorded_counted world (told_halted event))
+counted_by world event false last (Some fault) h m l = subst (IsCounted world) (sym (step_refused world event fault h m)) (unrecorded_counted world (Refused fault))
+counted_by world event false true None h m l = subst (IsCounted world) (sym (step_at_last_place world event h m l)) (last_counted world (told_halted event))
+counted_by world event false false None h m l = subst (IsCounted world) (sym (step_is_effect world event h m l)) (effect_counted world event)
+
+counted : (world : World) (event : Event) → IsCounted world (step world event)
+counted world event = counted_by world event world.halted (is_last_place world) (misfit world event) refl refl refl
+
+abbrev places_of : List Step → List ℕ
+places_of answers = filter_map (λ answer. answer.place) answers
+
+no_places : (world : World) (events : List Event) → world.halted ≡ true → places_of (run world events).answers ≡ []
+no_places world [] halted = refl
+no_places world (e ∷ events) halted =
+    ap (λ (s : Stepped). cons_option s.answer.place (places_of (run s.world events).answers)) (step_halted world e halted) ∙ no_places world events halted
+
+turn_by : (world : World) (after : Stepped) (rest : List ℕ) → (after.world.halted ≡ true → rest ≡ []) → rest ≡ range_with_len (after.world.count + 1) (length rest) → IsCounted world after
+    → cons_option after.answer.place rest ≡ range_with_len (world.count + 1) (length (cons_option after.answer.place rest))
+unfolding IsCounted
+turn_by world after rest none more (inl (place, count)) =
+    rw place (ap (λ (l : List ℕ). (world.count + 1) ∷ l) (more ∙ ap (λ (n : ℕ). range_with_len (n + 1) (length rest)) count))
+turn_by world after rest none more (inr (place, inl count)) = rw place (more ∙ ap (λ (n : ℕ). range_with_len (n + 1) (length rest)) count)
+turn_by world after rest none more (inr (place, inr halted)) = rw (place, none halted) refl
+
+pub places_in_turn : (world : World) (events : List Event) → places_of (run world events).answers ≡ range_with_len (world.count + 1) (length (places_of (run world events).answers))
+places_in_turn world [] = refl
+places_in_turn world (e ∷ events) =
+    turn_by world (step world e) (places_of (run (step world e).world events).answers) (no_places (step world e).world events) (places_in_turn (step world e).world events) (counted world e)
 
 effect_place : (world : World) (event : Event) → (effect world event).answer.place ≡ Some (world.count + 1)
-unfolding effect_of_request
-effect_place world (Request master octets) = refl
+unfolding effect
+effect_place world event = refl
 
-places_in_turn : (world : World) (before : List Event) (event : Event) → world.halted ≡ false → world.count + length before + 1 < world.places
-    → (step (run world before).world event).answer.place ≡ Some (world.count + length before + 1)
-places_in_turn world [] event running room =
-    ap (λ (s : Stepped). s.answer.place) (step_is_effect world event running (is_open world (omega arith)))
-    ∙ effect_place world event
-    ∙ ap Some (let same : world.count + 1 ≡ world.count + 0 + 1 = omega arith in same)
-places_in_turn world (e ∷ before) event running room =
-    let first = recorded world e running (omega arith) in
-    places_in_turn (step world e).world before event first.halted (omega (arith, first.count, first.places))
-    ∙ ap Some (let same : (step world e).world.count + length before + 1 ≡ world.count + length (e ∷ before) + 1 = omega (arith, first.count) in same)
+both_off : (a b : Bool) → a || b ≡ false → (a ≡ false) × (b ≡ false)
+both_off true b e = absurd cc
+both_off false b e = (refl, e)
 
-pub run_places : (world : World) (before later : List Event) (event : Event) (answer : Step) → world.halted ≡ false → world.count + length before + 1 < world.places
-    → slice_get (run world (before ++ event ∷ later)).answers (length before) ≡ Some answer → answer.place ≡ Some (world.count + length before + 1)
-run_places world before later event answer running room here =
-    let same : answer ≡ (step (run world before).world event).answer = some_same _ _ (sym here ∙ answer_at world before event later) in
-    ap (λ (a : Step). a.place) same ∙ places_in_turn world before event running room
+pub each_has_place : (world : World) (event : Event) → takes_no_more world ≡ false → misfit world event ≡ None → (step world event).answer.place ≡ Some (world.count + 1)
+each_has_place world event free fits =
+    let off = both_off world.halted (is_last_place world) free in
+    ap (λ (s : Stepped). s.answer.place) (step_is_effect world event off.0 fits off.1) ∙ effect_place world event
 
 -- the next of the events
 run_next : (world : World) (events : List Event) (n : ℕ) (event : Event) → n < length events → event ≡ get_or events n event

@@ -1,6 +1,7 @@
 pub mod Codes
 pub mod Names
 pub mod World
+pub mod Events
 pub mod Owned
 pub mod Hearing
 pub mod Verdict

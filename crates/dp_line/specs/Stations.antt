@@ -19,8 +19,13 @@ use Rattle.dp_owners.specs.Threaded.{IsThreaded, IsFree, IsListed, appended, unl
 use Rattle.dp_slave.specs.declared.description.SlaveSpec.{SlaveSpec}
 use Rattle.dp_slave.specs.SlaveRecord.{SlaveRecord, starting_slave, released}
 use Rattle.dp_slave.specs.SlaveParts.{SlaveParts}
+use Rattle.dp_slave.specs.Acts.{releases, ticks}
+use Rattle.dp_slave.specs.Fields.{acted}
+use Rattle.dp_line.specs.declared.event.Op.{Op}
+use Rattle.dp_line.specs.declared.fault.OperatorFault.{OperatorFault}
 use Rattle.dp_line.specs.declared.request.Request.{Request}
 use Rattle.dp_line.specs.World.{Description, address_of_slave, ascending}
+use Rattle.dp_line.specs.Events.{act_of_op, address_of_op, misfit_where}
 use Rattle.dp_line.specs.Owned.{in_order}
 use Rattle.dp_line.specs.Hearing.{Hearing, telegram_spelt}
 use Rattle.dp_line.specs.Verdict.{verdict_of, concerns_a_slave, has_foreign_sender, has_reserved_function}
@@ -202,3 +207,28 @@ pub record IsSilent (master : ℕ) (frame : Frame) (rule : Rule) : Type 0 where
   pub silent : concerns_a_slave rule ≡ false
   pub verdict : (parts : Option Parts) (slave : Option SlaveRecord)
       → verdict_of (record { over = false; is_master = true; sender = master; frame = Some frame; parts = parts; slave = slave }) ≡ rule
+
+-- the slave with this address among these
+abbrev pub slave_among : List SlaveRecord → ℕ → Option SlaveRecord
+slave_among slaves address = find (λ slave. address_of_slave slave == address) slaves
+
+-- why an operator can't do this to one of these slaves
+abbrev pub misfit_among : List SlaveRecord → Op → Option OperatorFault
+misfit_among slaves op = option_and_then (λ address. misfit_where op (slave_among slaves address)) (address_of_op op)
+
+-- what an operator does to one slave
+abbrev pub operated : Op → SlaveRecord → SlaveRecord
+operated op slave = acted slave (act_of_op op)
+
+-- time for one slave, and whether it lets go of it
+abbrev pub ticked : ℕ → SlaveRecord → SlaveRecord
+ticked time slave = acted slave (ticks time)
+
+abbrev pub expires : ℕ → SlaveRecord → Bool
+expires time slave = releases slave (ticks time)
+
+-- so many of the first slaves changed
+abbrev pub changed_to : ℕ → (SlaveRecord → SlaveRecord) → List SlaveRecord → List SlaveRecord
+changed_to zero change slaves = slaves
+changed_to (suc n) change [] = []
+changed_to (suc n) change (slave ∷ slaves) = change slave ∷ changed_to n change slaves

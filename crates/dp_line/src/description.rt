@@ -8,7 +8,7 @@ use dp_slave::SlaveSpec;
 pub struct LineSpec {
     /// The line's number in its rack.
     pub number: u8,
-    /// Places of its journal, 2 to 65,536: so many events are recorded, the last of them the halt.
+    /// Places of its journal, 2 to 65,536: at most so many events are recorded, the last of them the halt.
     pub capacity: u32,
     /// Addresses of its masters, 1 to 16 of them.
     pub masters: ArrayVec<u8, 16>,

@@ -1,8 +1,8 @@
-//! Why a line isn't opened.
+//! Why a line isn't opened, and why it refuses what its operator does.
 
 ghost use Rattle.std.specs.Prelude.{◌≡◌};
-ghost use Rattle.dp_line.specs.Codes.{open_fault_code};
-ghost use Rattle.dp_line.specs.Names.{open_fault_name};
+ghost use Rattle.dp_line.specs.Codes.{open_fault_code, operator_fault_code};
+ghost use Rattle.dp_line.specs.Names.{open_fault_name, operator_fault_name};
 
 use thiserror::Error;
 
@@ -45,6 +45,48 @@ impl OpenFault {
             OpenFault::TwiceAddress => "TwiceAddress",
             OpenFault::Limit => "Limit",
             OpenFault::BadCfg => "BadCfg",
+        }
+    }
+}
+
+/// Why a line refuses what its operator does (own). The first that applies is reported: `Halted`
+/// where the line is halted already, `NoStation`, `WrongLength` or `UnknownPoint`, and `Halted`
+/// where the last place is met. Nothing but the halt at the last place is recorded then.
+#[derive(Clone, Copy, Debug, PartialEq, Eq, Error)]
+#[error("{}", self.name())]
+pub enum OperatorFault {
+    /// No slave of the line has the address.
+    NoStation,
+    /// The octets are not as many as the slave has inputs.
+    WrongLength,
+    /// The access table doesn't have the point.
+    UnknownPoint,
+    /// The line is halted, or this event met its last place and halted it.
+    Halted,
+}
+
+impl OperatorFault {
+    /// The number of the fault, 1 to 4 (own).
+    pub const fn code(self) -> u8
+        ensures { result ≡ operator_fault_code self }
+    {
+        match self {
+            OperatorFault::NoStation => 1,
+            OperatorFault::WrongLength => 2,
+            OperatorFault::UnknownPoint => 3,
+            OperatorFault::Halted => 4,
+        }
+    }
+
+    /// Its name in texts (own).
+    pub const fn name(self) -> &'static str
+        ensures { result.now ≡ operator_fault_name self }
+    {
+        match self {
+            OperatorFault::NoStation => "NoStation",
+            OperatorFault::WrongLength => "WrongLength",
+            OperatorFault::UnknownPoint => "UnknownPoint",
+            OperatorFault::Halted => "Halted",
         }
     }
 }

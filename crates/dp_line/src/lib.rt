@@ -1,5 +1,5 @@
 //! One line of DP slaves: takes the octets of masters, and answers with a reply, or with no reply and
-//! the reason, as the written policy says.
+//! the reason; takes what its operator does, and the time that passes; all as the written policy says.
 //!
 //! A [`LineState`] is opened from a [`LineSpec`]; [`LineState::take`] takes one [`Event`] and answers
 //! one [`Step`]. What an event does is the definition `step` of `specs/Steps`; the verdict on a
@@ -12,6 +12,7 @@ mod fault;
 pub mod laws;
 mod limits;
 mod line_state;
+mod operator;
 mod reply;
 mod request;
 mod stations;
@@ -19,9 +20,11 @@ mod stations;
 pub use description::LineSpec;
 pub use dp_responder::Rule;
 pub use dp_slave::{Device, SlaveSpec, SlaveView};
-pub use event::{Event, Facts, Outcome, Step};
-pub use fault::OpenFault;
+pub use event::{Event, Facts, Op, Outcome, Step};
+pub use fault::{OpenFault, OperatorFault};
 pub use line_state::LineState;
 
+#[cfg(test)]
+mod operator_tests;
 #[cfg(test)]
 mod tests;

@@ -4,12 +4,15 @@ ghost use Rattle.std.specs.Prelude.{◌≡◌, false, None, Some, IfSome, MatchR
 ghost use Rattle.dp_slave.specs.View.{view_of};
 ghost use Rattle.dp_line.specs.World.{description_of, opening_fault, slave_at, start_of, takes_no_more};
 ghost use Rattle.dp_line.specs.Owned.{owned};
-ghost use Rattle.dp_line.specs.Effects.{effect_of_request, halted_world, let_go};
-ghost use Rattle.dp_line.specs.Steps.{step, unrecorded as unrecorded_step};
+ghost use Rattle.dp_line.specs.declared.event.Event.TheVariants.{Request, Operator};
+ghost use Rattle.dp_line.specs.declared.event.Op.TheVariants.{Halt, Tick};
+ghost use Rattle.dp_line.specs.Events.{address_of_op, misfit, misfit_of_op};
+ghost use Rattle.dp_line.specs.Effects.{effect, halted_world, held_addresses};
+ghost use Rattle.dp_line.specs.Steps.{step, told_halted as told_by_halted, unrecorded as unrecorded_step};
 
 use crate::description::LineSpec;
-use crate::event::{Event, Outcome, Step};
-use crate::fault::OpenFault;
+use crate::event::{Event, Facts, Op, Outcome, Step};
+use crate::fault::{OpenFault, OperatorFault};
 use crate::limits::MOST_SLAVES;
 use crate::stations::Stations;
 use arrayvec::ArrayVec;
@@ -75,13 +78,17 @@ impl LineState {
         ensures answer { result ≡ (step self.old event.now).answer }
     {
         if self.halted {
-            return unrecorded(None);
+            return unrecorded(told_halted(event), None);
+        }
+        if let Some(fault) = self.misfit(event) {
+            return unrecorded(Outcome::Refused(fault), None);
         }
         if self.places - self.count <= 1 {
-            return unrecorded(Some(self.halt()));
+            return unrecorded(told_halted(event), Some(self.halt()));
         }
         match event {
             Event::Request { master, octets } => self.take_request(*master, octets),
+            Event::Operator(op) => self.take_op(op),
         }
     }
 
@@ -117,11 +124,71 @@ impl LineState {
         }
     }
 
+    /// Why an event doesn't fit; None where it does.
+    fn misfit(&self, event: &Event) -> Option<OperatorFault>
+        ensures { result ≡ misfit self.now event.now }
+    {
+        match event {
+            Event::Request { .. } => None,
+            Event::Operator(op) => self.stations.misfit(op),
+        }
+    }
+
+    /// Takes what an operator does, which fits and takes a place.
+    fn take_op(&mut self, op: &Op) -> Step
+        requires room { takes_no_more self.old ≡ false }
+        requires fits { misfit_of_op self.old op.now ≡ None }
+        ensures world { self.new ≡ (effect self.old (Operator op.now)).world }
+        ensures answer { result ≡ (effect self.old (Operator op.now)).answer }
+    {
+        match op {
+            Op::Input { address, .. } => self.operate(*address, op),
+            Op::Diag { address, .. } => self.operate(*address, op),
+            Op::Busy { address, .. } => self.operate(*address, op),
+            Op::Tick(time) => self.tick(*time),
+            Op::Halt => self.take_halt(),
+        }
+    }
+
+    /// Takes what is done to one slave.
+    fn operate(&mut self, address: u8, op: &Op) -> Step
+        requires room { takes_no_more self.old ≡ false }
+        requires address { address_of_op op.now ≡ Some address }
+        requires fits { misfit_of_op self.old op.now ≡ None }
+        ensures world { self.new ≡ (effect self.old (Operator op.now)).world }
+        ensures answer { result ≡ (effect self.old (Operator op.now)).answer }
+    {
+        let facts = self.stations.operate(address, op);
+        self.count += 1;
+        recorded(self.count, facts, Outcome::Done)
+    }
+
+    /// Time passes, in units of 10 ms.
+    fn tick(&mut self, time: u32) -> Step
+        requires room { takes_no_more self.old ≡ false }
+        ensures world { self.new ≡ (effect self.old (Operator (Tick time))).world }
+        ensures answer { result ≡ (effect self.old (Operator (Tick time))).answer }
+    {
+        let let_go = self.stations.tick(time);
+        self.count += 1;
+        recorded(self.count, None, Outcome::Released(let_go))
+    }
+
+    /// Takes the operator's halt.
+    fn take_halt(&mut self) -> Step
+        requires room { takes_no_more self.old ≡ false }
+        ensures world { self.new ≡ (effect self.old (Operator Halt)).world }
+        ensures answer { result ≡ (effect self.old (Operator Halt)).answer }
+    {
+        let let_go = self.halt();
+        recorded(self.count, None, Outcome::Released(let_go))
+    }
+
     /// Takes a request that takes a place.
     fn take_request(&mut self, master: u8, octets: &[u8]) -> Step
         requires { takes_no_more self.old ≡ false }
-        ensures world { self.new ≡ (effect_of_request self.old master octets.now).world }
-        ensures answer { result ≡ (effect_of_request self.old master octets.now).answer }
+        ensures world { self.new ≡ (effect self.old (Request master (record { items = octets.now }))).world }
+        ensures answer { result ≡ (effect self.old (Request master (record { items = octets.now }))).answer }
     {
         let place = self.count + 1;
         let mut step = Step {
@@ -137,11 +204,12 @@ impl LineState {
         step
     }
 
-    /// Records the halt, which lets go of every slave; the addresses of those that had a holder.
+    /// Records the halt, which releases every slave; the addresses of those that had a holder,
+    /// ascending.
     fn halt(&mut self) -> ArrayVec<u8, MOST_SLAVES>
         requires { self.old.halted ≡ false }
         ensures world { self.new ≡ halted_world self.old }
-        ensures let_go { result.items ≡ let_go self.old }
+        ensures let_go { result.items ≡ held_addresses self.old }
     {
         self.count += 1;
         self.halted = true;
@@ -149,14 +217,37 @@ impl LineState {
     }
 }
 
-/// The answer to an event that takes no place.
-fn unrecorded(halted: Option<ArrayVec<u8, MOST_SLAVES>>) -> Step
-    ensures { result ≡ unrecorded_step (option_map (λ addresses. addresses.items) halted) }
+/// The answer to an event on a halted line, and at the last place.
+fn told_halted(event: &Event) -> Outcome
+    ensures { result ≡ told_by_halted event.now }
+{
+    match event {
+        Event::Request { .. } => Outcome::Silence(Rule::Halted),
+        Event::Operator(_) => Outcome::Refused(OperatorFault::Halted),
+    }
+}
+
+/// The answer to an event that isn't recorded, with the addresses of the slaves that had a holder where
+/// the halt was recorded instead.
+fn unrecorded(outcome: Outcome, halted: Option<ArrayVec<u8, MOST_SLAVES>>) -> Step
+    ensures { result ≡ unrecorded_step outcome (option_map (λ addresses. addresses.items) halted) }
 {
     Step {
         place: None,
         facts: None,
-        outcome: Outcome::Silence(Rule::Halted),
+        outcome,
         halted,
+    }
+}
+
+/// The answer to an event that is recorded.
+fn recorded(place: u32, facts: Facts, outcome: Outcome) -> Step
+    ensures { result ≡ record { place = Some place; facts = facts; outcome = outcome; halted = None } }
+{
+    Step {
+        place: Some(place),
+        facts,
+        outcome,
+        halted: None,
     }
 }

@@ -5,16 +5,18 @@ ghost use Rattle.std.specs.Option.{option_copied};
 ghost use Rattle.std.specs.List.{list_all, list_any};
 ghost use Rattle.dp_slave.specs.SlaveRecord.{released, is_held, is_held_by};
 ghost use Rattle.dp_line.specs.World.{address_of_slave, ascending, described_at, description_of, has_configuration, opening_fault};
+ghost use Rattle.dp_line.specs.Events.{address_of_op};
 ghost use Rattle.dp_line.specs.Owned.{in_order};
-ghost use Rattle.dp_line.specs.Effects.{served_where_asked, state_and_holder};
+ghost use Rattle.dp_line.specs.Effects.{served_where_asked, slave_after_op, state_and_holder};
 ghost use Rattle.dp_line.specs.Serving.{IsOfProfile, answer_to};
-ghost use Rattle.dp_line.specs.Stations.{AreBefore, AreEmpty, fresh_slave, freed, index_of, slave_asked, slaves_of, started};
+ghost use Rattle.dp_line.specs.Stations.{AreBefore, AreEmpty, expires, fresh_slave, freed, index_of, misfit_among, slave_among, slave_asked, slaves_of, started, ticked};
 
 mod answering;
 mod lists;
 
 use crate::description::LineSpec;
-use crate::event::{Facts, Outcome};
+use crate::event::{Facts, Op, Outcome};
+use crate::fault::OperatorFault;
 use crate::limits::MOST_SLAVES;
 use crate::request::Request;
 use arrayvec::ArrayVec;
@@ -104,7 +106,48 @@ impl Stations {
         Some(lists::serve_at(slaves, owners, masters, index, request, outcome))
     }
 
-    /// Lets go of every holder; the addresses of the slaves that had one, ascending.
+    /// Why an operator can't do this; None where it can.
+    pub(crate) fn misfit(&self, op: &Op) -> Option<OperatorFault>
+        ensures { result ≡ misfit_among self.now.slaves op.now }
+    {
+        match self.find(op.address()?) {
+            Some(slave) => op.misfit(slave),
+            None => Some(OperatorFault::NoStation),
+        }
+    }
+
+    /// Does what an operator does to the slave of an address; its state and holder before that.
+    pub(crate) fn operate(&mut self, address: u8, op: &Op) -> Facts
+        requires address { address_of_op op.now ≡ Some address }
+        requires fits { misfit_among self.old.slaves op.now ≡ None }
+        ensures slaves { self.new ≡ record self.old { slaves = map (slave_after_op op.now) self.old.slaves } }
+        ensures facts { result ≡ option_map state_and_holder (slave_among self.old.slaves address) }
+    {
+        let index = usize::from(self.indices[usize::from(address)]?);
+        let Stations {
+            masters,
+            slaves,
+            owners,
+            ..
+        } = self;
+        Some(lists::operate_at(slaves, owners, masters, index, op))
+    }
+
+    /// Time passes, in units of 10 ms; the addresses of the slaves whose watchdog ran out, ascending.
+    pub(crate) fn tick(&mut self, time: u32) -> ArrayVec<u8, MOST_SLAVES>
+        ensures slaves { self.new ≡ record self.old { slaves = map (ticked time) self.old.slaves } }
+        ensures let_go { result.items ≡ map address_of_slave (filter (expires time) self.old.slaves) }
+    {
+        let Stations {
+            masters,
+            slaves,
+            owners,
+            ..
+        } = self;
+        lists::tick_each(slaves, owners, masters, time)
+    }
+
+    /// Releases every slave; the addresses of those that had a holder, ascending.
     pub(crate) fn release_all(&mut self) -> ArrayVec<u8, MOST_SLAVES>
         ensures slaves { self.new ≡ record self.old { slaves = map released self.old.slaves } }
         ensures let_go { result.items ≡ map address_of_slave (filter is_held self.old.slaves) }
@@ -204,7 +247,7 @@ fn held_addresses(slaves: &[Slave]) -> ArrayVec<u8, MOST_SLAVES>
     addresses
 }
 
-/// Lets go of every holder; no slave is in a list then.
+/// Releases every slave; none has links then.
 fn free_each(slaves: &mut [Slave])
     ensures { slaves.new ≡ map freed slaves.old }
 {

@@ -13,7 +13,7 @@ const FRESH_DIAGNOSIS: [u8; 17] = [
     0x16,
 ];
 
-fn slave(address: u8) -> SlaveSpec {
+pub(crate) fn slave(address: u8) -> SlaveSpec {
     SlaveSpec {
         address,
         ident: 0x80A1,
@@ -26,7 +26,7 @@ fn slave(address: u8) -> SlaveSpec {
 }
 
 /// A line with masters 1 and 2 and slaves of these addresses.
-fn line(alloc: Global, capacity: u32, addresses: &[u8]) -> Result<LineSpec, AllocError> {
+pub(crate) fn line(alloc: Global, capacity: u32, addresses: &[u8]) -> Result<LineSpec, AllocError> {
     let mut masters = ArrayVec::new();
     masters.push(1);
     masters.push(2);
@@ -42,7 +42,7 @@ fn line(alloc: Global, capacity: u32, addresses: &[u8]) -> Result<LineSpec, Allo
     })
 }
 
-fn request(master: u8, octets: &[u8]) -> Result<Event, Fail> {
+pub(crate) fn request(master: u8, octets: &[u8]) -> Result<Event, Fail> {
     let mut sent = ArrayVec::new();
     sent.try_extend_from_slice(octets)?;
     Ok(Event::Request {
@@ -243,14 +243,20 @@ fn refused_descriptions(rt: HostRuntime) -> Result<(), Fail> {
     Ok(())
 }
 
-fn octets<const N: usize>(octets: &[u8]) -> Result<ArrayVec<u8, N>, Fail> {
+pub(crate) fn octets<const N: usize>(octets: &[u8]) -> Result<ArrayVec<u8, N>, Fail> {
     let mut items = ArrayVec::new();
     items.try_extend_from_slice(octets)?;
     Ok(items)
 }
 
 /// A request to a point, with SSAP 62.
-fn to_point(slave: u8, master: u8, fc: u8, point: u8, data: &[u8]) -> Result<Event, Fail> {
+pub(crate) fn to_point(
+    slave: u8,
+    master: u8,
+    fc: u8,
+    point: u8,
+    data: &[u8],
+) -> Result<Event, Fail> {
     if slave > 126 || master > 126 || point > 63 || data.len() > 244 {
         return Err("no request")?;
     }
@@ -259,17 +265,19 @@ fn to_point(slave: u8, master: u8, fc: u8, point: u8, data: &[u8]) -> Result<Eve
 }
 
 /// Set_Prm with Lock_Req and a watchdog of 100 ms.
-const LOCK: [u8; 7] = [0x88, 0x02, 0x05, 0x0B, 0x80, 0xA1, 0x01];
+pub(crate) const LOCK: [u8; 7] = [0x88, 0x02, 0x05, 0x0B, 0x80, 0xA1, 0x01];
 
 /// Set_Prm with Unlock_Req.
 const UNLOCK: [u8; 7] = [0x40, 0, 0, 0, 0, 0, 0];
 
 /// The rule of the answer, and whether it is a reply.
-fn told(step: &Step) -> (Rule, bool) {
+pub(crate) fn told(step: &Step) -> Result<(Rule, bool), Fail> {
     match &step.outcome {
-        Outcome::Reply { rule, .. } => (*rule, true),
-        Outcome::Silence(rule) => (*rule, false),
-        Outcome::Done => (Rule::Done, false),
+        Outcome::Reply { rule, .. } => Ok((*rule, true)),
+        Outcome::Silence(rule) => Ok((*rule, false)),
+        Outcome::Done => Ok((Rule::Done, false)),
+        Outcome::Released(_) => Err("an operator's answer")?,
+        Outcome::Refused(_) => Err("an operator's answer")?,
     }
 }
 
@@ -288,7 +296,7 @@ fn oldest_lock_first(rt: HostRuntime) -> Result<(), Fail> {
     ];
     for (slave, master, data, rule, first, second) in cases {
         let step = state.take(&to_point(slave, master, 0x6D, 61, data)?);
-        assert_eq!(rt; told(&step), (rule, true));
+        assert_eq!(rt; told(&step)?, (rule, true));
         assert_eq!(rt; state.owned_by(1).as_slice(), first);
         assert_eq!(rt; state.owned_by(2).as_slice(), second);
     }
@@ -328,7 +336,7 @@ fn global_control_to_one_slave(rt: HostRuntime) -> Result<(), Fail> {
     ];
     for (master, fc, point, data, wanted) in cases {
         let step = state.take(&to_point(5, master, fc, point, data)?);
-        assert_eq!(rt; told(&step), wanted);
+        assert_eq!(rt; told(&step)?, wanted);
     }
     Ok(())
 }
@@ -344,7 +352,7 @@ fn halt_lets_go(rt: HostRuntime) -> Result<(), Fail> {
     assert_eq!(rt; state.owned_by(1), octets(&[6, 5])?);
     let before = [to_point(5, 2, 0x6D, 60, &[])?];
     let step = laws::answer_after(&mut state, &before, &to_point(5, 2, 0x6D, 60, &[])?);
-    assert_eq!(rt; told(&step), (Rule::Halted, false));
+    assert_eq!(rt; told(&step)?, (Rule::Halted, false));
     assert_eq!(rt; step.halted, Some(octets(&[5, 6])?));
     assert_eq!(rt; state.owned_by(1).len(), 0);
     assert!(rt; state.is_halted());

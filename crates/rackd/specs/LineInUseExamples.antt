@@ -5,14 +5,14 @@ use Rattle.hex.proofs.OnLiterals.{hex_on_literals}
 use Rattle.dp_line.specs.Hearing.{heard}
 use Rattle.dp_line.specs.Verdict.{verdict_of}
 use Rattle.dp_line.specs.ReplyText.{reply_text}
-use Rattle.dp_line.specs.Effects.{effect_of_request, outcome_of}
+use Rattle.dp_line.specs.Effects.{effect, outcome_of, slave_after}
 use Rattle.dp_line.specs.Steps.{step}
 use Rattle.dp_line.specs.LineExamples.{fresh}
 use Rattle.rackd.specs.LinesInUse.{Stream, LineInUse, Sent, sent, owned_line, show_line}
 
 -- what computes a text
 unfoldable text_on_literals : ⊤
-unfolding hex_on_literals digits step effect_of_request heard verdict_of reply_text outcome_of
+unfolding hex_on_literals digits step effect slave_after heard verdict_of reply_text outcome_of
 text_on_literals = tt
 
 -- the line, before anything came

@@ -1,23 +1,26 @@
 //! The lists of the masters, which are threaded through the slaves.
 
-ghost use Rattle.std.specs.Prelude.{◌≡◌, ℕ, ◌≤◌, ◌<◌, ◌==◌, List, length, map, Some, IfSome, option_map, slice_get, position};
+ghost use Rattle.std.specs.Prelude.{◌≡◌, ℕ, ◌≤◌, ◌<◌, ◌==◌, List, length, filter, map, None, Some, IfSome, option_map, slice_get, position};
+ghost use Rattle.std.specs.Option.{option_and_then};
 ghost use Rattle.std.specs.List.{AllByRecursion};
 ghost use Rattle.dp_owners.specs.declared.owners.TheConstants.{MOST_MASTERS as most_masters};
 ghost use Rattle.dp_owners.specs.Threaded.{IsFree, IsThreaded, IsThreadedWith};
 ghost use Rattle.dp_line.specs.World.{address_of_slave};
+ghost use Rattle.dp_line.specs.Events.{misfit_at};
 ghost use Rattle.dp_line.specs.Effects.{state_and_holder};
 ghost use Rattle.dp_line.specs.Serving.{IsOfProfile, answer_to, served_to};
-ghost use Rattle.dp_line.specs.Stations.{AreBefore, AreThreaded, IsAt, IsWritten, appended_to, at_index, links_of, master_index, slaves_of, unlinked_from};
+ghost use Rattle.dp_line.specs.Stations.{AreBefore, AreThreaded, IsAt, IsWritten, appended_to, at_index, expires, links_of, master_index, operated, slaves_of, ticked, unlinked_from};
 
-use crate::event::{Facts, Outcome};
+use crate::event::{Facts, Op, Outcome};
 use crate::limits::MOST_SLAVES;
 use crate::request::Request;
 use arrayvec::ArrayVec;
 use dp_owners::Owners;
+use dp_sap::State;
 use dp_slave::Slave;
 
-/// Serves a request at the slave of an index, which goes from the list of the master that held it to
-/// that of the one that holds it then. Writes the slave's answer, and tells its facts before it.
+/// Serves a request at the slave of an index, which changes lists where its holder changes. Writes the
+/// slave's answer, and tells its facts before it.
 pub(crate) fn serve_at(
     slaves: &mut [Slave],
     owners: &mut Owners,
@@ -43,8 +46,78 @@ pub(crate) fn serve_at(
     facts
 }
 
-/// Takes a slave that was written out of the list of its holder before, and puts it last in that of
-/// the holder that it has now.
+/// Does to the slave of an index what an operator does; its state and holder before that.
+pub(crate) fn operate_at(
+    slaves: &mut [Slave],
+    owners: &mut Owners,
+    masters: &[u8],
+    index: usize,
+    op: &Op,
+) -> (State, Option<u8>)
+    requires fits { option_and_then (misfit_at op.now) (slice_get (slaves_of slaves.old) index) ≡ None }
+    requires threaded { AreThreaded masters.now owners.old slaves.old }
+    requires masters { length masters.now ≤ most_masters }
+    requires few { length slaves.old ≤ 64 }
+    requires index { index < length slaves.old }
+    ensures threaded { AreThreaded masters.now owners.new slaves.new }
+    ensures slaves { slaves_of slaves.new ≡ at_index index (operated op.now) (slaves_of slaves.old) }
+    ensures facts { Some result ≡ option_map state_and_holder (slice_get (slaves_of slaves.old) index) }
+{
+    let before = slaves[index].points();
+    let (state, holder) = (before.state(), before.holder());
+    op.apply(&mut slaves[index]);
+    move_to_holder(slaves, owners, masters, index, holder);
+    (state, holder)
+}
+
+/// Time passes for each slave; the addresses of those let go, each of which leaves the list of its
+/// master.
+pub(crate) fn tick_each(
+    slaves: &mut [Slave],
+    owners: &mut Owners,
+    masters: &[u8],
+    time: u32,
+) -> ArrayVec<u8, MOST_SLAVES>
+    requires threaded { AreThreaded masters.now owners.old slaves.old }
+    requires masters { length masters.now ≤ most_masters }
+    requires few { length slaves.old ≤ 64 }
+    ensures threaded { AreThreaded masters.now owners.new slaves.new }
+    ensures slaves { slaves_of slaves.new ≡ map (ticked time) (slaves_of slaves.old) }
+    ensures let_go { result.items ≡ map address_of_slave (filter (expires time) (slaves_of slaves.old)) }
+{
+    let mut let_go = ArrayVec::new();
+    for index in 0..slaves.len() {
+        if tick_at(slaves, owners, masters, index, time) {
+            let_go.push(slaves[index].address());
+        }
+    }
+    let_go
+}
+
+/// Time passes for the slave of an index; whether it was let go, and so left the list of its master.
+fn tick_at(
+    slaves: &mut [Slave],
+    owners: &mut Owners,
+    masters: &[u8],
+    index: usize,
+    time: u32,
+) -> bool
+    requires threaded { AreThreaded masters.now owners.old slaves.old }
+    requires masters { length masters.now ≤ most_masters }
+    requires few { length slaves.old ≤ 64 }
+    requires index { index < length slaves.old }
+    ensures threaded { AreThreaded masters.now owners.new slaves.new }
+    ensures slaves { slaves_of slaves.new ≡ at_index index (ticked time) (slaves_of slaves.old) }
+    ensures let_go { Some result ≡ option_map (expires time) (slice_get (slaves_of slaves.old) index) }
+{
+    let holder = slaves[index].points().holder();
+    let is_let_go = slaves[index].tick(time);
+    move_to_holder(slaves, owners, masters, index, holder);
+    is_let_go
+}
+
+/// After a slave was written: where its holder is another one now, takes it out of the list of the
+/// holder before, and puts it last in that of the new one.
 fn move_to_holder(
     slaves: &mut [Slave],
     owners: &mut Owners,

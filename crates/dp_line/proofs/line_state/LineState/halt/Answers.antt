@@ -1,6 +1,6 @@
 use Rattle.std.proofs.Common.{◌+◌, sym, subst}
 use Rattle.dp_line.specs.Stations.{StationsView, AreBefore}
-use Rattle.dp_line.proofs.Events.{released_before}
+use Rattle.dp_line.proofs.Events.{halt_world, released_before}
 use Rattle.dp_line.proofs.line_state.LineState.halt.Goals as goal
 
 pub invariant_of-self : goal.invariant_of-self
@@ -9,3 +9,7 @@ invariant_of-self c = (
   subst (λ (s : StationsView). AreBefore (c.self.inside.count + 1 + 1) s.slaves) (sym c.release_all.ensures.slaves)
       (released_before (c.self.inside.count + 1) c.self.inside.stations.slaves),
 )
+
+pub returns-clause-world : goal.returns-clause-world
+returns-clause-world c =
+    halt_world c.args.self.now c.self.inside.places c.self.inside.count c.self.inside.halted c.self.inside.stations c.release_all.new.self c.self.view_is c.release_all.ensures.slaves

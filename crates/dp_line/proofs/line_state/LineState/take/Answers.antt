@@ -1,9 +1,12 @@
-use Rattle.std.proofs.Common.{◌≡◌, true, false, Some, List, ℕ, ap, sym, ◌∙◌, arith, rules}
+use Rattle.std.proofs.Common.{◌≡◌, true, false, None, Some, List, ℕ, ap, sym, ◌∙◌, arith, rules}
 use Rattle.std.proofs.lemmas.Grind.{common_steps}
+use Rattle.dp_line.specs.declared.event.Event.{Event}
+use Rattle.dp_line.specs.declared.event.Outcome.{Outcome}
+use Rattle.dp_line.specs.Events.{misfit}
 use Rattle.dp_line.specs.World.{is_last_place}
-use Rattle.dp_line.specs.Effects.{Stepped}
-use Rattle.dp_line.specs.Steps.{unrecorded}
-use Rattle.dp_line.proofs.Events.{effect_read, step_halted, step_at_last_place, step_is_effect}
+use Rattle.dp_line.specs.Effects.{Stepped, effect}
+use Rattle.dp_line.specs.Steps.{told_halted, unrecorded}
+use Rattle.dp_line.proofs.Events.{request_effect, step_halted, step_refused, step_at_last_place, step_is_effect}
 use Rattle.dp_line.proofs.line_state.LineState.take.Goals as goal
 
 pub returns-then-self-clause-world : goal.returns-then-self-clause-world
@@ -14,33 +17,69 @@ returns-then-self-clause-world c =
 pub returns-then-self-clause-answer : goal.returns-then-self-clause-answer
 returns-then-self-clause-answer c =
     let halted : c.args.self.now.halted ≡ true = search rules in
-    c.unrecorded.ensures ∙ sym (ap (λ (s : Stepped). s.answer) (step_halted c.args.self.now c.args.event.now halted))
+    c.unrecorded.ensures ∙ ap (λ (o : Outcome). unrecorded o None) c.told_halted.ensures
+    ∙ sym (ap (λ (s : Stepped). s.answer) (step_halted c.args.self.now c.args.event.now halted))
+
+pub returns-in-Some-clause-world : goal.returns-in-Some-clause-world
+returns-in-Some-clause-world c =
+    let running : c.args.self.now.halted ≡ false = search rules in
+    sym (ap (λ (s : Stepped). s.world) (step_refused c.args.self.now c.args.event.now c.in-Some.fault running (sym c.misfit.ensures ∙ c.in-Some.is)))
+
+pub returns-in-Some-clause-answer : goal.returns-in-Some-clause-answer
+returns-in-Some-clause-answer c =
+    let running : c.args.self.now.halted ≡ false = search rules in
+    c.unrecorded-in-Some.ensures
+    ∙ sym (ap (λ (s : Stepped). s.answer) (step_refused c.args.self.now c.args.event.now c.in-Some.fault running (sym c.misfit.ensures ∙ c.in-Some.is)))
 
 pub returns-then-self-le1-clause-world : goal.returns-then-self-le1-clause-world
 returns-then-self-le1-clause-world c =
     let running : c.args.self.now.halted ≡ false = search rules in
+    let fits : misfit c.args.self.now c.args.event.now ≡ None = search rules in
     let last : is_last_place c.args.self.now ≡ true = grind (arith, common_steps) in
-    c.halt.ensures.world ∙ sym (ap (λ (s : Stepped). s.world) (step_at_last_place c.args.self.now c.args.event.now running last))
+    c.halt.ensures.world ∙ sym (ap (λ (s : Stepped). s.world) (step_at_last_place c.args.self.now c.args.event.now running fits last))
 
 pub returns-then-self-le1-clause-answer : goal.returns-then-self-le1-clause-answer
 returns-then-self-le1-clause-answer c =
     let running : c.args.self.now.halted ≡ false = search rules in
+    let fits : misfit c.args.self.now c.args.event.now ≡ None = search rules in
     let last : is_last_place c.args.self.now ≡ true = grind (arith, common_steps) in
-    c.unrecorded-then-self-le1.ensures ∙ ap (λ (addresses : List ℕ). unrecorded (Some addresses)) c.halt.ensures.let_go
-    ∙ sym (ap (λ (s : Stepped). s.answer) (step_at_last_place c.args.self.now c.args.event.now running last))
+    c.unrecorded-then-self-le1.ensures
+    ∙ ap (λ (o : Outcome). unrecorded o (Some c.halt.result.items)) c.told_halted-then-self-le1.ensures
+    ∙ ap (λ (addresses : List ℕ). unrecorded (told_halted c.args.event.now) (Some addresses)) c.halt.ensures.let_go
+    ∙ sym (ap (λ (s : Stepped). s.answer) (step_at_last_place c.args.self.now c.args.event.now running fits last))
 
-pub returns-clause-world : goal.returns-clause-world
-returns-clause-world c =
+pub returns-in-Request-clause-world : goal.returns-in-Request-clause-world
+returns-in-Request-clause-world c =
     let running : c.args.self.now.halted ≡ false = search rules in
+    let fits : misfit c.args.self.now c.args.event.now ≡ None = search rules in
     let room : is_last_place c.args.self.now ≡ false = grind (arith, common_steps) in
     c.take_request.ensures.world
-    ∙ ap (λ (s : Stepped). s.world) (effect_read c.args.self.now c.args.event.now _ _ c.deref.result.now c.deref.ensures.0)
-    ∙ sym (ap (λ (s : Stepped). s.world) (step_is_effect c.args.self.now c.args.event.now running room))
+    ∙ ap (λ (s : Stepped). s.world) (request_effect c.args.self.now c.args.event.now c.in-Request.master c.in-Request.octets c.deref.result.now c.in-Request.is c.deref.ensures.0)
+    ∙ sym (ap (λ (s : Stepped). s.world) (step_is_effect c.args.self.now c.args.event.now running fits room))
 
-pub returns-clause-answer : goal.returns-clause-answer
-returns-clause-answer c =
+pub returns-in-Request-clause-answer : goal.returns-in-Request-clause-answer
+returns-in-Request-clause-answer c =
     let running : c.args.self.now.halted ≡ false = search rules in
+    let fits : misfit c.args.self.now c.args.event.now ≡ None = search rules in
     let room : is_last_place c.args.self.now ≡ false = grind (arith, common_steps) in
     c.take_request.ensures.answer
-    ∙ ap (λ (s : Stepped). s.answer) (effect_read c.args.self.now c.args.event.now _ _ c.deref.result.now c.deref.ensures.0)
-    ∙ sym (ap (λ (s : Stepped). s.answer) (step_is_effect c.args.self.now c.args.event.now running room))
+    ∙ ap (λ (s : Stepped). s.answer) (request_effect c.args.self.now c.args.event.now c.in-Request.master c.in-Request.octets c.deref.result.now c.in-Request.is c.deref.ensures.0)
+    ∙ sym (ap (λ (s : Stepped). s.answer) (step_is_effect c.args.self.now c.args.event.now running fits room))
+
+pub returns-in-Operator-clause-world : goal.returns-in-Operator-clause-world
+returns-in-Operator-clause-world c =
+    let running : c.args.self.now.halted ≡ false = search rules in
+    let fits : misfit c.args.self.now c.args.event.now ≡ None = search rules in
+    let room : is_last_place c.args.self.now ≡ false = grind (arith, common_steps) in
+    c.take_op.ensures.world
+    ∙ ap (λ (e : Event). (effect c.args.self.now e).world) (sym c.in-Operator.is)
+    ∙ sym (ap (λ (s : Stepped). s.world) (step_is_effect c.args.self.now c.args.event.now running fits room))
+
+pub returns-in-Operator-clause-answer : goal.returns-in-Operator-clause-answer
+returns-in-Operator-clause-answer c =
+    let running : c.args.self.now.halted ≡ false = search rules in
+    let fits : misfit c.args.self.now c.args.event.now ≡ None = search rules in
+    let room : is_last_place c.args.self.now ≡ false = grind (arith, common_steps) in
+    c.take_op.ensures.answer
+    ∙ ap (λ (e : Event). (effect c.args.self.now e).answer) (sym c.in-Operator.is)
+    ∙ sym (ap (λ (s : Stepped). s.answer) (step_is_effect c.args.self.now c.args.event.now running fits room))
