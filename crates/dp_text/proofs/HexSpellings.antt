@@ -1,16 +1,17 @@
 -- Words of hex digits, and the octets that they spell.
-use Rattle.std.proofs.Common.{◌≡◌, ◌≢◌, ℕ, ◌+◌, ◌*◌, ◌%◌, ◌/◌, ◌<◌, ◌==◌, leb, true, ◌&&◌, List, [], ◌∷◌, ◌++◌, length, Option, Some, None, Result, Ok, Err, is_some, inl, inr, refl, sym, ap, ◌∙◌, arith}
+use Rattle.std.proofs.Common.{◌≡◌, ◌≢◌, ℕ, ◌+◌, ◌*◌, ◌%◌, ◌/◌, ◌<◌, ◌≤◌, ◌==◌, leb, true, ◌&&◌, List, [], ◌∷◌, ◌++◌, length, take, drop, Option, Some, None, Result, Ok, Err, is_some, inl, inr, refl, sym, ap, ◌∙◌, arith}
 use Rattle.std.specs.Prelude.{option_map, option_and_then}
 use Rattle.std.specs.List.{slice_split, onto_first, list_all, count_by}
 use Rattle.std.specs.Result.{result_ok}
-use Rattle.std.proofs.lemmas.Bool.{cases_Bool, cases_eq, cond-true, cond-false, ne_eqb, eq-eqb, lt-leb}
+use Rattle.std.proofs.lemmas.Bool.{cases_Bool, cases_eq, cond-true, cond-false, ne_eqb, eq-eqb, lt-leb, le-leb}
 use Rattle.std.proofs.lemmas.Bool.Decides.{nat_tests}
+use Rattle.std.proofs.lemmas.Grind.{common_steps}
 use Rattle.std.proofs.lemmas.List.Sums.{AllPass-from_list_all, list_all-from_AllPass}
 use Rattle.std.proofs.lemmas.List.Splits.{slice_split-cons_yes, slice_split-cons_no, length-slice_split}
-use Rattle.hex.specs.Hex.{decode_of, decode_pairs, pair_value, value_at, digit_or_error, hex_digit_value, is_hex_digit, ◌>>=◌}
+use Rattle.hex.specs.Hex.{decode_of, decode_sized, decode_pairs, pair_value, value_at, digit_or_error, hex_digit_value, is_hex_digit, ◌>>=◌}
 use Rattle.hex.specs.declared.error.FromHexError.{FromHexError}
-use Rattle.hex.proofs.HexLemmas.{decode_of-ok, decode_of-digits, decode_of-even}
-use Rattle.dp_text.specs.Events.{few_octets, frame_octets}
+use Rattle.hex.proofs.HexLemmas.{decode_of-ok, decode_of-digits, decode_of-even, decode_of-odd, decode_sized-odd, decode_sized-twice}
+use Rattle.dp_text.specs.Events.{octets_within, octets_up_to}
 use Rattle.dp_text.specs.HexWords.{octets_of_word, octets_of_words, digit_value, pair_octet, spelt_behind}
 
 abbrev pub Read : Type 0
@@ -205,29 +206,50 @@ some_value (Some octets) e = (octets, refl)
 
 -- ---- a word of too few or too many digits
 
-none_by : (word : List ℕ) (read : Read) → decode_of word ≡ read → length word / 2 ≡ 0 → length word ≢ 0 → None ≡ option_and_then few_octets (result_ok read)
-none_by word (Ok octets) e short filled =
+none_by : (most : ℕ) (word : List ℕ) (read : Read) → decode_of word ≡ read → length word / 2 ≡ 0 → length word ≢ 0 → None ≡ option_and_then (octets_within most) (result_ok read)
+none_by most word (Ok octets) e short filled =
     let (even, digits, twice, bytes) = decode_of-ok word octets e in
     absurd (filled (omega (arith, even)))
-none_by word (Err fault) e short filled = refl
+none_by most word (Err fault) e short filled = refl
 
-pub no_octets : (word : List ℕ) → length word / 2 ≡ 0 → None ≡ frame_octets word
-no_octets word short = elim (cases_eq (length word) 0) [
-  | inl none ↦ ap (option_and_then few_octets) (sym (cond-true (length word == 0) None (result_ok (decode_of word)) (eq-eqb (length word) 0 none)))
+pub no_octets : (most : ℕ) (word : List ℕ) → length word / 2 ≡ 0 → None ≡ octets_up_to most word
+no_octets most word short = elim (cases_eq (length word) 0) [
+  | inl none ↦ ap (option_and_then (octets_within most)) (sym (cond-true (length word == 0) None (result_ok (decode_of word)) (eq-eqb (length word) 0 none)))
   | inr some ↦
-      none_by word (decode_of word) refl short some
-      ∙ ap (option_and_then few_octets) (sym (cond-false (length word == 0) None (result_ok (decode_of word)) (ne_eqb (length word) 0 some)))
+      none_by most word (decode_of word) refl short some
+      ∙ ap (option_and_then (octets_within most)) (sym (cond-false (length word == 0) None (result_ok (decode_of word)) (ne_eqb (length word) 0 some)))
 ]
 
-many_by : (word : List ℕ) (read : Read) → decode_of word ≡ read → 255 < length word / 2 → None ≡ option_and_then few_octets (result_ok read)
-many_by word (Ok octets) e long =
+many_by : (most : ℕ) (word : List ℕ) (read : Read) → decode_of word ≡ read → most < length word / 2 → None ≡ option_and_then (octets_within most) (result_ok read)
+many_by most word (Ok octets) e long =
     let (even, digits, twice, bytes) = decode_of-ok word octets e in
-    let many : 255 < length octets = omega (arith, twice) in
-    sym (cond-false (leb (length octets) 255) (Some octets) None (lt-leb (length octets) 255 many))
-many_by word (Err fault) e long = refl
+    let many : most < length octets = omega (arith, twice) in
+    sym (cond-false (leb (length octets) most) (Some octets) None (lt-leb (length octets) most many))
+many_by most word (Err fault) e long = refl
 
-pub too_many_octets : (word : List ℕ) → 255 < length word / 2 → None ≡ frame_octets word
-too_many_octets word long =
+pub too_many_octets : (most : ℕ) (word : List ℕ) → most < length word / 2 → None ≡ octets_up_to most word
+too_many_octets most word long =
     let some : length word ≢ 0 = λ none. omega (arith, none) in
-    many_by word (decode_of word) refl long
-    ∙ ap (option_and_then few_octets) (sym (cond-false (length word == 0) None (result_ok (decode_of word)) (ne_eqb (length word) 0 some)))
+    many_by most word (decode_of word) refl long
+    ∙ ap (option_and_then (octets_within most)) (sym (cond-false (length word == 0) None (result_ok (decode_of word)) (ne_eqb (length word) 0 some)))
+
+-- ---- a word that is decoded into room for its pairs
+
+pub in_its_room : (word : List ℕ) (room : ℕ) → room ≡ length word / 2 → decode_sized word room ≡ decode_of word
+in_its_room word room half = elim (cases_eq (length word % 2) 1) [
+  | inl odd ↦ decode_sized-odd word room odd ∙ sym (decode_of-odd word odd)
+  | inr even ↦ decode_sized-twice word room (omega arith)
+]
+
+-- what a word of some octets gives, where they are few enough
+pub given : (most : ℕ) (word octets : List ℕ) → Some octets ≡ result_ok (decode_of word) → length octets ≤ most → length word ≢ 0 → Some octets ≡ octets_up_to most word
+given most word octets read few filled =
+    sym (cond-true (leb (length octets) most) (Some octets) None (le-leb (length octets) most few))
+    ∙ ap (option_and_then (octets_within most)) (read ∙ sym (cond-false (length word == 0) None (result_ok (decode_of word)) (ne_eqb (length word) 0 filled)))
+
+pub not_given : (most : ℕ) (word : List ℕ) → None ≡ result_ok (decode_of word) → length word ≢ 0 → None ≡ octets_up_to most word
+not_given most word read filled =
+    ap (option_and_then (octets_within most)) (read ∙ sym (cond-false (length word == 0) None (result_ok (decode_of word)) (ne_eqb (length word) 0 filled)))
+
+pub overwritten : (new old : List ℕ) → length new ≡ length old → take (length old) (new ++ drop (length new) old) ≡ new
+overwritten new old same = grind (arith, common_steps)

@@ -11,6 +11,9 @@ use Rattle.dp_sap.specs.Names.{state_name}
 use Rattle.dp_responder.specs.declared.rule.Rule.{Rule}
 use Rattle.dp_responder.specs.declared.rule.Rule.TheVariants as rules
 use Rattle.dp_responder.specs.Rules.{rule_name}
+use Rattle.dp_line.specs.declared.fault.OperatorFault.{OperatorFault}
+use Rattle.dp_line.specs.declared.fault.OperatorFault.TheVariants as refusals
+use Rattle.dp_line.specs.Names.{operator_fault_name}
 use Rattle.dp_text.proofs.Decimals.{short_octet}
 
 pub rule_is_short : (rule : Rule) → length (rule_name rule) ≤ 13
@@ -41,6 +44,12 @@ fault_is_short faults.BadEnd = lit≤ tt
 fault_is_short faults.Short = lit≤ tt
 fault_is_short faults.Long = lit≤ tt
 
+pub refusal_is_short : (fault : OperatorFault) → length (operator_fault_name fault) ≤ 12
+refusal_is_short refusals.NoStation = lit≤ tt
+refusal_is_short refusals.WrongLength = lit≤ tt
+refusal_is_short refusals.UnknownPoint = lit≤ tt
+refusal_is_short refusals.Halted = lit≤ tt
+
 pub state_is_short : (state : State) → length (state_name state) ≤ 8
 state_is_short states.WaitPrm = lit≤ tt
 state_is_short states.WaitCfg = lit≤ tt
@@ -50,4 +59,4 @@ state_is_short states.DataExch = lit≤ tt
 pub hex_length : (octets : List ℕ) → length (encode_lower octets) ≡ 2 * length octets
 hex_length octets = length-encode_with lower_digits octets
 
-pub ruleset lengths = (rule_is_short, fault_is_short, state_is_short, hex_length, short_octet, length-append, append_assoc)
+pub ruleset lengths = (rule_is_short, fault_is_short, refusal_is_short, state_is_short, hex_length, short_octet, length-append, append_assoc)

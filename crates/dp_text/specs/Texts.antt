@@ -1,5 +1,5 @@
 -- The texts of events and answers (own).
-use Rattle.std.specs.Prelude.{codes, ℕ, List, [], ◌∷◌, ◌++◌, Option, Some, None}
+use Rattle.std.specs.Prelude.{codes, ℕ, Bool, true, false, ◌||◌, if◌then◌else◌, List, [], ◌∷◌, ◌++◌, Option, Some, None}
 use Rattle.std.specs.Fmt.{decimal}
 use Rattle.hex.specs.Hex.{encode_lower}
 use Rattle.dp_telegram.specs.declared.fault.FrameFault.{FrameFault}
@@ -9,18 +9,53 @@ use Rattle.dp_sap.specs.Names.{state_name}
 use Rattle.dp_responder.specs.Rules.{rule_name}
 use Rattle.dp_slave.specs.declared.view.SlaveView.{SlaveView}
 use Rattle.dp_line.specs.declared.event.Event.{Event}
-use Rattle.dp_line.specs.declared.event.Event.TheVariants.{Request}
+use Rattle.dp_line.specs.declared.event.Event.TheVariants.{Request, Operator}
+use Rattle.dp_line.specs.declared.event.Op.{Op}
+use Rattle.dp_line.specs.declared.event.Op.TheVariants.{Input, Diag, Busy, Tick, Halt}
 use Rattle.dp_line.specs.declared.event.Outcome.{Outcome}
-use Rattle.dp_line.specs.declared.event.Outcome.TheVariants.{Reply, Silence, Done}
+use Rattle.dp_line.specs.declared.event.Outcome.TheVariants.{Reply, Silence, Released, Done, Refused}
+use Rattle.dp_line.specs.Names.{operator_fault_name}
 
 -- octets: pairs of digits in lower case, `-` for none
 abbrev pub octets_text : List ℕ → List ℕ
 octets_text [] = codes "-"
 octets_text (octet ∷ octets) = encode_lower (octet ∷ octets)
 
--- an event: `req M HEX`
+-- a letter where its flag is set
+abbrev pub letter_where : Bool → List ℕ → List ℕ
+letter_where true letter = letter
+letter_where false letter = []
+
+-- the flags of a diagnosis: of `e` (ext), `s` (stat) and `o` (overflow) those that are set, `-` for none
+abbrev pub flags_text : Bool → Bool → Bool → List ℕ
+flags_text ext stat overflow =
+    if ext || stat || overflow
+    then letter_where ext (codes "e") ++ letter_where stat (codes "s") ++ letter_where overflow (codes "o")
+    else codes "-"
+
+-- a point, `default` for the default one
+abbrev pub point_text : Option ℕ → List ℕ
+point_text None = codes "default"
+point_text (Some point) = decimal point
+
+abbrev pub on_or_off_text : Bool → List ℕ
+on_or_off_text true = codes "on"
+on_or_off_text false = codes "off"
+
+-- what an operator does: `in A HEX`, `diag A FLAGS HEX`, `busy A POINT on` or `off`, `tick N` or `halt`
+abbrev pub op_text : Op → List ℕ
+op_text (Input address octets) = codes "in " ++ decimal address ++ codes " " ++ octets_text octets.items
+op_text (Diag address ext stat overflow octets) =
+    codes "diag " ++ decimal address ++ codes " " ++ flags_text ext stat overflow ++ codes " " ++ octets_text octets.items
+op_text (Busy address point on) =
+    codes "busy " ++ decimal address ++ codes " " ++ point_text point ++ codes " " ++ on_or_off_text on
+op_text (Tick units) = codes "tick " ++ decimal units
+op_text Halt = codes "halt"
+
+-- an event: `req M HEX`, or what the operator does
 abbrev pub event_text : Event → List ℕ
 event_text (Request master octets) = codes "req " ++ decimal master ++ codes " " ++ octets_text octets.items
+event_text (Operator op) = op_text op
 
 -- a holder, or `none`
 abbrev pub holder_text : Option ℕ → List ℕ
@@ -32,11 +67,22 @@ abbrev pub facts_text : Option (State × Option ℕ) → List ℕ
 facts_text None = codes "none"
 facts_text (Some facts) = state_name facts.0 ++ codes " " ++ holder_text facts.1
 
--- an outcome: `reply HEX RULE`, `silence RULE` or `done`
+-- addresses, each behind a space
+abbrev pub addresses_text : List ℕ → List ℕ
+addresses_text [] = []
+addresses_text (address ∷ addresses) = codes " " ++ decimal address ++ addresses_text addresses
+
+-- an outcome: `reply HEX RULE`, `silence RULE`, `released` with ` A` for each slave let go, `done` or `refused FAULT`
 abbrev pub outcome_text : Outcome → List ℕ
 outcome_text (Reply octets rule) = codes "reply " ++ encode_lower octets.items ++ codes " " ++ rule_name rule
 outcome_text (Silence rule) = codes "silence " ++ rule_name rule
+outcome_text (Released addresses) = codes "released" ++ addresses_text addresses.items
 outcome_text Done = codes "done"
+outcome_text (Refused fault) = codes "refused " ++ operator_fault_name fault
+
+-- the line that answers an operator: `OUTCOME`
+abbrev pub outcome_line : Outcome → List ℕ
+outcome_line outcome = outcome_text outcome ++ codes "\n"
 
 -- the line that answers a master: `M: OUTCOME`
 abbrev pub answer_text : ℕ → Outcome → List ℕ
@@ -46,11 +92,6 @@ answer_text master outcome = decimal master ++ codes ": " ++ outcome_text outcom
 abbrev pub dropped_text : ℕ → FrameFault → ℕ → List ℕ
 dropped_text master fault count =
     decimal master ++ codes ": dropped " ++ frame_fault_name fault ++ codes " " ++ decimal count ++ codes "\n"
-
--- addresses, each behind a space
-abbrev pub addresses_text : List ℕ → List ℕ
-addresses_text [] = []
-addresses_text (address ∷ addresses) = codes " " ++ decimal address ++ addresses_text addresses
 
 -- the line that tells the slaves of a master, in the order of the list: `owned` with ` A` each
 abbrev pub owned_text : List ℕ → List ℕ

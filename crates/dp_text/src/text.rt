@@ -8,9 +8,9 @@ use std::marker::Model;
 
 /// The most octets of a text.
 ///
-/// The longest is the journal's line of a request of 255 octets that is spread to 64 slaves,
-/// `4294967295 req 255 HEX | none | spread` with 510 digits for HEX and 64 times ` 126:NotSelected`:
-/// 1,570 with its LF.
+/// The longest is the journal's line of a request that is answered,
+/// `4294967295 req 255 HEX | DataExch 255 | reply HEX RULE` with 510 digits for each HEX and 13 letters
+/// for RULE: 1,078 with its LF.
 pub const LONGEST: usize = 1_600;
 
 /// A text, of which contracts see the octets. It is made once, and cleared where another begins.

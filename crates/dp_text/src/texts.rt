@@ -1,12 +1,14 @@
 //! The texts of events and answers.
 
-ghost use Rattle.std.specs.Prelude.{codes, ◌≡◌, ◌+◌, ◌*◌, ◌≤◌, ◌++◌, length};
+ghost use Rattle.std.specs.Prelude.{codes, ◌≡◌, ◌+◌, ◌*◌, ◌≤◌, ◌++◌, length, max};
+ghost use Rattle.std.specs.Fmt.{decimal};
 ghost use Rattle.hex.specs.Hex.{encode_lower};
 ghost use Rattle.dp_responder.specs.Rules.{rule_name};
-ghost use Rattle.dp_text.specs.Texts.{octets_text, event_text, holder_text, facts_text, outcome_text, answer_text, dropped_text, addresses_text, owned_text, watchdog_text, slave_text, show_text};
+ghost use Rattle.dp_line.specs.Names.{operator_fault_name};
+ghost use Rattle.dp_text.specs.Texts.{octets_text, event_text, holder_text, facts_text, flags_text, letter_where, point_text, on_or_off_text, op_text, outcome_text, outcome_line, answer_text, dropped_text, addresses_text, owned_text, watchdog_text, slave_text, show_text};
 
 use crate::text::{LONGEST, Text};
-use dp_line::{Event, Facts, Outcome, Rule, SlaveView};
+use dp_line::{Event, Facts, Op, OperatorFault, Outcome, Rule, SlaveView};
 use dp_telegram::FrameFault;
 
 impl Text {
@@ -18,6 +20,16 @@ impl Text {
         self.clear();
         self.push_octet(master);
         self.push_str(": ");
+        self.push_outcome(outcome);
+        self.push_str("\n");
+    }
+
+    /// Makes it the line that answers an operator: `OUTCOME`, with its LF.
+    #[tactic(auto, using(crate::proofs::Lengths::lengths))]
+    pub fn set_outcome(&mut self, outcome: &Outcome)
+        ensures { self.new ≡ outcome_line outcome.now }
+    {
+        self.clear();
         self.push_outcome(outcome);
         self.push_str("\n");
     }
@@ -62,7 +74,8 @@ impl Text {
         }
     }
 
-    /// Puts an outcome behind it, `reply HEX RULE`, `silence RULE` or `done`.
+    /// Puts an outcome behind it: `reply HEX RULE`, `silence RULE`, `released` with ` A` for each slave
+    /// let go, `done` or `refused FAULT`.
     pub fn push_outcome(&mut self, outcome: &Outcome)
         requires { length self.old + 530 ≤ LONGEST }
         ensures text { self.new ≡ self.old ++ outcome_text outcome.now }
@@ -71,7 +84,9 @@ impl Text {
         match outcome {
             Outcome::Reply { octets, rule } => self.push_reply(octets.as_slice(), *rule),
             Outcome::Silence(rule) => self.push_silence(*rule),
+            Outcome::Released(addresses) => self.push_released(addresses.as_slice()),
             Outcome::Done => self.push_str("done"),
+            Outcome::Refused(fault) => self.push_refused(*fault),
         }
     }
 
@@ -96,6 +111,27 @@ impl Text {
     {
         self.push_str("silence ");
         self.push_str(rule.name());
+    }
+
+    #[tactic(auto, using(crate::proofs::Lengths::lengths))]
+    fn push_released(&mut self, addresses: &[u8])
+        requires addresses { length addresses.now ≤ 64 }
+        requires room { length self.old + 530 ≤ LONGEST }
+        ensures text { self.new ≡ self.old ++ (codes "released" ++ addresses_text addresses.now) }
+        ensures most { length self.new ≤ length self.old + 530 }
+    {
+        self.push_str("released");
+        self.push_addresses(addresses);
+    }
+
+    #[tactic(auto, using(crate::proofs::Lengths::lengths))]
+    fn push_refused(&mut self, fault: OperatorFault)
+        requires { length self.old + 530 ≤ LONGEST }
+        ensures text { self.new ≡ self.old ++ (codes "refused " ++ operator_fault_name fault) }
+        ensures most { length self.new ≤ length self.old + 530 }
+    {
+        self.push_str("refused ");
+        self.push_str(fault.name());
     }
 
     /// Puts the facts of an event behind it: `none`, or the state of the slave and then its holder.
@@ -127,29 +163,139 @@ impl Text {
         }
     }
 
-    /// Puts an event behind it, `req M HEX`.
-    #[tactic(auto, using(crate::proofs::Lengths::lengths))]
+    /// Puts an event behind it: `req M HEX`, `in A HEX`, `diag A FLAGS HEX`, `busy A POINT on` or `off`,
+    /// `tick N` in units of 10 ms, or `halt`.
     pub fn push_event(&mut self, event: &Event)
         requires { length self.old + 518 ≤ LONGEST }
         ensures text { self.new ≡ self.old ++ event_text event.now }
         ensures most { length self.new ≤ length self.old + 518 }
     {
         match event {
-            Event::Request { master, octets } => {
-                self.push_str("req ");
-                self.push_octet(*master);
-                self.push_str(" ");
+            Event::Request { master, octets } => self.push_data("req ", *master, octets.as_slice()),
+            Event::Operator(op) => self.push_op(op),
+        }
+    }
+
+    fn push_op(&mut self, op: &Op)
+        requires { length self.old + 518 ≤ LONGEST }
+        ensures text { self.new ≡ self.old ++ op_text op.now }
+        ensures most { length self.new ≤ length self.old + 518 }
+    {
+        match op {
+            Op::Input { address, octets } => self.push_data("in ", *address, octets.as_slice()),
+            Op::Diag {
+                address,
+                ext,
+                stat,
+                overflow,
+                octets,
+            } => {
+                self.push_diag(*address, *ext, *stat, *overflow);
                 self.push_octets(octets.as_slice());
             }
+            Op::Busy { address, point, on } => self.push_busy(*address, *point, *on),
+            Op::Tick(units) => self.push_tick(*units),
+            Op::Halt => self.push_str("halt"),
+        }
+    }
+
+    /// Puts the kind of an event with its space, an address and octets behind it.
+    #[tactic(auto, using(crate::proofs::Lengths::lengths))]
+    fn push_data(&mut self, kind: &str, address: u8, octets: &[u8])
+        requires kind { length kind.now ≤ 4 }
+        requires octets { length octets.now ≤ 255 }
+        requires room { length self.old + 518 ≤ LONGEST }
+        ensures text { self.new ≡ self.old ++ (kind.now ++ decimal address ++ codes " " ++ octets_text octets.now) }
+        ensures most { length self.new ≤ length self.old + 518 }
+    {
+        self.push_str(kind);
+        self.push_octet(address);
+        self.push_str(" ");
+        self.push_octets(octets);
+    }
+
+    /// Puts a diagnosis without its octets behind it.
+    #[tactic(auto, using(crate::proofs::Lengths::lengths))]
+    fn push_diag(&mut self, address: u8, ext: bool, stat: bool, overflow: bool)
+        requires { length self.old + 13 ≤ LONGEST }
+        ensures text { self.new ≡ self.old ++ (codes "diag " ++ decimal address ++ codes " " ++ flags_text ext stat overflow ++ codes " ") }
+        ensures most { length self.new ≤ length self.old + 13 }
+    {
+        self.push_str("diag ");
+        self.push_octet(address);
+        self.push_str(" ");
+        self.push_flags(ext, stat, overflow);
+        self.push_str(" ");
+    }
+
+    #[tactic(auto, using(crate::proofs::Lengths::lengths))]
+    fn push_flags(&mut self, ext: bool, stat: bool, overflow: bool)
+        requires { length self.old + 3 ≤ LONGEST }
+        ensures text { self.new ≡ self.old ++ flags_text ext stat overflow }
+        ensures most { length self.new ≤ length self.old + 3 }
+    {
+        if ext || stat || overflow {
+            self.push_letter(ext, "e");
+            self.push_letter(stat, "s");
+            self.push_letter(overflow, "o");
+        } else {
+            self.push_str("-");
+        }
+    }
+
+    /// Puts a letter behind it where its flag is set.
+    #[tactic(auto, using(crate::proofs::Lengths::lengths))]
+    fn push_letter(&mut self, set: bool, letter: &str)
+        requires letter { length letter.now ≤ 1 }
+        requires room { length self.old + 1 ≤ LONGEST }
+        ensures text { self.new ≡ self.old ++ letter_where set letter.now }
+        ensures most { length self.new ≤ length self.old + 1 }
+    {
+        if set {
+            self.push_str(letter);
         }
     }
 
     #[tactic(auto, using(crate::proofs::Lengths::lengths))]
+    fn push_busy(&mut self, address: u8, point: Option<u8>, on: bool)
+        requires { length self.old + 20 ≤ LONGEST }
+        ensures text { self.new ≡ self.old ++ (codes "busy " ++ decimal address ++ codes " " ++ point_text point ++ codes " " ++ on_or_off_text on) }
+        ensures most { length self.new ≤ length self.old + 20 }
+    {
+        self.push_str("busy ");
+        self.push_octet(address);
+        self.push_str(" ");
+        self.push_point(point);
+        self.push_str(if on { " on" } else { " off" });
+    }
+
+    #[tactic(auto, using(crate::proofs::Lengths::lengths))]
+    fn push_point(&mut self, point: Option<u8>)
+        requires { length self.old + 7 ≤ LONGEST }
+        ensures text { self.new ≡ self.old ++ point_text point }
+        ensures most { length self.new ≤ length self.old + 7 }
+    {
+        match point {
+            None => self.push_str("default"),
+            Some(point) => self.push_octet(point),
+        }
+    }
+
+    #[tactic(auto, using(crate::proofs::Lengths::lengths))]
+    fn push_tick(&mut self, units: u32)
+        requires { length self.old + 15 ≤ LONGEST }
+        ensures text { self.new ≡ self.old ++ (codes "tick " ++ decimal units) }
+        ensures most { length self.new ≤ length self.old + 15 }
+    {
+        self.push_str("tick ");
+        self.push_number(units);
+    }
+
+    #[tactic(auto, using(crate::proofs::Lengths::lengths))]
     fn push_octets(&mut self, octets: &[u8])
-        requires octets { length octets.now ≤ 255 }
-        requires room { length self.old + 510 ≤ LONGEST }
+        requires { length self.old + max 1 (2 * length octets.now) ≤ LONGEST }
         ensures text { self.new ≡ self.old ++ octets_text octets.now }
-        ensures most { length self.new ≤ length self.old + 510 }
+        ensures most { length self.new ≤ length self.old + max 1 (2 * length octets.now) }
     {
         match octets {
             [] => self.push_str("-"),

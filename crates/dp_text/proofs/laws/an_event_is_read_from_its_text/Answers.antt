@@ -1,5 +1,5 @@
-use Rattle.dp_text.proofs.ReadBack.{request_read}
+use Rattle.dp_text.proofs.ReadBack.{event_read}
 use Rattle.dp_text.proofs.laws.an_event_is_read_from_its_text.Goals as goal
 
 pub returns : goal.returns
-returns c = request_read
+returns c = event_read

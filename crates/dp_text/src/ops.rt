@@ -1,0 +1,254 @@
+//! Reading what an operator does.
+
+ghost use Rattle.std.specs.Prelude.{◌≡◌, ◌∷◌, ◌≤◌, ◌/◌, if◌then◌else◌, option_map, length, Some, None};
+ghost use Rattle.std.specs.Result.{result_ok};
+ghost use Rattle.hex.specs.Hex.{decode_of};
+ghost use Rattle.std.specs.List.{list_any};
+ghost use Rattle.std.specs.Char.{is_ascii_uppercase};
+ghost use Rattle.dp_text.specs.Events.{octets_up_to, has_other_case, event_octets, flags_of, point_of, on_or_off, input_of, diag_of, busy_of, tick_of, halt_of, op_of_words};
+
+use crate::number::{number_in, octet_in};
+use crate::words::{Words, is_text};
+use arrayvec::ArrayVec;
+use dp_line::Op;
+
+/// The most octets of a word.
+const MOST_OCTETS: usize = 255;
+
+/// What stands in octets until they are decoded.
+const BLANK: [u8; MOST_OCTETS] = [0; MOST_OCTETS];
+
+/// Which hex digits a text may have.
+#[derive(Clone, Copy, Debug, PartialEq, Eq)]
+pub enum HexCase {
+    /// Letters in lower case only, as in an audit text.
+    Lower,
+    /// Letters in either case, as in a script or an operator's line.
+    Either,
+}
+
+/// What an operator does, by the first word of a line and the words behind it: `in A HEX`,
+/// `diag A FLAGS HEX`, `busy A POINT on` or `off`, `tick N` or `halt`.
+///
+/// A is 0 to 255, POINT that or `default`, and N 0 to 4,294,967,295 units of 10 ms. HEX is `-` or pairs
+/// of digits, of at most 244 octets of inputs and 238 of a diagnosis. FLAGS are of `e` (ext), `s` (stat)
+/// and `o` (overflow) those that are set, in this order, or `-`. None for any other words.
+pub fn op_in(case: HexCase, kind: &[u8], words: &mut Words<'_>) -> Option<Op>
+    ensures { result ≡ op_of_words case (kind.now ∷ words.old) }
+{
+    if is_text(kind, b"in") {
+        return input_in(case, words);
+    }
+    if is_text(kind, b"diag") {
+        return diag_in(case, words);
+    }
+    if is_text(kind, b"busy") {
+        return busy_in(words);
+    }
+    if is_text(kind, b"tick") {
+        return tick_in(words);
+    }
+    if is_text(kind, b"halt") {
+        return halt_in(words);
+    }
+    None
+}
+
+/// The inputs of a slave's device.
+fn input_in(case: HexCase, words: &mut Words<'_>) -> Option<Op>
+    ensures { result ≡ input_of case words.old }
+{
+    let address = words.next()?;
+    let octets = words.next()?;
+    if words.next().is_some() {
+        return None;
+    }
+    Some(Op::Input {
+        address: octet_in(address)?,
+        octets: event_octets_in(case, octets)?,
+    })
+}
+
+/// A diagnosis.
+fn diag_in(case: HexCase, words: &mut Words<'_>) -> Option<Op>
+    ensures { result ≡ diag_of case words.old }
+{
+    let address = words.next()?;
+    let flags = words.next()?;
+    let octets = words.next()?;
+    if words.next().is_some() {
+        return None;
+    }
+    let address = octet_in(address)?;
+    let (ext, stat, overflow) = flags_in(flags)?;
+    Some(Op::Diag {
+        address,
+        ext,
+        stat,
+        overflow,
+        octets: event_octets_in(case, octets)?,
+    })
+}
+
+/// A mark of a point.
+fn busy_in(words: &mut Words<'_>) -> Option<Op>
+    ensures { result ≡ busy_of words.old }
+{
+    let address = words.next()?;
+    let point = words.next()?;
+    let state = words.next()?;
+    if words.next().is_some() {
+        return None;
+    }
+    Some(Op::Busy {
+        address: octet_in(address)?,
+        point: point_in(point)?,
+        on: on_or_off_in(state)?,
+    })
+}
+
+/// Time, in units of 10 ms.
+fn tick_in(words: &mut Words<'_>) -> Option<Op>
+    ensures { result ≡ tick_of words.old }
+{
+    let units = words.next()?;
+    if words.next().is_some() {
+        return None;
+    }
+    Some(Op::Tick(number_in(units, u32::MAX)?))
+}
+
+fn halt_in(words: &mut Words<'_>) -> Option<Op>
+    ensures { result ≡ halt_of words.old }
+{
+    if words.next().is_some() {
+        return None;
+    }
+    Some(Op::Halt)
+}
+
+/// The flags of a diagnosis: ext, stat and overflow.
+fn flags_in(word: &[u8]) -> Option<(bool, bool, bool)>
+    ensures { result ≡ flags_of word.now }
+{
+    if is_text(word, b"-") {
+        return Some((false, false, false));
+    }
+    if is_text(word, b"e") {
+        return Some((true, false, false));
+    }
+    if is_text(word, b"s") {
+        return Some((false, true, false));
+    }
+    if is_text(word, b"o") {
+        return Some((false, false, true));
+    }
+    if is_text(word, b"es") {
+        return Some((true, true, false));
+    }
+    if is_text(word, b"eo") {
+        return Some((true, false, true));
+    }
+    if is_text(word, b"so") {
+        return Some((false, true, true));
+    }
+    if is_text(word, b"eso") {
+        return Some((true, true, true));
+    }
+    None
+}
+
+fn on_or_off_in(word: &[u8]) -> Option<bool>
+    ensures { result ≡ on_or_off word.now }
+{
+    if is_text(word, b"on") {
+        return Some(true);
+    }
+    if is_text(word, b"off") {
+        return Some(false);
+    }
+    None
+}
+
+/// A point: None is the default one.
+fn point_in(word: &[u8]) -> Option<Option<u8>>
+    ensures { result ≡ point_of word.now }
+{
+    if is_text(word, b"default") {
+        return Some(None);
+    }
+    Some(Some(octet_in(word)?))
+}
+
+/// The octets of a word as texts have them: `-` for none, else pairs of digits in this case.
+pub(crate) fn event_octets_in<const MOST: usize>(
+    case: HexCase,
+    word: &[u8],
+) -> Option<ArrayVec<u8, MOST>>
+    requires { MOST ≤ MOST_OCTETS }
+    ensures { option_map (λ octets. octets.items) result ≡ event_octets case MOST word.now }
+{
+    if is_text(word, b"-") {
+        return Some(ArrayVec::new());
+    }
+    if is_in_other_case(case, word) {
+        return None;
+    }
+    octets_of(word)
+}
+
+/// The octets of a word of whole pairs of hex digits, in either case, at least one.
+pub(crate) fn octets_of<const MOST: usize>(word: &[u8]) -> Option<ArrayVec<u8, MOST>>
+    requires { MOST ≤ MOST_OCTETS }
+    ensures { option_map (λ octets. octets.items) result ≡ octets_up_to MOST word.now }
+{
+    let count = word.len() / 2;
+    if count == 0 {
+        return None;
+    }
+    if count > MOST {
+        return None;
+    }
+    let mut octets = blank(count);
+    if decodes(word, octets.as_mut_slice()) {
+        Some(octets)
+    } else {
+        None
+    }
+}
+
+/// Decodes a word into room for as many octets as it has pairs, where it is hex digits.
+#[tactic(auto, using(crate::proofs::HexSpellings::in_its_room))]
+fn decodes(word: &[u8], octets: &mut [u8]) -> bool
+    requires { length octets.old ≡ length word.now / 2 }
+    ensures { (if result then Some octets.new else None) ≡ result_ok (decode_of word.now) }
+{
+    hex::decode_to_slice(word, octets).is_ok()
+}
+
+/// So many octets of zeros.
+fn blank<const MOST: usize>(count: usize) -> ArrayVec<u8, MOST>
+    requires most { count ≤ MOST }
+    requires blank { MOST ≤ MOST_OCTETS }
+    ensures { length result.items ≡ count }
+{
+    let mut octets = ArrayVec::new();
+    octets.try_extend_from_slice(&BLANK[..count]).unwrap();
+    octets
+}
+
+/// The word has letters of a case that isn't taken.
+fn is_in_other_case(case: HexCase, word: &[u8]) -> bool
+    ensures { result ≡ has_other_case case word.now }
+{
+    match case {
+        HexCase::Lower => has_upper_case(word),
+        HexCase::Either => false,
+    }
+}
+
+fn has_upper_case(word: &[u8]) -> bool
+    ensures { result ≡ list_any is_ascii_uppercase word.now }
+{
+    word.iter().any(|octet| octet.is_ascii_uppercase())
+}
