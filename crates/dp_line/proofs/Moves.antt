@@ -117,7 +117,7 @@ unfolding served
 served_address slave sender place telegram parts = executed_address slave sender place parts _
 
 -- the write of one slave
-links_kept : (xs : List SlaveParts) (i : ℕ) (x y : SlaveParts) → x ≡ get_or xs i x → y.links ≡ x.links → links_of (set xs i y) ≡ links_of xs
+pub links_kept : (xs : List SlaveParts) (i : ℕ) (x y : SlaveParts) → x ≡ get_or xs i x → y.links ≡ x.links → links_of (set xs i y) ≡ links_of xs
 links_kept [] i x y here e = refl
 links_kept (z ∷ xs) zero x y here e = ap (λ (k : Links). k ∷ links_of xs) (e ∙ ap (λ (p : SlaveParts). p.links) here)
 links_kept (z ∷ xs) (suc i) x y here e = ap (λ (k : List Links). z.links ∷ k) (links_kept xs i x y here e)
@@ -127,12 +127,12 @@ at_index-set [] index change slave here = refl
 at_index-set (z ∷ slaves) zero change slave here = let same : z ≡ slave = cc in ap (λ (s : SlaveRecord). change s ∷ slaves) same
 at_index-set (z ∷ slaves) (suc index) change slave here = ap (λ (l : List SlaveRecord). z ∷ l) (at_index-set slaves index change slave here)
 
-slaves_written : (xs : List SlaveParts) (index : ℕ) (x later : SlaveParts) (after : SlaveRecord) → later ≡ with_slave x after → slaves_of (set xs index later) ≡ set (slaves_of xs) index after
+pub slaves_written : (xs : List SlaveParts) (index : ℕ) (x later : SlaveParts) (after : SlaveRecord) → later ≡ with_slave x after → slaves_of (set xs index later) ≡ set (slaves_of xs) index after
 slaves_written xs index x later after is =
     map-set (λ (p : SlaveParts). p.slave) xs index later ∙ ap (λ (p : SlaveParts). set (slaves_of xs) index p.slave) is
 
 -- what the slave is after a change, as it was read
-changed_parts : (change : SlaveRecord → SlaveRecord) (xs : List SlaveParts) (index : ℕ) (x later : SlaveParts) → x ≡ get_or xs index x
+pub changed_parts : (change : SlaveRecord → SlaveRecord) (xs : List SlaveParts) (index : ℕ) (x later : SlaveParts) → x ≡ get_or xs index x
     → later ≡ with_slave (get_or xs index x) (change (get_or xs index x).slave) → later ≡ with_slave x (change x.slave)
 changed_parts change xs index x later is done = done ∙ ap (λ (p : SlaveParts). with_slave p (change p.slave)) (sym is)
 

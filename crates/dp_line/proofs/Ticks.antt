@@ -1,12 +1,16 @@
 -- Slaves that are changed one after another.
-use Rattle.std.proofs.Common.{◌≡◌, ℕ, zero, suc, ◌+◌, ◌<◌, Bool, true, false, cond, List, [], ◌∷◌, ◌++◌, length, get_or, map, take, Option, Some, None, refl, sym, ap, ◌∙◌, arith}
-use Rattle.std.specs.Prelude.{filter, option_map, slice_get}
+use Rattle.std.proofs.Common.{◌≡◌, ℕ, zero, suc, ◌+◌, ◌<◌, Bool, true, false, cond, List, [], ◌∷◌, ◌++◌, length, get_or, map, set, take, Option, Some, None, refl, sym, ap, ◌∙◌, arith}
+use Rattle.std.specs.Prelude.{filter, nat_eq, option_map, slice_get}
+use Rattle.std.specs.Option.{option_eq}
 use Rattle.std.proofs.lemmas.List.{append-nil, map-append}
 use Rattle.dp_slave.specs.SlaveRecord.{SlaveRecord}
-use Rattle.dp_slave.specs.SlaveParts.{SlaveParts}
+use Rattle.dp_slave.specs.SlaveParts.{SlaveParts, with_slave}
+use Rattle.dp_slave.specs.Fields.{acted}
 use Rattle.dp_line.specs.World.{address_of_slave}
-use Rattle.dp_line.specs.Stations.{at_index, changed_to, slaves_of}
+use Rattle.dp_line.specs.Stations.{at_index, changed_to, expires, is_of, links_of, lists_of, master_index, slaves_of, ticked}
 use Rattle.dp_line.proofs.Addresses.{slave_read}
+use Rattle.dp_line.proofs.Moves.{changed_parts, links_kept, slaves_written}
+use Rattle.dp_line.proofs.Orders.{indices_stay}
 
 changed_next : (n : ℕ) (change : SlaveRecord → SlaveRecord) (slaves : List SlaveRecord) → at_index n change (changed_to n change slaves) ≡ changed_to (suc n) change slaves
 changed_next zero change [] = refl
@@ -106,3 +110,28 @@ pub let_go_more : (holds : SlaveRecord → Bool) (slaves : List SlaveRecord) (n 
 let_go_more holds slaves n address slave told after pushed so read here is =
     pushed ∙ ap (λ (l : List ℕ). l ++ address ∷ []) so ∙ ap (λ (a : ℕ). map address_of_slave (filter holds (take n slaves)) ++ a ∷ []) read
     ∙ sym (addresses_with holds slaves n slave here is)
+
+-- a slave that time doesn't let go stays where it is in the lists
+left_holder : (slave : SlaveRecord) (time : ℕ) → expires time slave ≡ false → (ticked time slave).holder ≡ slave.holder
+unfolding acted
+left_holder slave time stays = ap (λ (b : Bool). cond b None slave.holder) stays
+
+left_since : (slave : SlaveRecord) (time : ℕ) → expires time slave ≡ false → (ticked time slave).since ≡ slave.since
+unfolding acted
+left_since slave time stays = ap (λ (b : Bool). cond b 0 slave.since) stays
+
+pub stays_listed : (time : ℕ) (masters : List ℕ) (xs : List SlaveParts) (index k : ℕ) (x later : SlaveParts) → index < length xs → x ≡ get_or xs index x
+    → later ≡ with_slave (get_or xs index x) (ticked time (get_or xs index x).slave) → expires time (get_or xs index x).slave ≡ false
+    → lists_of masters (slaves_of xs) k ≡ lists_of masters (slaves_of (set xs index later)) k
+stays_listed time masters xs index k x later within is done stays =
+    let on : expires time x.slave ≡ false = ap (λ (p : SlaveParts). expires time p.slave) is ∙ stays in
+    sym (ap (λ (l : List SlaveRecord). lists_of masters l k)
+    (slaves_written xs index x later (ticked time x.slave) (changed_parts (ticked time) xs index x later is done))
+    ∙ indices_stay (is_of masters k) (slaves_of xs) index x.slave (ticked time x.slave) (slave_read xs index x within is)
+    (ap (λ (o : Option ℕ). option_eq nat_eq (master_index masters o) (Some k)) (left_holder x.slave time on))
+    (λ held. left_since x.slave time on))
+
+pub links_stay : (time : ℕ) (xs : List SlaveParts) (index : ℕ) (x later : SlaveParts) → x ≡ get_or xs index x → later ≡ with_slave (get_or xs index x) (ticked time (get_or xs index x).slave)
+    → links_of (set xs index later) ≡ links_of xs
+links_stay time xs index x later is done =
+    links_kept xs index x later is (ap (λ (p : SlaveParts). p.links) (changed_parts (ticked time) xs index x later is done))

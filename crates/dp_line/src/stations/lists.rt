@@ -110,10 +110,13 @@ fn tick_at(
     ensures slaves { slaves_of slaves.new ≡ at_index index (ticked time) (slaves_of slaves.old) }
     ensures let_go { Some result ≡ option_map (expires time) (slice_get (slaves_of slaves.old) index) }
 {
-    let holder = slaves[index].points().holder();
-    let is_let_go = slaves[index].tick(time);
-    move_to_holder(slaves, owners, masters, index, holder);
-    is_let_go
+    dp_owners::laws::same_lists_are_threaded_alike();
+    let before = slaves[index].points().holder();
+    if !slaves[index].tick(time) {
+        return false;
+    }
+    move_to_holder(slaves, owners, masters, index, before);
+    true
 }
 
 /// After a slave was written: where its holder is another one now, takes it out of the list of the
