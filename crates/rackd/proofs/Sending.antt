@@ -7,8 +7,9 @@ use Rattle.std.proofs.lemmas.Option.{slice_get_read}
 use Rattle.dp_line.specs.World.{World}
 use Rattle.rackd.specs.declared.stop.Stop.{Stop}
 use Rattle.rackd.specs.declared.stop.Stop.TheVariants as stops
-use Rattle.rackd.specs.Commands.{send}
-use Rattle.rackd.specs.LinesInUse.{LineInUse, Sent, Stream, passed, sent_at, sent}
+use Rattle.dp_line.specs.declared.event.Op.{Op}
+use Rattle.rackd.specs.Commands.{send, operate}
+use Rattle.rackd.specs.LinesInUse.{LineInUse, Sent, Stream, passed, sent_at, sent, operated}
 use Rattle.rackd.specs.ScriptText.{RackInUse, Obeyed, obeyed, obeyed_by_line}
 use Rattle.rackd.specs.Runs.{WritesPrefix, Sends, Obeys}
 
@@ -23,6 +24,10 @@ ends sending line_in_use old new (Err stops.NoCommand) leaves ok err fault = abs
 on_both : {T E A B C : Type 0} (r : Result T E) → (A → B → C) → OnOk r A → OnOk r B → OnOk r C
 on_both (Ok x) f a b = f a b
 on_both (Err e) f a b = tt
+
+on_ok : {T E A : Type 0} (r : Result T E) → A → OnOk r A
+on_ok (Ok x) a = a
+on_ok (Err e) a = tt
 
 pub record IsFound (streams : List Stream) (master index : ℕ) (stream : Stream) : Type 0 where
   pub place_is : position (λ s. eqb s.master master) streams ≡ Some index
@@ -72,3 +77,25 @@ obeys_send lines chosen line following master octets old new r is s =
     ap (option_and_then (λ line. option_map (obeyed_by_line rack_in_use) (sent line master octets))) is in
     subst (λ (o : Option Obeyed). Obeys o (record { lines = set lines chosen following; chosen = chosen }) old new r) (sym here)
     (by_line lines chosen following old new r (sent line master octets) s)
+
+-- the line of what is done to it, and its text written
+wrote : (lines : List LineInUse) (chosen : ℕ) (following : LineInUse) (text : List ℕ) (sending : Sent) (old new : Option (List ℕ)) (r : Result (Unit {0}) Stop)
+    → record { line_in_use = following; text = text } ≡ sending
+    → OnOk r (Appends old new text) → OnErr r (WritesPrefix old new text) → IfErr r (λ stop. stop ≡ stops.WriteFault)
+    → Obeys (Some (obeyed_by_line (record { lines = lines; chosen = chosen }) sending)) (record { lines = set lines chosen following; chosen = chosen }) old new r
+wrote lines chosen following text sending old new r is ok err fault =
+    by_line lines chosen following old new r (Some sending)
+    (subst (λ s. Sends (Some s) following old new r) is (ends (record { line_in_use = following; text = text }) following old new r (on_ok r refl) ok err fault))
+
+-- what an operator does to the chosen line, as words say
+pub obeys_op : (lines : List LineInUse) (chosen : ℕ) (line following : LineInUse) (said : Option Op) (op : Op) (text : List ℕ) (old new : Option (List ℕ)) (r : Result (Unit {0}) Stop)
+    → slice_get lines chosen ≡ Some line → said ≡ Some op → record { line_in_use = following; text = text } ≡ operated line op
+    → OnOk r (Appends old new text) → OnErr r (WritesPrefix old new text) → IfErr r (λ stop. stop ≡ stops.WriteFault)
+    → Obeys (option_and_then (obeyed (record { lines = lines; chosen = chosen })) (option_map operate said)) (record { lines = set lines chosen following; chosen = chosen }) old new r
+obeys_op lines chosen line following said op text old new r is says done ok err fault =
+    let rack_in_use : RackInUse = record { lines = lines; chosen = chosen } in
+    let here : option_and_then (obeyed rack_in_use) (option_map operate said) ≡ Some (obeyed_by_line rack_in_use (operated line op)) =
+    ap (λ (o : Option Op). option_and_then (obeyed rack_in_use) (option_map operate o)) says
+    ∙ ap (option_map (λ l. obeyed_by_line rack_in_use (operated l op))) is in
+    subst (λ (o : Option Obeyed). Obeys o (record { lines = set lines chosen following; chosen = chosen }) old new r) (sym here)
+    (wrote lines chosen following text (operated line op) old new r done ok err fault)

@@ -1,8 +1,11 @@
 -- The commands of a script (own).
 use Rattle.std.specs.Prelude.{codes, ℕ, ◌==◌, if◌then◌else◌, List, [], ◌∷◌, length, slice_index, Option, Some, None, option_map, option_and_then}
+use Rattle.dp_line.specs.declared.event.Op.{Op}
+use Rattle.dp_text.specs.declared.ops.HexCase.TheVariants.{Either}
 use Rattle.dp_text.specs.Numbers.{octet_number}
 use Rattle.dp_text.specs.Words.{words_of, same_text}
 use Rattle.dp_text.specs.HexWords.{octets_of_words}
+use Rattle.dp_text.specs.Events.{op_of_words}
 
 -- what a line of a script asks for
 pub data Command : Type 0 where
@@ -11,6 +14,7 @@ pub data Command : Type 0 where
   send : ℕ → List ℕ → Command
   list_owned : ℕ → Command
   show_slave : ℕ → Command
+  operate : Op → Command
 
 -- `m M HEX..`: master M sends these octets
 abbrev pub send_of : List (List ℕ) → Option Command
@@ -35,6 +39,10 @@ list_of words = option_map list_owned (only_number words)
 abbrev pub show_of : List (List ℕ) → Option Command
 show_of words = option_map show_slave (only_number words)
 
+-- `in A HEX`, `diag A FLAGS HEX`, `busy A POINT on` or `off`, `tick N` or `halt`: what an operator does, with hex digits in either case
+abbrev pub operation_of : List (List ℕ) → Option Command
+operation_of words = option_map operate (op_of_words Either words)
+
 -- by the first word
 abbrev pub command_of_words : List (List ℕ) → Option Command
 command_of_words [] = None
@@ -43,7 +51,7 @@ command_of_words (word ∷ words) =
     else if same_text word (codes "line") then choice_of words
     else if same_text word (codes "owned") then list_of words
     else if same_text word (codes "show") then show_of words
-    else None
+    else operation_of (word ∷ words)
 
 -- an empty line and a comment do nothing; a line that is no command is None
 abbrev pub command_of : List ℕ → Option Command

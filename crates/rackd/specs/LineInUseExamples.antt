@@ -2,17 +2,21 @@
 use Rattle.std.specs.Prelude.{◌≡◌, ⊤, ℕ, List, [], ◌∷◌, codes, Some, None, option_map, refl}
 use Rattle.std.specs.Fmt.{digits}
 use Rattle.hex.proofs.OnLiterals.{hex_on_literals}
+use Rattle.dp_slave.specs.SlaveRecord.{released}
+use Rattle.dp_slave.specs.Fields.{acted}
 use Rattle.dp_line.specs.Hearing.{heard}
 use Rattle.dp_line.specs.Verdict.{verdict_of}
 use Rattle.dp_line.specs.ReplyText.{reply_text}
-use Rattle.dp_line.specs.Effects.{effect, outcome_of, slave_after}
+use Rattle.dp_line.specs.Effects.{effect, slave_after, facts_of, outcome_of}
 use Rattle.dp_line.specs.Steps.{step}
+use Rattle.dp_line.specs.declared.event.Op.{Op}
+use Rattle.dp_line.specs.declared.event.Op.TheVariants.{Input, Tick, Halt}
 use Rattle.dp_line.specs.LineExamples.{fresh}
-use Rattle.rackd.specs.LinesInUse.{Stream, LineInUse, Sent, sent, owned_line, show_line}
+use Rattle.rackd.specs.LinesInUse.{Stream, LineInUse, Sent, sent, operated, owned_line, show_line}
 
 -- what computes a text
 unfoldable text_on_literals : ⊤
-unfolding hex_on_literals digits step effect slave_after heard verdict_of reply_text outcome_of
+unfolding hex_on_literals digits step effect slave_after facts_of outcome_of heard verdict_of reply_text acted released
 text_on_literals = tt
 
 -- the line, before anything came
@@ -68,3 +72,37 @@ slave_at_its_start = refl
 
 pub no_slave_there : show_line line_1 6 ≡ codes "refused NoStation\n"
 no_slave_there = refl
+
+abbrev pub after_op : Op → LineInUse
+after_op op = (operated line_1 op).line_in_use
+
+-- the device sets the inputs, which are shown then
+abbrev pub in_5_aa55 : Op
+in_5_aa55 = Input 5 (record { items = 0xAA ∷ 0x55 ∷ [] })
+
+pub inputs_set : text_of_sent (operated line_1 in_5_aa55) ≡ codes "done\n"
+unfolding text_on_literals
+inputs_set = refl
+
+pub inputs_shown : show_line (after_op in_5_aa55) 5 ≡ codes "show 5 WaitPrm none in aa55 out 0000 wd off\n"
+unfolding text_on_literals
+inputs_shown = refl
+
+-- one octet where the slave has two
+pub too_few_inputs : text_of_sent (operated line_1 (Input 5 (record { items = 0xAA ∷ [] }))) ≡ codes "refused WrongLength\n"
+unfolding text_on_literals
+too_few_inputs = refl
+
+-- time passes, and no watchdog runs
+pub time_passes_on_a_fresh_line : text_of_sent (operated line_1 (Tick 10)) ≡ codes "released\n"
+unfolding text_on_literals
+time_passes_on_a_fresh_line = refl
+
+-- the halt, and after it nothing is taken any more
+pub halted_once : text_of_sent (operated line_1 Halt) ≡ codes "released\n"
+unfolding text_on_literals
+halted_once = refl
+
+pub halted_twice : text_of_sent (operated (after_op Halt) Halt) ≡ codes "refused Halted\n"
+unfolding text_on_literals
+halted_twice = refl

@@ -3,12 +3,13 @@ use Rattle.std.specs.Prelude.{ℕ, ◌==◌, List, [], ◌∷◌, ◌++◌, map,
 use Rattle.dp_telegram.specs.declared.cutter.Cut.{Cut}
 use Rattle.dp_telegram.specs.declared.cutter.Cut.TheVariants as pieces
 use Rattle.dp_telegram.specs.Stream.{CutStream, cuts_of}
-use Rattle.dp_line.specs.declared.event.Event.TheVariants.{Request}
+use Rattle.dp_line.specs.declared.event.Event.TheVariants.{Request, Operator}
+use Rattle.dp_line.specs.declared.event.Op.{Op}
 use Rattle.dp_slave.specs.View.{view_of}
 use Rattle.dp_line.specs.World.{World, Description, start_of, slave_at}
 use Rattle.dp_line.specs.Owned.{owned}
 use Rattle.dp_line.specs.Steps.{step}
-use Rattle.dp_text.specs.Texts.{answer_text, dropped_text, owned_text, show_text}
+use Rattle.dp_text.specs.Texts.{outcome_line, answer_text, dropped_text, owned_text, show_text}
 
 -- a master's stream: of the octets that came, those that can't be judged yet
 pub record Stream : Type 0 where
@@ -91,6 +92,12 @@ sent line_in_use master octets =
     option_and_then
     (λ index. option_map (sent_at line_in_use octets index) (slice_get line_in_use.streams index))
     (position (λ stream. stream.master == master) line_in_use.streams)
+
+-- the operator does something, which is one event; the streams stay
+abbrev pub operated : LineInUse → Op → Sent
+operated line_in_use op =
+    let stepped = step line_in_use.world (Operator op) in
+    record { line_in_use = record line_in_use { world = stepped.world }; text = outcome_line stepped.answer.outcome }
 
 -- which slaves a master holds; none for an address that is no master's
 abbrev pub owned_line : LineInUse → ℕ → List ℕ

@@ -17,8 +17,10 @@ Usage: rackd < INPUT
 
 Standard input is a rack file (TOML: lines with their masters and slaves), a line that is
 exactly %%, and a script: 'm M HEX' is what master M sends, 'owned M' lists the slaves that it
-holds, 'show A' shows the slave at address A. For each telegram a line goes to standard output:
-the reply, no reply and the reason, or that it was done. For example, the input
+holds, 'show A' shows the slave at address A. The operator does 'in A HEX', 'diag A FLAGS HEX',
+'busy A POINT on' (or off), 'tick N' and 'halt'. For each telegram a line goes to standard output:
+the reply, no reply and the reason, or that it was done; and one for what the operator does. For
+example, the input
 
 [[line]]
 number = 1

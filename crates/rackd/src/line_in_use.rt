@@ -7,14 +7,14 @@ ghost use Rattle.dp_telegram.specs.Stream.{cut_lent, cut_length};
 ghost use Rattle.dp_telegram.specs.FrameText.{frame_at};
 ghost use Rattle.dp_line.specs.declared.event.Event.TheVariants.{Request};
 ghost use Rattle.dp_line.specs.World.{description_of, opening_fault};
-ghost use Rattle.rackd.specs.LinesInUse.{line_at_start, empty_stream, piece_answered, passed, sent, owned_line, show_line};
+ghost use Rattle.rackd.specs.LinesInUse.{line_at_start, empty_stream, piece_answered, passed, sent, operated, owned_line, show_line};
 ghost use Rattle.rackd.specs.Runs.{WritesPrefix, Sends};
 
 use crate::output::write_whole;
 use crate::stop::Stop;
 use crate::stream_laws::pieces_of_a_stream_do_not_matter;
 use arrayvec::ArrayVec;
-use dp_line::{Event, LineSpec, LineState};
+use dp_line::{Event, LineSpec, LineState, Op};
 use dp_telegram::{Cutter, Piece};
 use dp_text::{HexWords, Text};
 use std::alloc::{AllocError, Global};
@@ -93,6 +93,13 @@ impl LineInUse {
             return Err(Stop::NoCommand);
         };
         self.streams[index].pass_words(&mut self.state, octets, text, writer)
+    }
+
+    /// The operator does something, and the text becomes the answer.
+    pub(crate) fn operate(&mut self, op: Op, text: &mut Text)
+        ensures { record { line_in_use = self.new; text = text.new } ≡ operated self.old op }
+    {
+        text.set_outcome(&self.state.take(&Event::Operator(op)).outcome);
     }
 
     /// Makes the text the list of the slaves that a master holds, oldest lock first.
@@ -205,19 +212,12 @@ fn answer_frame(text: &mut Text, state: &mut LineState, master: u8, octets: &[u8
     ensures { record { world = state.new; text = text.new }
         ≡ piece_answered state.old master (pieces.Frame (frame_at octets.now) (record { items = octets.now })) }
 {
-    let step = state.take(&request(master, octets));
-    text.set_answer(master, &step.outcome);
-}
-
-/// The event that a master sends a frame of these octets.
-fn request(master: u8, octets: &[u8]) -> Event
-    requires { length octets.now ≤ 255 }
-    ensures { result ≡ Request master (record { items = octets.now }) }
-{
-    let mut copy = ArrayVec::new();
-    copy.try_extend_from_slice(octets).unwrap();
-    Event::Request {
+    let mut event = Event::Request {
         master,
-        octets: copy,
+        octets: ArrayVec::new(),
+    };
+    if let Event::Request { octets: copy, .. } = &mut event {
+        copy.try_extend_from_slice(octets).unwrap();
     }
+    text.set_answer(master, &state.take(&event).outcome);
 }

@@ -1,7 +1,7 @@
 //! A rack in use: its lines, and the one that commands speak to.
 
-ghost use Rattle.std.specs.Prelude.{◌≡◌, ◌<◌, ◌==◌, ℕ, List, Option, None, All, map, position, length, IfOk, IfSome};
-ghost use Rattle.rackd.specs.Commands.{choose_line, send as send_octets, list_owned as owned_asked, show_slave as slave_asked};
+ghost use Rattle.std.specs.Prelude.{◌≡◌, ◌<◌, ◌==◌, ℕ, List, ◌∷◌, Option, None, option_and_then, All, map, position, length, IfOk, IfSome};
+ghost use Rattle.rackd.specs.Commands.{choose_line, send as send_octets, list_owned as owned_asked, show_slave as slave_asked, operation_of};
 ghost use Rattle.dp_line.specs.World.{description_of, opening_fault};
 ghost use Rattle.rack_file.specs.Rack.{rack_described};
 ghost use Rattle.rackd.specs.CommandView.{command_view};
@@ -13,7 +13,7 @@ use crate::command::Command;
 use crate::line_in_use::LineInUse;
 use crate::output::write_whole;
 use crate::stop::Stop;
-use dp_text::{HexWords, Text};
+use dp_text::{HexCase, HexWords, Text, Words, op_in};
 use rack_file::{Rack, RackLine};
 use std::alloc::{AllocError, Global};
 use std::io::Write;
@@ -57,7 +57,7 @@ impl RackInUse {
         text: &mut Text,
         writer: &mut W,
     ) -> Result<(), Stop>
-        ensures { Obeys (obeyed self.old (command_view command.entry)) self.new (W.contents writer.old) (W.contents writer.new) result }
+        ensures { Obeys (option_and_then (obeyed self.old) (command_view command.entry)) self.new (W.contents writer.old) (W.contents writer.new) result }
     {
         match command {
             Command::Nothing => Ok(()),
@@ -65,6 +65,7 @@ impl RackInUse {
             Command::Send { master, octets } => self.send(master, octets, text, writer),
             Command::ListOwned(master) => self.list_owned(master, text, writer),
             Command::ShowSlave(address) => self.show_slave(address, text, writer),
+            Command::Operate { kind, words } => self.operate(kind, words, text, writer),
         }
     }
 
@@ -107,6 +108,23 @@ impl RackInUse {
         ensures { Obeys (obeyed self.now (slave_asked address)) self.now (W.contents writer.old) (W.contents writer.new) result }
     {
         self.lines[self.chosen].show_slave(address, text);
+        write_whole(writer, text.as_bytes())
+    }
+
+    /// The operator of the chosen line does what the words say, if they say that; its answer is written.
+    fn operate<W: Write>(
+        &mut self,
+        kind: &[u8],
+        mut words: Words<'_>,
+        text: &mut Text,
+        writer: &mut W,
+    ) -> Result<(), Stop>
+        ensures { Obeys (option_and_then (obeyed self.old) (operation_of (kind.now ∷ words.entry))) self.new (W.contents writer.old) (W.contents writer.new) result }
+    {
+        let Some(op) = op_in(HexCase::Either, kind, &mut words) else {
+            return Err(Stop::NoCommand);
+        };
+        self.lines[self.chosen].operate(op, text);
         write_whole(writer, text.as_bytes())
     }
 }

@@ -15,16 +15,17 @@ fn written(alloc: Global, script: &str) -> Result<String, Fail> {
 
 #[test]
 fn octet_by_octet(rt: HostRuntime) -> Result<(), Fail> {
-    // Set_Prm and Chk_Cfg, and then Data_Exchange in eleven lines
+    // the inputs, Slave_Diag, Set_Prm and Chk_Cfg, and then Data_Exchange in eleven lines
     let before =
-        "m 1 68 0C 0C 68 85 81 5D 3D 3E 88 02 05 0B 80 A1 01 9A 16\nm 1 68 07 07 68 85 81 7D 3E 3E 21 11 31 16\n";
-    let done = "1: reply e5 Done\n1: reply e5 Done\n";
+        "in 5 aa55\nm 1 68 05 05 68 85 81 6D 3C 3E ED 16\nm 1 68 0C 0C 68 85 81 5D 3D 3E 88 02 05 0B 80 A1 01 9A 16\nm 1 68 07 07 68 85 81 7D 3E 3E 21 11 31 16\n";
+    let done =
+        "done\n1: reply 680b0b688185083e3c020500ff80a1af16 Done\n1: reply e5 Done\n1: reply e5 Done\n";
     let ten = format!(in rt.alloc();
         "{before}m 1 68\nm 1 05\nm 1 05\nm 1 68\nm 1 05\nm 1 01\nm 1 5D\nm 1 12\nm 1 34\nm 1 A9\n"
     )?;
     assert_eq!(rt; written(rt.alloc(), &ten)?.as_str(), done);
     let eleven = format!(in rt.alloc(); "{ten}m 1 16\n")?;
-    let answers = format!(in rt.alloc(); "{done}1: reply 6805056801050800000e16 Done\n")?;
+    let answers = format!(in rt.alloc(); "{done}1: reply 68050568010508aa550d16 Done\n")?;
     assert_eq!(rt; written(rt.alloc(), &eleven)?.as_str(), answers.as_str());
     Ok(())
 }

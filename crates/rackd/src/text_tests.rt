@@ -1,4 +1,4 @@
-use dp_line::{Event, LineState, OpenFault, Outcome, Rule};
+use dp_line::{Event, LineState, Op, OpenFault, Outcome, Rule};
 use dp_telegram::{FrameFault, Octets};
 use dp_text::{HexWords, Lines, Text, Words, event_in, is_text, number_in, octet_in, octets_in};
 use rack_file::{RackFault, read_rack};
@@ -123,11 +123,13 @@ fn reads_events_exactly(rt: HostRuntime) -> Result<(), Fail> {
         "req 1 e5 ",
         "req 1",
         "req 1 ",
-        "tick 1",
+        "tick 01",
+        "in 5 AA",
         "req 256 -",
     ] {
         assert_eq!(rt; event_in(text.as_bytes()), None, "{text}");
     }
+    assert_eq!(rt; event_in(b"tick 1"), Some(Event::Operator(Op::Tick(1))));
     let mut octets = Octets::new();
     assert_eq!(rt;
         event_in(b"req 255 -"),
