@@ -113,7 +113,7 @@ pending : Option ℕ → List ℕ → List ℕ
 pending None digits = digits
 pending (Some high) digits = high ∷ digits
 
-split_parts : (text : List ℕ) → (first : List ℕ) × (others : List (List ℕ)) × (slice_split (λ octet. octet == 32) text ≡ first ∷ others)
+pub split_parts : (text : List ℕ) → (first : List ℕ) × (others : List (List ℕ)) × (slice_split (λ octet. octet == 32) text ≡ first ∷ others)
 split_parts text = parts (slice_split (λ octet. octet == 32) text) (length-slice_split (λ octet. octet == 32) text)
   where
     parts : (words : List (List ℕ)) → length words ≡ count_by (λ octet. octet == 32) text + 1 → (first : List ℕ) × (others : List (List ℕ)) × (words ≡ first ∷ others)

@@ -5,3 +5,4 @@ pub mod HexSpellings
 pub mod Numerals
 pub mod ReadBack
 pub mod ReadExactly
+pub mod HexPairs

@@ -1,12 +1,12 @@
 //! Octets in words of hex digits, read in place.
 
-ghost use Rattle.std.specs.Prelude.{◌≡◌, ◌<◌, ◌++◌, length, take, min, is_some, None};
+ghost use Rattle.std.specs.Prelude.{◌≡◌, ◌<◌, ◌++◌, ◌&&◌, length, take, min, is_some, None};
 ghost use Rattle.std.specs.List.{list_all};
 ghost use Rattle.hex.specs.Hex.{is_hex_digit as is_digit_of_hex};
 ghost use Rattle.dp_text.specs.Words.{words_of};
 ghost use Rattle.dp_text.specs.HexWords.{octets_of_word, octets_of_words, digit_value, pair_octet, spelt_behind};
 
-use crate::words::{SPACE, Words};
+use crate::words::SPACE;
 use std::marker::Model;
 
 /// The octets of words of hex digits, decoded where they are asked for. Contracts see those that are
@@ -61,32 +61,31 @@ impl<'a> HexWords<'a> {
     }
 }
 
-/// Each word of the text is one or more whole pairs of hex digits.
+/// Each word of the text is one or more whole pairs of hex digits. A pair ends the text, or a word, or
+/// another one follows.
 fn are_hex_words(text: &[u8]) -> bool
     ensures { result ≡ is_some (octets_of_words (words_of text.now)) }
 {
-    let mut words = Words::of(text);
-    while let Some(word) = words.next() {
-        if !is_hex_word(word) {
+    let mut left = text;
+    loop {
+        let [high, low, rest @ ..] = left else {
+            return false;
+        };
+        if !is_pair(*high, *low) {
             return false;
         }
+        match rest {
+            [] => return true,
+            [SPACE, more @ ..] => left = more,
+            [_, ..] => left = rest,
+        }
     }
-    true
 }
 
-fn is_hex_word(word: &[u8]) -> bool
-    ensures { result ≡ is_some (octets_of_word word.now) }
+fn is_pair(high: u8, low: u8) -> bool
+    ensures { result ≡ (is_digit_of_hex high && is_digit_of_hex low) }
 {
-    if word.is_empty() || word.len() % 2 != 0 {
-        return false;
-    }
-    are_hex_digits(word)
-}
-
-fn are_hex_digits(word: &[u8]) -> bool
-    ensures { result ≡ list_all is_digit_of_hex word.now }
-{
-    word.iter().all(|digit| is_hex_digit(*digit))
+    is_hex_digit(high) && is_hex_digit(low)
 }
 
 fn is_hex_digit(digit: u8) -> bool

@@ -1,10 +1,9 @@
-use Rattle.std.proofs.Common.{◌≡◌, length, is_some}
-use Rattle.dp_text.specs.Words.{words_of}
-use Rattle.dp_text.specs.HexWords.{octets_of_words}
+use Rattle.std.proofs.Common.{◌≡◌, length}
+use Rattle.dp_text.proofs.HexPairs.{are_hex}
 use Rattle.dp_text.proofs.hex_words.are_hex_words.Given as goal
 
-abbrev pub invariant-loop-word : goal.invariant-loop-word
-invariant-loop-word l = is_some (octets_of_words l.words) ≡ is_some (octets_of_words (words_of l.text))
+abbrev pub invariant-loop-left : goal.invariant-loop-left
+invariant-loop-left l = are_hex l.left ≡ are_hex l.text
 
-abbrev pub decreases-loop-word : goal.decreases-loop-word
-decreases-loop-word l = length l.words
+abbrev pub decreases-loop-left : goal.decreases-loop-left
+decreases-loop-left l = length l.left
