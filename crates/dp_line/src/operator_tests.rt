@@ -2,16 +2,15 @@ use super::*;
 use crate::tests::{LOCK, line, octets, request, slave, to_point, told};
 use arrayvec::ArrayVec;
 use dp_sap::State;
-use std::alloc::{AllocError, Global};
+use std::alloc::Global;
 use std::test::Fail;
 
 /// A line with masters 1 and 2 and slaves 5 and 6, each with two octets of inputs and two of outputs.
-fn data_line(alloc: Global, capacity: u32) -> Result<LineSpec, AllocError> {
+fn data_line(alloc: Global, capacity: u32) -> Result<LineSpec, Fail> {
     let mut described = line(alloc, capacity, &[])?;
     for address in [5, 6] {
         let mut spec = slave(address);
-        spec.cfg.push(0x21);
-        spec.cfg.push(0x11);
+        spec.cfg.try_extend_from_slice(&[0x21, 0x11])?;
         described.slaves.push(spec)?;
     }
     Ok(described)
