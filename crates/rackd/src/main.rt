@@ -7,10 +7,14 @@
 mod command;
 mod command_line;
 mod ending;
+#[cfg(test)]
+mod fixtures;
 mod input;
 mod line_in_use;
 #[cfg(test)]
 mod line_tests;
+#[cfg(test)]
+mod operator_tests;
 mod output;
 mod rack_in_use;
 #[cfg(test)]
