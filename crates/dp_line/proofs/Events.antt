@@ -19,14 +19,14 @@ use Rattle.dp_line.specs.declared.event.Op.TheVariants.{Input, Diag, Busy, Tick,
 use Rattle.dp_line.specs.declared.event.Outcome.{Outcome}
 use Rattle.dp_line.specs.declared.event.Outcome.TheVariants.{Released, Done, Refused}
 use Rattle.dp_line.specs.declared.fault.OperatorFault.{OperatorFault}
-use Rattle.dp_line.specs.Events.{address_of_op, is_done_to, is_halt, misfit}
-use Rattle.dp_line.specs.World.{World, address_of_slave, is_last_place, slave_at, takes_no_more}
+use Rattle.dp_line.specs.Events.{address_of_op, expires, is_done_to, is_halt, misfit}
+use Rattle.dp_line.specs.World.{World, address_of_slave, is_last_place, slave_among, slave_at, takes_no_more}
 use Rattle.dp_line.specs.Hearing.{Hearing, heard, telegram_of_frame, telegram_spelt}
 use Rattle.dp_line.specs.Verdict.{concerns_a_slave, verdict_of}
 use Rattle.dp_line.specs.Served.{served}
 use Rattle.dp_line.specs.Effects.{effect, facts_heard, facts_of, halted_world, held_addresses, outcome_heard, outcome_of, outcome_of_op, served_where_asked, slave_after, slave_after_op, slave_after_request, state_and_holder}
 use Rattle.dp_line.specs.Steps.{step, step_by_fit, step_of_fitting, told_halted, unrecorded}
-use Rattle.dp_line.specs.Stations.{AreBefore, IsMove, stays, lets_go, is_locked, StationsView, expires, heard_by, operated, slave_among, ticked}
+use Rattle.dp_line.specs.Stations.{AreBefore, IsMove, stays, lets_go, is_locked, StationsView, heard_by, operated, ticked}
 use Rattle.dp_line.proofs.Moves.{op_move, served_move}
 
 -- what a line that takes events hears

@@ -14,11 +14,11 @@ use Rattle.dp_slave.specs.Fields.{acted}
 use Rattle.dp_line.specs.declared.request.Request.{Request}
 use Rattle.dp_line.specs.declared.event.Op.{Op}
 use Rattle.dp_line.specs.declared.event.Op.TheVariants.{Input, Diag, Busy, Tick, Halt}
-use Rattle.dp_line.specs.Events.{address_of_op, misfit_at, misfit_where}
-use Rattle.dp_line.specs.World.{address_of_slave}
+use Rattle.dp_line.specs.Events.{address_of_op, misfit_among, misfit_at, misfit_where}
+use Rattle.dp_line.specs.World.{address_of_slave, slave_among}
 use Rattle.dp_line.specs.Effects.{served_where_asked, slave_after_op}
 use Rattle.dp_line.specs.Serving.{served_to}
-use Rattle.dp_line.specs.Stations.{AreStations, AreThreaded, HaveMasters, IsMove, stays, lets_go, is_locked, StationsView, at_index, misfit_among, operated, slave_among, slave_asked, slaves_of, ticked}
+use Rattle.dp_line.specs.Stations.{AreStations, AreThreaded, HaveMasters, IsMove, stays, lets_go, is_locked, StationsView, at_index, operated, slave_asked, slaves_of, ticked}
 use Rattle.dp_line.proofs.Addresses.{absent-indexed, addresses_kept, ascend-same, at_address, at_index-map, find-indexed, indexed-same, there-indexed}
 use Rattle.dp_line.proofs.Moves.{op_address, served_address, served_move}
 
@@ -48,17 +48,13 @@ tick_holder : (masters : List ℕ) (b : Bool) (holder : Option ℕ) → HasMaste
 tick_holder masters true holder has = tt
 tick_holder masters false holder has = has
 
--- what is true of stations is true after the change of one slave that keeps its address, and whose holder stays a master
-pub stations_changed : (change : SlaveRecord → SlaveRecord) (masters : List ℕ) (items new : List SlaveParts) (indices : List (Option ℕ)) (owners later : Owners) (index len : ℕ)
-    → ((slave : SlaveRecord) → address_of_slave (change slave) ≡ address_of_slave slave)
-    → ((slave : SlaveRecord) → HasMaster masters slave.holder → HasMaster masters (change slave).holder)
-    → AreStations masters items indices owners
-    → slaves_of new ≡ at_index index change (slaves_of items) → AreThreaded masters later new → len ≡ length items → length new ≡ length items
+-- what is true of stations is true of others with the same addresses, whose holders are masters
+stations_written : (masters : List ℕ) (items new : List SlaveParts) (slaves : List SlaveRecord) (indices : List (Option ℕ)) (owners later : Owners) (len : ℕ)
+    → AreStations masters items indices owners → map address_of_slave slaves ≡ map address_of_slave (slaves_of items) → HaveMasters masters slaves
+    → slaves_of new ≡ slaves → AreThreaded masters later new → len ≡ length items → length new ≡ length items
     → AreStations masters (take len (new ++ drop (length new) items)) indices later
-stations_changed change masters items new indices owners later index len address holder stations written threaded size same =
-    let addresses : map address_of_slave (slaves_of new) ≡ map address_of_slave (slaves_of items) =
-    ap (map address_of_slave) written ∙ addresses_kept index change (slaves_of items) address in
-    let have : HaveMasters masters (at_index index change (slaves_of items)) = masters_kept masters index change (slaves_of items) holder stations.have_masters in
+stations_written masters items new slaves indices owners later len stations same have written threaded size long =
+    let addresses : map address_of_slave (slaves_of new) ≡ map address_of_slave (slaves_of items) = ap (map address_of_slave) written ∙ same in
     let after : AreStations masters new indices later = record {
       few_masters = stations.few_masters;
       indexed = indexed-same (slaves_of new) (slaves_of items) indices addresses stations.indexed;
@@ -66,7 +62,19 @@ stations_changed change masters items new indices owners later index len address
       have_masters = subst (HaveMasters masters) (sym written) have;
       threaded = threaded;
     } in
-    subst (λ (parts : List SlaveParts). AreStations masters parts indices later) (sym (whole len items new size same)) after
+    subst (λ (parts : List SlaveParts). AreStations masters parts indices later) (sym (whole len items new size long)) after
+
+-- what is true of stations is true after the change of one slave that keeps its address, and whose holder stays a master
+pub stations_changed : (change : SlaveRecord → SlaveRecord) (masters : List ℕ) (items new : List SlaveParts) (indices : List (Option ℕ)) (owners later : Owners) (index len : ℕ)
+    → ((slave : SlaveRecord) → address_of_slave (change slave) ≡ address_of_slave slave)
+    → ((slave : SlaveRecord) → HasMaster masters slave.holder → HasMaster masters (change slave).holder)
+    → AreStations masters items indices owners
+    → slaves_of new ≡ at_index index change (slaves_of items) → AreThreaded masters later new → len ≡ length items → length new ≡ length items
+    → AreStations masters (take len (new ++ drop (length new) items)) indices later
+stations_changed change masters items new indices owners later index len address holder stations =
+    stations_written masters items new (at_index index change (slaves_of items)) indices owners later len stations
+    (addresses_kept index change (slaves_of items) address)
+    (masters_kept masters index change (slaves_of items) holder stations.have_masters)
 
 -- after a request
 pub stations_after : (request : Request) (masters : List ℕ) (items new : List SlaveParts) (indices : List (Option ℕ)) (owners later : Owners) (index len : ℕ)
@@ -111,18 +119,10 @@ pub stations_ticked : (time : ℕ) (masters : List ℕ) (items new : List SlaveP
     → AreStations masters items indices owners
     → slaves_of new ≡ map (ticked time) (slaves_of items) → AreThreaded masters later new → len ≡ length items → length new ≡ length items
     → AreStations masters (take len (new ++ drop (length new) items)) indices later
-stations_ticked time masters items new indices owners later len stations written threaded size same =
-    let addresses : map address_of_slave (slaves_of new) ≡ map address_of_slave (slaves_of items) =
-    ap (map address_of_slave) written ∙ all_addresses (ticked time) (slaves_of items) (op_address (Tick time)) in
-    let have : HaveMasters masters (map (ticked time) (slaves_of items)) = all_masters masters (ticked time) (slaves_of items) (op_holder masters (Tick time)) stations.have_masters in
-    let after : AreStations masters new indices later = record {
-      few_masters = stations.few_masters;
-      indexed = indexed-same (slaves_of new) (slaves_of items) indices addresses stations.indexed;
-      ascend = ascend-same (slaves_of new) (slaves_of items) addresses stations.ascend;
-      have_masters = subst (HaveMasters masters) (sym written) have;
-      threaded = threaded;
-    } in
-    subst (λ (parts : List SlaveParts). AreStations masters parts indices later) (sym (whole len items new size same)) after
+stations_ticked time masters items new indices owners later len stations =
+    stations_written masters items new (map (ticked time) (slaves_of items)) indices owners later len stations
+    (all_addresses (ticked time) (slaves_of items) (op_address (Tick time)))
+    (all_masters masters (ticked time) (slaves_of items) (op_holder masters (Tick time)) stations.have_masters)
 
 pub slaves_ticked : (time : ℕ) (items new : List SlaveParts) (len : ℕ) → slaves_of new ≡ map (ticked time) (slaves_of items) → len ≡ length items → length new ≡ length items
     → slaves_of (take len (new ++ drop (length new) items)) ≡ map (ticked time) (slaves_of items)

@@ -11,7 +11,7 @@ use Rattle.dp_telegram.specs.FunctionCode.{function_of, asks_sdn, asks_srd, not_
 use Rattle.dp_sap.specs.declared.point.Access.{Access}
 use Rattle.dp_sap.specs.declared.point.Service.TheVariants.{Srd, Sdn}
 use Rattle.dp_sap.specs.AccessTable as table
-use Rattle.dp_sap.specs.AccessTable.{PointsView, Row, access_row, access_table, admitted, column_in, opened, point_of, row_of, table_row, all, same_point, data_exchange, rd_inp, rd_outp, global_control, get_cfg, slave_diag, set_prm, chk_cfg, most_data}
+use Rattle.dp_sap.specs.AccessTable.{PointsView, Row, access_row, admitted, column_in, opened, point_of, row_of, table_row, all, same_point, data_exchange, rd_inp, rd_outp, global_control, get_cfg, slave_diag, set_prm, chk_cfg, most_data}
 use Rattle.dp_responder.specs.declared.rule.Rule.{Rule}
 use Rattle.dp_responder.specs.declared.rule.Rule.TheVariants as rules
 use Rattle.dp_responder.specs.declared.judgement.Judged.TheVariants as verdicts
@@ -126,11 +126,6 @@ srd_no_sdn FdlStatus e = absurd cc
 srd_no_sdn Ident e = absurd cc
 srd_no_sdn LsapStatus e = absurd cc
 srd_no_sdn Reserved e = absurd cc
-
--- a request that passes is an SDN, or goes to another point than Global_Control and is none; where nothing is in the table, nothing passes
-not_none : {A : Type 0} (o : Option A) → is_none o ≡ false → (P : A → Type 0) → ((x : A) → o ≡ Some x → P x) → IfSome o P
-not_none None e P f = absurd cc
-not_none (Some x) e P f = f x refl
 
 -- every row but that of Global_Control is one of an SRD
 abbrev found : Bool → Row → Option Row → Option Row

@@ -30,11 +30,6 @@ use Rattle.dp_line.specs.Steps.{step, run, told_halted, unrecorded}
 use Rattle.dp_line.proofs.Hearings.{unanswered}
 use Rattle.dp_line.proofs.Events.{step_halted, step_refused, step_at_last_place, step_is_effect}
 
--- one event more at the end of a run
-pub run_more : (world : World) (events : List Event) (event : Event) → (run world (events ++ event ∷ [])).world ≡ (step (run world events).world event).world
-run_more world [] event = refl
-run_more world (e ∷ events) event = run_more (step world e).world events event
-
 -- the answer to an event of a run is its step's in the world that the events before it left
 pub answer_at : (world : World) (before : List Event) (event : Event) (later : List Event)
     → slice_get (run world (before ++ event ∷ later)).answers (length before) ≡ Some (step (run world before).world event).answer

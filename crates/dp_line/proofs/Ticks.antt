@@ -7,7 +7,8 @@ use Rattle.dp_slave.specs.SlaveRecord.{SlaveRecord}
 use Rattle.dp_slave.specs.SlaveParts.{SlaveParts, with_slave}
 use Rattle.dp_slave.specs.Fields.{acted}
 use Rattle.dp_line.specs.World.{address_of_slave}
-use Rattle.dp_line.specs.Stations.{at_index, changed_to, expires, is_of, links_of, lists_of, master_index, slaves_of, ticked}
+use Rattle.dp_line.specs.Events.{expires}
+use Rattle.dp_line.specs.Stations.{at_index, changed_to, is_of, links_of, lists_of, master_index, slaves_of, ticked}
 use Rattle.dp_line.proofs.Addresses.{slave_read}
 use Rattle.dp_line.proofs.Moves.{changed_parts, links_kept, slaves_written}
 use Rattle.dp_line.proofs.Orders.{indices_stay}

@@ -7,7 +7,6 @@ use Rattle.dp_telegram.specs.declared.access.Parts.{Parts}
 use Rattle.dp_telegram.specs.Access.{address_of}
 use Rattle.dp_responder.specs.declared.rule.Rule.{Rule}
 use Rattle.dp_slave.specs.SlaveRecord.{SlaveRecord, is_held}
-use Rattle.dp_slave.specs.Acts.{releases, ticks}
 use Rattle.dp_slave.specs.Fields.{acted}
 use Rattle.dp_line.specs.declared.event.Event.{Event}
 use Rattle.dp_line.specs.declared.event.Event.TheVariants.{Request, Operator}
@@ -17,7 +16,7 @@ use Rattle.dp_line.specs.declared.event.Outcome.{Outcome}
 use Rattle.dp_line.specs.declared.event.Outcome.TheVariants.{Released, Done}
 use Rattle.dp_line.specs.declared.event.Step.{Step}
 use Rattle.dp_line.specs.World.{World, address_of_slave, slave_at}
-use Rattle.dp_line.specs.Events.{address_of_op, act_of_op, is_done_to, is_halt}
+use Rattle.dp_line.specs.Events.{address_of_op, act_of_op, is_done_to, expires, is_halt}
 use Rattle.dp_line.specs.Hearing.{Hearing, heard, telegram_of_frame}
 use Rattle.dp_line.specs.Verdict.{verdict_of, concerns_a_slave}
 use Rattle.dp_line.specs.ReplyText.{reply_text}
@@ -81,7 +80,7 @@ abbrev pub outcome_of_op : World → Op → Outcome
 outcome_of_op world (Input address octets) = Done
 outcome_of_op world (Diag address ext stat overflow octets) = Done
 outcome_of_op world (Busy address point on) = Done
-outcome_of_op world (Tick time) = Released (record { items = addresses_where (λ slave. releases slave (ticks time)) world })
+outcome_of_op world (Tick time) = Released (record { items = addresses_where (expires time) world })
 outcome_of_op world Halt = Released (record { items = held_addresses world })
 
 -- the answer to an event that is recorded, and to every request

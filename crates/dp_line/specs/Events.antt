@@ -3,14 +3,14 @@ use Rattle.std.specs.Prelude.{ℕ, ◌==◌, Bool, true, false, if◌then◌else
 use Rattle.std.specs.Option.{option_and_then, option_map_or}
 use Rattle.dp_sap.specs.AccessTable.{is_in_table}
 use Rattle.dp_slave.specs.SlaveRecord.{SlaveRecord, input_length}
-use Rattle.dp_slave.specs.Acts.{Act, is_fed, reports, is_marked, ticks, halts}
+use Rattle.dp_slave.specs.Acts.{Act, is_fed, reports, is_marked, ticks, halts, releases}
 use Rattle.dp_line.specs.declared.event.Event.{Event}
 use Rattle.dp_line.specs.declared.event.Event.TheVariants.{Request, Operator}
 use Rattle.dp_line.specs.declared.event.Op.{Op}
 use Rattle.dp_line.specs.declared.event.Op.TheVariants.{Input, Diag, Busy, Tick, Halt}
 use Rattle.dp_line.specs.declared.fault.OperatorFault.{OperatorFault}
 use Rattle.dp_line.specs.declared.fault.OperatorFault.TheVariants.{NoStation, WrongLength, UnknownPoint}
-use Rattle.dp_line.specs.World.{World, address_of_slave, slave_at}
+use Rattle.dp_line.specs.World.{World, address_of_slave, slave_among}
 
 -- the address of the one slave that it is done to; time and the halt are for all slaves
 abbrev pub address_of_op : Op → Option ℕ
@@ -46,14 +46,18 @@ abbrev pub misfit_where : Op → Option SlaveRecord → Option OperatorFault
 misfit_where op None = Some NoStation
 misfit_where op (Some slave) = misfit_at op slave
 
--- why it can't be done on a line
-abbrev pub misfit_of_op : World → Op → Option OperatorFault
-misfit_of_op world op = option_and_then (λ address. misfit_where op (slave_at world address)) (address_of_op op)
+-- why it can't be done to any of these slaves
+abbrev pub misfit_among : List SlaveRecord → Op → Option OperatorFault
+misfit_among slaves op = option_and_then (λ address. misfit_where op (slave_among slaves address)) (address_of_op op)
 
 -- why an event doesn't fit; a request always does
 abbrev pub misfit : World → Event → Option OperatorFault
 misfit world (Request master octets) = None
-misfit world (Operator op) = misfit_of_op world op
+misfit world (Operator op) = misfit_among world.slaves op
+
+-- so much time lets go of the slave
+abbrev pub expires : ℕ → SlaveRecord → Bool
+expires time slave = releases slave (ticks time)
 
 -- the operator's own halt
 abbrev pub is_halt : Event → Bool

@@ -1,6 +1,6 @@
 -- How the stations of a line are kept: slaves by their index, and the lists of the masters threaded through them. No public clause
 -- cites this module.
-use Rattle.std.specs.Prelude.{◌≡◌, ◌≢◌, ℕ, zero, suc, ◌+◌, ◌≤◌, ◌<◌, ◌==◌, nat_eq, Bool, true, false, if◌then◌else◌, List, [], ◌∷◌, length, map, find, Option, Some, None, IfSome, option_map, slice_get, slice_set, slice_index_or, position}
+use Rattle.std.specs.Prelude.{◌≡◌, ◌≢◌, ℕ, zero, suc, ◌+◌, ◌≤◌, ◌<◌, ◌==◌, nat_eq, Bool, true, false, if◌then◌else◌, List, [], ◌∷◌, length, map, Option, Some, None, IfSome, option_map, slice_get, slice_set, slice_index_or, position}
 use Rattle.std.specs.Option.{option_and_then, option_eq}
 use Rattle.std.specs.List.{AllByRecursion, list_any}
 use Rattle.dp_telegram.specs.declared.frame.Telegram.{Telegram}
@@ -19,13 +19,12 @@ use Rattle.dp_owners.specs.Threaded.{IsThreaded, IsFree, IsListed, appended, unl
 use Rattle.dp_slave.specs.declared.description.SlaveSpec.{SlaveSpec}
 use Rattle.dp_slave.specs.SlaveRecord.{SlaveRecord, starting_slave, released}
 use Rattle.dp_slave.specs.SlaveParts.{SlaveParts}
-use Rattle.dp_slave.specs.Acts.{releases, ticks}
+use Rattle.dp_slave.specs.Acts.{ticks}
 use Rattle.dp_slave.specs.Fields.{acted}
 use Rattle.dp_line.specs.declared.event.Op.{Op}
-use Rattle.dp_line.specs.declared.fault.OperatorFault.{OperatorFault}
 use Rattle.dp_line.specs.declared.request.Request.{Request}
-use Rattle.dp_line.specs.World.{Description, address_of_slave, ascending}
-use Rattle.dp_line.specs.Events.{act_of_op, address_of_op, misfit_where}
+use Rattle.dp_line.specs.World.{Description, address_of_slave, ascending, slave_among}
+use Rattle.dp_line.specs.Events.{act_of_op}
 use Rattle.dp_line.specs.Owned.{in_order}
 use Rattle.dp_line.specs.Hearing.{Hearing, telegram_spelt}
 use Rattle.dp_line.specs.Verdict.{verdict_of, concerns_a_slave, has_foreign_sender, has_reserved_function}
@@ -43,7 +42,7 @@ heard_by stations sender octets = record {
   sender = sender;
   frame = frame_of octets;
   parts = option_and_then parts_of (telegram_spelt octets);
-  slave = option_and_then (λ telegram. find (λ slave. address_of_slave slave == address_of telegram.da) stations.slaves) (telegram_spelt octets);
+  slave = option_and_then (λ telegram. slave_among stations.slaves (address_of telegram.da)) (telegram_spelt octets);
 }
 
 -- the same of a telegram of one of its masters
@@ -54,7 +53,7 @@ heard_telegram slaves sender telegram = record {
   sender = sender;
   frame = Some (frames.Telegram telegram);
   parts = parts_of telegram;
-  slave = find (λ slave. address_of_slave slave == address_of telegram.da) slaves;
+  slave = slave_among slaves (address_of telegram.da);
 }
 
 -- where the address stands first among these
@@ -194,7 +193,7 @@ started line = record { masters = line.masters; slaves = map (starting_slave lin
 
 -- the slave that a request asks
 abbrev pub slave_asked : List SlaveRecord → Request → Option SlaveRecord
-slave_asked slaves request = find (λ slave. address_of_slave slave == address_of request.telegram.now.da) slaves
+slave_asked slaves request = slave_among slaves (address_of request.telegram.now.da)
 
 -- a telegram of the master itself, which is a request of a function of this profile
 pub record IsAdmitted (master : ℕ) (telegram : Telegram) : Type 0 where
@@ -208,24 +207,13 @@ pub record IsSilent (master : ℕ) (frame : Frame) (rule : Rule) : Type 0 where
   pub verdict : (parts : Option Parts) (slave : Option SlaveRecord)
       → verdict_of (record { over = false; is_master = true; sender = master; frame = Some frame; parts = parts; slave = slave }) ≡ rule
 
--- the slave with this address among these
-abbrev pub slave_among : List SlaveRecord → ℕ → Option SlaveRecord
-slave_among slaves address = find (λ slave. address_of_slave slave == address) slaves
-
--- why an operator can't do this to one of these slaves
-abbrev pub misfit_among : List SlaveRecord → Op → Option OperatorFault
-misfit_among slaves op = option_and_then (λ address. misfit_where op (slave_among slaves address)) (address_of_op op)
-
 -- what an operator does to one slave
 abbrev pub operated : Op → SlaveRecord → SlaveRecord
 operated op slave = acted slave (act_of_op op)
 
--- time for one slave, and whether it lets go of it
+-- time for one slave
 abbrev pub ticked : ℕ → SlaveRecord → SlaveRecord
 ticked time slave = acted slave (ticks time)
-
-abbrev pub expires : ℕ → SlaveRecord → Bool
-expires time slave = releases slave (ticks time)
 
 -- so many of the first slaves changed
 abbrev pub changed_to : ℕ → (SlaveRecord → SlaveRecord) → List SlaveRecord → List SlaveRecord

@@ -21,9 +21,12 @@ pub record World : Type 0 where
 abbrev pub address_of_slave : SlaveRecord → ℕ
 address_of_slave slave = slave.description.address
 
--- the slave that has the address
+-- the slave that has the address, among these and on the line
+abbrev pub slave_among : List SlaveRecord → ℕ → Option SlaveRecord
+slave_among slaves address = find (λ slave. address_of_slave slave == address) slaves
+
 abbrev pub slave_at : World → ℕ → Option SlaveRecord
-slave_at world address = find (λ slave. address_of_slave slave == address) world.slaves
+slave_at world address = slave_among world.slaves address
 
 -- at most the place of the halt is left
 abbrev pub is_last_place : World → Bool

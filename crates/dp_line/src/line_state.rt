@@ -6,7 +6,7 @@ ghost use Rattle.dp_line.specs.World.{description_of, opening_fault, slave_at, s
 ghost use Rattle.dp_line.specs.Owned.{owned};
 ghost use Rattle.dp_line.specs.declared.event.Event.TheVariants.{Request, Operator};
 ghost use Rattle.dp_line.specs.declared.event.Op.TheVariants.{Halt, Tick};
-ghost use Rattle.dp_line.specs.Events.{address_of_op, misfit, misfit_of_op};
+ghost use Rattle.dp_line.specs.Events.{address_of_op, misfit, misfit_among};
 ghost use Rattle.dp_line.specs.Effects.{effect, halted_world, held_addresses};
 ghost use Rattle.dp_line.specs.Steps.{step, told_halted as told_by_halted, unrecorded as unrecorded_step};
 
@@ -137,7 +137,7 @@ impl LineState {
     /// Takes what an operator does, which fits and takes a place.
     fn take_op(&mut self, op: &Op) -> Step
         requires room { takes_no_more self.old ≡ false }
-        requires fits { misfit_of_op self.old op.now ≡ None }
+        requires fits { misfit_among self.old.slaves op.now ≡ None }
         ensures world { self.new ≡ (effect self.old (Operator op.now)).world }
         ensures answer { result ≡ (effect self.old (Operator op.now)).answer }
     {
@@ -154,7 +154,7 @@ impl LineState {
     fn operate(&mut self, address: u8, op: &Op) -> Step
         requires room { takes_no_more self.old ≡ false }
         requires address { address_of_op op.now ≡ Some address }
-        requires fits { misfit_of_op self.old op.now ≡ None }
+        requires fits { misfit_among self.old.slaves op.now ≡ None }
         ensures world { self.new ≡ (effect self.old (Operator op.now)).world }
         ensures answer { result ≡ (effect self.old (Operator op.now)).answer }
     {

@@ -1,15 +1,15 @@
 //! The stations of a line: its masters, and its slaves, found by their address in one step.
 
-ghost use Rattle.std.specs.Prelude.{◌≡◌, ℕ, ◌≤◌, ◌<◌, ◌==◌, length, map, find, filter, false, true, None, Some, option_map, slice_get, slice_index_or, IfOk, IfSome, position};
+ghost use Rattle.std.specs.Prelude.{◌≡◌, ℕ, ◌≤◌, ◌<◌, ◌==◌, length, map, filter, false, true, None, Some, option_map, slice_get, slice_index_or, IfOk, IfSome, position};
 ghost use Rattle.std.specs.Option.{option_copied};
 ghost use Rattle.std.specs.List.{list_all, list_any};
 ghost use Rattle.dp_slave.specs.SlaveRecord.{released, is_held, is_held_by};
-ghost use Rattle.dp_line.specs.World.{address_of_slave, ascending, described_at, description_of, has_configuration, opening_fault};
-ghost use Rattle.dp_line.specs.Events.{address_of_op};
+ghost use Rattle.dp_line.specs.World.{address_of_slave, ascending, described_at, description_of, has_configuration, opening_fault, slave_among};
+ghost use Rattle.dp_line.specs.Events.{address_of_op, expires, misfit_among};
 ghost use Rattle.dp_line.specs.Owned.{in_order};
 ghost use Rattle.dp_line.specs.Effects.{served_where_asked, slave_after_op, state_and_holder};
 ghost use Rattle.dp_line.specs.Serving.{IsOfProfile, answer_to};
-ghost use Rattle.dp_line.specs.Stations.{AreBefore, AreEmpty, expires, fresh_slave, freed, index_of, misfit_among, slave_among, slave_asked, slaves_of, started, ticked};
+ghost use Rattle.dp_line.specs.Stations.{AreBefore, AreEmpty, fresh_slave, freed, index_of, slave_asked, slaves_of, started, ticked};
 
 mod answering;
 mod lists;
@@ -76,7 +76,7 @@ impl Stations {
 
     /// The slave that has the address.
     pub(crate) fn find(&self, address: u8) -> Option<&Slave>
-        ensures { option_map (λ p. p.slave) (option_copied result) ≡ find (λ slave. address_of_slave slave == address) self.now.slaves }
+        ensures { option_map (λ p. p.slave) (option_copied result) ≡ slave_among self.now.slaves address }
     {
         match self.indices[usize::from(address)] {
             Some(index) => slave_in(&self.slaves, usize::from(index)),

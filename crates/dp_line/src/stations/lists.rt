@@ -6,10 +6,10 @@ ghost use Rattle.std.specs.List.{AllByRecursion};
 ghost use Rattle.dp_owners.specs.declared.owners.TheConstants.{MOST_MASTERS as most_masters};
 ghost use Rattle.dp_owners.specs.Threaded.{IsFree, IsThreaded, IsThreadedWith};
 ghost use Rattle.dp_line.specs.World.{address_of_slave};
-ghost use Rattle.dp_line.specs.Events.{misfit_at};
+ghost use Rattle.dp_line.specs.Events.{expires, misfit_at};
 ghost use Rattle.dp_line.specs.Effects.{state_and_holder};
 ghost use Rattle.dp_line.specs.Serving.{IsOfProfile, answer_to, served_to};
-ghost use Rattle.dp_line.specs.Stations.{AreBefore, AreThreaded, IsAt, IsWritten, appended_to, at_index, expires, links_of, master_index, operated, slaves_of, ticked, unlinked_from};
+ghost use Rattle.dp_line.specs.Stations.{AreBefore, AreThreaded, IsAt, IsWritten, appended_to, at_index, links_of, master_index, operated, slaves_of, ticked, unlinked_from};
 
 use crate::event::{Facts, Op, Outcome};
 use crate::limits::MOST_SLAVES;
@@ -111,11 +111,11 @@ fn tick_at(
     ensures let_go { Some result ≡ option_map (expires time) (slice_get (slaves_of slaves.old) index) }
 {
     dp_owners::laws::same_lists_are_threaded_alike();
-    let before = slaves[index].points().holder();
+    let held_by = slaves[index].points().holder();
     if !slaves[index].tick(time) {
         return false;
     }
-    move_to_holder(slaves, owners, masters, index, before);
+    move_to_holder(slaves, owners, masters, index, held_by);
     true
 }
 

@@ -2,7 +2,8 @@ use Rattle.std.proofs.Common.{◌≡◌, List, length, map, ap, sym, subst, ◌�
 use Rattle.std.specs.Prelude.{filter}
 use Rattle.dp_slave.specs.SlaveParts.{SlaveParts}
 use Rattle.dp_line.specs.World.{address_of_slave}
-use Rattle.dp_line.specs.Stations.{AreThreaded, StationsView, expires, slaves_of, ticked}
+use Rattle.dp_line.specs.Events.{expires}
+use Rattle.dp_line.specs.Stations.{AreThreaded, StationsView, slaves_of, ticked}
 use Rattle.dp_line.proofs.Kept.{slaves_ticked, stations_ticked, view_mapped}
 use Rattle.dp_line.proofs.stations.Stations.tick.Goals as goal
 

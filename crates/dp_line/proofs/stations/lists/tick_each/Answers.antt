@@ -6,7 +6,8 @@ use Rattle.dp_slave.specs.SlaveRecord.{SlaveRecord}
 use Rattle.dp_slave.specs.SlaveParts.{SlaveParts}
 use Rattle.dp_line.specs.declared.event.Op.TheVariants.{Tick}
 use Rattle.dp_line.specs.World.{address_of_slave}
-use Rattle.dp_line.specs.Stations.{at_index, expires, slaves_of, ticked}
+use Rattle.dp_line.specs.Events.{expires}
+use Rattle.dp_line.specs.Stations.{at_index, slaves_of, ticked}
 use Rattle.dp_line.proofs.Moves.{op_address}
 use Rattle.dp_line.proofs.Ticks.{address_read, addresses_without, changed_all, changed_more, is_next, let_go_more}
 use Rattle.dp_line.proofs.stations.lists.tick_each.Goals.{then-tick_at, else-tick_at}

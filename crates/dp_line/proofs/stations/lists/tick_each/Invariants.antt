@@ -1,7 +1,8 @@
 use Rattle.std.proofs.Common.{◌≡◌, ◌≤◌, length, map, take}
 use Rattle.std.specs.Prelude.{filter}
 use Rattle.dp_line.specs.World.{address_of_slave}
-use Rattle.dp_line.specs.Stations.{AreThreaded, changed_to, expires, slaves_of, ticked}
+use Rattle.dp_line.specs.Events.{expires}
+use Rattle.dp_line.specs.Stations.{AreThreaded, changed_to, slaves_of, ticked}
 use Rattle.dp_line.proofs.stations.lists.tick_each.Given as goal
 
 abbrev pub invariant-loop-index : goal.invariant-loop-index
