@@ -33,13 +33,13 @@ pub enum Rule {
     NoService,
     /// A repeated request: the stored reply.
     Repeat,
-    /// The access point is off: RS.
+    /// The access point is off: RS to an SRD, silence to an SDN.
     NotActive,
-    /// The access point is open to another master only: RS.
+    /// The access point is open to another master only: RS to an SRD, silence to an SDN.
     NotHolder,
-    /// The access point is marked busy: RR.
+    /// The access point is marked busy: RR to an SRD, silence to an SDN.
     Busy,
-    /// The payload's length is outside the access table: UE.
+    /// The payload's length is outside the access table: UE to an SRD, silence to an SDN.
     Length,
     /// A Global_Control that doesn't select the slave: silence.
     NotSelected,
