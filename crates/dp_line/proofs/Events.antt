@@ -21,10 +21,12 @@ use Rattle.dp_line.specs.declared.event.Outcome.TheVariants.{Released, Done, Ref
 use Rattle.dp_line.specs.declared.fault.OperatorFault.{OperatorFault}
 use Rattle.dp_line.specs.Events.{address_of_op, expires, is_done_to, is_halt, misfit}
 use Rattle.dp_line.specs.World.{World, address_of_slave, is_last_place, slave_among, slave_at, takes_no_more}
-use Rattle.dp_line.specs.Hearing.{Hearing, heard, telegram_of_frame, telegram_spelt}
+use Rattle.dp_line.specs.Hearing.{Hearing, asked_among, heard, telegram_of_frame, telegram_spelt}
+use Rattle.dp_line.specs.Owned.{held_among}
 use Rattle.dp_line.specs.Verdict.{concerns_a_slave, verdict_of}
 use Rattle.dp_line.specs.Served.{served}
-use Rattle.dp_line.specs.Effects.{effect, facts_heard, facts_of, halted_world, held_addresses, outcome_heard, outcome_of, outcome_of_op, served_where_asked, slave_after, slave_after_op, slave_after_request, state_and_holder}
+use Rattle.dp_line.specs.Effects.{effect, facts_heard, facts_of, halted_world, held_addresses, is_for, outcome_heard, outcome_of, outcome_of_op, served_where_asked, slave_after, slave_after_op, slave_after_request, state_and_holder}
+use Rattle.dp_line.specs.Walk.{LineRecord, walk_heard}
 use Rattle.dp_line.specs.Steps.{step, step_by_fit, step_of_fitting, told_halted, unrecorded}
 use Rattle.dp_line.specs.Stations.{AreBefore, IsMove, stays, lets_go, is_locked, StationsView, heard_by, operated, ticked}
 use Rattle.dp_line.proofs.Moves.{op_move, served_move}
@@ -40,7 +42,8 @@ heard_is world master octets free =
       sender = master;
       frame = frame_of octets;
       parts = option_and_then parts_of (telegram_spelt octets);
-      slave = option_and_then (λ (telegram : Telegram). find (λ slave. eqb (address_of_slave slave) (address_of telegram.da)) world.slaves) (telegram_spelt octets);
+      slave = option_and_then (asked_among world.slaves) (telegram_spelt octets);
+      held = held_among world.slaves master;
     }) free)
 
 -- the world after a recorded request, and its answer, by what the stations of the line make of it
@@ -72,6 +75,20 @@ request_answer world master places count halted octets stations facts outcome is
     ∙ ap (λ o. record { place = Some (count + 1); facts = facts_heard (heard world master octets); outcome = o; halted = None }) (answer ∙ ap outcome_heard same)
     ∙ ap (λ (w : World). record { place = Some (w.count + 1); facts = facts_heard (heard world master octets); outcome = outcome_heard (heard world master octets); halted = None }) is
 
+-- a line with another world
+pub with_world : (line : LineRecord) (before now after : World) (walk : ℕ) → record { world = before; last_walk = walk } ≡ line → now ≡ after
+    → ◌≡◌ {A = LineRecord} (record { world = now; last_walk = walk }) (record line { world = after })
+with_world line before now after walk is done =
+    ap (λ (w : World). record { world = w; last_walk = walk }) done ∙ ap (λ (l : LineRecord). record l { world = after }) is
+
+-- how many a request visited
+pub request_walk : (line : LineRecord) (master places count walk later : ℕ) (halted : Bool) (octets : List ℕ) (stations : StationsView)
+    → record { world = record { masters = stations.masters; places = places; count = count; halted = halted; slaves = stations.slaves }; last_walk = walk } ≡ line
+    → takes_no_more line.world ≡ false → later ≡ walk_heard (heard_by stations master octets) walk → later ≡ walk_heard (heard line.world master octets) line.last_walk
+request_walk line master places count walk later halted octets stations is free done =
+    done ∙ ap (λ h. walk_heard h walk) (heard_here line.world master places count halted octets stations (ap (λ (l : LineRecord). l.world) is) free)
+    ∙ ap (λ (l : LineRecord). walk_heard (heard line.world master octets) l.last_walk) is
+
 -- no request locks a slave at a later place than its own
 since_moved : (slave after : SlaveRecord) (sender place : ℕ) → IsMove slave after sender place → slave.since < place → after.since < place + 1
 since_moved slave after sender place (stays holder since) before = omega (arith, since)
@@ -88,7 +105,7 @@ since_there : (sender place : ℕ) (telegram : Option Telegram) (parts : Option 
 since_there sender place None parts slave before = omega arith
 since_there sender place (Some telegram) None slave before = omega arith
 since_there sender place (Some telegram) (Some parts) slave before =
-    since_served sender place telegram parts slave (eqb (address_of_slave slave) (address_of telegram.da)) before
+    since_served sender place telegram parts slave (is_for telegram slave) before
 
 since_concerned : (b : Bool) (sender place : ℕ) (telegram : Option Telegram) (parts : Option Parts) (slave : SlaveRecord) → slave.since < place
     → (cond b (served_where_asked sender place telegram parts slave) slave).since < place + 1

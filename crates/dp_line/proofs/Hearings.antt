@@ -1,29 +1,28 @@
--- What comes of a request, by its verdict.
+-- The verdict on a request, row by row of the line, and what comes of it where nobody is concerned.
 use Rattle.std.proofs.Common.{◌≡◌, ℕ, Bool, true, false, not, cond, eqb, List, [], ◌∷◌, map, Option, Some, None, refl, sym, ap, ◌∙◌}
-use Rattle.std.specs.Prelude.{◌&&◌, find, is_none, option_map}
-use Rattle.std.specs.Option.{option_and_then}
+use Rattle.std.specs.Prelude.{◌&&◌, is_none, length}
+use Rattle.std.specs.Option.{option_and_then, option_map_or}
 use Rattle.std.specs.List.{list_any}
 use Rattle.std.proofs.lemmas.Bool.{cond-true, cond-false}
-use Rattle.dp_sap.specs.declared.state.State.{State}
 use Rattle.dp_telegram.specs.declared.frame.Frame.{Frame}
 use Rattle.dp_telegram.specs.declared.frame.Frame.TheVariants as frames
 use Rattle.dp_telegram.specs.declared.frame.Telegram.{Telegram}
 use Rattle.dp_telegram.specs.declared.access.Parts.{Parts}
 use Rattle.dp_telegram.specs.FrameText.{frame_of}
-use Rattle.dp_telegram.specs.Access.{address_of, parts_of}
+use Rattle.dp_telegram.specs.Access.{parts_of}
 use Rattle.dp_telegram.specs.FunctionCode.{is_request}
 use Rattle.dp_responder.specs.declared.rule.Rule.{Rule}
 use Rattle.dp_responder.specs.declared.rule.Rule.TheVariants as rules
 use Rattle.dp_responder.specs.Rules.{first_row}
 use Rattle.dp_slave.specs.SlaveRecord.{SlaveRecord}
-use Rattle.dp_line.specs.declared.event.Outcome.{Outcome}
 use Rattle.dp_line.specs.declared.event.Outcome.TheVariants.{Silence}
-use Rattle.dp_line.specs.World.{address_of_slave}
-use Rattle.dp_line.specs.Hearing.{Hearing, telegram_of_frame, telegram_spelt}
-use Rattle.dp_line.specs.Verdict.{verdict_of, rule_at, concerns_a_slave, has_foreign_sender, has_reserved_function, is_to_all, rows_where_known, station_rows}
+use Rattle.dp_line.specs.Owned.{held_among}
+use Rattle.dp_line.specs.Hearing.{Hearing, asked_among, is_to_all, telegram_of_frame, telegram_spelt}
+use Rattle.dp_line.specs.Verdict.{verdict_of, rule_at, concerns_a_slave, has_foreign_sender, has_reserved_function, is_global_control, rows_where_known, station_rows, telegram_has}
 use Rattle.dp_line.specs.ReplyText.{reply_text}
-use Rattle.dp_line.specs.Served.{answer_of, answered, served}
-use Rattle.dp_line.specs.Effects.{facts_heard, outcome_heard, reply_where_known, served_where_asked, slave_after_request, state_and_holder}
+use Rattle.dp_line.specs.Served.{answered}
+use Rattle.dp_line.specs.Effects.{facts_heard, is_spread, outcome_heard, outcome_of_one, outcome_spread, reply_where_known, slave_after_request}
+use Rattle.dp_line.specs.Walk.{walk_heard}
 use Rattle.dp_line.specs.Stations.{StationsView, IsAdmitted, IsSilent, heard_by, heard_telegram}
 
 -- by a rule that concerns no slave nothing is replied
@@ -76,28 +75,37 @@ map_stays change [] same = refl
 map_stays change (slave ∷ slaves) same =
     ap (λ (s : SlaveRecord). s ∷ map change slaves) (same slave) ∙ ap (λ (xs : List SlaveRecord). slave ∷ xs) (map_stays change slaves same)
 
+pub map_same : (f g : SlaveRecord → SlaveRecord) (slaves : List SlaveRecord) → ((slave : SlaveRecord) → f slave ≡ g slave) → map f slaves ≡ map g slaves
+map_same f g [] same = refl
+map_same f g (slave ∷ slaves) same =
+    ap (λ (s : SlaveRecord). s ∷ map f slaves) (same slave) ∙ ap (λ (xs : List SlaveRecord). g slave ∷ xs) (map_same f g slaves same)
+
 -- what comes of a request by a rule that concerns no slave
 pub record IsUnanswered (hearing : Hearing) (place : ℕ) (slaves : List SlaveRecord) (rule : Rule) : Type 0 where
   pub facts : None ≡ facts_heard hearing
   pub outcome : Silence rule ≡ outcome_heard hearing
   pub stay : slaves ≡ map (slave_after_request hearing place) slaves
+  pub walk : (before : ℕ) → before ≡ walk_heard hearing before
 
 pub unanswered : (hearing : Hearing) (place : ℕ) (slaves : List SlaveRecord) (rule : Rule) → concerns_a_slave rule ≡ false → verdict_of hearing ≡ rule
     → IsUnanswered hearing place slaves rule
 unanswered hearing place slaves rule silent verdict =
     let none : concerns_a_slave (verdict_of hearing) ≡ false = ap concerns_a_slave verdict ∙ silent in
+    let alone : is_spread hearing ≡ false = ap (λ b. b && telegram_has is_to_all hearing) none in
     record {
       facts = sym (cond-false (concerns_a_slave (verdict_of hearing)) _ _ none);
       outcome = sym (
-          ap (λ r. answered r (reply_where_known hearing.sender r (option_and_then telegram_of_frame hearing.frame) hearing.parts hearing.slave)) verdict
+          cond-false (is_spread hearing) (outcome_spread hearing) (outcome_of_one hearing) alone
+          ∙ ap (λ r. answered r (reply_where_known hearing.sender r (option_and_then telegram_of_frame hearing.frame) hearing.parts hearing.slave)) verdict
           ∙ ap (answered rule) (silent_reply hearing.sender rule (option_and_then telegram_of_frame hearing.frame) hearing.parts hearing.slave silent)
           ∙ silent_answer rule silent);
       stay = sym (map_stays (slave_after_request hearing place) slaves (λ slave. cond-false (concerns_a_slave (verdict_of hearing)) _ _ none));
+      walk = λ before. sym (cond-false (is_spread hearing) (length hearing.held) before alone);
     }
 
 -- the rows over a telegram of a master
-abbrev telegram_rows : Bool → Bool → Bool → Bool → Bool → Bool → List (Bool × Rule) → List (Bool × Rule)
-telegram_rows foreign response reserved bare global absent others =
+abbrev telegram_rows : Bool → Bool → Bool → Bool → Bool → Bool → Bool → List (Bool × Rule) → List (Bool × Rule)
+telegram_rows foreign response reserved bare global control absent others =
     (false, rules.Halted)
     ∷ (false, rules.NoFrame)
     ∷ (false, rules.NoMaster)
@@ -106,80 +114,90 @@ telegram_rows foreign response reserved bare global absent others =
     ∷ (response, rules.NotRequest)
     ∷ (reserved, rules.BadFunction)
     ∷ (bare, rules.BadExtension)
-    ∷ (global, rules.BadBroadcast)
+    ∷ (global && not control, rules.BadBroadcast)
     ∷ (not global && absent, rules.NoStation)
     ∷ others
 
-abbrev heard_of : ℕ → Frame → Option Parts → Option SlaveRecord → Hearing
-heard_of sender frame parts slave = record { over = false; is_master = true; sender = sender; frame = Some frame; parts = parts; slave = slave }
+abbrev pub heard_of : ℕ → Frame → Option Parts → Option SlaveRecord → List SlaveRecord → Hearing
+heard_of sender frame parts slave held =
+    record { over = false; is_master = true; sender = sender; frame = Some frame; parts = parts; slave = slave; held = held }
 
-telegram_verdict : (sender : ℕ) (telegram : Telegram) (parts : Option Parts) (slave : Option SlaveRecord) (foreign response reserved bare global absent : Bool)
+-- a Global_Control, where the parts are there
+abbrev pub is_control : Telegram → Option Parts → Bool
+is_control telegram parts = option_map_or (λ p. is_global_control p telegram) parts false
+
+telegram_verdict : (sender : ℕ) (telegram : Telegram) (parts : Option Parts) (slave : Option SlaveRecord) (held : List SlaveRecord) (foreign response reserved bare global control absent : Bool)
     → has_foreign_sender sender (frames.Telegram telegram) ≡ foreign → not (is_request telegram.fc) ≡ response → has_reserved_function telegram ≡ reserved
-    → is_none parts ≡ bare → is_to_all telegram ≡ global → is_none slave ≡ absent
-    → verdict_of (heard_of sender (frames.Telegram telegram) parts slave)
-    ≡ first_row (telegram_rows foreign response reserved bare global absent (rows_where_known sender (Some telegram) parts slave))
+    → is_none parts ≡ bare → is_to_all telegram ≡ global → is_control telegram parts ≡ control → is_none slave ≡ absent
+    → verdict_of (heard_of sender (frames.Telegram telegram) parts slave held)
+    ≡ first_row (telegram_rows foreign response reserved bare global control absent (rows_where_known sender (Some telegram) parts slave))
 unfolding verdict_of
-telegram_verdict sender telegram parts slave foreign response reserved bare global absent e1 e2 e3 e4 e5 e6 =
+telegram_verdict sender telegram parts slave held foreign response reserved bare global control absent e1 e2 e3 e4 e5 e6 e7 =
     let others = rows_where_known sender (Some telegram) parts slave in
-    ap (λ b. first_row (telegram_rows b (not (is_request telegram.fc)) (has_reserved_function telegram) (is_none parts) (is_to_all telegram) (is_none slave) others)) e1
-    ∙ ap (λ b. first_row (telegram_rows foreign b (has_reserved_function telegram) (is_none parts) (is_to_all telegram) (is_none slave) others)) e2
-    ∙ ap (λ b. first_row (telegram_rows foreign response b (is_none parts) (is_to_all telegram) (is_none slave) others)) e3
-    ∙ ap (λ b. first_row (telegram_rows foreign response reserved b (is_to_all telegram) (is_none slave) others)) e4
-    ∙ ap (λ b. first_row (telegram_rows foreign response reserved bare b (is_none slave) others)) e5
-    ∙ ap (λ b. first_row (telegram_rows foreign response reserved bare global b others)) e6
+    let to_all = is_to_all telegram in
+    let controls = is_control telegram parts in
+    ap (λ b. first_row (telegram_rows b (not (is_request telegram.fc)) (has_reserved_function telegram) (is_none parts) to_all controls (is_none slave) others)) e1
+    ∙ ap (λ b. first_row (telegram_rows foreign b (has_reserved_function telegram) (is_none parts) to_all controls (is_none slave) others)) e2
+    ∙ ap (λ b. first_row (telegram_rows foreign response b (is_none parts) to_all controls (is_none slave) others)) e3
+    ∙ ap (λ b. first_row (telegram_rows foreign response reserved b to_all controls (is_none slave) others)) e4
+    ∙ ap (λ b. first_row (telegram_rows foreign response reserved bare b controls (is_none slave) others)) e5
+    ∙ ap (λ b. first_row (telegram_rows foreign response reserved bare global b (is_none slave) others)) e6
+    ∙ ap (λ b. first_row (telegram_rows foreign response reserved bare global control b others)) e7
 
 -- the rows that silence a frame of a master
 pub silent_response : (sender : ℕ) (telegram : Telegram) → has_foreign_sender sender (frames.Telegram telegram) ≡ false → is_request telegram.fc ≡ false
     → IsSilent sender (frames.Telegram telegram) rules.NotRequest
 silent_response sender telegram own response = record {
   silent = refl;
-  verdict = λ parts slave. telegram_verdict sender telegram parts slave false true (has_reserved_function telegram) (is_none parts) (is_to_all telegram) (is_none slave) own (ap not response) refl refl refl refl;
+  verdict = λ parts slave held.
+      telegram_verdict sender telegram parts slave held false true (has_reserved_function telegram) (is_none parts) (is_to_all telegram) (is_control telegram parts) (is_none slave) own (ap not response) refl refl refl refl refl;
 }
 
 pub silent_function : (sender : ℕ) (telegram : Telegram) → has_foreign_sender sender (frames.Telegram telegram) ≡ false → is_request telegram.fc ≡ true
     → has_reserved_function telegram ≡ true → IsSilent sender (frames.Telegram telegram) rules.BadFunction
 silent_function sender telegram own request reserved = record {
   silent = refl;
-  verdict = λ parts slave. telegram_verdict sender telegram parts slave false false true (is_none parts) (is_to_all telegram) (is_none slave) own (ap not request) reserved refl refl refl;
+  verdict = λ parts slave held.
+      telegram_verdict sender telegram parts slave held false false true (is_none parts) (is_to_all telegram) (is_control telegram parts) (is_none slave) own (ap not request) reserved refl refl refl refl;
 }
 
-foreign_verdict : (sender : ℕ) (frame : Frame) (parts : Option Parts) (slave : Option SlaveRecord) → has_foreign_sender sender frame ≡ true
-    → verdict_of (heard_of sender frame parts slave) ≡ rules.ForeignSender
+foreign_verdict : (sender : ℕ) (frame : Frame) (parts : Option Parts) (slave : Option SlaveRecord) (held : List SlaveRecord) → has_foreign_sender sender frame ≡ true
+    → verdict_of (heard_of sender frame parts slave held) ≡ rules.ForeignSender
 unfolding verdict_of
-foreign_verdict sender frame parts slave foreign = cond-true (has_foreign_sender sender frame) _ _ foreign
+foreign_verdict sender frame parts slave held foreign = cond-true (has_foreign_sender sender frame) _ _ foreign
 
 pub silent_foreign : (sender : ℕ) (frame : Frame) → has_foreign_sender sender frame ≡ true → IsSilent sender frame rules.ForeignSender
-silent_foreign sender frame foreign = record { silent = refl; verdict = λ parts slave. foreign_verdict sender frame parts slave foreign }
+silent_foreign sender frame foreign = record { silent = refl; verdict = λ parts slave held. foreign_verdict sender frame parts slave held foreign }
 
-token_verdict : (sender da sa : ℕ) (parts : Option Parts) (slave : Option SlaveRecord) → has_foreign_sender sender (frames.Token da sa) ≡ false
-    → verdict_of (heard_of sender (frames.Token da sa) parts slave) ≡ rules.Token
+token_verdict : (sender da sa : ℕ) (parts : Option Parts) (slave : Option SlaveRecord) (held : List SlaveRecord) → has_foreign_sender sender (frames.Token da sa) ≡ false
+    → verdict_of (heard_of sender (frames.Token da sa) parts slave held) ≡ rules.Token
 unfolding verdict_of
-token_verdict sender da sa parts slave own = cond-false (has_foreign_sender sender (frames.Token da sa)) _ _ own
+token_verdict sender da sa parts slave held own = cond-false (has_foreign_sender sender (frames.Token da sa)) _ _ own
 
 pub silent_token : (sender : ℕ) (frame : Frame) (da sa : ℕ) → frame ≡ frames.Token da sa → has_foreign_sender sender frame ≡ false → IsSilent sender frame rules.Token
 silent_token sender frame da sa is own = record {
   silent = refl;
-  verdict = λ parts slave.
-      ap (λ f. verdict_of (heard_of sender f parts slave)) is ∙ token_verdict sender da sa parts slave (sym (ap (has_foreign_sender sender) is) ∙ own);
+  verdict = λ parts slave held.
+      ap (λ f. verdict_of (heard_of sender f parts slave held)) is ∙ token_verdict sender da sa parts slave held (sym (ap (has_foreign_sender sender) is) ∙ own);
 }
 
-acknowledged : (sender : ℕ) (parts : Option Parts) (slave : Option SlaveRecord) → verdict_of (heard_of sender frames.Ack parts slave) ≡ rules.NotRequest
+acknowledged : (sender : ℕ) (parts : Option Parts) (slave : Option SlaveRecord) (held : List SlaveRecord) → verdict_of (heard_of sender frames.Ack parts slave held) ≡ rules.NotRequest
 unfolding verdict_of
-acknowledged sender parts slave = refl
+acknowledged sender parts slave held = refl
 
 pub silent_ack : (sender : ℕ) (frame : Frame) → frame ≡ frames.Ack → IsSilent sender frame rules.NotRequest
 silent_ack sender frame is = record {
   silent = refl;
-  verdict = λ parts slave. ap (λ f. verdict_of (heard_of sender f parts slave)) is ∙ acknowledged sender parts slave;
+  verdict = λ parts slave held. ap (λ f. verdict_of (heard_of sender f parts slave held)) is ∙ acknowledged sender parts slave held;
 }
 
 -- an admitted telegram
-pub admitted_verdict : (sender : ℕ) (telegram : Telegram) (parts : Option Parts) (slave : Option SlaveRecord) (bare global absent : Bool) → IsAdmitted sender telegram
-    → is_none parts ≡ bare → is_to_all telegram ≡ global → is_none slave ≡ absent
-    → verdict_of (heard_of sender (frames.Telegram telegram) parts slave)
-    ≡ first_row (telegram_rows false false false bare global absent (rows_where_known sender (Some telegram) parts slave))
-admitted_verdict sender telegram parts slave bare global absent admitted e4 e5 e6 =
-    telegram_verdict sender telegram parts slave false false false bare global absent admitted.own (ap not admitted.request) admitted.function e4 e5 e6
+pub admitted_verdict : (sender : ℕ) (telegram : Telegram) (parts : Option Parts) (slave : Option SlaveRecord) (held : List SlaveRecord) (bare global control absent : Bool) → IsAdmitted sender telegram
+    → is_none parts ≡ bare → is_to_all telegram ≡ global → is_control telegram parts ≡ control → is_none slave ≡ absent
+    → verdict_of (heard_of sender (frames.Telegram telegram) parts slave held)
+    ≡ first_row (telegram_rows false false false bare global control absent (rows_where_known sender (Some telegram) parts slave))
+admitted_verdict sender telegram parts slave held bare global control absent admitted e4 e5 e6 e7 =
+    telegram_verdict sender telegram parts slave held false false false bare global control absent admitted.own (ap not admitted.request) admitted.function e4 e5 e6 e7
 
 -- what is heard by octets
 pub heard_no_frame : (stations : StationsView) (sender : ℕ) (octets : List ℕ) → frame_of octets ≡ None → verdict_of (heard_by stations sender octets) ≡ rules.NoFrame
@@ -198,10 +216,11 @@ pub heard_silent : (stations : StationsView) (sender : ℕ) (octets : List ℕ) 
 unfolding heard_by
 heard_silent stations sender octets frame rule found master silent =
     let parts = option_and_then parts_of (telegram_spelt octets) in
-    let slave = option_and_then (λ (telegram : Telegram). find (λ slave. eqb (address_of_slave slave) (address_of telegram.da)) stations.slaves) (telegram_spelt octets) in
-    ap (λ b. verdict_of (record { over = false; is_master = b; sender = sender; frame = frame_of octets; parts = parts; slave = slave })) master
-    ∙ ap (λ f. verdict_of (record { over = false; is_master = true; sender = sender; frame = f; parts = parts; slave = slave })) found
-    ∙ silent.verdict parts slave
+    let slave = option_and_then (asked_among stations.slaves) (telegram_spelt octets) in
+    let held = held_among stations.slaves sender in
+    ap (λ b. verdict_of (record { over = false; is_master = b; sender = sender; frame = frame_of octets; parts = parts; slave = slave; held = held })) master
+    ∙ ap (λ f. verdict_of (record { over = false; is_master = true; sender = sender; frame = f; parts = parts; slave = slave; held = held })) found
+    ∙ silent.verdict parts slave held
 
 pub heard_telegram_is : (stations : StationsView) (sender : ℕ) (octets : List ℕ) (telegram : Telegram) → frame_of octets ≡ Some (frames.Telegram telegram)
     → list_any (λ other. eqb other sender) stations.masters ≡ true → heard_telegram stations.slaves sender telegram ≡ heard_by stations sender octets
@@ -214,7 +233,8 @@ heard_telegram_is stations sender octets telegram found master =
       sender = sender;
       frame = frame_of octets;
       parts = option_and_then parts_of (telegram_spelt octets);
-      slave = option_and_then (λ (t : Telegram). find (λ slave. eqb (address_of_slave slave) (address_of t.da)) stations.slaves) (telegram_spelt octets);
+      slave = option_and_then (asked_among stations.slaves) (telegram_spelt octets);
+      held = held_among stations.slaves sender;
     }) master
     ∙ ap (λ f. record {
       over = false;
@@ -222,7 +242,8 @@ heard_telegram_is stations sender octets telegram found master =
       sender = sender;
       frame = f;
       parts = option_and_then parts_of (option_and_then telegram_of_frame f);
-      slave = option_and_then (λ (t : Telegram). find (λ slave. eqb (address_of_slave slave) (address_of t.da)) stations.slaves) (option_and_then telegram_of_frame f);
+      slave = option_and_then (asked_among stations.slaves) (option_and_then telegram_of_frame f);
+      held = held_among stations.slaves sender;
     }) found)
 
 -- each row of a slave concerns it
@@ -238,129 +259,14 @@ first_concerns : (rows : List (Bool × Rule)) → AllConcern rows → concerns_a
 first_concerns [] all = refl
 first_concerns (row ∷ rows) all = first_concerns_by row.0 row.1 (first_row rows) all.0 (first_concerns rows all.1)
 
-rule_concerns : (sender : ℕ) (telegram : Telegram) (parts : Parts) (slave : SlaveRecord) → concerns_a_slave (rule_at sender telegram parts slave) ≡ true
+pub rule_concerns : (sender : ℕ) (telegram : Telegram) (parts : Parts) (slave : SlaveRecord) → concerns_a_slave (rule_at sender telegram parts slave) ≡ true
 unfolding rule_at
 rule_concerns sender telegram parts slave =
     first_concerns (station_rows sender telegram parts slave)
     (refl, (refl, (refl, (refl, (refl, (refl, (refl, (refl, (refl, tt)))))))))
 
-reached_verdict : (sender : ℕ) (telegram : Telegram) (parts : Parts) (slave : SlaveRecord) → IsAdmitted sender telegram → is_to_all telegram ≡ false
-    → verdict_of (heard_of sender (frames.Telegram telegram) (Some parts) (Some slave)) ≡ rule_at sender telegram parts slave
+pub reached_verdict : (sender : ℕ) (telegram : Telegram) (parts : Parts) (slave : SlaveRecord) (held : List SlaveRecord) → IsAdmitted sender telegram → is_to_all telegram ≡ false
+    → verdict_of (heard_of sender (frames.Telegram telegram) (Some parts) (Some slave) held) ≡ rule_at sender telegram parts slave
 unfolding rule_at
-reached_verdict sender telegram parts slave admitted one =
-    admitted_verdict sender telegram (Some parts) (Some slave) false false false admitted refl one refl
-
--- what comes of a telegram that reaches its slave
-pub record IsReached (sender place : ℕ) (telegram : Telegram) (parts : Parts) (slave : SlaveRecord) : Type 0 where
-  pub facts : Some (state_and_holder slave) ≡ facts_heard (heard_of sender (frames.Telegram telegram) (Some parts) (Some slave))
-  pub outcome : answer_of slave sender telegram parts ≡ outcome_heard (heard_of sender (frames.Telegram telegram) (Some parts) (Some slave))
-  pub each : (other : SlaveRecord) → served_where_asked sender place (Some telegram) (Some parts) other
-      ≡ slave_after_request (heard_of sender (frames.Telegram telegram) (Some parts) (Some slave)) place other
-
-pub reached : (sender place : ℕ) (telegram : Telegram) (parts : Parts) (slave : SlaveRecord) → IsAdmitted sender telegram → is_to_all telegram ≡ false
-    → IsReached sender place telegram parts slave
-unfolding answer_of
-reached sender place telegram parts slave admitted one =
-    let hearing = heard_of sender (frames.Telegram telegram) (Some parts) (Some slave) in
-    let verdict = reached_verdict sender telegram parts slave admitted one in
-    let concerns : concerns_a_slave (verdict_of hearing) ≡ true = ap concerns_a_slave verdict ∙ rule_concerns sender telegram parts slave in
-    record {
-      facts = sym (cond-true (concerns_a_slave (verdict_of hearing)) _ _ concerns);
-      outcome = sym (ap (λ r. answered r (reply_text slave sender telegram parts r)) verdict);
-      each = λ other. sym (cond-true (concerns_a_slave (verdict_of hearing)) _ _ concerns);
-    }
-
--- a slave that isn't there is not served
-others_stay_by : (b : Bool) (change : SlaveRecord → SlaveRecord) (slave : SlaveRecord) (found : Option SlaveRecord) → cond b (Some slave) found ≡ None
-    → (cond b (change slave) slave ≡ slave) × (found ≡ None)
-others_stay_by true change slave found e = absurd cc
-others_stay_by false change slave found e = (refl, e)
-
-others_stay : (address : ℕ) (change : SlaveRecord → SlaveRecord) (slaves : List SlaveRecord) → find (λ slave. eqb (address_of_slave slave) address) slaves ≡ None
-    → map (λ slave. cond (eqb (address_of_slave slave) address) (change slave) slave) slaves ≡ slaves
-others_stay address change [] none = refl
-others_stay address change (slave ∷ slaves) none =
-    let here = others_stay_by (eqb (address_of_slave slave) address) change slave (find (λ s. eqb (address_of_slave s) address) slaves) none in
-    ap (λ (s : SlaveRecord). s ∷ map (λ other. cond (eqb (address_of_slave other) address) (change other) other) slaves) here.0
-    ∙ ap (λ (xs : List SlaveRecord). slave ∷ xs) (others_stay address change slaves here.1)
-
-map_same : (f g : SlaveRecord → SlaveRecord) (slaves : List SlaveRecord) → ((slave : SlaveRecord) → f slave ≡ g slave) → map f slaves ≡ map g slaves
-map_same f g [] same = refl
-map_same f g (slave ∷ slaves) same =
-    ap (λ (s : SlaveRecord). s ∷ map f slaves) (same slave) ∙ ap (λ (xs : List SlaveRecord). g slave ∷ xs) (map_same f g slaves same)
-
--- what comes of a telegram whose parts are there, by the slave that it asks
-pub record IsAnswered (slaves : List SlaveRecord) (sender place : ℕ) (telegram : Telegram) (parts : Parts) (told : Option (State × Option ℕ)) (said : Outcome) : Type 0 where
-  pub facts : told ≡ facts_heard (heard_telegram slaves sender telegram)
-  pub outcome : said ≡ outcome_heard (heard_telegram slaves sender telegram)
-  pub each : map (served_where_asked sender place (Some telegram) (Some parts)) slaves ≡ map (slave_after_request (heard_telegram slaves sender telegram) place) slaves
-
-telegram_heard_is : (slaves : List SlaveRecord) (sender : ℕ) (telegram : Telegram) (parts : Option Parts) (slave : Option SlaveRecord) → parts_of telegram ≡ parts
-    → find (λ slave. eqb (address_of_slave slave) (address_of telegram.da)) slaves ≡ slave
-    → heard_of sender (frames.Telegram telegram) parts slave ≡ heard_telegram slaves sender telegram
-telegram_heard_is slaves sender telegram parts slave said found =
-    sym (ap (λ p. heard_of sender (frames.Telegram telegram) p (find (λ slave. eqb (address_of_slave slave) (address_of telegram.da)) slaves)) said
-    ∙ ap (λ s. heard_of sender (frames.Telegram telegram) parts s) found)
-
-answered_by : (slaves : List SlaveRecord) (sender place : ℕ) (telegram : Telegram) (parts : Parts) (found : Option SlaveRecord) (told : Option (State × Option ℕ)) (said : Outcome)
-    → IsAdmitted sender telegram → is_to_all telegram ≡ false → parts_of telegram ≡ Some parts
-    → find (λ slave. eqb (address_of_slave slave) (address_of telegram.da)) slaves ≡ found
-    → Some told ≡ option_map (λ slave. Some (state_and_holder slave)) found → Some said ≡ option_map (λ slave. answer_of slave sender telegram parts) found
-    → IsAnswered slaves sender place telegram parts told said
-answered_by slaves sender place telegram parts None told said admitted one read found facts outcome = absurd cc
-answered_by slaves sender place telegram parts (Some slave) told said admitted one read found facts outcome =
-    let is = telegram_heard_is slaves sender telegram (Some parts) (Some slave) read found in
-    let done = reached sender place telegram parts slave admitted one in
-    let fact : told ≡ Some (state_and_holder slave) = cc in
-    let answer : said ≡ answer_of slave sender telegram parts = cc in
-    record {
-      facts = fact ∙ done.facts ∙ ap facts_heard is;
-      outcome = answer ∙ done.outcome ∙ ap outcome_heard is;
-      each = map_same _ _ slaves done.each ∙ ap (λ h. map (slave_after_request h place) slaves) is;
-    }
-
-pub telegram_answered : (slaves : List SlaveRecord) (sender place : ℕ) (telegram : Telegram) (parts : Parts) (told : Option (State × Option ℕ)) (said : Outcome)
-    → IsAdmitted sender telegram → is_to_all telegram ≡ false → parts_of telegram ≡ Some parts
-    → Some told ≡ option_map (λ slave. Some (state_and_holder slave)) (find (λ slave. eqb (address_of_slave slave) (address_of telegram.da)) slaves)
-    → Some said ≡ option_map (λ slave. answer_of slave sender telegram parts) (find (λ slave. eqb (address_of_slave slave) (address_of telegram.da)) slaves)
-    → IsAnswered slaves sender place telegram parts told said
-telegram_answered slaves sender place telegram parts told said admitted one read facts outcome =
-    answered_by slaves sender place telegram parts (find (λ slave. eqb (address_of_slave slave) (address_of telegram.da)) slaves) told said admitted one read refl facts outcome
-
--- a telegram that no slave answers
-pub telegram_bare : (slaves : List SlaveRecord) (sender place : ℕ) (telegram : Telegram) → IsAdmitted sender telegram → parts_of telegram ≡ None
-    → IsUnanswered (heard_telegram slaves sender telegram) place slaves rules.BadExtension
-telegram_bare slaves sender place telegram admitted none =
-    let slave = find (λ slave. eqb (address_of_slave slave) (address_of telegram.da)) slaves in
-    unanswered (heard_telegram slaves sender telegram) place slaves rules.BadExtension refl
-    (admitted_verdict sender telegram (parts_of telegram) slave true (is_to_all telegram) (is_none slave) admitted (ap is_none none) refl refl)
-
-pub telegram_global : (slaves : List SlaveRecord) (sender place : ℕ) (telegram : Telegram) (parts : Parts) → IsAdmitted sender telegram → parts_of telegram ≡ Some parts
-    → is_to_all telegram ≡ true → IsUnanswered (heard_telegram slaves sender telegram) place slaves rules.BadBroadcast
-telegram_global slaves sender place telegram parts admitted read global =
-    let slave = find (λ slave. eqb (address_of_slave slave) (address_of telegram.da)) slaves in
-    unanswered (heard_telegram slaves sender telegram) place slaves rules.BadBroadcast refl
-    (admitted_verdict sender telegram (parts_of telegram) slave false true (is_none slave) admitted (ap is_none read) global refl)
-
-none_mapped : {A B : Type 0} (f : A → B) (o : Option A) → None ≡ option_map f o → o ≡ None
-none_mapped f None e = refl
-none_mapped f (Some x) e = absurd cc
-
-pub telegram_lost : (slaves : List SlaveRecord) (sender place : ℕ) (telegram : Telegram) (parts : Parts) → IsAdmitted sender telegram → parts_of telegram ≡ Some parts
-    → is_to_all telegram ≡ false → None ≡ option_map (λ slave. Some (state_and_holder slave)) (find (λ slave. eqb (address_of_slave slave) (address_of telegram.da)) slaves)
-    → IsUnanswered (heard_telegram slaves sender telegram) place slaves rules.NoStation × (map (served_where_asked sender place (Some telegram) (Some parts)) slaves ≡ slaves)
-telegram_lost slaves sender place telegram parts admitted read one lost =
-    let slave = find (λ slave. eqb (address_of_slave slave) (address_of telegram.da)) slaves in
-    let none : slave ≡ None = none_mapped _ slave lost in (
-      unanswered (heard_telegram slaves sender telegram) place slaves rules.NoStation refl
-          (admitted_verdict sender telegram (parts_of telegram) slave false false true admitted (ap is_none read) one (ap is_none none)),
-      others_stay (address_of telegram.da) (λ s. served s sender place telegram parts) slaves none,
-    )
-
-pub with_slaves : (stations : StationsView) (slaves : List SlaveRecord) → stations.slaves ≡ slaves → stations ≡ record stations { slaves = slaves }
-with_slaves stations slaves same = ap (λ (xs : List SlaveRecord). record stations { slaves = xs }) same
-
--- what comes of octets that spell no request of a master, and of those that do
-pub octets_unanswered : (stations : StationsView) (sender place : ℕ) (octets : List ℕ) (rule : Rule) → concerns_a_slave rule ≡ false
-    → verdict_of (heard_by stations sender octets) ≡ rule → IsUnanswered (heard_by stations sender octets) place stations.slaves rule
-octets_unanswered stations sender place octets rule silent verdict = unanswered (heard_by stations sender octets) place stations.slaves rule silent verdict
+reached_verdict sender telegram parts slave held admitted one =
+    admitted_verdict sender telegram (Some parts) (Some slave) held false false (is_control telegram (Some parts)) false admitted refl one refl refl

@@ -11,7 +11,7 @@ use Rattle.std.proofs.lemmas.Option.{slice_get_within}
 use Rattle.dp_slave.specs.SlaveRecord.{SlaveRecord, is_held_by}
 use Rattle.dp_slave.specs.SlaveParts.{SlaveParts}
 use Rattle.dp_line.specs.World.{address_of_slave}
-use Rattle.dp_line.specs.Owned.{inserted, in_order}
+use Rattle.dp_line.specs.Owned.{held_among, inserted, in_order}
 use Rattle.dp_line.specs.Stations.{HaveMasters, Placed, indices_where, is_of, lists_of, master_index, placed, slaves_of}
 
 -- indices and slaves, one by one
@@ -52,17 +52,18 @@ matched holds base (z ∷ slaves) i part =
 same_index : (slaves : List SlaveRecord) (k n : ℕ) → n ≡ 0 + k → slice_get slaves n ≡ slice_get slaves k
 same_index slaves k n e = let same : n ≡ k = omega arith in ap (λ (j : ℕ). slice_get slaves j) same
 
-abbrev address_here : List SlaveRecord → ℕ → Option ℕ
-address_here slaves index = option_map address_of_slave (slice_get slaves index)
+-- what is read of the slave of an index
+abbrev pub read_here : {B : Type 0} → (SlaveRecord → B) → List SlaveRecord → ℕ → Option B
+read_here read slaves index = option_map read (slice_get slaves index)
 
-matched_all : (base : List SlaveRecord) (xs : List Placed) (ys : List SlaveRecord) → Match base xs ys
-    → map (address_here base) (map (λ (p : Placed). p.index) xs) ≡ map Some (map address_of_slave ys)
-matched_all base [] [] both = refl
-matched_all base [] (t ∷ ys) both = absurd both
-matched_all base (x ∷ xs) [] both = absurd both
-matched_all base (x ∷ xs) (t ∷ ys) both =
-    ap (λ (o : Option SlaveRecord). option_map address_of_slave o ∷ map (address_here base) (map (λ (p : Placed). p.index) xs)) both.0.0
-    ∙ ap (λ (l : List (Option ℕ)). Some (address_of_slave t) ∷ l) (matched_all base xs ys both.1)
+matched_all : {B : Type 0} (read : SlaveRecord → B) (base : List SlaveRecord) (xs : List Placed) (ys : List SlaveRecord) → Match base xs ys
+    → map (read_here read base) (map (λ (p : Placed). p.index) xs) ≡ map Some (map read ys)
+matched_all read base [] [] both = refl
+matched_all read base [] (t ∷ ys) both = absurd both
+matched_all read base (x ∷ xs) [] both = absurd both
+matched_all {B = B} read base (x ∷ xs) (t ∷ ys) both =
+    ap (λ (o : Option SlaveRecord). option_map read o ∷ map (read_here read base) (map (λ (p : Placed). p.index) xs)) both.0.0
+    ∙ ap (λ (l : List (Option B)). Some (read t) ∷ l) (matched_all read base xs ys both.1)
 
 matched_within : (base : List SlaveRecord) (xs : List Placed) (ys : List SlaveRecord) → Match base xs ys → AllByRecursion (λ i. i < length base) (map (λ (p : Placed). p.index) xs)
 matched_within base [] ys both = tt
@@ -74,19 +75,20 @@ pub indices_within : (holds : SlaveRecord → Bool) (slaves : List SlaveRecord) 
 unfolding indices_where
 indices_within holds slaves = matched_within slaves (in_order (λ p. p.since) (placed holds 0 slaves)) (in_order (λ w. w.since) (filter holds slaves)) (matched holds slaves slaves 0 (same_index slaves))
 
--- and their addresses are those of the slaves, in the same order
-pub addresses_where : (holds : SlaveRecord → Bool) (slaves : List SlaveRecord) → map (address_here slaves) (indices_where holds slaves) ≡ map Some (map address_of_slave (in_order (λ slave. slave.since) (filter holds slaves)))
+-- and what is read of them is what is read of the slaves, in the same order
+pub read_where : {B : Type 0} (read : SlaveRecord → B) (holds : SlaveRecord → Bool) (slaves : List SlaveRecord)
+    → map (read_here read slaves) (indices_where holds slaves) ≡ map Some (map read (in_order (λ slave. slave.since) (filter holds slaves)))
 unfolding indices_where
-addresses_where holds slaves = matched_all slaves (in_order (λ p. p.since) (placed holds 0 slaves)) (in_order (λ w. w.since) (filter holds slaves)) (matched holds slaves slaves 0 (same_index slaves))
+read_where read holds slaves = matched_all read slaves (in_order (λ p. p.since) (placed holds 0 slaves)) (in_order (λ w. w.since) (filter holds slaves)) (matched holds slaves slaves 0 (same_index slaves))
 
-some_same : (xs ys : List ℕ) → map Some xs ≡ map Some ys → xs ≡ ys
+some_same : {B : Type 0} (xs ys : List B) → map Some xs ≡ map Some ys → xs ≡ ys
 some_same [] [] e = refl
 some_same [] (y ∷ ys) e = absurd cc
 some_same (x ∷ xs) [] e = absurd cc
-some_same (x ∷ xs) (y ∷ ys) e =
+some_same {B = B} (x ∷ xs) (y ∷ ys) e =
     let first : x ≡ y = cc in
     let rest : map Some xs ≡ map Some ys = cc in
-    ap (λ (n : ℕ). n ∷ xs) first ∙ ap (λ (l : List ℕ). y ∷ l) (some_same xs ys rest)
+    ap (λ (n : B). n ∷ xs) first ∙ ap (λ (l : List B). y ∷ l) (some_same xs ys rest)
 
 filter_by : (x : SlaveRecord) (xs ys : List SlaveRecord) (b c : Bool) → b ≡ c → xs ≡ ys → cond b (x ∷ xs) xs ≡ cond c (x ∷ ys) ys
 filter_by x xs ys true true e same = ap (λ (l : List SlaveRecord). x ∷ l) same
@@ -112,19 +114,19 @@ holder_by masters master index h false (Some i) found e is =
     ∙ ap (λ (k : ℕ). get_or masters k 0) same
     ∙ eqb-true (get_or masters index 0) master (position-Some (λ other. eqb other master) masters index 0 found).1))
 
-holder_is : (masters : List ℕ) (master index : ℕ) (holder : Option ℕ) → position (λ other. eqb other master) masters ≡ Some index
+pub holder_is : (masters : List ℕ) (master index : ℕ) (holder : Option ℕ) → position (λ other. eqb other master) masters ≡ Some index
     → option_eq nat_eq (master_index masters holder) (Some index) ≡ option_map_or (λ h. eqb h master) holder false
 holder_is masters master index None found = refl
 holder_is masters master index (Some h) found = holder_by masters master index h (eqb h master) (position (λ other. eqb other h) masters) found refl refl
 
--- the addresses by the list of a master
-pub addresses_of_master : (masters : List ℕ) (slaves : List SlaveRecord) (master index : ℕ) (told : Option ℕ) (addresses indices : List ℕ)
-    → told ≡ master_index masters (Some master) → told ≡ Some index → indices ≡ indices_where (is_of masters index) slaves → map Some addresses ≡ map (address_here slaves) indices
-    → addresses ≡ map address_of_slave (in_order (λ slave. slave.since) (filter (is_held_by master) slaves))
-addresses_of_master masters slaves master index told addresses indices is found listed given =
-    some_same addresses (map address_of_slave (in_order (λ slave. slave.since) (filter (is_held_by master) slaves)))
-    (given ∙ ap (map (address_here slaves)) listed ∙ addresses_where (is_of masters index) slaves
-    ∙ ap (λ (l : List SlaveRecord). map Some (map address_of_slave (in_order (λ slave. slave.since) l)))
+-- what is read by the list of a master
+pub read_of_master : {B : Type 0} (read : SlaveRecord → B) (masters : List ℕ) (slaves : List SlaveRecord) (master index : ℕ) (told : Option ℕ) (given : List B) (indices : List ℕ)
+    → told ≡ master_index masters (Some master) → told ≡ Some index → indices ≡ lists_of masters slaves index → map Some given ≡ map (read_here read slaves) indices
+    → given ≡ map read (held_among slaves master)
+read_of_master read masters slaves master index told given indices is found listed so =
+    some_same given (map read (held_among slaves master))
+    (so ∙ ap (map (read_here read slaves)) listed ∙ read_where read (is_of masters index) slaves
+    ∙ ap (λ (l : List SlaveRecord). map Some (map read (in_order (λ slave. slave.since) l)))
     (filter_same (is_of masters index) (is_held_by master) slaves (λ slave. holder_is masters master index slave.holder (sym is ∙ found))))
 
 none_by : (x : ℕ) (b rest : Bool) (i : ℕ) (more : Option ℕ) → (more ≡ None → rest ≡ false) → cond b (Some i) more ≡ None → (b || rest) ≡ false
@@ -148,16 +150,23 @@ filter_none_by : (x : SlaveRecord) (xs : List SlaveRecord) (b : Bool) → b ≡ 
 filter_none_by x xs true e none = absurd cc
 filter_none_by x xs false e none = none
 
-filter_none : (masters : List ℕ) (master : ℕ) (slaves : List SlaveRecord) → list_any (λ other. eqb other master) masters ≡ false → HaveMasters masters slaves → filter (is_held_by master) slaves ≡ []
-filter_none masters master [] none have = refl
-filter_none masters master (x ∷ slaves) none have =
-    filter_none_by x (filter (is_held_by master) slaves) (is_held_by master x) (none_held_by masters master x.holder (is_held_by master x) refl none have.0) (filter_none masters master slaves none have.1)
+filter_none : (master : ℕ) (slaves : List SlaveRecord) → AllByRecursion (λ slave. is_held_by master slave ≡ false) slaves → filter (is_held_by master) slaves ≡ []
+filter_none master [] strange = refl
+filter_none master (x ∷ slaves) strange = filter_none_by x (filter (is_held_by master) slaves) (is_held_by master x) strange.0 (filter_none master slaves strange.1)
 
-pub no_addresses : (masters : List ℕ) (slaves : List SlaveRecord) (master : ℕ) → HaveMasters masters slaves → master_index masters (Some master) ≡ None
-    → [] ≡ map address_of_slave (in_order (λ slave. slave.since) (filter (is_held_by master) slaves))
-no_addresses masters slaves master have none =
-    sym (ap (λ (l : List SlaveRecord). map address_of_slave (in_order (λ slave. slave.since) l))
-    (filter_none masters master slaves (none_from (λ other. eqb other master) 0 masters (sym (position_from-zero (λ other. eqb other master) masters) ∙ none)) have))
+stranger_by : (masters : List ℕ) (master : ℕ) (slaves : List SlaveRecord) → list_any (λ other. eqb other master) masters ≡ false → HaveMasters masters slaves
+    → AllByRecursion (λ slave. is_held_by master slave ≡ false) slaves
+stranger_by masters master [] none have = tt
+stranger_by masters master (x ∷ slaves) none have = (none_held_by masters master x.holder (is_held_by master x) refl none have.0, stranger_by masters master slaves none have.1)
+
+pub all_strange : (masters : List ℕ) (slaves : List SlaveRecord) (master : ℕ) → HaveMasters masters slaves → master_index masters (Some master) ≡ None
+    → AllByRecursion (λ slave. is_held_by master slave ≡ false) slaves
+all_strange masters slaves master have none =
+    stranger_by masters master slaves (none_from (λ other. eqb other master) 0 masters (sym (position_from-zero (λ other. eqb other master) masters) ∙ none)) have
+
+pub none_held : (masters : List ℕ) (slaves : List SlaveRecord) (master : ℕ) → HaveMasters masters slaves → master_index masters (Some master) ≡ None → [] ≡ held_among slaves master
+none_held masters slaves master have none =
+    sym (ap (in_order (λ slave. slave.since)) (filter_none master slaves (all_strange masters slaves master have none)))
 
 -- the list of a master, as it is read
 pub list_inside : (masters : List ℕ) (items now : List SlaveParts) (index : ℕ) (list indices : List ℕ) → now ≡ items → list ≡ lists_of masters (slaves_of items) index → indices ≡ list
@@ -169,8 +178,8 @@ list_inside masters items now index list indices same listed given =
 
 pub list_of_master : (masters known : List ℕ) (items now : List SlaveParts) (master index : ℕ) (addresses list indices : List ℕ)
     → known ≡ masters → Some index ≡ master_index known (Some master) → now ≡ items → list ≡ lists_of masters (slaves_of items) index → indices ≡ list
-    → map Some addresses ≡ map (address_here (slaves_of now)) indices
-    → addresses ≡ map address_of_slave (in_order (λ slave. slave.since) (filter (is_held_by master) (slaves_of items)))
+    → map Some addresses ≡ map (read_here address_of_slave (slaves_of now)) indices
+    → addresses ≡ map address_of_slave (held_among (slaves_of items) master)
 list_of_master masters known items now master index addresses list indices told is same listed given found =
-    addresses_of_master masters (slaves_of items) master index (Some index) addresses indices (is ∙ ap (λ (l : List ℕ). master_index l (Some master)) told) refl (given ∙ listed)
-    (found ∙ ap (λ (l : List SlaveParts). map (address_here (slaves_of l)) indices) same)
+    read_of_master address_of_slave masters (slaves_of items) master index (Some index) addresses indices (is ∙ ap (λ (l : List ℕ). master_index l (Some master)) told) refl (given ∙ listed)
+    (found ∙ ap (λ (l : List SlaveParts). map (read_here address_of_slave (slaves_of l)) indices) same)

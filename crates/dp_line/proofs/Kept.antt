@@ -1,6 +1,6 @@
 -- What a request or an operator leaves of the stations.
 use Rattle.std.proofs.Common.{◌≡◌, ℕ, zero, suc, ◌<◌, Bool, true, false, cond, eqb, List, [], ◌∷◌, ◌++◌, length, map, take, drop, Option, Some, None, refl, sym, ap, subst, ◌∙◌, arith}
-use Rattle.std.specs.Prelude.{IfSome, slice_get, slice_index_or}
+use Rattle.std.specs.Prelude.{◌||◌, IfSome, slice_get, slice_index_or}
 use Rattle.std.specs.List.{list_any}
 use Rattle.std.specs.Option.{option_and_then, option_map_or}
 use Rattle.std.proofs.lemmas.List.{length-map, length-drop, nil_from_length, append-nil, take_all}
@@ -16,10 +16,13 @@ use Rattle.dp_line.specs.declared.event.Op.{Op}
 use Rattle.dp_line.specs.declared.event.Op.TheVariants.{Input, Diag, Busy, Tick, Halt}
 use Rattle.dp_line.specs.Events.{address_of_op, misfit_among, misfit_at, misfit_where}
 use Rattle.dp_line.specs.World.{address_of_slave, slave_among}
+use Rattle.dp_line.specs.Hearing.{is_to_all}
+use Rattle.dp_line.specs.Verdict.{is_global_control}
 use Rattle.dp_line.specs.Effects.{served_where_asked, slave_after_op}
 use Rattle.dp_line.specs.Serving.{served_to}
 use Rattle.dp_line.specs.Stations.{AreStations, AreThreaded, HaveMasters, IsMove, stays, lets_go, is_locked, StationsView, at_index, operated, slave_asked, slaves_of, ticked}
 use Rattle.dp_line.proofs.Addresses.{absent-indexed, addresses_kept, ascend-same, at_address, at_index-map, find-indexed, indexed-same, there-indexed}
+use Rattle.dp_line.proofs.Controls.{control_holder}
 use Rattle.dp_line.proofs.Moves.{op_address, served_address, served_move}
 
 -- who holds a slave is a master
@@ -115,14 +118,32 @@ all_masters : (masters : List ℕ) (change : SlaveRecord → SlaveRecord) (slave
 all_masters masters change [] kept have = tt
 all_masters masters change (slave ∷ slaves) kept have = (kept slave have.0, all_masters masters change slaves kept have.1)
 
+stations_mapped : (change : SlaveRecord → SlaveRecord) (masters : List ℕ) (items new : List SlaveParts) (indices : List (Option ℕ)) (owners later : Owners) (len : ℕ)
+    → ((slave : SlaveRecord) → address_of_slave (change slave) ≡ address_of_slave slave)
+    → ((slave : SlaveRecord) → HasMaster masters slave.holder → HasMaster masters (change slave).holder)
+    → AreStations masters items indices owners
+    → slaves_of new ≡ map change (slaves_of items) → AreThreaded masters later new → len ≡ length items → length new ≡ length items
+    → AreStations masters (take len (new ++ drop (length new) items)) indices later
+stations_mapped change masters items new indices owners later len address holder stations =
+    stations_written masters items new (map change (slaves_of items)) indices owners later len stations
+    (all_addresses change (slaves_of items) address)
+    (all_masters masters change (slaves_of items) holder stations.have_masters)
+
 pub stations_ticked : (time : ℕ) (masters : List ℕ) (items new : List SlaveParts) (indices : List (Option ℕ)) (owners later : Owners) (len : ℕ)
     → AreStations masters items indices owners
     → slaves_of new ≡ map (ticked time) (slaves_of items) → AreThreaded masters later new → len ≡ length items → length new ≡ length items
     → AreStations masters (take len (new ++ drop (length new) items)) indices later
-stations_ticked time masters items new indices owners later len stations =
-    stations_written masters items new (map (ticked time) (slaves_of items)) indices owners later len stations
-    (all_addresses (ticked time) (slaves_of items) (op_address (Tick time)))
-    (all_masters masters (ticked time) (slaves_of items) (op_holder masters (Tick time)) stations.have_masters)
+stations_ticked time masters items new indices owners later len =
+    stations_mapped (ticked time) masters items new indices owners later len (op_address (Tick time)) (op_holder masters (Tick time))
+
+pub stations_controlled : (request : Request) (masters : List ℕ) (items new : List SlaveParts) (indices : List (Option ℕ)) (owners later : Owners) (len : ℕ)
+    → is_global_control request.parts.now request.telegram.now ≡ true → AreStations masters items indices owners
+    → slaves_of new ≡ map (served_to request) (slaves_of items) → AreThreaded masters later new → len ≡ length items → length new ≡ length items
+    → AreStations masters (take len (new ++ drop (length new) items)) indices later
+stations_controlled request masters items new indices owners later len control =
+    stations_mapped (served_to request) masters items new indices owners later len
+    (λ slave. served_address slave request.sender request.place request.telegram.now request.parts.now)
+    (λ slave has. subst (HasMaster masters) (sym (control_holder slave request.sender request.place request.telegram.now request.parts.now control)) has)
 
 pub slaves_ticked : (time : ℕ) (items new : List SlaveParts) (len : ℕ) → slaves_of new ≡ map (ticked time) (slaves_of items) → len ≡ length items → length new ≡ length items
     → slaves_of (take len (new ++ drop (length new) items)) ≡ map (ticked time) (slaves_of items)
@@ -169,18 +190,25 @@ view_same view masters slaves f is left =
     one ∙ ap (λ (v : StationsView). record { masters = v.masters; slaves = map f v.slaves }) (sym is)
 
 -- by a request
+one_asked : (request : Request) (slaves : List SlaveRecord) → is_to_all request.telegram.now ≡ false
+    → map (at_address (address_of request.telegram.now.da) (served_to request)) slaves ≡ served_map request slaves
+one_asked request slaves one =
+    sym (ap (λ b. map (λ slave. cond (b || eqb (address_of_slave slave) (address_of request.telegram.now.da)) (served_to request slave) slave) slaves) one)
+
 pub slaves_after : (request : Request) (masters : List ℕ) (items new : List SlaveParts) (indices : List (Option ℕ)) (owners : Owners) (index at len : ℕ)
     → AreStations masters items indices owners → at ≡ address_of request.telegram.now.da → slice_index_or indices at None ≡ Some index
-    → slaves_of new ≡ at_index index (served_to request) (slaves_of items) → len ≡ length items → length new ≡ length items
+    → slaves_of new ≡ at_index index (served_to request) (slaves_of items) → len ≡ length items → length new ≡ length items → is_to_all request.telegram.now ≡ false
     → slaves_of (take len (new ++ drop (length new) items)) ≡ served_map request (slaves_of items)
-slaves_after request masters items new indices owners index at len stations =
-    slaves_after_change (served_to request) (address_of request.telegram.now.da) masters items new indices owners index at len stations (small_address request.telegram.now.da)
+slaves_after request masters items new indices owners index at len stations same tells written size long one =
+    slaves_after_change (served_to request) (address_of request.telegram.now.da) masters items new indices owners index at len stations (small_address request.telegram.now.da) same tells written size long
+    ∙ one_asked request (slaves_of items) one
 
 pub slaves_left : (request : Request) (masters : List ℕ) (items : List SlaveParts) (indices : List (Option ℕ)) (owners : Owners) (at : ℕ)
-    → AreStations masters items indices owners → at ≡ address_of request.telegram.now.da → slice_index_or indices at None ≡ None
+    → AreStations masters items indices owners → at ≡ address_of request.telegram.now.da → slice_index_or indices at None ≡ None → is_to_all request.telegram.now ≡ false
     → slaves_of items ≡ served_map request (slaves_of items)
-slaves_left request masters items indices owners at stations same tells =
+slaves_left request masters items indices owners at stations same tells one =
     absent-indexed (slaves_of items) indices (address_of request.telegram.now.da) at (served_to request) stations.indexed (small_address request.telegram.now.da) same tells
+    ∙ one_asked request (slaves_of items) one
 
 pub index_within : (request : Request) (masters : List ℕ) (items : List SlaveParts) (indices : List (Option ℕ)) (owners : Owners) (index at : ℕ)
     → AreStations masters items indices owners → at ≡ address_of request.telegram.now.da → slice_index_or indices at None ≡ Some index

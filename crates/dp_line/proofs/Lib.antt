@@ -1,6 +1,9 @@
 pub mod Judging
 pub mod Passing
+pub mod Controls
+pub mod Walks
 pub mod Hearings
+pub mod Answering
 pub mod Table
 pub mod Starting
 pub mod Addresses
@@ -11,5 +14,17 @@ pub mod Kept
 pub mod Holders
 pub mod Events
 pub mod Runs
+pub mod Visits
 pub mod Ticks
+pub mod Broadcasts
 pub mod Time
+pub mod Headline
+pub mod IsolationOfSlaves
+pub mod IsolationOfStrangers
+pub mod IsolationOfLists
+pub mod IsolationOfRequests
+pub mod IsolationOfMasters
+pub mod IsolationOfSteps
+pub mod IsolationOfEvents
+pub mod IsolationOfPairs
+pub mod Isolation

@@ -22,10 +22,10 @@ use Rattle.dp_line.specs.declared.event.Outcome.TheVariants.{Refused, Silence}
 use Rattle.dp_line.specs.declared.fault.OperatorFault.{OperatorFault}
 use Rattle.dp_line.specs.Events.{misfit}
 use Rattle.dp_line.specs.World.{World, address_of_slave, slave_at, takes_no_more, is_last_place}
-use Rattle.dp_line.specs.Hearing.{Hearing, heard, telegram_of_frame}
+use Rattle.dp_line.specs.Hearing.{Hearing, asked_among, heard, is_to_all, telegram_of_frame}
 use Rattle.dp_line.specs.Verdict.{verdict_of, line_rows, rows_where_known, rule_at, concerns_a_slave}
 use Rattle.dp_line.specs.Served.{executed, served}
-use Rattle.dp_line.specs.Effects.{Stepped, effect, halted_world, held_addresses, outcome_of, served_where_asked, slave_after}
+use Rattle.dp_line.specs.Effects.{Stepped, effect, halted_world, held_addresses, is_for, is_spread, outcome_of, own_rule, rule_taken, rule_where_known, served_where_asked, slave_after, slave_after_request}
 use Rattle.dp_line.specs.Steps.{step, run, told_halted, unrecorded}
 use Rattle.dp_line.proofs.Hearings.{unanswered}
 use Rattle.dp_line.proofs.Events.{step_halted, step_refused, step_at_last_place, step_is_effect}
@@ -37,7 +37,7 @@ answer_at world [] event later = refl
 answer_at world (e ∷ before) event later = answer_at (step world e).world before event later
 
 -- a line that takes no more is silent, by the first row of the verdict
-over_verdict : (world : World) (master : ℕ) (octets : List ℕ) → takes_no_more world ≡ true → verdict_of (heard world master octets) ≡ rules.Halted
+pub over_verdict : (world : World) (master : ℕ) (octets : List ℕ) → takes_no_more world ≡ true → verdict_of (heard world master octets) ≡ rules.Halted
 unfolding verdict_of heard
 over_verdict world master octets over = cond-true (takes_no_more world) _ _ over
 
@@ -126,44 +126,87 @@ unfolding served
 refused_served slave sender place telegram parts other = executed_stays slave sender place parts (rule_at sender telegram parts slave) slave.memory other
 
 by_asked : (hearing : Hearing) (place : ℕ) (slave : SlaveRecord) (telegram : Telegram) (parts : Parts) (asked : Bool)
-    → eqb (address_of_slave slave) (address_of telegram.da) ≡ asked
     → (asked ≡ true → rule_at hearing.sender telegram parts slave ≢ rules.Done)
     → record (cond asked (served slave hearing.sender place telegram parts) slave) { memory = slave.memory } ≡ slave
-by_asked hearing place slave telegram parts true e other = refused_served slave hearing.sender place telegram parts (other refl)
-by_asked hearing place slave telegram parts false e other = refl
+by_asked hearing place slave telegram parts true other = refused_served slave hearing.sender place telegram parts (other refl)
+by_asked hearing place slave telegram parts false other = refl
+
+-- what is known of the slave that a request asks: it is the one with the address, or none where all are asked
+record Asks (hearing : Hearing) (slave : SlaveRecord) (telegram : Telegram) : Type 0 where
+  one : is_to_all telegram ≡ false → address_of_slave slave ≡ address_of telegram.da → hearing.slave ≡ Some slave
+  all : is_to_all telegram ≡ true → hearing.slave ≡ None
+
+-- a request to all that reaches the slaves is no refusal
+all_done : (hearing : Hearing) (telegram : Telegram) (parts : Parts) → concerns_a_slave (verdict_of hearing) ≡ true
+    → option_and_then telegram_of_frame hearing.frame ≡ Some telegram → hearing.parts ≡ Some parts → hearing.slave ≡ None → verdict_of hearing ≡ rules.Done
+all_done hearing telegram parts concerns spelt read none =
+    concerned_verdict hearing concerns
+    ∙ ap (λ t. first_row (rows_where_known hearing.sender t hearing.parts hearing.slave)) spelt
+    ∙ ap (λ p. first_row (rows_where_known hearing.sender (Some telegram) p hearing.slave)) read
+    ∙ ap (λ s. first_row (rows_where_known hearing.sender (Some telegram) (Some parts) s)) none
+
+by_all : (hearing : Hearing) (place : ℕ) (slave : SlaveRecord) (telegram : Telegram) (parts : Parts) (all : Bool) → is_to_all telegram ≡ all
+    → concerns_a_slave (verdict_of hearing) ≡ true → verdict_of hearing ≢ rules.Done
+    → option_and_then telegram_of_frame hearing.frame ≡ Some telegram → hearing.parts ≡ Some parts → Asks hearing slave telegram
+    → record (cond (all || eqb (address_of_slave slave) (address_of telegram.da)) (served slave hearing.sender place telegram parts) slave) { memory = slave.memory } ≡ slave
+by_all hearing place slave telegram parts true e concerns refused spelt read asks = absurd (refused (all_done hearing telegram parts concerns spelt read (asks.all e)))
+by_all hearing place slave telegram parts false e concerns refused spelt read asks =
+    by_asked hearing place slave telegram parts (eqb (address_of_slave slave) (address_of telegram.da))
+    (λ asked done. refused (reached_rule hearing telegram parts slave concerns spelt read (asks.one e (eqb-true (address_of_slave slave) (address_of telegram.da) asked)) ∙ done))
 
 refused_known : (hearing : Hearing) (place : ℕ) (slave : SlaveRecord) (telegram : Option Telegram) (parts : Option Parts)
     → concerns_a_slave (verdict_of hearing) ≡ true → verdict_of hearing ≢ rules.Done
     → option_and_then telegram_of_frame hearing.frame ≡ telegram → hearing.parts ≡ parts
-    → ((t : Telegram) → telegram ≡ Some t → address_of_slave slave ≡ address_of t.da → hearing.slave ≡ Some slave)
+    → ((t : Telegram) → telegram ≡ Some t → Asks hearing slave t)
     → record (served_where_asked hearing.sender place telegram parts slave) { memory = slave.memory } ≡ slave
-refused_known hearing place slave None parts concerns refused spelt read found = refl
-refused_known hearing place slave (Some telegram) None concerns refused spelt read found = refl
-refused_known hearing place slave (Some telegram) (Some parts) concerns refused spelt read found =
-    by_asked hearing place slave telegram parts (eqb (address_of_slave slave) (address_of telegram.da)) refl
-    (λ asked done. refused (reached_rule hearing telegram parts slave concerns spelt read (found telegram refl (eqb-true (address_of_slave slave) (address_of telegram.da) asked)) ∙ done))
+refused_known hearing place slave None parts concerns refused spelt read asks = refl
+refused_known hearing place slave (Some telegram) None concerns refused spelt read asks = refl
+refused_known hearing place slave (Some telegram) (Some parts) concerns refused spelt read asks =
+    by_all hearing place slave telegram parts (is_to_all telegram) refl concerns refused spelt read (asks telegram refl)
 
 by_concern : (hearing : Hearing) (place : ℕ) (slave : SlaveRecord) (concerned : Bool) → concerns_a_slave (verdict_of hearing) ≡ concerned → verdict_of hearing ≢ rules.Done
-    → ((t : Telegram) → option_and_then telegram_of_frame hearing.frame ≡ Some t → address_of_slave slave ≡ address_of t.da → hearing.slave ≡ Some slave)
+    → ((t : Telegram) → option_and_then telegram_of_frame hearing.frame ≡ Some t → Asks hearing slave t)
     → record (cond concerned (served_where_asked hearing.sender place (option_and_then telegram_of_frame hearing.frame) hearing.parts slave) slave) { memory = slave.memory } ≡ slave
-by_concern hearing place slave false concerns refused found = refl
-by_concern hearing place slave true concerns refused found =
-    refused_known hearing place slave (option_and_then telegram_of_frame hearing.frame) hearing.parts concerns refused refl refl found
+by_concern hearing place slave false concerns refused asks = refl
+by_concern hearing place slave true concerns refused asks =
+    refused_known hearing place slave (option_and_then telegram_of_frame hearing.frame) hearing.parts concerns refused refl refl asks
 
 addressed : (world : World) (master : ℕ) (octets : List ℕ) (slave : SlaveRecord) (telegram : Telegram) → slave_at world (address_of_slave slave) ≡ Some slave
-    → option_and_then telegram_of_frame (heard world master octets).frame ≡ Some telegram → address_of_slave slave ≡ address_of telegram.da
-    → (heard world master octets).slave ≡ Some slave
+    → option_and_then telegram_of_frame (heard world master octets).frame ≡ Some telegram → Asks (heard world master octets) slave telegram
 unfolding heard
-addressed world master octets slave telegram here spelt same =
-    ap (option_and_then (λ (t : Telegram). slave_at world (address_of t.da))) spelt ∙ ap (slave_at world) (sym same) ∙ here
+addressed world master octets slave telegram here spelt = record {
+  one = λ one same.
+      ap (option_and_then (asked_among world.slaves)) spelt
+      ∙ cond-false (is_to_all telegram) None (slave_at world (address_of telegram.da)) one ∙ ap (slave_at world) (sym same) ∙ here;
+  all = λ all. ap (option_and_then (asked_among world.slaves)) spelt ∙ cond-true (is_to_all telegram) None (slave_at world (address_of telegram.da)) all;
+}
+
+-- a slave that refuses a broadcast by its own rule
+own_stays : (hearing : Hearing) (place : ℕ) (slave : SlaveRecord) (telegram : Option Telegram) (parts : Option Parts) → rule_where_known hearing.sender telegram parts slave ≢ rules.Done
+    → record (served_where_asked hearing.sender place telegram parts slave) { memory = slave.memory } ≡ slave
+own_stays hearing place slave None parts refused = refl
+own_stays hearing place slave (Some telegram) None refused = refl
+own_stays hearing place slave (Some telegram) (Some parts) refused =
+    by_asked hearing place slave telegram parts (is_for telegram slave) (λ asked. refused)
+
+own_by : (hearing : Hearing) (place : ℕ) (slave : SlaveRecord) (concerned : Bool) → own_rule hearing slave ≢ rules.Done
+    → record (cond concerned (served_where_asked hearing.sender place (option_and_then telegram_of_frame hearing.frame) hearing.parts slave) slave) { memory = slave.memory } ≡ slave
+own_by hearing place slave false refused = refl
+own_by hearing place slave true refused = own_stays hearing place slave (option_and_then telegram_of_frame hearing.frame) hearing.parts refused
+
+taken_by : (hearing : Hearing) (place : ℕ) (slave : SlaveRecord) (all : Bool) → cond all (own_rule hearing slave) (verdict_of hearing) ≢ rules.Done
+    → ((t : Telegram) → option_and_then telegram_of_frame hearing.frame ≡ Some t → Asks hearing slave t)
+    → record (slave_after_request hearing place slave) { memory = slave.memory } ≡ slave
+taken_by hearing place slave true refused asks = own_by hearing place slave (concerns_a_slave (verdict_of hearing)) refused
+taken_by hearing place slave false refused asks = by_concern hearing place slave (concerns_a_slave (verdict_of hearing)) refl refused asks
 
 pub refusal_stays : (world : World) (master : ℕ) (octets : ArrayVec ℕ) (slave : SlaveRecord) → slave_at world (address_of_slave slave) ≡ Some slave
-    → verdict_of (heard world master octets.items) ≢ rules.Done
+    → rule_taken (heard world master octets.items) slave ≢ rules.Done
     → record (slave_after world (Request master octets) slave) { memory = slave.memory } ≡ slave
 unfolding slave_after
 refusal_stays world master octets slave here refused =
-    by_concern (heard world master octets.items) (world.count + 1) slave (concerns_a_slave (verdict_of (heard world master octets.items))) refl refused
-    (λ telegram spelt same. addressed world master octets.items slave telegram here spelt same)
+    taken_by (heard world master octets.items) (world.count + 1) slave (is_spread (heard world master octets.items)) refused
+    (λ telegram spelt. addressed world master octets.items slave telegram here spelt)
 
 pub nobody_stays : (world : World) (master : ℕ) (octets : ArrayVec ℕ) (slave : SlaveRecord) → concerns_a_slave (verdict_of (heard world master octets.items)) ≡ false
     → slave_after world (Request master octets) slave ≡ slave

@@ -24,7 +24,7 @@ use Rattle.dp_line.specs.Events.{act_of_op, is_done_to, misfit, time_passes}
 use Rattle.dp_line.specs.Hearing.{heard, telegram_of_frame}
 use Rattle.dp_line.specs.Verdict.{concerns_a_slave, rule_at, verdict_of}
 use Rattle.dp_line.specs.Served.{executed, served}
-use Rattle.dp_line.specs.Effects.{Stepped, effect, served_where_asked, slave_after}
+use Rattle.dp_line.specs.Effects.{Stepped, effect, is_for, served_where_asked, slave_after}
 use Rattle.dp_line.specs.Steps.{run, step}
 use Rattle.dp_line.specs.Stations.{ticked}
 use Rattle.dp_line.proofs.Events.{step_halted, step_refused, step_at_last_place, step_is_effect}
@@ -39,7 +39,7 @@ find_by first after slave changed true false found later same here more is = abs
 find_by first after slave changed false true found later same here more is = absurd cc
 find_by first after slave changed false false found later same here more is = more is
 
-find_changed : (change : SlaveRecord → SlaveRecord) (address : ℕ) (slaves : List SlaveRecord) (slave : SlaveRecord) → ((s : SlaveRecord) → address_of_slave (change s) ≡ address_of_slave s)
+pub find_changed : (change : SlaveRecord → SlaveRecord) (address : ℕ) (slaves : List SlaveRecord) (slave : SlaveRecord) → ((s : SlaveRecord) → address_of_slave (change s) ≡ address_of_slave s)
     → find (λ s. eqb (address_of_slave s) address) slaves ≡ Some slave → find (λ s. eqb (address_of_slave s) address) (map change slaves) ≡ Some (change slave)
 find_changed change address [] slave same here = absurd cc
 find_changed change address (first ∷ slaves) slave same here =
@@ -195,7 +195,7 @@ where_under : (sender place : ℕ) (telegram : Option Telegram) (parts : Option 
 where_under sender place None parts slave under = under
 where_under sender place (Some telegram) None slave under = under
 where_under sender place (Some telegram) (Some parts) slave under =
-    either_under (eqb (address_of_slave slave) (address_of telegram.da)) (served slave sender place telegram parts) slave (served_under slave sender place telegram parts under) under
+    either_under (is_for telegram slave) (served slave sender place telegram parts) slave (served_under slave sender place telegram parts under) under
 
 event_under : (world : World) (event : Event) (slave : SlaveRecord) → IsUnderHolder slave → IsUnderHolder (slave_after world event slave)
 unfolding slave_after

@@ -9,6 +9,9 @@ pub mod ReplyText
 pub mod Served
 pub mod Effects
 pub mod Steps
+pub mod Walk
+pub mod Isolation
 pub mod Stations
 pub mod Serving
 pub mod LineExamples
+pub mod BroadcastExamples

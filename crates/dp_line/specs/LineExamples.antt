@@ -68,7 +68,7 @@ abbrev pub exchange : List ℕ
 exchange = 0x68 ∷ 0x05 ∷ 0x05 ∷ 0x68 ∷ 0x05 ∷ 0x01 ∷ 0x5D ∷ 0x12 ∷ 0x34 ∷ 0xA9 ∷ 0x16 ∷ []
 
 -- what computes a step
-unfoldable text_of_step : ⊤
+unfoldable pub text_of_step : ⊤
 unfolding step effect slave_after facts_of outcome_of heard verdict_of rule_at reply_text served acted released
 text_of_step = tt
 

@@ -8,9 +8,11 @@ use Rattle.dp_responder.specs.declared.judgement.Judged.TheVariants as verdicts
 use Rattle.dp_slave.specs.SlaveRecord.{SlaveRecord, points_of, shown_inputs}
 use Rattle.dp_slave.specs.Acts.{Act}
 use Rattle.dp_slave.specs.Services.{service_act}
+use Rattle.dp_responder.specs.declared.rule.Rule.{Rule}
+use Rattle.dp_line.specs.World.{address_of_slave}
 use Rattle.dp_line.specs.declared.request.Request.{Request}
 use Rattle.dp_line.specs.declared.event.Outcome.{Outcome}
-use Rattle.dp_line.specs.Verdict.{has_reserved_function, is_fdl_status, is_unserved}
+use Rattle.dp_line.specs.Verdict.{has_reserved_function, is_fdl_status, is_unserved, rule_at}
 use Rattle.dp_line.specs.Served.{answer_of, served}
 
 -- the slave's answer to a request, and what it is after
@@ -19,6 +21,13 @@ answer_to request slave = answer_of slave request.sender request.telegram.now re
 
 abbrev pub served_to : Request → SlaveRecord → SlaveRecord
 served_to request slave = served slave request.sender request.place request.telegram.now request.parts.now
+
+-- its rule, and that beside its address
+abbrev pub rule_of : Request → SlaveRecord → Rule
+rule_of request slave = rule_at request.sender request.telegram.now request.parts.now slave
+
+abbrev pub ruled_by : Request → SlaveRecord → (ℕ × Rule)
+ruled_by request slave = (address_of_slave slave, rule_of request slave)
 
 -- a function of this profile
 abbrev pub IsOfProfile : Request → Type 0

@@ -23,10 +23,10 @@ use Rattle.dp_slave.specs.Acts.{ticks}
 use Rattle.dp_slave.specs.Fields.{acted}
 use Rattle.dp_line.specs.declared.event.Op.{Op}
 use Rattle.dp_line.specs.declared.request.Request.{Request}
-use Rattle.dp_line.specs.World.{Description, address_of_slave, ascending, slave_among}
+use Rattle.dp_line.specs.World.{Ascend, Description, address_of_slave, ascending, slave_among}
 use Rattle.dp_line.specs.Events.{act_of_op}
-use Rattle.dp_line.specs.Owned.{in_order}
-use Rattle.dp_line.specs.Hearing.{Hearing, telegram_spelt}
+use Rattle.dp_line.specs.Owned.{held_among, in_order}
+use Rattle.dp_line.specs.Hearing.{Hearing, asked_among, telegram_spelt}
 use Rattle.dp_line.specs.Verdict.{verdict_of, concerns_a_slave, has_foreign_sender, has_reserved_function}
 
 -- the masters, and the slaves in ascending order of address
@@ -42,7 +42,8 @@ heard_by stations sender octets = record {
   sender = sender;
   frame = frame_of octets;
   parts = option_and_then parts_of (telegram_spelt octets);
-  slave = option_and_then (λ telegram. slave_among stations.slaves (address_of telegram.da)) (telegram_spelt octets);
+  slave = option_and_then (asked_among stations.slaves) (telegram_spelt octets);
+  held = held_among stations.slaves sender;
 }
 
 -- the same of a telegram of one of its masters
@@ -53,7 +54,8 @@ heard_telegram slaves sender telegram = record {
   sender = sender;
   frame = Some (frames.Telegram telegram);
   parts = parts_of telegram;
-  slave = slave_among slaves (address_of telegram.da);
+  slave = asked_among slaves telegram;
+  held = held_among slaves sender;
 }
 
 -- where the address stands first among these
@@ -66,14 +68,6 @@ index_of (first ∷ others) address =
 pub record IsIndexed (slaves : List SlaveRecord) (indices : List (Option ℕ)) : Type 0 where
   pub each : (address : ℕ) → address < 256 → slice_index_or indices address None ≡ index_of (map address_of_slave slaves) address
   pub few : length slaves ≤ 64
-
--- addresses ascend
-abbrev pub AreAbove : ℕ → List SlaveRecord → Type 0
-AreAbove address slaves = AllByRecursion (λ slave. address < address_of_slave slave) slaves
-
-abbrev pub Ascend : List SlaveRecord → Type 0
-Ascend [] = Unit {0}
-Ascend (slave ∷ slaves) = AreAbove (address_of_slave slave) slaves × Ascend slaves
 
 -- the records and the links of slaves
 abbrev pub slaves_of : List SlaveParts → List SlaveRecord
@@ -204,8 +198,8 @@ pub record IsAdmitted (master : ℕ) (telegram : Telegram) : Type 0 where
 -- by this rule no slave answers a frame of a master, whatever its parts and its slave
 pub record IsSilent (master : ℕ) (frame : Frame) (rule : Rule) : Type 0 where
   pub silent : concerns_a_slave rule ≡ false
-  pub verdict : (parts : Option Parts) (slave : Option SlaveRecord)
-      → verdict_of (record { over = false; is_master = true; sender = master; frame = Some frame; parts = parts; slave = slave }) ≡ rule
+  pub verdict : (parts : Option Parts) (slave : Option SlaveRecord) (held : List SlaveRecord)
+      → verdict_of (record { over = false; is_master = true; sender = master; frame = Some frame; parts = parts; slave = slave; held = held }) ≡ rule
 
 -- what an operator does to one slave
 abbrev pub operated : Op → SlaveRecord → SlaveRecord
@@ -220,3 +214,8 @@ abbrev pub changed_to : ℕ → (SlaveRecord → SlaveRecord) → List SlaveReco
 changed_to zero change slaves = slaves
 changed_to (suc n) change [] = []
 changed_to (suc n) change (slave ∷ slaves) = change slave ∷ changed_to n change slaves
+
+-- the slaves of these indices changed, one after another
+abbrev pub changed_in : List ℕ → (SlaveRecord → SlaveRecord) → List SlaveRecord → List SlaveRecord
+changed_in [] change slaves = slaves
+changed_in (index ∷ indices) change slaves = changed_in indices change (at_index index change slaves)

@@ -5,8 +5,8 @@ use Rattle.dp_telegram.specs.declared.frame.Frame.{Frame}
 use Rattle.dp_telegram.specs.declared.frame.Frame.TheVariants as frames
 use Rattle.dp_telegram.specs.declared.frame.Telegram.{Telegram}
 use Rattle.dp_telegram.specs.declared.access.Parts.{Parts}
-use Rattle.dp_telegram.specs.Access.{address_of, global_address, source_of}
-use Rattle.dp_telegram.specs.FunctionCode.{function_of, is_request}
+use Rattle.dp_telegram.specs.Access.{source_of}
+use Rattle.dp_telegram.specs.FunctionCode.{asks_sdn, function_of, is_request}
 use Rattle.dp_telegram.specs.declared.function_code.Function.{Function}
 use Rattle.dp_telegram.specs.declared.function_code.Function.TheVariants.{SdaLow, SdnLow, SdaHigh, SdnHigh, FdlStatus, SrdLow, SrdHigh, Ident, LsapStatus, Reserved}
 use Rattle.dp_sap.specs.AccessTable.{same_point, global_control}
@@ -17,7 +17,7 @@ use Rattle.dp_responder.specs.declared.rule.Rule.{Rule}
 use Rattle.dp_responder.specs.declared.rule.Rule.TheVariants as rules
 use Rattle.dp_slave.specs.SlaveRecord.{SlaveRecord, group_of, points_of}
 use Rattle.dp_globalctl.specs.Command.{command_of, selects}
-use Rattle.dp_line.specs.Hearing.{Hearing, telegram_of_frame}
+use Rattle.dp_line.specs.Hearing.{Hearing, is_to_all, telegram_of_frame}
 
 -- Request FDL Status (IEC 61158-4-3, function code)
 abbrev pub asks_fdl_status : Function → Bool
@@ -83,9 +83,9 @@ is_no_request (frames.Token da sa) = true
 is_no_request frames.Ack = true
 is_no_request (frames.Telegram telegram) = not (is_request telegram.fc)
 
--- DA is the global address; as long as no broadcast is taken, each request to it is refused
-abbrev pub is_to_all : Telegram → Bool
-is_to_all telegram = address_of telegram.da == global_address
+-- an SDN to the point of Global_Control, which alone may be sent to all stations
+abbrev pub is_global_control : Parts → Telegram → Bool
+is_global_control parts telegram = asks_sdn (function_of telegram.fc) && same_point parts.dsap global_control
 
 -- a condition on the frame or on its telegram, which doesn't hold where there is none
 abbrev pub frame_has : (Frame → Bool) → Hearing → Bool
@@ -93,6 +93,10 @@ frame_has condition hearing = option_map_or condition hearing.frame false
 
 abbrev pub telegram_has : (Telegram → Bool) → Hearing → Bool
 telegram_has condition hearing = option_map_or condition (option_and_then telegram_of_frame hearing.frame) false
+
+-- a condition on the parts and the telegram together, which doesn't hold where one of them is missing
+abbrev pub request_has : (Parts → Telegram → Bool) → Hearing → Bool
+request_has condition hearing = option_map_or (λ parts. telegram_has (condition parts) hearing) hearing.parts false
 
 -- the rows by which no slave is concerned
 abbrev pub line_rows : Hearing → List (Bool × Rule)
@@ -105,7 +109,7 @@ line_rows hearing =
     ∷ (frame_has is_no_request hearing, rules.NotRequest)
     ∷ (telegram_has has_reserved_function hearing, rules.BadFunction)
     ∷ (is_none hearing.parts, rules.BadExtension)
-    ∷ (telegram_has is_to_all hearing, rules.BadBroadcast)
+    ∷ (telegram_has is_to_all hearing && not (request_has is_global_control hearing), rules.BadBroadcast)
     ∷ (not (telegram_has is_to_all hearing) && is_none hearing.slave, rules.NoStation)
     ∷ []
 
@@ -122,14 +126,16 @@ slave_rows sender telegram parts slave =
     ++ (is_not_selected parts slave, rules.NotSelected)
     ∷ []
 
--- the rows of the slave that has the destination address; the functions that are no SRD and no SDN come first
+-- the rows of the slave that has the destination address, and of each slave where it is the global one; the functions that are no SRD and no
+-- SDN come first
 abbrev pub station_rows : ℕ → Telegram → Parts → SlaveRecord → List (Bool × Rule)
 station_rows sender telegram parts slave =
     (is_fdl_status telegram, rules.Status)
     ∷ (is_unserved telegram, rules.NoService)
     ∷ slave_rows sender telegram parts slave
 
--- these rows where telegram, parts and slave are there; where one is missing, a row of the line applies
+-- these rows where telegram, parts and slave are there; where one is missing, a row of the line applies, or the request is for all slaves, of
+-- which each has rows of its own
 abbrev pub rows_where_known : ℕ → Option Telegram → Option Parts → Option SlaveRecord → List (Bool × Rule)
 rows_where_known sender (Some telegram) (Some parts) (Some slave) = station_rows sender telegram parts slave
 rows_where_known sender telegram parts slave = []
@@ -138,7 +144,7 @@ rows_where_known sender telegram parts slave = []
 abbrev pub verdict_rows : Hearing → List (Bool × Rule)
 verdict_rows hearing = line_rows hearing ++ rows_where_known hearing.sender (option_and_then telegram_of_frame hearing.frame) hearing.parts hearing.slave
 
--- the rule by which a request is answered; where no row applies, the service is done
+-- the rule by which a request is answered; where no row applies, the service is done, and a request to all reaches the slaves
 unfoldable pub verdict_of : Hearing → Rule
 verdict_of hearing = first_row (verdict_rows hearing)
 
@@ -146,7 +152,7 @@ verdict_of hearing = first_row (verdict_rows hearing)
 unfoldable pub rule_at : ℕ → Telegram → Parts → SlaveRecord → Rule
 rule_at sender telegram parts slave = first_row (station_rows sender telegram parts slave)
 
--- the rules of the line's rows concern no slave; all others concern one
+-- the rules of the line's rows concern no slave; all others concern the slave that is asked, or each where all are
 abbrev pub concerns_a_slave : Rule → Bool
 concerns_a_slave rules.Halted = false
 concerns_a_slave rules.NoFrame = false

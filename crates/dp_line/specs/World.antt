@@ -1,6 +1,6 @@
 -- What a line is at one moment, and at its start.
-use Rattle.std.specs.Prelude.{ℕ, ◌+◌, Bool, false, not, ◌&&◌, ◌||◌, ◌==◌, nat_le, if◌then◌else◌, List, [], ◌∷◌, ◌++◌, length, map, find, Option, Some, None, is_ok}
-use Rattle.std.specs.List.{list_all, list_any, filter_map, range_with_len}
+use Rattle.std.specs.Prelude.{ℕ, ◌+◌, ◌<◌, Bool, false, not, ◌&&◌, ◌||◌, ◌==◌, nat_le, if◌then◌else◌, List, [], ◌∷◌, ◌++◌, length, map, find, Option, Some, None, is_ok}
+use Rattle.std.specs.List.{AllByRecursion, list_all, list_any, filter_map, range_with_len}
 use Rattle.dp_telegram.specs.Access.{global_address, is_station}
 use Rattle.dp_cfg.specs.Reading.{reading_of}
 use Rattle.dp_slave.specs.declared.description.SlaveSpec.{SlaveSpec}
@@ -20,6 +20,14 @@ pub record World : Type 0 where
 
 abbrev pub address_of_slave : SlaveRecord → ℕ
 address_of_slave slave = slave.description.address
+
+-- they stand in ascending order of address
+abbrev pub AreAbove : ℕ → List SlaveRecord → Type 0
+AreAbove address slaves = AllByRecursion (λ slave. address < address_of_slave slave) slaves
+
+abbrev pub Ascend : List SlaveRecord → Type 0
+Ascend [] = Unit {0}
+Ascend (slave ∷ slaves) = AreAbove (address_of_slave slave) slaves × Ascend slaves
 
 -- the slave that has the address, among these and on the line
 abbrev pub slave_among : List SlaveRecord → ℕ → Option SlaveRecord

@@ -72,6 +72,9 @@ pub enum Outcome {
     },
     /// No slave replies, for this reason.
     Silence(Rule),
+    /// A Global_Control to all stations: the addresses of the slaves that the sender holds, oldest lock
+    /// first, each with its own rule.
+    Spread(ArrayVec<(u8, Rule), MOST_SLAVES>),
     /// After a tick the addresses of the slaves whose watchdog ran out, after a halt of those that had a
     /// holder; ascending.
     Released(ArrayVec<u8, MOST_SLAVES>),

@@ -1,8 +1,8 @@
 //! Laws of a line, over lists of events.
 
-ghost use Rattle.std.specs.Prelude.{◌≡◌, ◌≢◌, ◌+◌, ◌-◌, ◌<◌, ◌≤◌, ℕ, List, true, false, None, Some, is_some, length, sum_by};
+ghost use Rattle.std.specs.Prelude.{◌≡◌, ◌≢◌, ◌+◌, ◌-◌, ◌<◌, ◌≤◌, ℕ, List, true, false, None, Some, is_some, option_map, length, sum_by};
 ghost use Rattle.std.specs.List.{AllByRecursion, filter_map, range_with_len};
-ghost use Rattle.arrayvec.specs.ArrayVec.{ArrayVec};
+ghost use Rattle.arrayvec.specs.ArrayVec.{ArrayVec as Vectors};
 ghost use Rattle.dp_responder.specs.declared.rule.Rule.{Rule as Rules};
 ghost use Rattle.dp_slave.specs.SlaveRecord.{SlaveRecord, is_held, released};
 ghost use Rattle.dp_line.specs.declared.event.Event.{Event as Events};
@@ -12,48 +12,88 @@ ghost use Rattle.dp_line.specs.World.{World, Description, address_of_slave, slav
 ghost use Rattle.dp_line.specs.Events.{misfit, time_passes};
 ghost use Rattle.dp_line.specs.Hearing.{heard};
 ghost use Rattle.dp_line.specs.Verdict.{verdict_of, concerns_a_slave};
-ghost use Rattle.dp_line.specs.Effects.{outcome_of, slave_after};
+ghost use Rattle.dp_line.specs.Effects.{outcome_of, rule_taken, slave_after};
 ghost use Rattle.dp_line.specs.Steps.{run, step, told_halted, unrecorded};
+ghost use Rattle.dp_line.specs.Owned.{owned as owned_by_world};
+ghost use Rattle.dp_line.specs.Isolation.{Agrees, MeetsNoLastPlace, only_requests_of, process_data, watched};
+ghost use Rattle.dp_slave.specs.View.{view_of};
 
 use crate::event::{Event, Step};
+use crate::limits::MOST_SLAVES;
 use crate::line_state::LineState;
+use arrayvec::ArrayVec;
+use dp_slave::SlaveView;
 
 /// Takes events one after another: they leave what the policy's run of them leaves.
 pub fn take_each(line: &mut LineState, events: &[Event])
-    ensures { line.new ≡ (run line.old events.now).world }
+    ensures { line.new.world ≡ (run line.old.world events.now).world }
 {
     for event in events {
         line.take(event);
     }
 }
 
-/// The headline, without broadcasts: after every list of events, however those of the masters, the
-/// operator and time come among each other, the line answers the next event as the written policy
-/// does in the world that those events left, and is left as the policy leaves it. A request gets the
-/// octets, or no reply and the reason; that holds on a halted line and at the last place too.
-pub fn answer_after(line: &mut LineState, before: &[Event], event: &Event) -> Step
-    ensures world { line.new ≡ (step (run line.old before.now).world event.now).world }
-    ensures answer { result ≡ (step (run line.old before.now).world event.now).answer }
-    ensures request { (master : ℕ) (octets : ArrayVec ℕ)
-        → event.now ≡ Events.Request master octets
-        → result.outcome ≡ outcome_of (run line.old before.now).world event.now }
+/// What an event brought about: its answer, and after it the list of a master and what is shown of a
+/// slave.
+#[derive(Clone, Debug, Drop, PartialEq, Eq)]
+pub struct After {
+    /// The answer.
+    pub answer: Step,
+    /// The addresses of the slaves that the master holds, oldest lock first.
+    pub owned: ArrayVec<u8, MOST_SLAVES>,
+    /// What is shown of the slave of an address; None where no slave has it.
+    pub view: Option<SlaveView>,
+}
+
+/// The headline: after every list of events, however the requests of the masters, the operator and time
+/// come among each other, the answer to the next event is what the written policy gives in the world
+/// that those events left: a request gets the octets, or no reply and the reason, on a halted line and
+/// at the last place too. Every slave is as the policy leaves it. A refusal, also that of one slave of a
+/// broadcast, changes no process data of a slave, but where the halt is recorded instead of the event.
+/// And the list of each master is the slaves that are locked to it, oldest lock first.
+pub fn headline(
+    line: &mut LineState,
+    before: &[Event],
+    event: &Event,
+    master: u8,
+    address: u8,
+) -> After
+    ensures answer { result.answer ≡ (step (run line.old.world before.now).world event.now).answer }
+    ensures request { (sender : ℕ) (octets : Vectors ℕ)
+        → event.now ≡ Events.Request sender octets
+        → result.answer.outcome ≡ outcome_of (run line.old.world before.now).world event.now }
+    ensures slaves { line.new.world ≡ (step (run line.old.world before.now).world event.now).world }
+    ensures view { result.view ≡ option_map view_of (slave_at (step (run line.old.world before.now).world event.now).world address) }
+    ensures refusal { (sender : ℕ) (octets : Vectors ℕ) (slave : SlaveRecord)
+        → event.now ≡ Events.Request sender octets
+        → slave_at (run line.old.world before.now).world (address_of_slave slave) ≡ Some slave
+        → rule_taken (heard (run line.old.world before.now).world sender octets.items) slave ≢ Rules.Done
+        → result.answer.halted ≡ None
+        → option_map process_data (slave_at line.new.world (address_of_slave slave)) ≡ Some (process_data slave) }
+    ensures list { result.owned.items ≡ owned_by_world (step (run line.old.world before.now).world event.now).world master }
 {
     take_each(line, before);
-    line.take(event)
+    let answer = line.take(event);
+    After {
+        answer,
+        owned: line.owned_by(master),
+        view: line.view(address),
+    }
 }
 
 /// A refusal changes no field of a slave of the line, but for what the slave asked remembers of the
-/// sender's telegrams: so it is by every rule but Done.
+/// sender's telegrams: so it is by every rule but Done. A broadcast is refused by each slave whose own
+/// rule isn't Done.
 pub fn a_refusal_changes_nothing()
-    ensures { (world : World) (master : ℕ) (octets : ArrayVec ℕ) (slave : SlaveRecord)
+    ensures { (world : World) (master : ℕ) (octets : Vectors ℕ) (slave : SlaveRecord)
         → slave_at world (address_of_slave slave) ≡ Some slave
-        → verdict_of (heard world master octets.items) ≢ Rules.Done
+        → rule_taken (heard world master octets.items) slave ≢ Rules.Done
         → record (slave_after world (Events.Request master octets) slave) { memory = slave.memory } ≡ slave }
 {}
 
 /// What no slave is concerned by changes no slave at all.
 pub fn what_reaches_nobody_changes_nothing()
-    ensures { (world : World) (master : ℕ) (octets : ArrayVec ℕ) (slave : SlaveRecord)
+    ensures { (world : World) (master : ℕ) (octets : Vectors ℕ) (slave : SlaveRecord)
         → concerns_a_slave (verdict_of (heard world master octets.items)) ≡ false
         → slave_after world (Events.Request master octets) slave ≡ slave }
 {}
@@ -107,4 +147,18 @@ pub fn a_watchdog_runs_out_in_time()
         → 0 < left
         → left ≤ sum_by (λ time. time) times
         → slave_at (run world (time_passes times)).world address ≡ Some (released slave) }
+{}
+
+/// While a master holds a slave, the requests of other masters change neither what it sees of the slave
+/// nor the slave's process data: of two lines that agree on both, let one take a list of events and the
+/// other the same list without the requests of all other masters, neither meeting its last place. Then
+/// at each event that stays, up to and including the one that ends the master's hold, equal are the
+/// slave's process data, outcome and facts of what is for the slave alone, its rule in a broadcast, and
+/// whether it is let go.
+pub fn other_masters_change_nothing()
+    ensures { (master address : ℕ) (world other : World) (events : List Events)
+        → Agrees master address world other
+        → MeetsNoLastPlace world events
+        → MeetsNoLastPlace other (only_requests_of master events)
+        → watched master address world events ≡ watched master address other (only_requests_of master events) }
 {}

@@ -25,6 +25,8 @@ pub use fault::{OpenFault, OperatorFault};
 pub use line_state::LineState;
 
 #[cfg(test)]
+mod broadcast_tests;
+#[cfg(test)]
 mod operator_tests;
 #[cfg(test)]
 mod tests;

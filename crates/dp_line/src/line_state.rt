@@ -2,12 +2,14 @@
 
 ghost use Rattle.std.specs.Prelude.{◌≡◌, false, None, Some, IfSome, MatchResult, option_map};
 ghost use Rattle.dp_slave.specs.View.{view_of};
-ghost use Rattle.dp_line.specs.World.{description_of, opening_fault, slave_at, start_of, takes_no_more};
+ghost use Rattle.dp_line.specs.World.{description_of, opening_fault, slave_at, takes_no_more};
 ghost use Rattle.dp_line.specs.Owned.{owned};
 ghost use Rattle.dp_line.specs.declared.event.Event.TheVariants.{Request, Operator};
 ghost use Rattle.dp_line.specs.declared.event.Op.TheVariants.{Halt, Tick};
 ghost use Rattle.dp_line.specs.Events.{address_of_op, misfit, misfit_among};
 ghost use Rattle.dp_line.specs.Effects.{effect, halted_world, held_addresses};
+ghost use Rattle.dp_line.specs.Hearing.{heard};
+ghost use Rattle.dp_line.specs.Walk.{starting_line, walk_after, walk_heard};
 ghost use Rattle.dp_line.specs.Steps.{step, told_halted as told_by_halted, unrecorded as unrecorded_step};
 
 use crate::description::LineSpec;
@@ -27,23 +29,27 @@ pub struct LineState {
     places: u32,
     count: u32,
     halted: bool,
+    last_walk: u32,
     stations: Stations,
 }
 
 impl Model for LineState {
     ghost use Rattle.std.specs.Prelude.{◌≡◌, ◌+◌, ◌<◌, false};
-    ghost use Rattle.dp_line.specs.World.{World};
+    ghost use Rattle.dp_line.specs.Walk.{LineRecord};
 
-    ghost Value = { World };
+    ghost Value = { LineRecord };
 
     ghost use Rattle.dp_line.specs.Stations.{AreBefore};
 
     ghost view = { λ s. record {
-      masters = s.stations.masters;
-      places = s.places;
-      count = s.count;
-      halted = s.halted;
-      slaves = s.stations.slaves;
+      world = record {
+        masters = s.stations.masters;
+        places = s.places;
+        count = s.count;
+        halted = s.halted;
+        slaves = s.stations.slaves;
+      };
+      last_walk = s.last_walk;
     } };
 
     ghost invariant = { λ s. (s.halted ≡ false → s.count < s.places) × AreBefore (s.count + 1) s.stations.slaves };
@@ -58,7 +64,7 @@ impl LineState {
     pub fn open(alloc: Global, line: &LineSpec) -> Result<LineState, OpenFault>
         ensures refused { IfSome (opening_fault (description_of line.now)) (λ fault. result ≡ Err fault) }
         ensures opened { opening_fault (description_of line.now) ≡ None
-            → MatchResult result (λ state. state ≡ start_of (description_of line.now)) (λ fault. fault ≡ OpenFault.OutOfMemory) }
+            → MatchResult result (λ state. state ≡ starting_line (description_of line.now)) (λ fault. fault ≡ OpenFault.OutOfMemory) }
     {
         if let Some(fault) = line.fault() {
             return Err(fault);
@@ -68,14 +74,16 @@ impl LineState {
             places: line.capacity,
             count: 0,
             halted: false,
+            last_walk: 0,
             stations,
         })
     }
 
     /// Takes one event: the world after it and the answer are the policy's step. It takes no memory.
     pub fn take(&mut self, event: &Event) -> Step
-        ensures world { self.new ≡ (step self.old event.now).world }
-        ensures answer { result ≡ (step self.old event.now).answer }
+        ensures world { self.new.world ≡ (step self.old.world event.now).world }
+        ensures answer { result ≡ (step self.old.world event.now).answer }
+        ensures walk { self.new.last_walk ≡ walk_after self.old.world event.now self.old.last_walk }
     {
         if self.halted {
             return unrecorded(told_halted(event), None);
@@ -94,14 +102,14 @@ impl LineState {
 
     /// How many events are recorded, the halt among them.
     pub fn count(&self) -> u32
-        ensures { result ≡ self.now.count }
+        ensures { result ≡ self.now.world.count }
     {
         self.count
     }
 
     /// The line takes no events any more.
     pub fn is_halted(&self) -> bool
-        ensures { result ≡ self.now.halted }
+        ensures { result ≡ self.now.world.halted }
     {
         self.halted
     }
@@ -109,14 +117,14 @@ impl LineState {
     /// The addresses of the slaves that a master holds, oldest lock first; none for an address that is
     /// no master's.
     pub fn owned_by(&self, master: u8) -> ArrayVec<u8, MOST_SLAVES>
-        ensures { result.items ≡ owned self.now master }
+        ensures { result.items ≡ owned self.now.world master }
     {
         self.stations.owned_by(master)
     }
 
     /// What is shown of the slave that has the address; None where no slave has it.
     pub fn view(&self, address: u8) -> Option<SlaveView>
-        ensures { result ≡ option_map view_of (slave_at self.now address) }
+        ensures { result ≡ option_map view_of (slave_at self.now.world address) }
     {
         match self.stations.find(address) {
             Some(slave) => Some(slave.view()),
@@ -124,9 +132,17 @@ impl LineState {
         }
     }
 
+    /// How many slaves the last Global_Control to all stations visited: those that its sender held. 0
+    /// before the first one; what no slave hears of leaves it.
+    pub fn last_walk(&self) -> u32
+        ensures { result ≡ self.now.last_walk }
+    {
+        self.last_walk
+    }
+
     /// Why an event doesn't fit; None where it does.
     fn misfit(&self, event: &Event) -> Option<OperatorFault>
-        ensures { result ≡ misfit self.now event.now }
+        ensures { result ≡ misfit self.now.world event.now }
     {
         match event {
             Event::Request { .. } => None,
@@ -136,10 +152,10 @@ impl LineState {
 
     /// Takes what an operator does, which fits and takes a place.
     fn take_op(&mut self, op: &Op) -> Step
-        requires room { takes_no_more self.old ≡ false }
-        requires fits { misfit_among self.old.slaves op.now ≡ None }
-        ensures world { self.new ≡ (effect self.old (Operator op.now)).world }
-        ensures answer { result ≡ (effect self.old (Operator op.now)).answer }
+        requires room { takes_no_more self.old.world ≡ false }
+        requires fits { misfit_among self.old.world.slaves op.now ≡ None }
+        ensures line { self.new ≡ record self.old { world = (effect self.old.world (Operator op.now)).world } }
+        ensures answer { result ≡ (effect self.old.world (Operator op.now)).answer }
     {
         match op {
             Op::Input { address, .. } => self.operate(*address, op),
@@ -152,11 +168,11 @@ impl LineState {
 
     /// Takes what is done to one slave.
     fn operate(&mut self, address: u8, op: &Op) -> Step
-        requires room { takes_no_more self.old ≡ false }
+        requires room { takes_no_more self.old.world ≡ false }
         requires address { address_of_op op.now ≡ Some address }
-        requires fits { misfit_among self.old.slaves op.now ≡ None }
-        ensures world { self.new ≡ (effect self.old (Operator op.now)).world }
-        ensures answer { result ≡ (effect self.old (Operator op.now)).answer }
+        requires fits { misfit_among self.old.world.slaves op.now ≡ None }
+        ensures line { self.new ≡ record self.old { world = (effect self.old.world (Operator op.now)).world } }
+        ensures answer { result ≡ (effect self.old.world (Operator op.now)).answer }
     {
         let facts = self.stations.operate(address, op);
         self.count += 1;
@@ -165,9 +181,9 @@ impl LineState {
 
     /// Time passes, in units of 10 ms.
     fn tick(&mut self, time: u32) -> Step
-        requires room { takes_no_more self.old ≡ false }
-        ensures world { self.new ≡ (effect self.old (Operator (Tick time))).world }
-        ensures answer { result ≡ (effect self.old (Operator (Tick time))).answer }
+        requires room { takes_no_more self.old.world ≡ false }
+        ensures line { self.new ≡ record self.old { world = (effect self.old.world (Operator (Tick time))).world } }
+        ensures answer { result ≡ (effect self.old.world (Operator (Tick time))).answer }
     {
         let let_go = self.stations.tick(time);
         self.count += 1;
@@ -176,9 +192,9 @@ impl LineState {
 
     /// Takes the operator's halt.
     fn take_halt(&mut self) -> Step
-        requires room { takes_no_more self.old ≡ false }
-        ensures world { self.new ≡ (effect self.old (Operator Halt)).world }
-        ensures answer { result ≡ (effect self.old (Operator Halt)).answer }
+        requires room { takes_no_more self.old.world ≡ false }
+        ensures line { self.new ≡ record self.old { world = (effect self.old.world (Operator Halt)).world } }
+        ensures answer { result ≡ (effect self.old.world (Operator Halt)).answer }
     {
         let let_go = self.halt();
         recorded(self.count, None, Outcome::Released(let_go))
@@ -186,9 +202,10 @@ impl LineState {
 
     /// Takes a request that takes a place.
     fn take_request(&mut self, master: u8, octets: &[u8]) -> Step
-        requires { takes_no_more self.old ≡ false }
-        ensures world { self.new ≡ (effect self.old (Request master (record { items = octets.now }))).world }
-        ensures answer { result ≡ (effect self.old (Request master (record { items = octets.now }))).answer }
+        requires { takes_no_more self.old.world ≡ false }
+        ensures world { self.new.world ≡ (effect self.old.world (Request master (record { items = octets.now }))).world }
+        ensures answer { result ≡ (effect self.old.world (Request master (record { items = octets.now }))).answer }
+        ensures walk { self.new.last_walk ≡ walk_heard (heard self.old.world master octets.now) self.old.last_walk }
     {
         let place = self.count + 1;
         let mut step = Step {
@@ -197,9 +214,13 @@ impl LineState {
             outcome: Outcome::Done,
             halted: None,
         };
-        step.facts = self
-            .stations
-            .answer(master, place, octets, &mut step.outcome);
+        step.facts = self.stations.answer(
+            master,
+            place,
+            octets,
+            &mut step.outcome,
+            &mut self.last_walk,
+        );
         self.count = place;
         step
     }
@@ -207,9 +228,9 @@ impl LineState {
     /// Records the halt, which releases every slave; the addresses of those that had a holder,
     /// ascending.
     fn halt(&mut self) -> ArrayVec<u8, MOST_SLAVES>
-        requires { self.old.halted ≡ false }
-        ensures world { self.new ≡ halted_world self.old }
-        ensures let_go { result.items ≡ held_addresses self.old }
+        requires { self.old.world.halted ≡ false }
+        ensures line { self.new ≡ record self.old { world = halted_world self.old.world } }
+        ensures let_go { result.items ≡ held_addresses self.old.world }
     {
         self.count += 1;
         self.halted = true;

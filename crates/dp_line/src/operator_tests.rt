@@ -6,7 +6,7 @@ use std::alloc::Global;
 use std::test::Fail;
 
 /// A line with masters 1 and 2 and slaves 5 and 6, each with two octets of inputs and two of outputs.
-fn data_line(alloc: Global, capacity: u32) -> Result<LineSpec, Fail> {
+pub(crate) fn data_line(alloc: Global, capacity: u32) -> Result<LineSpec, Fail> {
     let mut described = line(alloc, capacity, &[])?;
     for address in [5, 6] {
         let mut spec = slave(address);
@@ -26,7 +26,7 @@ fn busy(address: u8, point: Option<u8>, on: bool) -> Event {
     Event::Operator(Op::Busy { address, point, on })
 }
 
-fn tick(time: u32) -> Event {
+pub(crate) fn tick(time: u32) -> Event {
     Event::Operator(Op::Tick(time))
 }
 

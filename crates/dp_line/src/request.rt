@@ -1,6 +1,6 @@
 //! A request that has reached a slave.
 
-ghost use Rattle.std.specs.Prelude.{◌≡◌, ◌≢◌, ◌≤◌, length, Some};
+ghost use Rattle.std.specs.Prelude.{◌≡◌, ◌≢◌, ◌≤◌, true, length, None, Some};
 ghost use Rattle.dp_sap.specs.AccessTable.{data_exchange, global_control, most_data};
 ghost use Rattle.dp_responder.specs.declared.judgement.Judged.TheVariants as verdicts;
 ghost use Rattle.dp_slave.specs.SlaveParts.{with_slave};
@@ -8,8 +8,10 @@ ghost use Rattle.dp_slave.specs.Fields.{acted};
 ghost use Rattle.dp_slave.specs.Services.{service_answer};
 ghost use Rattle.dp_line.specs.declared.event.Outcome.{Outcome as Answers};
 ghost use Rattle.dp_line.specs.Effects.{state_and_holder};
+ghost use Rattle.dp_line.specs.Verdict.{is_global_control as is_global_control_of};
+ghost use Rattle.dp_line.specs.Served.{answered};
 ghost use Rattle.dp_line.specs.ReplyText.{positive_reply, short_reply};
-ghost use Rattle.dp_line.specs.Serving.{answer_to, served_to, act_of, read_by, judged, Passes, IsOfProfile, AsksForData};
+ghost use Rattle.dp_line.specs.Serving.{answer_to, rule_of, served_to, act_of, read_by, judged, Passes, IsOfProfile, AsksForData};
 
 use crate::event::{Facts, Outcome};
 use crate::reply;
@@ -34,6 +36,29 @@ pub(crate) struct Request<'a> {
 }
 
 impl Request<'_> {
+    /// A Global_Control, which alone is taken from all stations.
+    pub(crate) fn is_global_control(&self) -> bool
+        ensures { result ≡ is_global_control_of self.now.parts.now self.now.telegram.now }
+    {
+        self.telegram.function().is_sdn() && self.parts.dsap == Some(GLOBAL_CONTROL)
+    }
+
+    /// Serves a Global_Control to all at one of the slaves, and tells its rule.
+    pub(crate) fn control_held(&self, slave: &mut Slave) -> Rule
+        requires function { IsOfProfile self.now }
+        requires control { is_global_control_of self.now.parts.now self.now.telegram.now ≡ true }
+        ensures slave { slave.new ≡ with_slave slave.old (served_to self.now slave.old.slave) }
+        ensures rule { result ≡ rule_of self.now slave.old.slave }
+    {
+        let (points, memory) = (slave.points(), slave.memory());
+        match judge(points, memory, self.sender, self.telegram.fc, self.parts) {
+            Judged::Repeat(_) => Rule::Repeat,
+            Judged::Refuse(_, rule) => rule,
+            Judged::Silent(rule) => rule,
+            Judged::Pass => self.control(slave),
+        }
+    }
+
     /// Writes the answer of the slave that has the destination address, and tells the slave's state
     /// and holder before it.
     pub(crate) fn answer(&self, slave: &mut Slave, outcome: &mut Outcome) -> Facts
@@ -112,7 +137,8 @@ impl Request<'_> {
         ensures answer { outcome.new ≡ answer_to self.now slave.old.slave }
     {
         if self.parts.dsap == Some(GLOBAL_CONTROL) {
-            return self.control(slave, outcome);
+            *outcome = without_reply(self.control(slave));
+            return;
         }
         let mut octets = ArrayVec::new();
         self.reply(slave, &mut octets);
@@ -123,21 +149,21 @@ impl Request<'_> {
         };
     }
 
-    /// Does a Global_Control to the slave, where it selects it, and writes whether it did.
-    fn control(&self, slave: &mut Slave, outcome: &mut Outcome)
+    /// Does a Global_Control to the slave, where it selects it; whether it does is its rule.
+    fn control(&self, slave: &mut Slave) -> Rule
         requires passes { Passes self.now slave.old.slave }
         requires asks { AsksForData self.now }
         requires point { self.now.parts.now.dsap ≡ global_control }
         ensures slave { slave.new ≡ with_slave slave.old (served_to self.now slave.old.slave) }
-        ensures answer { outcome.new ≡ answer_to self.now slave.old.slave }
+        ensures rule { result ≡ rule_of self.now slave.old.slave }
+        ensures answer { answered result None ≡ answer_to self.now slave.old.slave }
     {
         let command = Command::read(&self.parts.payload);
         if !command.selects(slave.group()) {
-            *outcome = Outcome::Silence(Rule::NotSelected);
-            return;
+            return Rule::NotSelected;
         }
         command.apply(slave);
-        *outcome = Outcome::Done;
+        Rule::Done
     }
 
     /// Does the service of a point, and writes the text of the reply to it.
@@ -180,6 +206,16 @@ impl Request<'_> {
     {
         let high = slave.data_exchange(&self.parts.payload);
         reply::positive(self.telegram, self.parts, slave.rd_inp(), high, text)
+    }
+}
+
+/// The answer to a Global_Control to one slave, by its rule.
+fn without_reply(rule: Rule) -> Outcome
+    ensures { result ≡ answered rule None }
+{
+    match rule {
+        Rule::Done => Outcome::Done,
+        other => Outcome::Silence(other),
     }
 }
 

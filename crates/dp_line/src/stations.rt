@@ -3,12 +3,15 @@
 ghost use Rattle.std.specs.Prelude.{◌≡◌, ℕ, ◌≤◌, ◌<◌, ◌==◌, length, map, filter, false, true, None, Some, option_map, slice_get, slice_index_or, IfOk, IfSome, position};
 ghost use Rattle.std.specs.Option.{option_copied};
 ghost use Rattle.std.specs.List.{list_all, list_any};
-ghost use Rattle.dp_slave.specs.SlaveRecord.{released, is_held, is_held_by};
+ghost use Rattle.dp_slave.specs.SlaveRecord.{released, is_held};
 ghost use Rattle.dp_line.specs.World.{address_of_slave, ascending, described_at, description_of, has_configuration, opening_fault, slave_among};
 ghost use Rattle.dp_line.specs.Events.{address_of_op, expires, misfit_among};
-ghost use Rattle.dp_line.specs.Owned.{in_order};
+ghost use Rattle.dp_line.specs.Owned.{held_among};
+ghost use Rattle.dp_line.specs.Hearing.{is_to_all};
+ghost use Rattle.dp_line.specs.Verdict.{is_global_control};
+ghost use Rattle.dp_line.specs.declared.event.Outcome.{Outcome as Answers};
 ghost use Rattle.dp_line.specs.Effects.{served_where_asked, slave_after_op, state_and_holder};
-ghost use Rattle.dp_line.specs.Serving.{IsOfProfile, answer_to};
+ghost use Rattle.dp_line.specs.Serving.{IsOfProfile, answer_to, ruled_by, served_to};
 ghost use Rattle.dp_line.specs.Stations.{AreBefore, AreEmpty, fresh_slave, freed, index_of, slave_asked, slaves_of, started, ticked};
 
 mod answering;
@@ -88,6 +91,7 @@ impl Stations {
     /// tells its facts before it; None where there is no such slave.
     pub(crate) fn serve(&mut self, request: &Request<'_>, outcome: &mut Outcome) -> Option<Facts>
         requires function { IsOfProfile request.now }
+        requires one { is_to_all request.now.telegram.now ≡ false }
         requires master { list_any (λ other. other == request.now.sender) self.old.masters ≡ true }
         requires later { AreBefore request.now.place self.old.slaves }
         ensures slaves { self.new ≡ record self.old {
@@ -104,6 +108,27 @@ impl Stations {
             ..
         } = self;
         Some(lists::serve_at(slaves, owners, masters, index, request, outcome))
+    }
+
+    /// Serves a Global_Control to all at the slaves that its sender holds, which is the same as at all
+    /// slaves: writes them with their rules, and tells how many were visited.
+    pub(crate) fn spread(&mut self, request: &Request<'_>, outcome: &mut Outcome) -> u32
+        requires function { IsOfProfile request.now }
+        requires control { is_global_control request.now.parts.now request.now.telegram.now ≡ true }
+        ensures slaves { self.new ≡ record self.old { slaves = map (served_to request.now) self.old.slaves } }
+        ensures outcome { outcome.new ≡ Answers.Spread (record { items = map (ruled_by request.now) (held_among self.old.slaves request.now.sender) }) }
+        ensures visits { result ≡ length (held_among self.old.slaves request.now.sender) }
+    {
+        let Stations {
+            masters,
+            slaves,
+            owners,
+            ..
+        } = self;
+        let mut rules = ArrayVec::new();
+        let visits = lists::control_each(slaves, owners, masters, request, &mut rules);
+        *outcome = Outcome::Spread(rules);
+        visits
     }
 
     /// Why an operator can't do this; None where it can.
@@ -160,7 +185,7 @@ impl Stations {
 
     /// The addresses of the slaves that a master holds, oldest lock first.
     pub(crate) fn owned_by(&self, master: u8) -> ArrayVec<u8, MOST_SLAVES>
-        ensures { result.items ≡ map address_of_slave (in_order (λ slave. slave.since) (filter (is_held_by master) self.now.slaves)) }
+        ensures { result.items ≡ map address_of_slave (held_among self.now.slaves master) }
     {
         match lists::index_in(&self.masters, Some(master)) {
             Some(index) => lists::addresses(&self.slaves, &self.owners.list(&self.slaves, index)),

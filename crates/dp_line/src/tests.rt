@@ -268,7 +268,7 @@ pub(crate) fn to_point(
 pub(crate) const LOCK: [u8; 7] = [0x88, 0x02, 0x05, 0x0B, 0x80, 0xA1, 0x01];
 
 /// Set_Prm with Unlock_Req.
-const UNLOCK: [u8; 7] = [0x40, 0, 0, 0, 0, 0, 0];
+pub(crate) const UNLOCK: [u8; 7] = [0x40, 0, 0, 0, 0, 0, 0];
 
 /// The rule of the answer, and whether it is a reply.
 pub(crate) fn told(step: &Step) -> Result<(Rule, bool), Fail> {
@@ -276,6 +276,7 @@ pub(crate) fn told(step: &Step) -> Result<(Rule, bool), Fail> {
         Outcome::Reply { rule, .. } => Ok((*rule, true)),
         Outcome::Silence(rule) => Ok((*rule, false)),
         Outcome::Done => Ok((Rule::Done, false)),
+        Outcome::Spread(_) => Err("a broadcast's answer")?,
         Outcome::Released(_) => Err("an operator's answer")?,
         Outcome::Refused(_) => Err("an operator's answer")?,
     }
@@ -351,10 +352,11 @@ fn halt_lets_go(rt: HostRuntime) -> Result<(), Fail> {
     laws::take_each(&mut state, &events);
     assert_eq!(rt; state.owned_by(1), octets(&[6, 5])?);
     let before = [to_point(5, 2, 0x6D, 60, &[])?];
-    let step = laws::answer_after(&mut state, &before, &to_point(5, 2, 0x6D, 60, &[])?);
-    assert_eq!(rt; told(&step)?, (Rule::Halted, false));
-    assert_eq!(rt; step.halted, Some(octets(&[5, 6])?));
-    assert_eq!(rt; state.owned_by(1).len(), 0);
+    let after = laws::headline(&mut state, &before, &to_point(5, 2, 0x6D, 60, &[])?, 1, 6);
+    assert_eq!(rt; told(&after.answer)?, (Rule::Halted, false));
+    assert_eq!(rt; after.answer.halted, Some(octets(&[5, 6])?));
+    assert_eq!(rt; after.owned.len(), 0);
+    assert_eq!(rt; after.view, state.view(6));
     assert!(rt; state.is_halted());
     Ok(())
 }

@@ -4,9 +4,12 @@ ghost use Rattle.std.specs.Prelude.{◌≡◌};
 ghost use Rattle.dp_responder.specs.Rules.{rule_code, rule_name};
 
 /// Why a request is answered as it is: the row of the verdict that decided (own order).
-#[derive(Clone, Copy, Debug, PartialEq, Eq)]
+///
+/// Its default, the first rule, only fills the free cells of an `ArrayVec`.
+#[derive(Clone, Copy, Debug, Default, PartialEq, Eq)]
 pub enum Rule {
     /// The line is halted, or only the place of the halt is left: silence.
+    #[default]
     Halted,
     /// The octets are no single frame: silence.
     NoFrame,

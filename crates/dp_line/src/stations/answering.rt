@@ -6,6 +6,7 @@ ghost use Rattle.dp_telegram.specs.declared.frame.Frame.TheVariants as frames;
 ghost use Rattle.dp_line.specs.declared.event.Outcome.{Outcome as Answers};
 ghost use Rattle.dp_line.specs.Effects.{facts_heard, outcome_heard, slave_after_request};
 ghost use Rattle.dp_line.specs.Verdict.{has_foreign_sender};
+ghost use Rattle.dp_line.specs.Walk.{walk_heard};
 ghost use Rattle.dp_line.specs.Stations.{AreBefore, IsAdmitted, IsSilent, heard_by, heard_telegram};
 
 use super::Stations;
@@ -17,18 +18,20 @@ use dp_telegram::{Frame, GLOBAL_ADDRESS, Telegram, decode};
 
 impl Stations {
     /// Writes the answer to a request that takes this place of the journal, and tells the facts of the
-    /// slave that it concerns.
+    /// slave that it concerns. A broadcast that reaches the slaves writes how many it visited.
     pub(crate) fn answer(
         &mut self,
         master: u8,
         place: u32,
         octets: &[u8],
         outcome: &mut Outcome,
+        walk: &mut u32,
     ) -> Facts
         requires later { AreBefore place self.old.slaves }
         ensures slaves { self.new ≡ record self.old { slaves = map (slave_after_request (heard_by self.old master octets.now) place) self.old.slaves } }
         ensures facts { result ≡ facts_heard (heard_by self.old master octets.now) }
         ensures outcome { outcome.new ≡ outcome_heard (heard_by self.old master octets.now) }
+        ensures walk { walk.new ≡ walk_heard (heard_by self.old master octets.now) walk.old }
     {
         let decoded = decode(octets);
         let Ok(frame) = &decoded else {
@@ -38,7 +41,7 @@ impl Stations {
             return silent(Rule::NoMaster, outcome);
         }
         match request_in(frame, master) {
-            Ok(telegram) => self.answer_telegram(master, place, telegram, outcome),
+            Ok(telegram) => self.answer_telegram(master, place, telegram, outcome, walk),
             Err(rule) => silent(rule, outcome),
         }
     }
@@ -50,6 +53,7 @@ impl Stations {
         place: u32,
         telegram: &Telegram,
         outcome: &mut Outcome,
+        walk: &mut u32,
     ) -> Facts
         requires admitted { IsAdmitted sender telegram.now }
         requires master { list_any (λ other. other == sender) self.old.masters ≡ true }
@@ -57,20 +61,25 @@ impl Stations {
         ensures slaves { self.new ≡ record self.old { slaves = map (slave_after_request (heard_telegram self.old.slaves sender telegram.now) place) self.old.slaves } }
         ensures facts { result ≡ facts_heard (heard_telegram self.old.slaves sender telegram.now) }
         ensures outcome { outcome.new ≡ outcome_heard (heard_telegram self.old.slaves sender telegram.now) }
+        ensures walk { walk.new ≡ walk_heard (heard_telegram self.old.slaves sender telegram.now) walk.old }
     {
         let read = telegram.parts();
         let Some(parts) = &read else {
             return silent(Rule::BadExtension, outcome);
         };
-        if telegram.destination() == GLOBAL_ADDRESS {
-            return silent(Rule::BadBroadcast, outcome);
-        }
         let request = Request {
             sender,
             place,
             telegram,
             parts,
         };
+        if telegram.destination() == GLOBAL_ADDRESS {
+            if !request.is_global_control() {
+                return silent(Rule::BadBroadcast, outcome);
+            }
+            *walk = self.spread(&request, outcome);
+            return None;
+        }
         match self.serve(&request, outcome) {
             Some(facts) => facts,
             None => silent(Rule::NoStation, outcome),

@@ -1,21 +1,24 @@
 //! The lists of the masters, which are threaded through the slaves.
 
-ghost use Rattle.std.specs.Prelude.{◌≡◌, ℕ, ◌≤◌, ◌<◌, ◌==◌, List, length, filter, map, None, Some, IfSome, option_map, slice_get, position};
+ghost use Rattle.std.specs.Prelude.{◌≡◌, ℕ, ◌≤◌, ◌<◌, ◌==◌, true, List, [], length, filter, map, None, Some, IfSome, option_map, slice_get, position};
 ghost use Rattle.std.specs.Option.{option_and_then};
 ghost use Rattle.std.specs.List.{AllByRecursion};
 ghost use Rattle.dp_owners.specs.declared.owners.TheConstants.{MOST_MASTERS as most_masters};
 ghost use Rattle.dp_owners.specs.Threaded.{IsFree, IsThreaded, IsThreadedWith};
 ghost use Rattle.dp_line.specs.World.{address_of_slave};
 ghost use Rattle.dp_line.specs.Events.{expires, misfit_at};
+ghost use Rattle.dp_line.specs.Owned.{held_among};
+ghost use Rattle.dp_line.specs.Verdict.{is_global_control};
 ghost use Rattle.dp_line.specs.Effects.{state_and_holder};
-ghost use Rattle.dp_line.specs.Serving.{IsOfProfile, answer_to, served_to};
-ghost use Rattle.dp_line.specs.Stations.{AreBefore, AreThreaded, IsAt, IsWritten, appended_to, at_index, links_of, master_index, operated, slaves_of, ticked, unlinked_from};
+ghost use Rattle.dp_line.specs.Serving.{IsOfProfile, answer_to, ruled_by, served_to};
+ghost use Rattle.dp_line.specs.Stations.{AreBefore, AreThreaded, HaveMasters, IsAt, IsWritten, appended_to, at_index, links_of, master_index, operated, slaves_of, ticked, unlinked_from};
 
 use crate::event::{Facts, Op, Outcome};
 use crate::limits::MOST_SLAVES;
 use crate::request::Request;
 use arrayvec::ArrayVec;
-use dp_owners::Owners;
+use dp_owners::{Cursor, Owners};
+use dp_responder::Rule;
 use dp_sap::State;
 use dp_slave::Slave;
 
@@ -44,6 +47,40 @@ pub(crate) fn serve_at(
     let facts = request.answer(&mut slaves[index], outcome);
     move_to_holder(slaves, owners, masters, index, before);
     facts
+}
+
+/// Serves a Global_Control to all at each slave that its sender holds, oldest lock first: writes them
+/// with their rules, and tells how many it visited. Every other slave would refuse it, and stay.
+pub(crate) fn control_each(
+    slaves: &mut [Slave],
+    owners: &Owners,
+    masters: &[u8],
+    request: &Request<'_>,
+    rules: &mut ArrayVec<(u8, Rule), MOST_SLAVES>,
+) -> u32
+    requires function { IsOfProfile request.now }
+    requires control { is_global_control request.now.parts.now request.now.telegram.now ≡ true }
+    requires threaded { AreThreaded masters.now owners.now slaves.old }
+    requires masters { length masters.now ≤ most_masters }
+    requires have { HaveMasters masters.now (slaves_of slaves.old) }
+    requires few { length slaves.old ≤ 64 }
+    requires empty { rules.old.items ≡ [] }
+    ensures threaded { AreThreaded masters.now owners.now slaves.new }
+    ensures slaves { slaves_of slaves.new ≡ map (served_to request.now) (slaves_of slaves.old) }
+    ensures rules { rules.new.items ≡ map (ruled_by request.now) (held_among (slaves_of slaves.old) request.now.sender) }
+    ensures visits { result ≡ length (held_among (slaves_of slaves.old) request.now.sender) }
+{
+    dp_owners::laws::same_lists_are_threaded_alike();
+    let Some(master) = index_in(masters, Some(request.sender)) else {
+        return 0;
+    };
+    let mut cursor = Cursor::over(owners, master);
+    while let Some(index) = cursor.next(slaves) {
+        let slave = &mut slaves[usize::from(index)];
+        let rule = request.control_held(slave);
+        rules.push((slave.address(), rule));
+    }
+    cursor.visits()
 }
 
 /// Does to the slave of an index what an operator does; its state and holder before that.

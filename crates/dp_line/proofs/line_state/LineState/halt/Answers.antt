@@ -1,6 +1,7 @@
-use Rattle.std.proofs.Common.{◌+◌, sym, subst}
+use Rattle.std.proofs.Common.{◌+◌, sym, subst, ap}
 use Rattle.dp_line.specs.Stations.{StationsView, AreBefore}
-use Rattle.dp_line.proofs.Events.{halt_world, released_before}
+use Rattle.dp_line.specs.Walk.{LineRecord}
+use Rattle.dp_line.proofs.Events.{with_world, halt_world, released_before}
 use Rattle.dp_line.proofs.line_state.LineState.halt.Goals as goal
 
 pub invariant_of-self : goal.invariant_of-self
@@ -10,6 +11,7 @@ invariant_of-self c = (
       (released_before (c.self.inside.count + 1) c.self.inside.stations.slaves),
 )
 
-pub returns-clause-world : goal.returns-clause-world
-returns-clause-world c =
-    halt_world c.args.self.now c.self.inside.places c.self.inside.count c.self.inside.halted c.self.inside.stations c.release_all.new.self c.self.view_is c.release_all.ensures.slaves
+pub returns-clause-line : goal.returns-clause-line
+returns-clause-line c =
+    with_world c.args.self.now _ _ _ c.self.inside.last_walk c.self.view_is
+    (halt_world c.args.self.now.world c.self.inside.places c.self.inside.count c.self.inside.halted c.self.inside.stations c.release_all.new.self (ap (λ (l : LineRecord). l.world) c.self.view_is) c.release_all.ensures.slaves)

@@ -18,6 +18,14 @@ returns-then-not-selects-clause-slave c =
     selection slave request.parts.now c.deref.result.now c.read-command.result c.group.result false c.requires.point c.deref.ensures.0 c.read-command.ensures c.group.ensures (sym c.selects.ensures ∙ c.if-not-selects.true) in
     ap (with_slave c.args.slave.now) ((unselected slave request.sender request.place request.telegram.now request.parts.now (unselected_rule slave request.sender request.telegram.now request.parts.now c.requires.asks.0 c.requires.asks.1 c.requires.passes un)).1)
 
+pub returns-then-not-selects-clause-rule : goal.returns-then-not-selects-clause-rule
+returns-then-not-selects-clause-rule c =
+    let slave = c.args.slave.now.slave in
+    let request = c.args.self.now in
+    let un : is_not_selected request.parts.now slave ≡ true =
+    selection slave request.parts.now c.deref.result.now c.read-command.result c.group.result false c.requires.point c.deref.ensures.0 c.read-command.ensures c.group.ensures (sym c.selects.ensures ∙ c.if-not-selects.true) in
+    sym (unselected_rule slave request.sender request.telegram.now request.parts.now c.requires.asks.0 c.requires.asks.1 c.requires.passes un)
+
 pub returns-then-not-selects-clause-answer : goal.returns-then-not-selects-clause-answer
 returns-then-not-selects-clause-answer c =
     let slave = c.args.slave.now.slave in
@@ -38,6 +46,14 @@ returns-clause-slave c =
     ∙ (controlled slave request.sender request.place request.telegram.now request.parts.now
     (done_rule slave request.sender request.telegram.now request.parts.now c.requires.asks.0 c.requires.asks.1 c.requires.passes un)
     (is_sdn slave request.sender request.telegram.now request.parts.now c.requires.passes c.requires.point)).1)
+
+pub returns-clause-rule : goal.returns-clause-rule
+returns-clause-rule c =
+    let slave = c.args.slave.now.slave in
+    let request = c.args.self.now in
+    let un : is_not_selected request.parts.now slave ≡ false =
+    selection slave request.parts.now c.deref.result.now c.read-command.result c.group.result true c.requires.point c.deref.ensures.0 c.read-command.ensures c.group.ensures (sym c.selects.ensures ∙ c.if-not-selects.false) in
+    sym (done_rule slave request.sender request.telegram.now request.parts.now c.requires.asks.0 c.requires.asks.1 c.requires.passes un)
 
 pub returns-clause-answer : goal.returns-clause-answer
 returns-clause-answer c =

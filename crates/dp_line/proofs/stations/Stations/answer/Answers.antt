@@ -5,7 +5,9 @@ use Rattle.dp_telegram.specs.FrameText.{frame_of}
 use Rattle.dp_telegram.specs.declared.frame.Frame.TheVariants as frames
 use Rattle.dp_responder.specs.declared.rule.Rule.TheVariants as rules_of_line
 use Rattle.dp_line.specs.Effects.{facts_heard, outcome_heard, slave_after_request}
-use Rattle.dp_line.proofs.Hearings.{octets_unanswered, heard_no_frame, heard_no_master, heard_silent, heard_telegram_is, with_slaves}
+use Rattle.dp_line.specs.Walk.{walk_heard}
+use Rattle.dp_line.proofs.Answering.{octets_unanswered, with_slaves}
+use Rattle.dp_line.proofs.Hearings.{heard_no_frame, heard_no_master, heard_silent, heard_telegram_is}
 use Rattle.dp_line.proofs.stations.Stations.answer.Goals as goal
 
 pub returns-in_default-clause-slaves : goal.returns-in_default-clause-slaves
@@ -77,3 +79,26 @@ returns-in-Err-clause-outcome c =
     let found : frame_of c.args.octets.now ≡ Some c.in-Ok.frame = sym c.decode-decoded.ensures.found ∙ ap result_ok c.in-Ok.is in
     let master : list_any (λ other. eqb other c.args.master) c.args.self.now.masters ≡ true = search rules in
     c.silent-in-Err.ensures.outcome ∙ (octets_unanswered c.args.self.now c.args.master c.args.place c.args.octets.now c.in-Err.rule c.in-Err.ensures.silent (heard_silent c.args.self.now c.args.master c.args.octets.now c.in-Ok.frame c.in-Err.rule found master c.in-Err.ensures)).outcome
+
+pub returns-in_default-clause-walk : goal.returns-in_default-clause-walk
+returns-in_default-clause-walk c =
+    let none : frame_of c.args.octets.now ≡ None = search rules in
+    (octets_unanswered c.args.self.now c.args.master c.args.place c.args.octets.now rules_of_line.NoFrame refl (heard_no_frame c.args.self.now c.args.master c.args.octets.now none)).walk c.args.walk.now
+
+pub returns-then-not-has_master-clause-walk : goal.returns-then-not-has_master-clause-walk
+returns-then-not-has_master-clause-walk c =
+    let found : frame_of c.args.octets.now ≡ Some c.in-Ok.frame = sym c.decode-decoded.ensures.found ∙ ap result_ok c.in-Ok.is in
+    let stranger : list_any (λ other. eqb other c.args.master) c.args.self.now.masters ≡ false = search rules in
+    (octets_unanswered c.args.self.now c.args.master c.args.place c.args.octets.now rules_of_line.NoMaster refl (heard_no_master c.args.self.now c.args.master c.args.octets.now c.in-Ok.frame found stranger)).walk c.args.walk.now
+
+pub returns-in-Ok-request_in-clause-walk : goal.returns-in-Ok-request_in-clause-walk
+returns-in-Ok-request_in-clause-walk c =
+    let found : frame_of c.args.octets.now ≡ Some (frames.Telegram c.in-Ok-request_in.telegram.now) = sym c.decode-decoded.ensures.found ∙ ap result_ok c.in-Ok.is ∙ ap Some c.in-Ok-request_in.ensures.0 in
+    let master : list_any (λ other. eqb other c.args.master) c.args.self.now.masters ≡ true = search rules in
+    c.answer_telegram.ensures.walk ∙ ap (λ h. walk_heard h c.args.walk.now) (heard_telegram_is c.args.self.now c.args.master c.args.octets.now c.in-Ok-request_in.telegram.now found master)
+
+pub returns-in-Err-clause-walk : goal.returns-in-Err-clause-walk
+returns-in-Err-clause-walk c =
+    let found : frame_of c.args.octets.now ≡ Some c.in-Ok.frame = sym c.decode-decoded.ensures.found ∙ ap result_ok c.in-Ok.is in
+    let master : list_any (λ other. eqb other c.args.master) c.args.self.now.masters ≡ true = search rules in
+    (octets_unanswered c.args.self.now c.args.master c.args.place c.args.octets.now c.in-Err.rule c.in-Err.ensures.silent (heard_silent c.args.self.now c.args.master c.args.octets.now c.in-Ok.frame c.in-Err.rule found master c.in-Err.ensures)).walk c.args.walk.now

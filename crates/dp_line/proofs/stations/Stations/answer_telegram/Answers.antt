@@ -1,8 +1,9 @@
 use Rattle.std.proofs.Common.{◌≡◌, true, false, Some, None, List, ap, sym, ◌∙◌, rules}
 use Rattle.dp_telegram.specs.Access.{parts_of}
 use Rattle.dp_slave.specs.SlaveRecord.{SlaveRecord}
-use Rattle.dp_line.specs.Verdict.{is_to_all}
-use Rattle.dp_line.proofs.Hearings.{telegram_answered, telegram_bare, telegram_global, telegram_lost, with_slaves}
+use Rattle.dp_line.specs.Hearing.{is_to_all}
+use Rattle.dp_line.specs.Verdict.{is_global_control}
+use Rattle.dp_line.proofs.Answering.{telegram_answered, telegram_bare, telegram_global, telegram_lost, telegram_spread, with_slaves}
 use Rattle.dp_line.proofs.stations.Stations.answer_telegram.Goals as goal
 
 pub returns-in_default-clause-slaves : goal.returns-in_default-clause-slaves
@@ -20,25 +21,64 @@ returns-in_default-clause-outcome c =
     let none : parts_of c.args.telegram.now ≡ None = sym c.parts-read.ensures.computed ∙ c.in_default.is in
     c.silent.ensures.outcome ∙ (telegram_bare c.args.self.now.slaves c.args.sender c.args.place c.args.telegram.now c.requires.admitted none).outcome
 
+pub returns-in_default-clause-walk : goal.returns-in_default-clause-walk
+returns-in_default-clause-walk c =
+    let none : parts_of c.args.telegram.now ≡ None = sym c.parts-read.ensures.computed ∙ c.in_default.is in
+    (telegram_bare c.args.self.now.slaves c.args.sender c.args.place c.args.telegram.now c.requires.admitted none).walk c.args.walk.now
+
+pub returns-then-not-is_global_control-clause-slaves : goal.returns-then-not-is_global_control-clause-slaves
+returns-then-not-is_global_control-clause-slaves c =
+    let read : parts_of c.args.telegram.now ≡ Some c.in-Some.parts = sym c.parts-read.ensures.computed ∙ c.in-Some.is in
+    let global : is_to_all c.args.telegram.now ≡ true = search rules in
+    let other : is_global_control c.in-Some.parts c.args.telegram.now ≡ false = search rules in
+    with_slaves c.args.self.now _ (telegram_global c.args.self.now.slaves c.args.sender c.args.place c.args.telegram.now c.in-Some.parts c.requires.admitted read global other).stay
+
+pub returns-then-not-is_global_control-clause-outcome : goal.returns-then-not-is_global_control-clause-outcome
+returns-then-not-is_global_control-clause-outcome c =
+    let read : parts_of c.args.telegram.now ≡ Some c.in-Some.parts = sym c.parts-read.ensures.computed ∙ c.in-Some.is in
+    let global : is_to_all c.args.telegram.now ≡ true = search rules in
+    let other : is_global_control c.in-Some.parts c.args.telegram.now ≡ false = search rules in
+    c.silent-then-not-is_global_control.ensures.outcome
+    ∙ (telegram_global c.args.self.now.slaves c.args.sender c.args.place c.args.telegram.now c.in-Some.parts c.requires.admitted read global other).outcome
+
+pub returns-then-not-is_global_control-clause-walk : goal.returns-then-not-is_global_control-clause-walk
+returns-then-not-is_global_control-clause-walk c =
+    let read : parts_of c.args.telegram.now ≡ Some c.in-Some.parts = sym c.parts-read.ensures.computed ∙ c.in-Some.is in
+    let global : is_to_all c.args.telegram.now ≡ true = search rules in
+    let other : is_global_control c.in-Some.parts c.args.telegram.now ≡ false = search rules in
+    (telegram_global c.args.self.now.slaves c.args.sender c.args.place c.args.telegram.now c.in-Some.parts c.requires.admitted read global other).walk c.args.walk.now
+
 pub returns-then-destination-eq-GLOBAL_ADDRESS-clause-slaves : goal.returns-then-destination-eq-GLOBAL_ADDRESS-clause-slaves
 returns-then-destination-eq-GLOBAL_ADDRESS-clause-slaves c =
     let read : parts_of c.args.telegram.now ≡ Some c.in-Some.parts = sym c.parts-read.ensures.computed ∙ c.in-Some.is in
     let global : is_to_all c.args.telegram.now ≡ true = search rules in
-    with_slaves c.args.self.now _ (telegram_global c.args.self.now.slaves c.args.sender c.args.place c.args.telegram.now c.in-Some.parts c.requires.admitted read global).stay
+    let control : is_global_control c.in-Some.parts c.args.telegram.now ≡ true = search rules in
+    let spread = telegram_spread c.args.self.now.slaves c.args.sender c.args.place c.args.telegram.now c.in-Some.parts c.requires.admitted read global control in
+    c.spread.ensures.slaves ∙ ap (λ (xs : List SlaveRecord). record c.args.self.now { slaves = xs }) spread.each
 
 pub returns-then-destination-eq-GLOBAL_ADDRESS-clause-facts : goal.returns-then-destination-eq-GLOBAL_ADDRESS-clause-facts
 returns-then-destination-eq-GLOBAL_ADDRESS-clause-facts c =
     let read : parts_of c.args.telegram.now ≡ Some c.in-Some.parts = sym c.parts-read.ensures.computed ∙ c.in-Some.is in
     let global : is_to_all c.args.telegram.now ≡ true = search rules in
-    c.silent-then-destination-eq-GLOBAL_ADDRESS.ensures.facts
-    ∙ (telegram_global c.args.self.now.slaves c.args.sender c.args.place c.args.telegram.now c.in-Some.parts c.requires.admitted read global).facts
+    let control : is_global_control c.in-Some.parts c.args.telegram.now ≡ true = search rules in
+    let spread = telegram_spread c.args.self.now.slaves c.args.sender c.args.place c.args.telegram.now c.in-Some.parts c.requires.admitted read global control in
+    spread.facts
 
 pub returns-then-destination-eq-GLOBAL_ADDRESS-clause-outcome : goal.returns-then-destination-eq-GLOBAL_ADDRESS-clause-outcome
 returns-then-destination-eq-GLOBAL_ADDRESS-clause-outcome c =
     let read : parts_of c.args.telegram.now ≡ Some c.in-Some.parts = sym c.parts-read.ensures.computed ∙ c.in-Some.is in
     let global : is_to_all c.args.telegram.now ≡ true = search rules in
-    c.silent-then-destination-eq-GLOBAL_ADDRESS.ensures.outcome
-    ∙ (telegram_global c.args.self.now.slaves c.args.sender c.args.place c.args.telegram.now c.in-Some.parts c.requires.admitted read global).outcome
+    let control : is_global_control c.in-Some.parts c.args.telegram.now ≡ true = search rules in
+    let spread = telegram_spread c.args.self.now.slaves c.args.sender c.args.place c.args.telegram.now c.in-Some.parts c.requires.admitted read global control in
+    c.spread.ensures.outcome ∙ spread.outcome
+
+pub returns-then-destination-eq-GLOBAL_ADDRESS-clause-walk : goal.returns-then-destination-eq-GLOBAL_ADDRESS-clause-walk
+returns-then-destination-eq-GLOBAL_ADDRESS-clause-walk c =
+    let read : parts_of c.args.telegram.now ≡ Some c.in-Some.parts = sym c.parts-read.ensures.computed ∙ c.in-Some.is in
+    let global : is_to_all c.args.telegram.now ≡ true = search rules in
+    let control : is_global_control c.in-Some.parts c.args.telegram.now ≡ true = search rules in
+    let spread = telegram_spread c.args.self.now.slaves c.args.sender c.args.place c.args.telegram.now c.in-Some.parts c.requires.admitted read global control in
+    c.spread.ensures.visits ∙ spread.walk c.args.walk.now
 
 pub returns-in-Some-serve-clause-slaves : goal.returns-in-Some-serve-clause-slaves
 returns-in-Some-serve-clause-slaves c =
@@ -81,3 +121,16 @@ returns-in-None-clause-outcome c =
     let read : parts_of c.args.telegram.now ≡ Some c.in-Some.parts = sym c.parts-read.ensures.computed ∙ c.in-Some.is in
     let one : is_to_all c.args.telegram.now ≡ false = search rules in
     c.silent-in-None.ensures.outcome ∙ (telegram_lost c.args.self.now.slaves c.args.sender c.args.place c.args.telegram.now c.in-Some.parts c.requires.admitted read one c.in-None.ensures.facts).0.outcome
+
+pub returns-in-Some-serve-clause-walk : goal.returns-in-Some-serve-clause-walk
+returns-in-Some-serve-clause-walk c =
+    let read : parts_of c.args.telegram.now ≡ Some c.in-Some.parts = sym c.parts-read.ensures.computed ∙ c.in-Some.is in
+    let one : is_to_all c.args.telegram.now ≡ false = search rules in
+    (telegram_answered c.args.self.now.slaves c.args.sender c.args.place c.args.telegram.now c.in-Some.parts c.in-Some-serve.facts c.serve.new.outcome
+    c.requires.admitted one read c.in-Some-serve.ensures.facts c.in-Some-serve.ensures.outcome).walk c.args.walk.now
+
+pub returns-in-None-clause-walk : goal.returns-in-None-clause-walk
+returns-in-None-clause-walk c =
+    let read : parts_of c.args.telegram.now ≡ Some c.in-Some.parts = sym c.parts-read.ensures.computed ∙ c.in-Some.is in
+    let one : is_to_all c.args.telegram.now ≡ false = search rules in
+    (telegram_lost c.args.self.now.slaves c.args.sender c.args.place c.args.telegram.now c.in-Some.parts c.requires.admitted read one c.in-None.ensures.facts).0.walk c.args.walk.now

@@ -13,7 +13,7 @@ use Rattle.dp_line.proofs.stations.Stations.serve.Goals as goal
 pub returns-in_err-self-clause-slaves : goal.returns-in_err-self-clause-slaves
 returns-in_err-self-clause-slaves c =
     view_left c.args.self.now c.self.inside.masters.items (slaves_of c.self.inside.slaves.items) c.args.request.now (sym c.self.view_is)
-    (slaves_left c.args.request.now c.self.inside.masters.items c.self.inside.slaves.items c.self.inside.indices c.self.inside.owners c.from.result c.self.invariant (c.from.ensures ∙ c.destination.ensures) c.in_err-self.was)
+    (slaves_left c.args.request.now c.self.inside.masters.items c.self.inside.slaves.items c.self.inside.indices c.self.inside.owners c.from.result c.self.invariant (c.from.ensures ∙ c.destination.ensures) c.in_err-self.was c.requires.one)
 
 pub returns-in_err-self-clause-facts : goal.returns-in_err-self-clause-facts
 returns-in_err-self-clause-facts c =
@@ -49,7 +49,7 @@ returns-clause-slaves c =
     view_after c.args.self.now c.self.inside.masters.items (slaves_of c.self.inside.slaves.items) _ c.args.request.now (sym c.self.view_is)
     (slaves_after c.args.request.now c.self.inside.masters.items c.self.inside.slaves.items c.serve_at.new.slaves c.self.inside.indices c.self.inside.owners c.from-index.result c.from.result c.self.inside.slaves.len
     c.self.invariant (c.from.ensures ∙ c.destination.ensures) (c.in_ok-self.was ∙ ap Some (sym c.from-index.ensures))
-    (c.serve_at.ensures.slaves ∙ ap (λ (l : List SlaveParts). at_index c.from-index.result (served_to c.args.request.now) (slaves_of l)) c.deref_mut.ensures.value) size same)
+    (c.serve_at.ensures.slaves ∙ ap (λ (l : List SlaveParts). at_index c.from-index.result (served_to c.args.request.now) (slaves_of l)) c.deref_mut.ensures.value) size same c.requires.one)
 
 pub returns-clause-facts : goal.returns-clause-facts
 returns-clause-facts c =
