@@ -28,3 +28,15 @@ pub mod IsolationOfSteps
 pub mod IsolationOfEvents
 pub mod IsolationOfPairs
 pub mod Isolation
+pub mod BusSteps
+pub mod BusVerdict
+pub mod BusLives
+pub mod BusTime
+pub mod BusHalt
+pub mod BusStrangers
+pub mod BusPlaces
+pub mod BusReplies
+pub mod BusAnswers
+pub mod BusOutcomes
+pub mod BusReasons
+pub mod BusRows

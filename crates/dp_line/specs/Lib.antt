@@ -11,6 +11,7 @@ pub mod Effects
 pub mod Steps
 pub mod Walk
 pub mod Isolation
+pub mod Bus
 pub mod Stations
 pub mod Serving
 pub mod LineExamples

@@ -6,6 +6,7 @@
 //! request is the table `verdict_of` of `specs/Verdict`.
 #![tactic(auto)]
 
+pub mod bus_laws;
 mod description;
 mod event;
 mod fault;

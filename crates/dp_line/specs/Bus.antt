@@ -1,0 +1,100 @@
+-- Words of the laws of a line in the bus's own words.
+use Rattle.std.specs.Prelude.{◌≡◌, ◌≢◌, ℕ, ◌≤◌, Bool, true, false, List, [], ◌∷◌, Option, Some, None, length, slice_index}
+use Rattle.arrayvec.specs.ArrayVec.{ArrayVec}
+use Rattle.dp_telegram.specs.declared.frame.Telegram.{Telegram}
+use Rattle.dp_telegram.specs.declared.frame.Frame.TheVariants as frames
+use Rattle.dp_telegram.specs.FrameText.{Spells}
+use Rattle.dp_telegram.specs.Access.{address_of, global_address}
+use Rattle.dp_telegram.specs.FunctionCode.{asks_sdn, function_of, is_request, is_set}
+use Rattle.dp_sap.specs.AccessTable.{most_data}
+use Rattle.dp_diag.specs.Diagnosis.{most_extended}
+use Rattle.dp_diag.specs.DiagnosisText.{diagnosis_text}
+use Rattle.dp_responder.specs.declared.rule.Rule.{Rule}
+use Rattle.dp_responder.specs.declared.rule.Rule.TheVariants as rules
+use Rattle.dp_slave.specs.declared.description.SlaveSpec.{SlaveSpec}
+use Rattle.dp_slave.specs.SlaveRecord.{SlaveRecord, diag_facts}
+use Rattle.dp_line.specs.declared.event.Event.{Event}
+use Rattle.dp_line.specs.declared.event.Event.TheVariants.{Request, Operator}
+use Rattle.dp_line.specs.declared.event.Op.TheVariants.{Diag}
+use Rattle.dp_line.specs.declared.event.Outcome.{Outcome}
+use Rattle.dp_line.specs.declared.event.Outcome.TheVariants.{Refused, Reply, Silence}
+use Rattle.dp_line.specs.declared.event.Step.{Step}
+use Rattle.dp_line.specs.declared.fault.OperatorFault.TheVariants as faults
+use Rattle.dp_line.specs.World.{World, slave_at}
+use Rattle.dp_line.specs.Verdict.{concerns_a_slave}
+
+-- WD_On, bit 3 of the second octet of its diagnosis, is 1 (IEC 61158-6-3, Slave_Diag response, Station_status_2)
+abbrev pub tells_watchdog : SlaveRecord → Bool
+tells_watchdog slave = is_set 3 (slice_index (diagnosis_text (diag_facts slave)) 1)
+
+-- what a halted line says: no master gets a reply, and what the operator does is refused (own)
+abbrev pub IsHaltedOutcome : Event → Outcome → Type 0
+IsHaltedOutcome (Request master octets) outcome = outcome ≡ Silence rules.Halted
+IsHaltedOutcome (Operator op) outcome = outcome ≡ Refused faults.Halted
+
+-- the answer to an event that a halted line doesn't take: nothing is recorded and no slave is told of (own)
+pub record IsTurnedAway (event : Event) (answer : Step) : Type 0 where
+  pub place : answer.place ≡ None
+  pub facts : answer.facts ≡ None
+  pub halted : answer.halted ≡ None
+  pub outcome : IsHaltedOutcome event answer.outcome
+
+-- one such answer for each event (own)
+pub data AreTurnedAway : List Event → List Step → Type 0 where
+  none : AreTurnedAway [] []
+  one_more : {event : Event} {answer : Step} {events : List Event} {answers : List Step} → IsTurnedAway event answer → AreTurnedAway events answers
+      → AreTurnedAway (event ∷ events) (answer ∷ answers)
+
+-- the place of the lock of a slave with this holder: 0 where nobody holds it, and else one of those that the line has given (own)
+abbrev pub HasPlace : ℕ → ℕ → Option ℕ → Type 0
+HasPlace count since None = since ≡ 0
+HasPlace count since (Some master) = (1 ≤ since) × (since ≤ count)
+
+-- how a slave is held after an event: by the master that held it before, since the same place; or nobody held it, and the event is a request
+-- of its holder, recorded at the place of the lock (own)
+pub data IsHeldFrom (event : Event) (answer : Step) (slave after : SlaveRecord) : Type 0 where
+  held_on : after.holder ≡ slave.holder → after.since ≡ slave.since → IsHeldFrom event answer slave after
+  locked : (master : ℕ) (octets : ArrayVec ℕ) → event ≡ Request master octets → slave.holder ≡ None → after.holder ≡ Some master → answer.place ≡ Some after.since
+      → IsHeldFrom event answer slave after
+
+-- the octets are the short acknowledgement, or the text of a telegram from the station to the master, which is a response
+-- (IEC 61158-4-3, response telegrams)
+pub data IsReplyTo (master station : ℕ) (octets : List ℕ) : Type 0 where
+  acknowledges : Spells octets frames.Ack → IsReplyTo master station octets
+  responds : (telegram : Telegram) → Spells octets (frames.Telegram telegram) → address_of telegram.da ≡ master → address_of telegram.sa ≡ station
+      → is_request telegram.fc ≡ false → IsReplyTo master station octets
+
+-- the octets are the text of a telegram for one slave of the line, and the reply is one of this slave to the master
+-- (IEC 61158-4-3, response telegrams)
+pub record IsAnswered (world : World) (master : ℕ) (octets reply : List ℕ) : Type 0 where
+  pub telegram : Telegram
+  pub slave : SlaveRecord
+  pub spelt : Spells octets (frames.Telegram telegram)
+  pub one : address_of telegram.da ≢ global_address
+  pub there : slave_at world (address_of telegram.da) ≡ Some slave
+  pub to_asker : IsReplyTo master (address_of telegram.da) reply
+
+-- no more octets than the types of the code have room for: in a configuration, and in what an application reports (own)
+abbrev pub HasShortConfiguration : SlaveSpec → Type 0
+HasShortConfiguration slave = length slave.cfg.items ≤ most_data
+
+abbrev pub HasShortReport : Event → Type 0
+HasShortReport (Operator (Diag address ext stat overflow octets)) = length octets.items ≤ most_extended
+HasShortReport event = Unit {0}
+
+-- how a request ends, in one of three ways (own). By a reply, and not by a rule of the line, where the octets are the text of a telegram that
+-- is no SDN, for one slave that the line has; by silence for a rule of the line; without a reply, as an SDN, which never gets one
+-- (IEC 61158-4-3, Send Data with No acknowledge)
+pub data HasReason (world : World) (octets : List ℕ) (outcome : Outcome) : Type 0 where
+  gets_reply : (telegram : Telegram) (slave : SlaveRecord) (reply : ArrayVec ℕ) (rule : Rule) → Spells octets (frames.Telegram telegram) → address_of telegram.da ≢ global_address
+      → slave_at world (address_of telegram.da) ≡ Some slave → asks_sdn (function_of telegram.fc) ≡ false → concerns_a_slave rule ≡ true → outcome ≡ Reply reply rule
+      → HasReason world octets outcome
+  is_kept_off : (rule : Rule) → concerns_a_slave rule ≡ false → outcome ≡ Silence rule → HasReason world octets outcome
+  is_no_question : (telegram : Telegram) → Spells octets (frames.Telegram telegram) → asks_sdn (function_of telegram.fc) ≡ true
+      → ((reply : ArrayVec ℕ) (rule : Rule) → outcome ≢ Reply reply rule) → HasReason world octets outcome
+
+-- the rule is that of the first row that applies, and Done where none does (own)
+pub data IsFirst : List (Bool × Rule) → Rule → Type 0 where
+  here : {rule : Rule} {rows : List (Bool × Rule)} → IsFirst ((true, rule) ∷ rows) rule
+  later : {rule given : Rule} {rows : List (Bool × Rule)} → IsFirst rows given → IsFirst ((false, rule) ∷ rows) given
+  none_applies : IsFirst [] rules.Done
