@@ -24,6 +24,7 @@ use Rattle.dp_line.specs.Served.{answered}
 use Rattle.dp_line.specs.Effects.{effect, outcome_heard, outcome_of, outcome_of_one, outcome_spread, reply_where_known}
 use Rattle.dp_line.specs.Steps.{step}
 use Rattle.dp_line.proofs.BusSteps.{IsConcerned, step_way}
+use Rattle.dp_line.proofs.Runs.{over_verdict}
 use Rattle.dp_line.proofs.BusVerdict.{IsHeard, heard_by_slaves, reached_rule, sdn_gets_none, srd_gets_one, to_all_controls}
 
 pub data IsEnding (hearing : Hearing) (outcome : Outcome) : Type 0 where
@@ -158,10 +159,6 @@ ending_by hearing false silent = kept_off hearing silent
 effect_outcome : (world : World) (master : ℕ) (octets : ArrayVec ℕ) → (effect world (Request master octets)).answer.outcome ≡ outcome_heard (heard world master octets.items)
 unfolding effect outcome_of
 effect_outcome world master octets = refl
-
-over_verdict : (world : World) (master : ℕ) (octets : List ℕ) → takes_no_more world ≡ true → verdict_of (heard world master octets) ≡ rules.Halted
-unfolding verdict_of heard
-over_verdict world master octets over = cond-true (takes_no_more world) _ _ over
 
 -- a line that takes no more is silent by the first row
 over_ending : (world : World) (master : ℕ) (octets : ArrayVec ℕ) → takes_no_more world ≡ true → IsEnding (heard world master octets.items) (Silence rules.Halted)

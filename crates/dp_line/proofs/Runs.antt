@@ -23,10 +23,11 @@ use Rattle.dp_line.specs.declared.fault.OperatorFault.{OperatorFault}
 use Rattle.dp_line.specs.Events.{misfit}
 use Rattle.dp_line.specs.World.{World, address_of_slave, slave_at, takes_no_more, is_last_place}
 use Rattle.dp_line.specs.Hearing.{Hearing, asked_among, heard, is_to_all, telegram_of_frame}
-use Rattle.dp_line.specs.Verdict.{verdict_of, line_rows, rows_where_known, rule_at, concerns_a_slave}
+use Rattle.dp_line.specs.Verdict.{verdict_of, rows_where_known, rule_at, concerns_a_slave}
 use Rattle.dp_line.specs.Served.{executed, served}
 use Rattle.dp_line.specs.Effects.{Stepped, effect, halted_world, held_addresses, is_for, is_spread, outcome_of, own_rule, rule_taken, rule_where_known, served_where_asked, slave_after, slave_after_request}
 use Rattle.dp_line.specs.Steps.{step, run, told_halted, unrecorded}
+use Rattle.dp_line.proofs.BusVerdict.{heard_by_slaves, reached_rule}
 use Rattle.dp_line.proofs.Hearings.{unanswered}
 use Rattle.dp_line.proofs.Events.{step_halted, step_refused, step_at_last_place, step_is_effect}
 
@@ -87,39 +88,6 @@ executed_stays slave sender place parts rules.Busy memory other = refl
 executed_stays slave sender place parts rules.Length memory other = refl
 executed_stays slave sender place parts rules.NotSelected memory other = refl
 
--- the rows of the line concern no slave: where a slave is concerned, the rows behind them decide
-abbrev NoneConcern : List (Bool × Rule) → Type 0
-NoneConcern [] = Unit {0}
-NoneConcern (row ∷ rows) = (concerns_a_slave row.1 ≡ false) × NoneConcern rows
-
-past_by : (b : Bool) (rule other last : Rule) → concerns_a_slave rule ≡ false → concerns_a_slave (cond b rule other) ≡ true
-    → (concerns_a_slave other ≡ true → other ≡ last) → cond b rule other ≡ last
-past_by true rule other last silent concerns more = absurd cc
-past_by false rule other last silent concerns more = more concerns
-
-past_silent : (rows others : List (Bool × Rule)) → NoneConcern rows → concerns_a_slave (first_row (rows ++ others)) ≡ true
-    → first_row (rows ++ others) ≡ first_row others
-past_silent [] others none concerns = refl
-past_silent (row ∷ rows) others none concerns =
-    past_by row.0 row.1 (first_row (rows ++ others)) (first_row others) none.0 concerns (λ more. past_silent rows others none.1 more)
-
-concerned_verdict : (hearing : Hearing) → concerns_a_slave (verdict_of hearing) ≡ true
-    → verdict_of hearing ≡ first_row (rows_where_known hearing.sender (option_and_then telegram_of_frame hearing.frame) hearing.parts hearing.slave)
-unfolding verdict_of
-concerned_verdict hearing concerns =
-    past_silent (line_rows hearing) (rows_where_known hearing.sender (option_and_then telegram_of_frame hearing.frame) hearing.parts hearing.slave)
-    (refl, (refl, (refl, (refl, (refl, (refl, (refl, (refl, (refl, (refl, tt)))))))))) concerns
-
-reached_rule : (hearing : Hearing) (telegram : Telegram) (parts : Parts) (slave : SlaveRecord) → concerns_a_slave (verdict_of hearing) ≡ true
-    → option_and_then telegram_of_frame hearing.frame ≡ Some telegram → hearing.parts ≡ Some parts → hearing.slave ≡ Some slave
-    → verdict_of hearing ≡ rule_at hearing.sender telegram parts slave
-unfolding rule_at
-reached_rule hearing telegram parts slave concerns spelt read found =
-    concerned_verdict hearing concerns
-    ∙ ap (λ t. first_row (rows_where_known hearing.sender t hearing.parts hearing.slave)) spelt
-    ∙ ap (λ p. first_row (rows_where_known hearing.sender (Some telegram) p hearing.slave)) read
-    ∙ ap (λ s. first_row (rows_where_known hearing.sender (Some telegram) (Some parts) s)) found
-
 refused_served : (slave : SlaveRecord) (sender place : ℕ) (telegram : Telegram) (parts : Parts) → rule_at sender telegram parts slave ≢ rules.Done
     → record (served slave sender place telegram parts) { memory = slave.memory } ≡ slave
 unfolding served
@@ -140,7 +108,7 @@ record Asks (hearing : Hearing) (slave : SlaveRecord) (telegram : Telegram) : Ty
 all_done : (hearing : Hearing) (telegram : Telegram) (parts : Parts) → concerns_a_slave (verdict_of hearing) ≡ true
     → option_and_then telegram_of_frame hearing.frame ≡ Some telegram → hearing.parts ≡ Some parts → hearing.slave ≡ None → verdict_of hearing ≡ rules.Done
 all_done hearing telegram parts concerns spelt read none =
-    concerned_verdict hearing concerns
+    (heard_by_slaves hearing concerns).verdict
     ∙ ap (λ t. first_row (rows_where_known hearing.sender t hearing.parts hearing.slave)) spelt
     ∙ ap (λ p. first_row (rows_where_known hearing.sender (Some telegram) p hearing.slave)) read
     ∙ ap (λ s. first_row (rows_where_known hearing.sender (Some telegram) (Some parts) s)) none
@@ -152,7 +120,7 @@ by_all : (hearing : Hearing) (place : ℕ) (slave : SlaveRecord) (telegram : Tel
 by_all hearing place slave telegram parts true e concerns refused spelt read asks = absurd (refused (all_done hearing telegram parts concerns spelt read (asks.all e)))
 by_all hearing place slave telegram parts false e concerns refused spelt read asks =
     by_asked hearing place slave telegram parts (eqb (address_of_slave slave) (address_of telegram.da))
-    (λ asked done. refused (reached_rule hearing telegram parts slave concerns spelt read (asks.one e (eqb-true (address_of_slave slave) (address_of telegram.da) asked)) ∙ done))
+    (λ asked done. refused (reached_rule hearing telegram parts slave (record { concerned = concerns; spelt = spelt; read = read }) (asks.one e (eqb-true (address_of_slave slave) (address_of telegram.da) asked)) ∙ done))
 
 refused_known : (hearing : Hearing) (place : ℕ) (slave : SlaveRecord) (telegram : Option Telegram) (parts : Option Parts)
     → concerns_a_slave (verdict_of hearing) ≡ true → verdict_of hearing ≢ rules.Done

@@ -1,33 +1,19 @@
 -- Time on a line: whom it lets go, and under whom it runs.
 use Rattle.std.proofs.Common.{◌≡◌, ℕ, ◌+◌, ◌-◌, ◌<◌, ◌≤◌, Bool, true, false, cond, eqb, leb, List, [], ◌∷◌, length, map, Option, Some, None, refl, sym, ap, subst, ◌∙◌, arith}
-use Rattle.std.specs.Prelude.{find, is_some, option_map, sum_by}
-use Rattle.std.specs.List.{AllByRecursion}
+use Rattle.std.specs.Prelude.{find, sum_by}
 use Rattle.std.proofs.lemmas.Bool.{leb-false, lt-leb}
 use Rattle.std.proofs.lemmas.List.Sums.{sum_by-cons}
-use Rattle.std.specs.Option.{option_and_then}
-use Rattle.dp_telegram.specs.declared.access.Parts.{Parts}
-use Rattle.dp_telegram.specs.declared.frame.Telegram.{Telegram}
-use Rattle.dp_telegram.specs.Access.{address_of}
-use Rattle.dp_responder.specs.declared.rule.Rule.{Rule}
-use Rattle.dp_responder.specs.declared.rule.Rule.TheVariants as rules
-use Rattle.dp_slave.specs.declared.description.SlaveSpec.{SlaveSpec}
-use Rattle.dp_slave.specs.SlaveRecord.{SlaveRecord, full_time, is_held, is_held_by, released, starting_slave}
-use Rattle.dp_slave.specs.Acts.{Act, locks, faults, unlocks, sets_min_tsdr, configures, misconfigures, exchanges, tells_diagnosis, is_read, is_controlled, is_fed, reports, is_marked, ticks, halts, runs_out}
+use Rattle.dp_slave.specs.SlaveRecord.{SlaveRecord, released}
+use Rattle.dp_slave.specs.Acts.{ticks, runs_out}
 use Rattle.dp_slave.specs.Fields.{acted}
-use Rattle.dp_slave.specs.Services.{service_act}
-use Rattle.dp_line.specs.declared.event.Event.{Event}
-use Rattle.dp_line.specs.declared.event.Event.TheVariants.{Request, Operator}
-use Rattle.dp_line.specs.declared.event.Op.TheVariants.{Halt, Tick}
-use Rattle.dp_line.specs.declared.fault.OperatorFault.{OperatorFault}
-use Rattle.dp_line.specs.World.{World, Description, address_of_slave, ascending, is_last_place, slave_at, start_of}
-use Rattle.dp_line.specs.Events.{act_of_op, is_done_to, misfit, time_passes}
-use Rattle.dp_line.specs.Hearing.{heard, telegram_of_frame}
-use Rattle.dp_line.specs.Verdict.{concerns_a_slave, rule_at, verdict_of}
-use Rattle.dp_line.specs.Served.{executed, served}
-use Rattle.dp_line.specs.Effects.{Stepped, effect, is_for, served_where_asked, slave_after}
+use Rattle.dp_line.specs.declared.event.Event.TheVariants.{Operator}
+use Rattle.dp_line.specs.declared.event.Op.TheVariants.{Tick}
+use Rattle.dp_line.specs.World.{World, address_of_slave, slave_at}
+use Rattle.dp_line.specs.Events.{time_passes}
+use Rattle.dp_line.specs.Effects.{Stepped, effect, slave_after}
 use Rattle.dp_line.specs.Steps.{run, step}
 use Rattle.dp_line.specs.Stations.{ticked}
-use Rattle.dp_line.proofs.Events.{step_halted, step_refused, step_at_last_place, step_is_effect}
+use Rattle.dp_line.proofs.Events.{step_is_effect}
 use Rattle.dp_line.proofs.Moves.{op_address}
 use Rattle.dp_line.proofs.Runs.{is_open}
 
@@ -136,99 +122,3 @@ time_out world address left slave (time ∷ times) running room here is some out
     (λ less. time_out (step world (Operator (Tick time))).world address (left - time) (record slave { left = Some (left - time) }) times next.halted later
     (at_ticked world (step world (Operator (Tick time))).world time address slave next here ∙ ap Some (by_time slave time left is (lt-leb left time less))) refl
     (omega (arith, less)) (omega (arith, whole, out)))
-
--- a watchdog runs only under a holder: of one slave and any act
-abbrev IsUnderHolder : SlaveRecord → Type 0
-IsUnderHolder slave = is_some slave.left ≡ true → is_held slave ≡ true
-
-again_by : (b : Bool) (left : Option ℕ) → is_some (cond b left None) ≡ true → b ≡ true
-again_by true left runs = refl
-again_by false left runs = absurd cc
-
-again : (slave : SlaveRecord) (left : Option ℕ) → IsUnderHolder slave → is_some (cond (is_some slave.left) left None) ≡ true → is_held slave ≡ true
-again slave left under runs = under (again_by (is_some slave.left) left runs)
-
-min_tsdr_under : (slave : SlaveRecord) (b : Bool) → IsUnderHolder slave → is_some (cond b (cond (is_some slave.left) (full_time slave) None) slave.left) ≡ true → is_held slave ≡ true
-min_tsdr_under slave true under runs = again slave (full_time slave) under runs
-min_tsdr_under slave false under runs = under runs
-
-mapped_some : (f : ℕ → ℕ) (left : Option ℕ) → is_some (option_map f left) ≡ true → is_some left ≡ true
-mapped_some f None runs = absurd cc
-mapped_some f (Some left) runs = refl
-
-tick_under : (b : Bool) (slave : SlaveRecord) (left : Option ℕ) → (is_some left ≡ true → is_some slave.left ≡ true) → IsUnderHolder slave
-    → is_some (cond b None left) ≡ true → is_some (cond b None slave.holder) ≡ true
-tick_under true slave left less under runs = absurd cc
-tick_under false slave left less under runs = under (less runs)
-
-act_under : (slave : SlaveRecord) (act : Act) → IsUnderHolder slave → IsUnderHolder (acted slave act)
-unfolding acted
-act_under slave (locks by at parameters) under runs = refl
-act_under slave (faults not_supported) under runs = absurd cc
-act_under slave unlocks under runs = absurd cc
-act_under slave (sets_min_tsdr by octet) under runs = min_tsdr_under slave (is_held_by by slave) under runs
-act_under slave (configures number) under runs = again slave (full_time slave) under runs
-act_under slave misconfigures under runs = absurd cc
-act_under slave (exchanges octets) under runs = again slave (full_time slave) under runs
-act_under slave (tells_diagnosis by) under runs = min_tsdr_under slave (is_held_by by slave) under runs
-act_under slave is_read under runs = under runs
-act_under slave (is_controlled control) under runs = again slave (full_time slave) under runs
-act_under slave (is_fed octets) under runs = under runs
-act_under slave (reports ext stat overflow octets) under runs = under runs
-act_under slave (is_marked point busy) under runs = under runs
-act_under slave (ticks time) under runs = tick_under (runs_out time slave.left) slave (option_map (λ units. units - time) slave.left) (mapped_some (λ units. units - time) slave.left) under runs
-act_under slave halts under runs = absurd cc
-
-executed_under : (slave : SlaveRecord) (sender place : ℕ) (parts : Parts) (rule : Rule) → IsUnderHolder slave → IsUnderHolder (executed slave sender place parts rule)
-executed_under slave sender place parts rules.Done under = act_under slave (service_act slave sender place parts.dsap parts.payload.items) under
-executed_under slave sender place parts other under = under
-
-served_under : (slave : SlaveRecord) (sender place : ℕ) (telegram : Telegram) (parts : Parts) → IsUnderHolder slave → IsUnderHolder (served slave sender place telegram parts)
-unfolding served
-served_under slave sender place telegram parts under = executed_under slave sender place parts (rule_at sender telegram parts slave) under
-
-either_under : (b : Bool) (yes no : SlaveRecord) → IsUnderHolder yes → IsUnderHolder no → IsUnderHolder (cond b yes no)
-either_under true one other first second = first
-either_under false one other first second = second
-
-where_under : (sender place : ℕ) (telegram : Option Telegram) (parts : Option Parts) (slave : SlaveRecord) → IsUnderHolder slave → IsUnderHolder (served_where_asked sender place telegram parts slave)
-where_under sender place None parts slave under = under
-where_under sender place (Some telegram) None slave under = under
-where_under sender place (Some telegram) (Some parts) slave under =
-    either_under (is_for telegram slave) (served slave sender place telegram parts) slave (served_under slave sender place telegram parts under) under
-
-event_under : (world : World) (event : Event) (slave : SlaveRecord) → IsUnderHolder slave → IsUnderHolder (slave_after world event slave)
-unfolding slave_after
-event_under world (Request master octets) slave under =
-    let hearing = heard world master octets.items in
-    either_under (concerns_a_slave (verdict_of hearing)) (served_where_asked hearing.sender (world.count + 1) (option_and_then telegram_of_frame hearing.frame) hearing.parts slave) slave
-    (where_under hearing.sender (world.count + 1) (option_and_then telegram_of_frame hearing.frame) hearing.parts slave under) under
-event_under world (Operator op) slave under = either_under (is_done_to op slave) (acted slave (act_of_op op)) slave (act_under slave (act_of_op op) under) under
-
-abbrev AllUnder : List SlaveRecord → Type 0
-AllUnder slaves = AllByRecursion IsUnderHolder slaves
-
-map_under : (world : World) (event : Event) (slaves : List SlaveRecord) → AllUnder slaves → AllUnder (map (slave_after world event) slaves)
-map_under world event [] all = tt
-map_under world event (slave ∷ slaves) all = (event_under world event slave all.0, map_under world event slaves all.1)
-
-effect_under : (world : World) (event : Event) → AllUnder world.slaves → AllUnder (effect world event).world.slaves
-unfolding effect
-effect_under world event all = map_under world event world.slaves all
-
-step_under : (world : World) (event : Event) (halted last : Bool) (fit : Option OperatorFault) → world.halted ≡ halted → misfit world event ≡ fit → is_last_place world ≡ last → AllUnder world.slaves → AllUnder (step world event).world.slaves
-step_under world event true last fit h m l all = subst (λ (s : Stepped). AllUnder s.world.slaves) (sym (step_halted world event h)) all
-step_under world event false last (Some fault) h m l all = subst (λ (s : Stepped). AllUnder s.world.slaves) (sym (step_refused world event fault h m)) all
-step_under world event false true None h m l all = subst (λ (s : Stepped). AllUnder s.world.slaves) (sym (step_at_last_place world event h m l)) (effect_under world (Operator Halt) all)
-step_under world event false false None h m l all = subst (λ (s : Stepped). AllUnder s.world.slaves) (sym (step_is_effect world event h m l)) (effect_under world event all)
-
-run_under : (world : World) (events : List Event) → AllUnder world.slaves → AllUnder (run world events).world.slaves
-run_under world [] all = all
-run_under world (e ∷ events) all = run_under (step world e).world events (step_under world e world.halted (is_last_place world) (misfit world e) refl refl refl all)
-
-start_under : (masters : List ℕ) (descriptions : List SlaveSpec) → AllUnder (map (starting_slave masters) descriptions)
-start_under masters [] = tt
-start_under masters (description ∷ descriptions) = (λ runs. absurd cc, start_under masters descriptions)
-
-pub all_under : (line : Description) (events : List Event) → AllUnder (run (start_of line) events).world.slaves
-all_under line events = run_under (start_of line) events (start_under line.masters (ascending line.slaves))

@@ -127,7 +127,9 @@ pub fn places_are_given_in_turn()
 pub fn time_runs_only_under_a_holder()
     ensures { (line : Description) (events : List Events)
         → AllByRecursion (λ slave. is_some slave.left ≡ true → is_held slave ≡ true) (run (start_of line) events).world.slaves }
-{}
+{
+    dp_slave::laws::a_slave_stays_sound();
+}
 
 /// A slave whose watchdog has so much left, and to which no retrigger comes, is let go by the tick with
 /// which this time has passed, however it is parted, and not before.
