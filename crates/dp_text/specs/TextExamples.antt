@@ -9,7 +9,7 @@ use Rattle.dp_slave.specs.SlaveRecord.{starting_slave}
 use Rattle.dp_slave.specs.View.{view_of}
 use Rattle.dp_line.specs.declared.event.Event.TheVariants.{Request, Operator}
 use Rattle.dp_line.specs.declared.event.Op.TheVariants.{Input, Diag, Busy, Tick, Halt}
-use Rattle.dp_line.specs.declared.event.Outcome.TheVariants.{Reply, Silence, Released, Done, Refused}
+use Rattle.dp_line.specs.declared.event.Outcome.TheVariants.{Reply, Silence, Spread, Released, Done, Refused}
 use Rattle.dp_line.specs.declared.fault.OperatorFault.TheVariants as refusals
 use Rattle.dp_line.specs.LineExamples.{slave_5}
 use Rattle.dp_text.specs.declared.ops.HexCase.TheVariants.{Lower, Either}
@@ -37,6 +37,18 @@ a_silence = refl
 pub done : answer_text 2 Done ≡ codes "2: done\n"
 unfolding text_on_literals
 done = refl
+
+pub a_spread_to_none : answer_text 2 (Spread (record { items = [] })) ≡ codes "2: spread\n"
+unfolding text_on_literals
+a_spread_to_none = refl
+
+pub a_spread_to_one : answer_text 1 (Spread (record { items = (5, rules.NotSelected) ∷ [] })) ≡ codes "1: spread 5:NotSelected\n"
+unfolding text_on_literals
+a_spread_to_one = refl
+
+pub a_spread_to_two : answer_text 1 (Spread (record { items = (7, rules.NotActive) ∷ (126, rules.Done) ∷ [] })) ≡ codes "1: spread 7:NotActive 126:Done\n"
+unfolding text_on_literals
+a_spread_to_two = refl
 
 pub nobody_released : outcome_line (Released (record { items = [] })) ≡ codes "released\n"
 nobody_released = refl

@@ -6,6 +6,7 @@ use Rattle.dp_telegram.specs.declared.fault.FrameFault.{FrameFault}
 use Rattle.dp_telegram.specs.Names.{frame_fault_name}
 use Rattle.dp_sap.specs.declared.state.State.{State}
 use Rattle.dp_sap.specs.Names.{state_name}
+use Rattle.dp_responder.specs.declared.rule.Rule.{Rule}
 use Rattle.dp_responder.specs.Rules.{rule_name}
 use Rattle.dp_slave.specs.declared.view.SlaveView.{SlaveView}
 use Rattle.dp_line.specs.declared.event.Event.{Event}
@@ -13,7 +14,7 @@ use Rattle.dp_line.specs.declared.event.Event.TheVariants.{Request, Operator}
 use Rattle.dp_line.specs.declared.event.Op.{Op}
 use Rattle.dp_line.specs.declared.event.Op.TheVariants.{Input, Diag, Busy, Tick, Halt}
 use Rattle.dp_line.specs.declared.event.Outcome.{Outcome}
-use Rattle.dp_line.specs.declared.event.Outcome.TheVariants.{Reply, Silence, Released, Done, Refused}
+use Rattle.dp_line.specs.declared.event.Outcome.TheVariants.{Reply, Silence, Spread, Released, Done, Refused}
 use Rattle.dp_line.specs.Names.{operator_fault_name}
 
 -- octets: pairs of digits in lower case, `-` for none
@@ -72,10 +73,21 @@ abbrev pub addresses_text : List ℕ → List ℕ
 addresses_text [] = []
 addresses_text (address ∷ addresses) = codes " " ++ decimal address ++ addresses_text addresses
 
--- an outcome: `reply HEX RULE`, `silence RULE`, `released` with ` A` for each slave let go, `done` or `refused FAULT`
+-- an address and the rule of its slave: ` A:RULE`
+abbrev pub pair_text : ℕ × Rule → List ℕ
+pair_text pair = codes " " ++ decimal pair.0 ++ codes ":" ++ rule_name pair.1
+
+-- such pairs, in this order
+abbrev pub pairs_text : List (ℕ × Rule) → List ℕ
+pairs_text [] = []
+pairs_text (pair ∷ pairs) = pair_text pair ++ pairs_text pairs
+
+-- an outcome: `reply HEX RULE`, `silence RULE`, `spread` with ` A:RULE` for each slave of the sender, `released` with ` A` for each
+-- slave let go, `done` or `refused FAULT`
 abbrev pub outcome_text : Outcome → List ℕ
 outcome_text (Reply octets rule) = codes "reply " ++ encode_lower octets.items ++ codes " " ++ rule_name rule
 outcome_text (Silence rule) = codes "silence " ++ rule_name rule
+outcome_text (Spread pairs) = codes "spread" ++ pairs_text pairs.items
 outcome_text (Released addresses) = codes "released" ++ addresses_text addresses.items
 outcome_text Done = codes "done"
 outcome_text (Refused fault) = codes "refused " ++ operator_fault_name fault

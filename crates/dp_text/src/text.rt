@@ -8,10 +8,10 @@ use std::marker::Model;
 
 /// The most octets of a text.
 ///
-/// The longest is the journal's line of a request that is answered,
-/// `4294967295 req 255 HEX | DataExch 255 | reply HEX RULE` with 510 digits for each HEX and 13 letters
-/// for RULE: 1,078 with its LF.
-pub const LONGEST: usize = 1_600;
+/// The longest that contracts allow is the journal's line
+/// `4294967295 req 255 HEX | DataExch 255 | spread 255:ForeignSender ..` with 510 digits for HEX and 64
+/// pairs of 18 octets: 1,706 with its LF.
+pub const LONGEST: usize = 1_800;
 
 /// A text, of which contracts see the octets. It is made once, and cleared where another begins.
 #[derive(Drop)]

@@ -5,7 +5,7 @@ ghost use Rattle.std.specs.Fmt.{decimal};
 ghost use Rattle.hex.specs.Hex.{encode_lower};
 ghost use Rattle.dp_responder.specs.Rules.{rule_name};
 ghost use Rattle.dp_line.specs.Names.{operator_fault_name};
-ghost use Rattle.dp_text.specs.Texts.{octets_text, event_text, holder_text, facts_text, flags_text, letter_where, point_text, on_or_off_text, op_text, outcome_text, outcome_line, answer_text, dropped_text, addresses_text, owned_text, watchdog_text, slave_text, show_text};
+ghost use Rattle.dp_text.specs.Texts.{octets_text, event_text, holder_text, facts_text, flags_text, letter_where, point_text, on_or_off_text, op_text, outcome_text, outcome_line, answer_text, dropped_text, addresses_text, pair_text, pairs_text, owned_text, watchdog_text, slave_text, show_text};
 
 use crate::text::{LONGEST, Text};
 use dp_line::{Event, Facts, Op, OperatorFault, Outcome, Rule, SlaveView};
@@ -74,16 +74,17 @@ impl Text {
         }
     }
 
-    /// Puts an outcome behind it: `reply HEX RULE`, `silence RULE`, `released` with ` A` for each slave
-    /// let go, `done` or `refused FAULT`.
+    /// Puts an outcome behind it: `reply HEX RULE`, `silence RULE`, `spread` with ` A:RULE` for each slave
+    /// of the sender, `released` with ` A` for each slave let go, `done` or `refused FAULT`.
     pub fn push_outcome(&mut self, outcome: &Outcome)
-        requires { length self.old + 530 ≤ LONGEST }
+        requires { length self.old + 1_158 ≤ LONGEST }
         ensures text { self.new ≡ self.old ++ outcome_text outcome.now }
-        ensures most { length self.new ≤ length self.old + 530 }
+        ensures most { length self.new ≤ length self.old + 1_158 }
     {
         match outcome {
             Outcome::Reply { octets, rule } => self.push_reply(octets.as_slice(), *rule),
             Outcome::Silence(rule) => self.push_silence(*rule),
+            Outcome::Spread(pairs) => self.push_spread(pairs.as_slice()),
             Outcome::Released(addresses) => self.push_released(addresses.as_slice()),
             Outcome::Done => self.push_str("done"),
             Outcome::Refused(fault) => self.push_refused(*fault),
@@ -111,6 +112,44 @@ impl Text {
     {
         self.push_str("silence ");
         self.push_str(rule.name());
+    }
+
+    #[tactic(auto, using(crate::proofs::Lengths::lengths))]
+    fn push_spread(&mut self, pairs: &[(u8, Rule)])
+        requires pairs { length pairs.now ≤ 64 }
+        requires room { length self.old + 1_158 ≤ LONGEST }
+        ensures text { self.new ≡ self.old ++ (codes "spread" ++ pairs_text pairs.now) }
+        ensures most { length self.new ≤ length self.old + 1_158 }
+    {
+        self.push_str("spread");
+        self.push_pairs(pairs);
+    }
+
+    /// Puts addresses with their rules behind it, each pair behind a space.
+    #[tactic(auto, using(crate::proofs::Lengths::lengths))]
+    fn push_pairs(&mut self, pairs: &[(u8, Rule)])
+        requires { length self.old + 18 * length pairs.now ≤ LONGEST }
+        ensures text { self.new ≡ self.old ++ pairs_text pairs.now }
+        ensures most { length self.new ≤ length self.old + 18 * length pairs.now }
+    {
+        let mut left = pairs;
+        while let [pair, rest @ ..] = left {
+            self.push_pair(*pair);
+            left = rest;
+        }
+    }
+
+    /// Puts an address and the rule of its slave behind it.
+    #[tactic(auto, using(crate::proofs::Lengths::lengths))]
+    fn push_pair(&mut self, pair: (u8, Rule))
+        requires { length self.old + 18 ≤ LONGEST }
+        ensures text { self.new ≡ self.old ++ pair_text pair }
+        ensures most { length self.new ≤ length self.old + 18 }
+    {
+        self.push_str(" ");
+        self.push_octet(pair.0);
+        self.push_str(":");
+        self.push_str(pair.1.name());
     }
 
     #[tactic(auto, using(crate::proofs::Lengths::lengths))]
