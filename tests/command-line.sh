@@ -49,7 +49,7 @@ reply='1: reply 680b0b688185083e3c020500ff80a1af16 Done'
 # what it says while it builds the program belongs to no case
 "$rackd" </dev/null >"$work/out" 2>"$work/err"
 
-for example in slave-diag streams two-lines lock-and-exchange day-of-a-line; do
+for example in slave-diag streams two-lines lock-and-exchange day-of-a-line sync-and-freeze; do
   "$rackd" <"$top/examples/$example.txt" >"$work/out" 2>"$work/err"
   status=$?
   expect "the example $example" 0 "$(cat "$top/examples/$example.out")" ''

@@ -58,6 +58,13 @@ pub other_half :
 unfolding text_on_literals
 other_half = refl
 
+-- Sync to all of a master that holds no slave
+pub broadcast_to_none :
+    option_map text_of_sent (sent line_1 1 (0x68 ∷ 0x07 ∷ 0x07 ∷ 0x68 ∷ 0xFF ∷ 0x81 ∷ 0x46 ∷ 0x3A ∷ 0x3E ∷ 0x20 ∷ 0x00 ∷ 0x5E ∷ 0x16 ∷ []))
+    ≡ Some (codes "1: spread\n")
+unfolding text_on_literals
+broadcast_to_none = refl
+
 -- no master of the line
 pub no_master_of_the_line : sent line_1 3 (0x33 ∷ []) ≡ None
 no_master_of_the_line = refl

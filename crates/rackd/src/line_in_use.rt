@@ -55,7 +55,7 @@ impl Model for LineInUse {
 
     ghost Value = { View };
 
-    ghost view = { λ s. record { number = s.number; world = s.state; streams = s.streams.items } };
+    ghost view = { λ s. record { number = s.number; world = s.state.world; streams = s.streams.items } };
 }
 
 impl LineInUse {
@@ -147,10 +147,10 @@ impl Stream {
         text: &mut Text,
         writer: &mut W,
     ) -> Result<(), Stop>
-        ensures world { OnOk result (state.new ≡ (passed state.old self.old octets.entry).world) }
-        ensures stream { OnOk result (self.new ≡ (passed state.old self.old octets.entry).stream) }
-        ensures ok { OnOk result (Appends (W.contents writer.old) (W.contents writer.new) (passed state.old self.old octets.entry).text) }
-        ensures err { OnErr result (WritesPrefix (W.contents writer.old) (W.contents writer.new) (passed state.old self.old octets.entry).text) }
+        ensures world { OnOk result (state.new.world ≡ (passed state.old.world self.old octets.entry).world) }
+        ensures stream { OnOk result (self.new ≡ (passed state.old.world self.old octets.entry).stream) }
+        ensures ok { OnOk result (Appends (W.contents writer.old) (W.contents writer.new) (passed state.old.world self.old octets.entry).text) }
+        ensures err { OnErr result (WritesPrefix (W.contents writer.old) (W.contents writer.new) (passed state.old.world self.old octets.entry).text) }
         ensures fault { IfErr result (λ stop. stop ≡ Stop.WriteFault) }
     {
         pieces_of_a_stream_do_not_matter();
@@ -172,10 +172,10 @@ impl Stream {
         text: &mut Text,
         writer: &mut W,
     ) -> Result<(), Stop>
-        ensures world { OnOk result (state.new ≡ (passed state.old self.old octets.now).world) }
-        ensures stream { OnOk result (self.new ≡ (passed state.old self.old octets.now).stream) }
-        ensures ok { OnOk result (Appends (W.contents writer.old) (W.contents writer.new) (passed state.old self.old octets.now).text) }
-        ensures err { OnErr result (WritesPrefix (W.contents writer.old) (W.contents writer.new) (passed state.old self.old octets.now).text) }
+        ensures world { OnOk result (state.new.world ≡ (passed state.old.world self.old octets.now).world) }
+        ensures stream { OnOk result (self.new ≡ (passed state.old.world self.old octets.now).stream) }
+        ensures ok { OnOk result (Appends (W.contents writer.old) (W.contents writer.new) (passed state.old.world self.old octets.now).text) }
+        ensures err { OnErr result (WritesPrefix (W.contents writer.old) (W.contents writer.new) (passed state.old.world self.old octets.now).text) }
         ensures fault { IfErr result (λ stop. stop ≡ Stop.WriteFault) }
     {
         let mut left = octets;
@@ -198,7 +198,7 @@ impl Stream {
 /// Makes the text the answer to a piece of a master's stream: a frame is one event of the line.
 fn answer_piece(text: &mut Text, state: &mut LineState, master: u8, piece: Piece<'_>)
     requires { cut_length (cut_lent piece) ≤ 255 }
-    ensures { record { world = state.new; text = text.new } ≡ piece_answered state.old master (cut_lent piece.entry) }
+    ensures { record { world = state.new.world; text = text.new } ≡ piece_answered state.old.world master (cut_lent piece.entry) }
 {
     match piece {
         Piece::Frame(octets) => answer_frame(text, state, master, octets),
@@ -209,8 +209,8 @@ fn answer_piece(text: &mut Text, state: &mut LineState, master: u8, piece: Piece
 /// Makes the text the answer to a frame of a master's stream.
 fn answer_frame(text: &mut Text, state: &mut LineState, master: u8, octets: &[u8])
     requires { length octets.now ≤ 255 }
-    ensures { record { world = state.new; text = text.new }
-        ≡ piece_answered state.old master (pieces.Frame (frame_at octets.now) (record { items = octets.now })) }
+    ensures { record { world = state.new.world; text = text.new }
+        ≡ piece_answered state.old.world master (pieces.Frame (frame_at octets.now) (record { items = octets.now })) }
 {
     let mut event = Event::Request {
         master,

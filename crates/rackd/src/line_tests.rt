@@ -81,7 +81,7 @@ m 2 68 05 05 68 85 82 6D 39 3E EB 16
 
 #[test]
 fn oldest_lock_first(rt: HostRuntime) -> Result<(), Fail> {
-    // slave 7 runs no watchdog, and 6 is the last when it is locked again
+    // slave 7 runs no watchdog, and 6 is the last when it is locked again; a broadcast goes to those that are held
     let rack = rack_of(rt.alloc(), 1000, &[5, 6, 7, 8])?;
     plays_on(
         rt.alloc(),
@@ -94,8 +94,10 @@ m 1 68 0C 0C 68 88 81 6D 3D 3E 88 02 05 0B 80 A1 01 AD 16
 owned 1
 tick 10
 owned 1
+m 1 68 07 07 68 FF 81 46 3A 3E 20 00 5E 16
 m 1 68 0C 0C 68 86 81 5D 3D 3E 88 02 05 0B 80 A1 01 9B 16
 owned 1
+m 1 68 07 07 68 FF 81 46 3A 3E 20 00 5E 16
 ",
         "\
 1: reply e5 Done
@@ -105,8 +107,10 @@ owned 1
 owned 5 6 7 8
 released 5 6 8
 owned 7
+1: spread 7:NotActive
 1: reply e5 Done
 owned 7 6
+1: spread 7:NotActive 6:NotActive
 ",
     )
 }

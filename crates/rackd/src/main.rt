@@ -4,6 +4,8 @@
 //! answers of the script. `--help` and `--version` are answered on standard output.
 #![tactic(auto)]
 
+#[cfg(test)]
+mod broadcast_tests;
 mod command;
 mod command_line;
 mod ending;

@@ -1,3 +1,4 @@
+use arrayvec::ArrayVec;
 use dp_line::{Event, LineState, Op, OpenFault, Outcome, Rule};
 use dp_telegram::{FrameFault, Octets};
 use dp_text::{HexWords, Lines, Text, Words, event_in, is_text, number_in, octet_in, octets_in};
@@ -53,6 +54,21 @@ fn writes_answers(rt: HostRuntime) {
     text.push_hex(&[0x0A, 0xF0]);
     text.push_octet(7);
     assert_eq!(rt; text.as_bytes(), b"0af07".as_slice());
+}
+
+#[test]
+fn writes_the_longest_spread(rt: HostRuntime) -> Result<(), Fail> {
+    let mut pairs = ArrayVec::new();
+    pairs.try_extend_from_slice(&[(255, Rule::ForeignSender); 64])?;
+    let mut answer = String::from_str(rt.alloc(), "255: spread")?;
+    for _ in 0..64 {
+        answer.push_str(" 255:ForeignSender")?;
+    }
+    answer.push_str("\n")?;
+    let mut text = Text::new();
+    text.set_answer(255, &Outcome::Spread(pairs));
+    assert_eq!(rt; text.as_bytes(), answer.as_str().as_bytes());
+    Ok(())
 }
 
 #[test]
