@@ -22,7 +22,7 @@ pub mod stream_laws;
 pub use access::{Parts, request};
 pub use address::{GLOBAL_ADDRESS, LAST_STATION, is_station};
 pub use cutter::{Cut, Cutter, Piece};
-pub use decoding::decode;
+pub use decoding::{decode, decode_to};
 pub use encoding::encode;
 pub use fault::FrameFault;
 pub use frame::{Frame, Octets, Telegram};

@@ -14,7 +14,7 @@ use crate::event::{Facts, Outcome};
 use crate::request::Request;
 use dp_responder::Rule;
 use dp_telegram::function_code::Function;
-use dp_telegram::{Frame, GLOBAL_ADDRESS, Telegram, decode};
+use dp_telegram::{Frame, GLOBAL_ADDRESS, Parts, Telegram, decode_to};
 
 impl Stations {
     /// Writes the answer to a request that takes this place of the journal, and tells the facts of the
@@ -33,14 +33,14 @@ impl Stations {
         ensures outcome { outcome.new ≡ outcome_heard (heard_by self.old master octets.now) }
         ensures walk { walk.new ≡ walk_heard (heard_by self.old master octets.now) walk.old }
     {
-        let decoded = decode(octets);
-        let Ok(frame) = &decoded else {
+        let mut frame = Frame::blank();
+        if !decode_to(octets, &mut frame) {
             return silent(Rule::NoFrame, outcome);
-        };
+        }
         if !self.has_master(master) {
             return silent(Rule::NoMaster, outcome);
         }
-        match request_in(frame, master) {
+        match request_in(&frame, master) {
             Ok(telegram) => self.answer_telegram(master, place, telegram, outcome, walk),
             Err(rule) => silent(rule, outcome),
         }
@@ -63,15 +63,15 @@ impl Stations {
         ensures outcome { outcome.new ≡ outcome_heard (heard_telegram self.old.slaves sender telegram.now) }
         ensures walk { walk.new ≡ walk_heard (heard_telegram self.old.slaves sender telegram.now) walk.old }
     {
-        let read = telegram.parts();
-        let Some(parts) = &read else {
+        let mut parts = Parts::blank();
+        if !telegram.parts_to(&mut parts) {
             return silent(Rule::BadExtension, outcome);
-        };
+        }
         let request = Request {
             sender,
             place,
             telegram,
-            parts,
+            parts: &parts,
         };
         if telegram.destination() == GLOBAL_ADDRESS {
             if !request.is_global_control() {

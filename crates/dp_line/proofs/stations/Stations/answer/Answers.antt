@@ -1,5 +1,4 @@
-use Rattle.std.proofs.Common.{◌≡◌, eqb, true, false, Some, None, map, ap, sym, refl, ◌∙◌, rules}
-use Rattle.std.specs.Result.{result_ok}
+use Rattle.std.proofs.Common.{◌≡◌, eqb, true, false, Some, None, map, ap, sym, refl, ◌∙◌, rules, Bool, cond}
 use Rattle.std.specs.List.{list_any}
 use Rattle.dp_telegram.specs.FrameText.{frame_of}
 use Rattle.dp_telegram.specs.declared.frame.Frame.TheVariants as frames
@@ -10,95 +9,95 @@ use Rattle.dp_line.proofs.Answering.{octets_unanswered, with_slaves}
 use Rattle.dp_line.proofs.Hearings.{heard_no_frame, heard_no_master, heard_silent, heard_telegram_is}
 use Rattle.dp_line.proofs.stations.Stations.answer.Goals as goal
 
-pub returns-in_default-clause-slaves : goal.returns-in_default-clause-slaves
-returns-in_default-clause-slaves c =
+pub returns-then-not-decode_to-clause-slaves : goal.returns-then-not-decode_to-clause-slaves
+returns-then-not-decode_to-clause-slaves c =
     let none : frame_of c.args.octets.now ≡ None = search rules in
     with_slaves c.args.self.now _ (octets_unanswered c.args.self.now c.args.master c.args.place c.args.octets.now rules_of_line.NoFrame refl (heard_no_frame c.args.self.now c.args.master c.args.octets.now none)).stay
 
-pub returns-in_default-clause-facts : goal.returns-in_default-clause-facts
-returns-in_default-clause-facts c =
+pub returns-then-not-decode_to-clause-facts : goal.returns-then-not-decode_to-clause-facts
+returns-then-not-decode_to-clause-facts c =
     let none : frame_of c.args.octets.now ≡ None = search rules in
     c.silent.ensures.facts ∙ (octets_unanswered c.args.self.now c.args.master c.args.place c.args.octets.now rules_of_line.NoFrame refl (heard_no_frame c.args.self.now c.args.master c.args.octets.now none)).facts
 
-pub returns-in_default-clause-outcome : goal.returns-in_default-clause-outcome
-returns-in_default-clause-outcome c =
+pub returns-then-not-decode_to-clause-outcome : goal.returns-then-not-decode_to-clause-outcome
+returns-then-not-decode_to-clause-outcome c =
     let none : frame_of c.args.octets.now ≡ None = search rules in
     c.silent.ensures.outcome ∙ (octets_unanswered c.args.self.now c.args.master c.args.place c.args.octets.now rules_of_line.NoFrame refl (heard_no_frame c.args.self.now c.args.master c.args.octets.now none)).outcome
 
 pub returns-then-not-has_master-clause-slaves : goal.returns-then-not-has_master-clause-slaves
 returns-then-not-has_master-clause-slaves c =
-    let found : frame_of c.args.octets.now ≡ Some c.in-Ok.frame = sym c.decode-decoded.ensures.found ∙ ap result_ok c.in-Ok.is in
+    let found : frame_of c.args.octets.now ≡ Some c.decode_to.new.frame = sym c.decode_to.ensures.found ∙ ap (λ (b : Bool). cond b (Some c.decode_to.new.frame) None) c.if-not-decode_to.false in
     let stranger : list_any (λ other. eqb other c.args.master) c.args.self.now.masters ≡ false = search rules in
-    with_slaves c.args.self.now _ (octets_unanswered c.args.self.now c.args.master c.args.place c.args.octets.now rules_of_line.NoMaster refl (heard_no_master c.args.self.now c.args.master c.args.octets.now c.in-Ok.frame found stranger)).stay
+    with_slaves c.args.self.now _ (octets_unanswered c.args.self.now c.args.master c.args.place c.args.octets.now rules_of_line.NoMaster refl (heard_no_master c.args.self.now c.args.master c.args.octets.now c.decode_to.new.frame found stranger)).stay
 
 pub returns-then-not-has_master-clause-facts : goal.returns-then-not-has_master-clause-facts
 returns-then-not-has_master-clause-facts c =
-    let found : frame_of c.args.octets.now ≡ Some c.in-Ok.frame = sym c.decode-decoded.ensures.found ∙ ap result_ok c.in-Ok.is in
+    let found : frame_of c.args.octets.now ≡ Some c.decode_to.new.frame = sym c.decode_to.ensures.found ∙ ap (λ (b : Bool). cond b (Some c.decode_to.new.frame) None) c.if-not-decode_to.false in
     let stranger : list_any (λ other. eqb other c.args.master) c.args.self.now.masters ≡ false = search rules in
-    c.silent-then-not-has_master.ensures.facts ∙ (octets_unanswered c.args.self.now c.args.master c.args.place c.args.octets.now rules_of_line.NoMaster refl (heard_no_master c.args.self.now c.args.master c.args.octets.now c.in-Ok.frame found stranger)).facts
+    c.silent-then-not-has_master.ensures.facts ∙ (octets_unanswered c.args.self.now c.args.master c.args.place c.args.octets.now rules_of_line.NoMaster refl (heard_no_master c.args.self.now c.args.master c.args.octets.now c.decode_to.new.frame found stranger)).facts
 
 pub returns-then-not-has_master-clause-outcome : goal.returns-then-not-has_master-clause-outcome
 returns-then-not-has_master-clause-outcome c =
-    let found : frame_of c.args.octets.now ≡ Some c.in-Ok.frame = sym c.decode-decoded.ensures.found ∙ ap result_ok c.in-Ok.is in
+    let found : frame_of c.args.octets.now ≡ Some c.decode_to.new.frame = sym c.decode_to.ensures.found ∙ ap (λ (b : Bool). cond b (Some c.decode_to.new.frame) None) c.if-not-decode_to.false in
     let stranger : list_any (λ other. eqb other c.args.master) c.args.self.now.masters ≡ false = search rules in
-    c.silent-then-not-has_master.ensures.outcome ∙ (octets_unanswered c.args.self.now c.args.master c.args.place c.args.octets.now rules_of_line.NoMaster refl (heard_no_master c.args.self.now c.args.master c.args.octets.now c.in-Ok.frame found stranger)).outcome
+    c.silent-then-not-has_master.ensures.outcome ∙ (octets_unanswered c.args.self.now c.args.master c.args.place c.args.octets.now rules_of_line.NoMaster refl (heard_no_master c.args.self.now c.args.master c.args.octets.now c.decode_to.new.frame found stranger)).outcome
 
-pub returns-in-Ok-request_in-clause-slaves : goal.returns-in-Ok-request_in-clause-slaves
-returns-in-Ok-request_in-clause-slaves c =
-    let found : frame_of c.args.octets.now ≡ Some (frames.Telegram c.in-Ok-request_in.telegram.now) = sym c.decode-decoded.ensures.found ∙ ap result_ok c.in-Ok.is ∙ ap Some c.in-Ok-request_in.ensures.0 in
+pub returns-in-Ok-clause-slaves : goal.returns-in-Ok-clause-slaves
+returns-in-Ok-clause-slaves c =
+    let found : frame_of c.args.octets.now ≡ Some (frames.Telegram c.in-Ok.telegram.now) = sym c.decode_to.ensures.found ∙ ap (λ (b : Bool). cond b (Some c.decode_to.new.frame) None) c.if-not-decode_to.false ∙ ap Some c.in-Ok.ensures.0 in
     let master : list_any (λ other. eqb other c.args.master) c.args.self.now.masters ≡ true = search rules in
     c.answer_telegram.ensures.slaves
-    ∙ ap (λ h. record c.args.self.now { slaves = map (slave_after_request h c.args.place) c.args.self.now.slaves }) (heard_telegram_is c.args.self.now c.args.master c.args.octets.now c.in-Ok-request_in.telegram.now found master)
+    ∙ ap (λ h. record c.args.self.now { slaves = map (slave_after_request h c.args.place) c.args.self.now.slaves }) (heard_telegram_is c.args.self.now c.args.master c.args.octets.now c.in-Ok.telegram.now found master)
 
-pub returns-in-Ok-request_in-clause-facts : goal.returns-in-Ok-request_in-clause-facts
-returns-in-Ok-request_in-clause-facts c =
-    let found : frame_of c.args.octets.now ≡ Some (frames.Telegram c.in-Ok-request_in.telegram.now) = sym c.decode-decoded.ensures.found ∙ ap result_ok c.in-Ok.is ∙ ap Some c.in-Ok-request_in.ensures.0 in
+pub returns-in-Ok-clause-facts : goal.returns-in-Ok-clause-facts
+returns-in-Ok-clause-facts c =
+    let found : frame_of c.args.octets.now ≡ Some (frames.Telegram c.in-Ok.telegram.now) = sym c.decode_to.ensures.found ∙ ap (λ (b : Bool). cond b (Some c.decode_to.new.frame) None) c.if-not-decode_to.false ∙ ap Some c.in-Ok.ensures.0 in
     let master : list_any (λ other. eqb other c.args.master) c.args.self.now.masters ≡ true = search rules in
-    c.answer_telegram.ensures.facts ∙ ap facts_heard (heard_telegram_is c.args.self.now c.args.master c.args.octets.now c.in-Ok-request_in.telegram.now found master)
+    c.answer_telegram.ensures.facts ∙ ap facts_heard (heard_telegram_is c.args.self.now c.args.master c.args.octets.now c.in-Ok.telegram.now found master)
 
-pub returns-in-Ok-request_in-clause-outcome : goal.returns-in-Ok-request_in-clause-outcome
-returns-in-Ok-request_in-clause-outcome c =
-    let found : frame_of c.args.octets.now ≡ Some (frames.Telegram c.in-Ok-request_in.telegram.now) = sym c.decode-decoded.ensures.found ∙ ap result_ok c.in-Ok.is ∙ ap Some c.in-Ok-request_in.ensures.0 in
+pub returns-in-Ok-clause-outcome : goal.returns-in-Ok-clause-outcome
+returns-in-Ok-clause-outcome c =
+    let found : frame_of c.args.octets.now ≡ Some (frames.Telegram c.in-Ok.telegram.now) = sym c.decode_to.ensures.found ∙ ap (λ (b : Bool). cond b (Some c.decode_to.new.frame) None) c.if-not-decode_to.false ∙ ap Some c.in-Ok.ensures.0 in
     let master : list_any (λ other. eqb other c.args.master) c.args.self.now.masters ≡ true = search rules in
-    c.answer_telegram.ensures.outcome ∙ ap outcome_heard (heard_telegram_is c.args.self.now c.args.master c.args.octets.now c.in-Ok-request_in.telegram.now found master)
+    c.answer_telegram.ensures.outcome ∙ ap outcome_heard (heard_telegram_is c.args.self.now c.args.master c.args.octets.now c.in-Ok.telegram.now found master)
 
 pub returns-in-Err-clause-slaves : goal.returns-in-Err-clause-slaves
 returns-in-Err-clause-slaves c =
-    let found : frame_of c.args.octets.now ≡ Some c.in-Ok.frame = sym c.decode-decoded.ensures.found ∙ ap result_ok c.in-Ok.is in
+    let found : frame_of c.args.octets.now ≡ Some c.decode_to.new.frame = sym c.decode_to.ensures.found ∙ ap (λ (b : Bool). cond b (Some c.decode_to.new.frame) None) c.if-not-decode_to.false in
     let master : list_any (λ other. eqb other c.args.master) c.args.self.now.masters ≡ true = search rules in
-    with_slaves c.args.self.now _ (octets_unanswered c.args.self.now c.args.master c.args.place c.args.octets.now c.in-Err.rule c.in-Err.ensures.silent (heard_silent c.args.self.now c.args.master c.args.octets.now c.in-Ok.frame c.in-Err.rule found master c.in-Err.ensures)).stay
+    with_slaves c.args.self.now _ (octets_unanswered c.args.self.now c.args.master c.args.place c.args.octets.now c.in-Err.rule c.in-Err.ensures.silent (heard_silent c.args.self.now c.args.master c.args.octets.now c.decode_to.new.frame c.in-Err.rule found master c.in-Err.ensures)).stay
 
 pub returns-in-Err-clause-facts : goal.returns-in-Err-clause-facts
 returns-in-Err-clause-facts c =
-    let found : frame_of c.args.octets.now ≡ Some c.in-Ok.frame = sym c.decode-decoded.ensures.found ∙ ap result_ok c.in-Ok.is in
+    let found : frame_of c.args.octets.now ≡ Some c.decode_to.new.frame = sym c.decode_to.ensures.found ∙ ap (λ (b : Bool). cond b (Some c.decode_to.new.frame) None) c.if-not-decode_to.false in
     let master : list_any (λ other. eqb other c.args.master) c.args.self.now.masters ≡ true = search rules in
-    c.silent-in-Err.ensures.facts ∙ (octets_unanswered c.args.self.now c.args.master c.args.place c.args.octets.now c.in-Err.rule c.in-Err.ensures.silent (heard_silent c.args.self.now c.args.master c.args.octets.now c.in-Ok.frame c.in-Err.rule found master c.in-Err.ensures)).facts
+    c.silent-in-Err.ensures.facts ∙ (octets_unanswered c.args.self.now c.args.master c.args.place c.args.octets.now c.in-Err.rule c.in-Err.ensures.silent (heard_silent c.args.self.now c.args.master c.args.octets.now c.decode_to.new.frame c.in-Err.rule found master c.in-Err.ensures)).facts
 
 pub returns-in-Err-clause-outcome : goal.returns-in-Err-clause-outcome
 returns-in-Err-clause-outcome c =
-    let found : frame_of c.args.octets.now ≡ Some c.in-Ok.frame = sym c.decode-decoded.ensures.found ∙ ap result_ok c.in-Ok.is in
+    let found : frame_of c.args.octets.now ≡ Some c.decode_to.new.frame = sym c.decode_to.ensures.found ∙ ap (λ (b : Bool). cond b (Some c.decode_to.new.frame) None) c.if-not-decode_to.false in
     let master : list_any (λ other. eqb other c.args.master) c.args.self.now.masters ≡ true = search rules in
-    c.silent-in-Err.ensures.outcome ∙ (octets_unanswered c.args.self.now c.args.master c.args.place c.args.octets.now c.in-Err.rule c.in-Err.ensures.silent (heard_silent c.args.self.now c.args.master c.args.octets.now c.in-Ok.frame c.in-Err.rule found master c.in-Err.ensures)).outcome
+    c.silent-in-Err.ensures.outcome ∙ (octets_unanswered c.args.self.now c.args.master c.args.place c.args.octets.now c.in-Err.rule c.in-Err.ensures.silent (heard_silent c.args.self.now c.args.master c.args.octets.now c.decode_to.new.frame c.in-Err.rule found master c.in-Err.ensures)).outcome
 
-pub returns-in_default-clause-walk : goal.returns-in_default-clause-walk
-returns-in_default-clause-walk c =
+pub returns-then-not-decode_to-clause-walk : goal.returns-then-not-decode_to-clause-walk
+returns-then-not-decode_to-clause-walk c =
     let none : frame_of c.args.octets.now ≡ None = search rules in
     (octets_unanswered c.args.self.now c.args.master c.args.place c.args.octets.now rules_of_line.NoFrame refl (heard_no_frame c.args.self.now c.args.master c.args.octets.now none)).walk c.args.walk.now
 
 pub returns-then-not-has_master-clause-walk : goal.returns-then-not-has_master-clause-walk
 returns-then-not-has_master-clause-walk c =
-    let found : frame_of c.args.octets.now ≡ Some c.in-Ok.frame = sym c.decode-decoded.ensures.found ∙ ap result_ok c.in-Ok.is in
+    let found : frame_of c.args.octets.now ≡ Some c.decode_to.new.frame = sym c.decode_to.ensures.found ∙ ap (λ (b : Bool). cond b (Some c.decode_to.new.frame) None) c.if-not-decode_to.false in
     let stranger : list_any (λ other. eqb other c.args.master) c.args.self.now.masters ≡ false = search rules in
-    (octets_unanswered c.args.self.now c.args.master c.args.place c.args.octets.now rules_of_line.NoMaster refl (heard_no_master c.args.self.now c.args.master c.args.octets.now c.in-Ok.frame found stranger)).walk c.args.walk.now
+    (octets_unanswered c.args.self.now c.args.master c.args.place c.args.octets.now rules_of_line.NoMaster refl (heard_no_master c.args.self.now c.args.master c.args.octets.now c.decode_to.new.frame found stranger)).walk c.args.walk.now
 
-pub returns-in-Ok-request_in-clause-walk : goal.returns-in-Ok-request_in-clause-walk
-returns-in-Ok-request_in-clause-walk c =
-    let found : frame_of c.args.octets.now ≡ Some (frames.Telegram c.in-Ok-request_in.telegram.now) = sym c.decode-decoded.ensures.found ∙ ap result_ok c.in-Ok.is ∙ ap Some c.in-Ok-request_in.ensures.0 in
+pub returns-in-Ok-clause-walk : goal.returns-in-Ok-clause-walk
+returns-in-Ok-clause-walk c =
+    let found : frame_of c.args.octets.now ≡ Some (frames.Telegram c.in-Ok.telegram.now) = sym c.decode_to.ensures.found ∙ ap (λ (b : Bool). cond b (Some c.decode_to.new.frame) None) c.if-not-decode_to.false ∙ ap Some c.in-Ok.ensures.0 in
     let master : list_any (λ other. eqb other c.args.master) c.args.self.now.masters ≡ true = search rules in
-    c.answer_telegram.ensures.walk ∙ ap (λ h. walk_heard h c.args.walk.now) (heard_telegram_is c.args.self.now c.args.master c.args.octets.now c.in-Ok-request_in.telegram.now found master)
+    c.answer_telegram.ensures.walk ∙ ap (λ h. walk_heard h c.args.walk.now) (heard_telegram_is c.args.self.now c.args.master c.args.octets.now c.in-Ok.telegram.now found master)
 
 pub returns-in-Err-clause-walk : goal.returns-in-Err-clause-walk
 returns-in-Err-clause-walk c =
-    let found : frame_of c.args.octets.now ≡ Some c.in-Ok.frame = sym c.decode-decoded.ensures.found ∙ ap result_ok c.in-Ok.is in
+    let found : frame_of c.args.octets.now ≡ Some c.decode_to.new.frame = sym c.decode_to.ensures.found ∙ ap (λ (b : Bool). cond b (Some c.decode_to.new.frame) None) c.if-not-decode_to.false in
     let master : list_any (λ other. eqb other c.args.master) c.args.self.now.masters ≡ true = search rules in
-    (octets_unanswered c.args.self.now c.args.master c.args.place c.args.octets.now c.in-Err.rule c.in-Err.ensures.silent (heard_silent c.args.self.now c.args.master c.args.octets.now c.in-Ok.frame c.in-Err.rule found master c.in-Err.ensures)).walk c.args.walk.now
+    (octets_unanswered c.args.self.now c.args.master c.args.place c.args.octets.now c.in-Err.rule c.in-Err.ensures.silent (heard_silent c.args.self.now c.args.master c.args.octets.now c.decode_to.new.frame c.in-Err.rule found master c.in-Err.ensures)).walk c.args.walk.now
