@@ -1,6 +1,7 @@
 pub mod Decimals
 pub mod Lengths
 pub mod Parts
+pub mod Places
 pub mod HexSpellings
 pub mod Numerals
 pub mod ReadBack

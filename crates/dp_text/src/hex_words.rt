@@ -39,6 +39,9 @@ impl<'a> HexWords<'a> {
     }
 
     /// Decodes as many octets as there are or as have room, and says how many.
+    ///
+    /// It is not inlined: its loop wants registers that a caller has in use.
+    #[inline(never)]
     pub fn fill(&mut self, octets: &mut [u8]) -> usize
         ensures count { result ≡ min (length self.old) (length octets.old) }
         ensures octets { self.old ≡ take result octets.new ++ self.new }

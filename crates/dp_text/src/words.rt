@@ -4,6 +4,7 @@ ghost use Rattle.std.specs.Prelude.{◌≡◌, ◌<◌, ◌==◌, [], ◌∷◌,
 ghost use Rattle.std.specs.List.{slice_split};
 ghost use Rattle.dp_text.specs.Words.{lines_of, words_of, same_text, parts_left};
 
+use memchr::memchr;
 use std::marker::Model;
 
 /// What ends a line.
@@ -40,7 +41,7 @@ impl<'a> Lines<'a> {
         ensures { MatchOption result ((self.old ≡ []) × (self.new ≡ [])) (λ line. self.old ≡ line.now ∷ self.new) }
     {
         let text = self.rest?;
-        let (line, rest) = first_part(text, LF);
+        let (line, rest) = first_line(text);
         self.rest = rest;
         Some(line)
     }
@@ -84,6 +85,18 @@ impl<'a> Words<'a> {
         ensures { self.now ≡ parts_left words_of result }
     {
         self.rest
+    }
+}
+
+/// The first line of a text, and the text behind its LF, where there is one.
+///
+/// A line is long, so it is searched many octets at once; a word is short.
+fn first_line(text: &[u8]) -> (&[u8], Option<&[u8]>)
+    ensures { lines_of text.now ≡ result.0.now ∷ parts_left lines_of result.1 }
+{
+    match memchr(LF, text) {
+        Some(index) => (&text[..index], Some(&text[index + 1..])),
+        None => (text, None),
     }
 }
 
