@@ -50,12 +50,11 @@ impl Request<'_> {
         ensures slave { slave.new ≡ with_slave slave.old (served_to self.now slave.old.slave) }
         ensures rule { result ≡ rule_of self.now slave.old.slave }
     {
-        let (points, memory) = (slave.points(), slave.memory());
-        match judge(points, memory, self.sender, self.telegram.fc, self.parts) {
-            Judged::Repeat(_) => Rule::Repeat,
-            Judged::Refuse(_, rule) => rule,
-            Judged::Silent(rule) => rule,
-            Judged::Pass => self.control(slave),
+        let mut outcome = Outcome::Done;
+        self.serve_data(slave, &mut outcome);
+        match outcome {
+            Outcome::Silence(rule) => rule,
+            _ => Rule::Done,
         }
     }
 
