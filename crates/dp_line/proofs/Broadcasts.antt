@@ -1,7 +1,7 @@
 -- A broadcast's walk along the list of its sender.
-use Rattle.std.proofs.Common.{◌≡◌, ◌≢◌, ℕ, zero, suc, ◌+◌, ◌-◌, ◌<◌, ◌≤◌, true, false, List, [], ◌∷◌, ◌++◌, length, get_or, map, set, Option, Some, None, refl, sym, ap, subst, ◌∙◌, arith}
+use Rattle.std.proofs.Common.{◌≡◌, ◌≢◌, ℕ, ◌+◌, ◌-◌, ◌<◌, ◌≤◌, true, false, List, [], ◌∷◌, ◌++◌, length, get_or, map, set, Option, Some, None, refl, sym, ap, subst, ◌∙◌, arith}
 use Rattle.std.specs.Prelude.{nat_eq, option_map, slice_get}
-use Rattle.std.specs.Option.{option_eq, option_map_or, option_to_list}
+use Rattle.std.specs.Option.{option_eq, option_to_list}
 use Rattle.std.specs.List.{AllByRecursion}
 use Rattle.std.proofs.lemmas.List.{append_assoc, append-nil, length-append, length-map, map-append}
 use Rattle.dp_owners.specs.declared.cursor.Cursor.{Cursor}
@@ -16,7 +16,7 @@ use Rattle.dp_line.specs.World.{address_of_slave}
 use Rattle.dp_line.specs.Owned.{held_among}
 use Rattle.dp_line.specs.Verdict.{is_global_control}
 use Rattle.dp_line.specs.Serving.{rule_of, ruled_by, served_to}
-use Rattle.dp_line.specs.Stations.{at_index, changed_in, indices_where, is_of, links_of, lists_of, master_index, slaves_of}
+use Rattle.dp_line.specs.Stations.{at_index, changed_in, is_of, links_of, lists_of, master_index, slaves_of}
 use Rattle.dp_line.proofs.Addresses.{slave_read}
 use Rattle.dp_line.proofs.Controls.{control_holder, control_since, stranger_stays}
 use Rattle.dp_line.proofs.Holders.{holder_is, indices_within, read_here, read_of_master}

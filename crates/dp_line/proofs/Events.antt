@@ -1,6 +1,6 @@
 -- What a recorded event leaves and answers.
 use Rattle.std.proofs.Common.{◌≡◌, ℕ, ◌+◌, ◌<◌, Bool, true, false, cond, eqb, List, [], ◌∷◌, map, Option, Some, None, refl, sym, ap, subst, ◌∙◌, arith}
-use Rattle.std.specs.Prelude.{◌||◌, filter, find, option_map}
+use Rattle.std.specs.Prelude.{◌||◌, filter, option_map}
 use Rattle.std.specs.Option.{option_and_then}
 use Rattle.std.specs.List.{list_any}
 use Rattle.arrayvec.specs.ArrayVec.{ArrayVec}
@@ -8,7 +8,7 @@ use Rattle.dp_sap.specs.declared.state.State.{State}
 use Rattle.dp_telegram.specs.declared.frame.Telegram.{Telegram}
 use Rattle.dp_telegram.specs.declared.access.Parts.{Parts}
 use Rattle.dp_telegram.specs.FrameText.{frame_of}
-use Rattle.dp_telegram.specs.Access.{address_of, parts_of}
+use Rattle.dp_telegram.specs.Access.{parts_of}
 use Rattle.dp_slave.specs.declared.description.SlaveSpec.{SlaveSpec}
 use Rattle.dp_slave.specs.SlaveRecord.{SlaveRecord, released, starting_slave}
 use Rattle.dp_slave.specs.Fields.{acted}

@@ -17,7 +17,7 @@ use Rattle.dp_line.specs.declared.event.Outcome.TheVariants.{Spread}
 use Rattle.dp_line.specs.World.{Ascend, address_of_slave, slave_among}
 use Rattle.dp_line.specs.Owned.{held_among}
 use Rattle.dp_line.specs.Hearing.{asked_among, is_to_all, telegram_of_frame}
-use Rattle.dp_line.specs.Verdict.{concerns_a_slave, line_rows, rows_where_known, rule_at, verdict_of}
+use Rattle.dp_line.specs.Verdict.{concerns_a_slave, line_rows, rows_where_known, verdict_of}
 use Rattle.dp_line.specs.Served.{answered}
 use Rattle.dp_line.specs.Effects.{facts_heard, outcome_heard, outcome_of_one, reply_where_known, rule_where_known, slave_after_request, state_and_holder}
 use Rattle.dp_line.specs.Isolation.{address_asked, rule_in}

@@ -4,7 +4,7 @@ use Rattle.std.specs.Prelude.{find, sum_by}
 use Rattle.std.proofs.lemmas.Bool.{leb-false, lt-leb}
 use Rattle.std.proofs.lemmas.List.Sums.{sum_by-cons}
 use Rattle.dp_slave.specs.SlaveRecord.{SlaveRecord, released}
-use Rattle.dp_slave.specs.Acts.{ticks, runs_out}
+use Rattle.dp_slave.specs.Acts.{runs_out}
 use Rattle.dp_slave.specs.Fields.{acted}
 use Rattle.dp_line.specs.declared.event.Event.TheVariants.{Operator}
 use Rattle.dp_line.specs.declared.event.Op.TheVariants.{Tick}

@@ -8,7 +8,7 @@ use Rattle.dp_line.specs.declared.event.Outcome.TheVariants.{Silence, Spread, Re
 use Rattle.dp_slave.specs.SlaveRecord.{starting_slave}
 use Rattle.dp_line.specs.World.{World}
 use Rattle.dp_line.specs.Owned.{owned}
-use Rattle.dp_line.specs.Steps.{run, step}
+use Rattle.dp_line.specs.Steps.{run}
 use Rattle.dp_line.specs.Walk.{walk_after}
 use Rattle.dp_line.specs.LineExamples.{ask, check, exchange, fresh, inputs, lock, outcomes, reply, slave_5, text_of_step}
 
