@@ -129,7 +129,7 @@ pub no_visit : walk_after after_ten (ask 2 (0x68 ∷ 0x07 ∷ 0x07 ∷ 0x68 ∷ 
 unfolding text_of_step
 no_visit = refl
 
--- what no slave hears of leaves the count, and so does every request on a halted line
+-- a request to all that the line refuses leaves the count, and so does every request on a halted line
 pub the_count_stays : walk_after after_ten (ask 1 (0x68 ∷ 0x07 ∷ 0x07 ∷ 0x68 ∷ 0xFF ∷ 0x81 ∷ 0x46 ∷ 0x3C ∷ 0x3E ∷ 0x20 ∷ 0x00 ∷ 0x60 ∷ 0x16 ∷ [])) 9 ≡ 9
 unfolding text_of_step
 the_count_stays = refl

@@ -133,7 +133,8 @@ impl LineState {
     }
 
     /// How many slaves the last Global_Control to all stations visited: those that its sender held. 0
-    /// before the first one; what no slave hears of leaves it.
+    /// before the first one. One that a rule of the line refuses leaves it, and so does every other
+    /// event (own).
     pub fn last_walk(&self) -> u32
         ensures { result ≡ self.now.last_walk }
     {

@@ -25,7 +25,7 @@ pub enum Rule {
     BadFunction,
     /// An announced extension octet is missing or not plain: silence.
     BadExtension,
-    /// A telegram to all stations that no station takes as such: silence.
+    /// A telegram to all stations that is no SDN to the point of Global_Control: silence.
     BadBroadcast,
     /// No slave has the destination address: silence.
     NoStation,

@@ -29,8 +29,8 @@ pub fn decode(octets: &[u8]) -> Result<Frame, FrameFault>
 /// Puts the frame of which the slice is the whole text where a frame lies, and says whether it is one;
 /// where it isn't, the frame stays.
 ///
-/// It tells what [`decode`] tells, but moves no frame, which costs the copy of 261 octets each time; a
-/// telegram that lies there gives its room.
+/// It is [`decode`] without the fault, and moves no frame, which costs the copy of 261 octets each time;
+/// a telegram that lies there gives its room.
 pub fn decode_to(octets: &[u8], frame: &mut Frame) -> bool
     ensures found { (if result then Some frame.new else None) ≡ frame_of octets.now }
     ensures stays { (if result then frame.old else frame.new) ≡ frame.old }
