@@ -1,0 +1,8 @@
+//! The journal of a line: its entries, packed, and their audit text, written and checked.
+#![tactic(auto)]
+
+mod entry;
+mod fault;
+
+pub use entry::{Entry, Receipt};
+pub use fault::{AuditFault, WriteFault};
