@@ -40,3 +40,4 @@ pub mod BusAnswers
 pub mod BusOutcomes
 pub mod BusReasons
 pub mod BusRows
+pub mod Facts

@@ -1,8 +1,9 @@
 //! Laws of a line, over lists of events.
 
-ghost use Rattle.std.specs.Prelude.{◌≡◌, ◌≢◌, ◌+◌, ◌-◌, ◌<◌, ◌≤◌, ℕ, List, true, false, None, Some, is_some, option_map, length, sum_by};
-ghost use Rattle.std.specs.List.{AllByRecursion, filter_map, range_with_len};
+ghost use Rattle.std.specs.Prelude.{◌≡◌, ◌≢◌, ◌+◌, ◌-◌, ◌<◌, ◌≤◌, ◌==◌, ℕ, List, true, false, None, Some, is_some, option_map, length, sum_by};
+ghost use Rattle.std.specs.List.{AllByRecursion, filter_map, list_any, range_with_len};
 ghost use Rattle.arrayvec.specs.ArrayVec.{ArrayVec as Vectors};
+ghost use Rattle.dp_sap.specs.declared.state.State.{State as States};
 ghost use Rattle.dp_responder.specs.declared.rule.Rule.{Rule as Rules};
 ghost use Rattle.dp_slave.specs.SlaveRecord.{SlaveRecord, is_held, released};
 ghost use Rattle.dp_line.specs.declared.event.Event.{Event as Events};
@@ -12,7 +13,8 @@ ghost use Rattle.dp_line.specs.World.{World, Description, address_of_slave, slav
 ghost use Rattle.dp_line.specs.Events.{misfit, time_passes};
 ghost use Rattle.dp_line.specs.Hearing.{heard};
 ghost use Rattle.dp_line.specs.Verdict.{verdict_of, concerns_a_slave};
-ghost use Rattle.dp_line.specs.Effects.{outcome_of, rule_taken, slave_after};
+ghost use Rattle.dp_line.specs.Stations.{HaveMasters};
+ghost use Rattle.dp_line.specs.Effects.{facts_of, outcome_of, rule_taken, slave_after};
 ghost use Rattle.dp_line.specs.Steps.{run, step, told_halted, unrecorded};
 ghost use Rattle.dp_line.specs.Owned.{owned as owned_by_world};
 ghost use Rattle.dp_line.specs.Isolation.{Agrees, MeetsNoLastPlace, only_requests_of, process_data, watched};
@@ -108,6 +110,15 @@ pub fn a_refused_operator_changes_nothing()
     ensures halted { (world : World) (event : Events)
         → world.halted ≡ true
         → step world event ≡ record { world = world; answer = unrecorded (told_halted event) None } }
+{}
+
+/// Facts tell no holder but a master of the line, where only masters hold its slaves: so it is on every
+/// line.
+pub fn facts_tell_masters()
+    ensures { (world : World) (event : Events) (state : States) (holder : ℕ)
+        → HaveMasters world.masters world.slaves
+        → facts_of world event ≡ Some (state, Some holder)
+        → list_any (λ master. master == holder) world.masters ≡ true }
 {}
 
 /// A line gives its places in turn, whatever comes: those that a list of events is recorded at are the

@@ -9,6 +9,7 @@ ghost use Rattle.dp_line.specs.declared.event.Op.TheVariants.{Halt, Tick};
 ghost use Rattle.dp_line.specs.Events.{address_of_op, misfit, misfit_among};
 ghost use Rattle.dp_line.specs.Effects.{effect, halted_world, held_addresses};
 ghost use Rattle.dp_line.specs.Hearing.{heard};
+ghost use Rattle.dp_line.specs.Stations.{HaveMasters};
 ghost use Rattle.dp_line.specs.Walk.{starting_line, walk_after, walk_heard};
 ghost use Rattle.dp_line.specs.Steps.{step, told_halted as told_by_halted, unrecorded as unrecorded_step};
 
@@ -139,6 +140,13 @@ impl LineState {
         ensures { result ≡ self.now.last_walk }
     {
         self.last_walk
+    }
+
+    /// Who holds a slave is a master of the line: a fact of the type, for proofs.
+    pub fn holders_are_masters(&self)
+        ensures { HaveMasters self.now.world.masters self.now.world.slaves }
+    {
+        self.stations.have_masters();
     }
 
     /// Why an event doesn't fit; None where it does.

@@ -12,7 +12,7 @@ ghost use Rattle.dp_line.specs.Verdict.{is_global_control};
 ghost use Rattle.dp_line.specs.declared.event.Outcome.{Outcome as Answers};
 ghost use Rattle.dp_line.specs.Effects.{served_where_asked, slave_after_op, state_and_holder};
 ghost use Rattle.dp_line.specs.Serving.{IsOfProfile, answer_to, ruled_by, served_to};
-ghost use Rattle.dp_line.specs.Stations.{AreBefore, AreEmpty, fresh_slave, freed, index_of, slave_asked, slaves_of, started, ticked};
+ghost use Rattle.dp_line.specs.Stations.{AreBefore, AreEmpty, HaveMasters, fresh_slave, freed, index_of, slave_asked, slaves_of, started, ticked};
 
 mod answering;
 mod lists;
@@ -75,6 +75,13 @@ impl Stations {
         ensures { result ≡ list_any (λ other. other == address) self.now.masters }
     {
         self.masters.contains(&address)
+    }
+
+    /// Who holds a slave is a master: a fact of the type, for proofs.
+    pub(crate) fn have_masters(&self)
+        ensures { HaveMasters self.now.masters self.now.slaves }
+    {
+        let _ = &self.slaves;
     }
 
     /// The slave that has the address.
