@@ -6,3 +6,4 @@ pub mod AuditText
 pub mod Check
 pub mod AuditExamples
 pub mod Records
+pub mod Kept

@@ -110,6 +110,11 @@ IsOutcomeWithinLimits (Released addresses) = AreOctets 64 addresses.items
 IsOutcomeWithinLimits Done = Unit {0}
 IsOutcomeWithinLimits (Refused fault) = ⊥
 
+-- the operator's event isn't refused
+abbrev pub IsNoRefusal : Outcome → Type 0
+IsNoRefusal (Refused fault) = ⊥
+IsNoRefusal outcome = Unit {0}
+
 pub record IsPackable (entry : Entry) : Type 0 where
   pub event : IsWithinLimits entry.event
   pub point : HasToldPoint entry.event

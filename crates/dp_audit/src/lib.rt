@@ -1,8 +1,11 @@
 //! The journal of a line: its entries, packed, and their audit text, written and checked.
 #![tactic(auto)]
 
+mod book;
 mod entry;
 mod fault;
+mod records;
 
+pub use book::Book;
 pub use entry::{Entry, Receipt};
 pub use fault::{AuditFault, WriteFault};

@@ -23,6 +23,7 @@ pub use dp_responder::Rule;
 pub use dp_slave::{Device, SlaveSpec, SlaveView};
 pub use event::{Event, Facts, Op, Outcome, Step};
 pub use fault::{OpenFault, OperatorFault};
+pub use limits::MOST_SLAVES;
 pub use line_state::LineState;
 
 #[cfg(test)]

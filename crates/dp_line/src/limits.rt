@@ -13,7 +13,7 @@ use dp_slave::SlaveSpec;
 use dp_telegram::is_station;
 
 /// The most slaves of a line.
-pub(crate) const MOST_SLAVES: usize = 64;
+pub const MOST_SLAVES: usize = 64;
 
 /// The least and the most places of a journal.
 const LEAST_PLACES: u32 = 2;
