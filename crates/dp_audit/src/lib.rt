@@ -8,4 +8,5 @@ mod records;
 
 pub use book::Book;
 pub use entry::{Entry, Receipt};
-pub use fault::{AuditFault, WriteFault};
+pub use dp_text::WriteFault;
+pub use fault::AuditFault;
