@@ -1,6 +1,6 @@
 //! A line with its journal.
 
-ghost use Rattle.std.specs.Prelude.{◌≡◌, ◌+◌, ◌≤◌, ◌<◌, [], ◌∷◌, ◌++◌, true, false, length, None, IfSome, MatchResult, option_map};
+ghost use Rattle.std.specs.Prelude.{◌≡◌, ◌+◌, ◌≤◌, ◌<◌, [], ◌∷◌, ◌++◌, true, false, length, None, IfSome, MatchResult, OnOk, OnErr, option_map};
 ghost use Rattle.std.specs.List.{list_all};
 ghost use Rattle.dp_telegram.specs.Access.{is_station};
 ghost use Rattle.dp_line.specs.declared.event.Event.TheVariants.{Operator};
@@ -13,13 +13,19 @@ ghost use Rattle.dp_audit.specs.Journal.{added, opened, receipt_of, taken};
 ghost use Rattle.dp_audit.specs.Legal.{IsLegal, after_entries};
 ghost use Rattle.dp_audit.specs.Packed.{record_octets};
 ghost use Rattle.dp_audit.specs.Records.{entry_at};
+ghost use Rattle.dp_audit.specs.AuditText.{audit_text};
+ghost use Rattle.dp_text.specs.Writes.{WritesPrefix};
+ghost use Rattle.std.specs.Io.KnownBytes.{Appends};
 
 use crate::entry::{Entry, Receipt};
 use crate::records::Records;
+use crate::writing::write_journal;
 use arrayvec::ArrayVec;
 use dp_line::laws::facts_tell_masters;
 use dp_line::{Event, LineSpec, LineState, MOST_SLAVES, Op, OpenFault, Outcome, Step};
+use dp_text::WriteFault;
 use std::alloc::Global;
+use std::io::Write;
 use std::marker::Model;
 use std::snapshot::Snapshot;
 
@@ -99,6 +105,13 @@ impl Book {
         step
     }
 
+    /// The number of its line in the rack.
+    pub fn number(&self) -> u8
+        ensures { result ≡ self.now.number }
+    {
+        self.number
+    }
+
     /// How many entries there are.
     pub fn count(&self) -> u32
         ensures { result ≡ length self.now.entries }
@@ -119,6 +132,16 @@ impl Book {
         ensures { option_map (λ octets. octets.now) result ≡ option_map record_octets (entry_at self.now.entries place) }
     {
         self.records.record(place)
+    }
+
+    /// Writes the audit text: the header, and a line for each entry. It takes no memory.
+    ///
+    /// `WriteFault` where a write failed, or took no octet; a prefix of the text may be out then.
+    pub fn write_text<W: Write>(&self, writer: &mut W) -> Result<(), WriteFault>
+        ensures ok { OnOk result (Appends (W.contents writer.old) (W.contents writer.new) (audit_text self.now.number self.now.entries)) }
+        ensures err { OnErr result (WritesPrefix (W.contents writer.old) (W.contents writer.new) (audit_text self.now.number self.now.entries)) }
+    {
+        write_journal(self.number, &self.records, writer)
     }
 
     /// The line after all entries.

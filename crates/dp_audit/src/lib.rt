@@ -5,6 +5,7 @@ mod book;
 mod entry;
 mod fault;
 mod records;
+mod writing;
 
 pub use book::Book;
 pub use entry::{Entry, Receipt};

@@ -5,7 +5,8 @@ use Rattle.std.proofs.lemmas.List.{append-nil}
 use Rattle.rackd.specs.declared.stop.Stop.TheVariants as stops
 use Rattle.rackd.specs.declared.run_fault.RunFault.TheVariants as runs
 use Rattle.rackd.specs.ScriptText.{RackInUse, Obeyed, Played, after_line, play, line_obeyed, going_on, script_text}
-use Rattle.rackd.specs.Runs.{Obeys, Plays, WritesPrefix, RunsText}
+use Rattle.dp_text.specs.Writes.{WritesPrefix}
+use Rattle.rackd.specs.Runs.{Obeys, Plays, RunsText}
 use Rattle.rackd.proofs.Writing.{appends_none, appends_more, keeps_more, keeps_same, more_prefix}
 use Rattle.rack_file.specs.declared.fault.RackFault.{RackFault}
 use Rattle.rack_file.specs.Rack.{RackDescription}

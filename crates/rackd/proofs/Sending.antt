@@ -4,14 +4,15 @@ use Rattle.std.specs.Prelude.{position, slice_get, option_map, option_and_then}
 use Rattle.std.specs.Io.KnownBytes.{Appends}
 use Rattle.std.proofs.lemmas.List.Quantifiers.{position-Some}
 use Rattle.std.proofs.lemmas.Option.{slice_get_read}
-use Rattle.dp_line.specs.World.{World}
+use Rattle.dp_audit.specs.Journal.{Journal}
 use Rattle.rackd.specs.declared.stop.Stop.{Stop}
 use Rattle.rackd.specs.declared.stop.Stop.TheVariants as stops
 use Rattle.dp_line.specs.declared.event.Op.{Op}
 use Rattle.rackd.specs.Commands.{send, operate}
 use Rattle.rackd.specs.LinesInUse.{LineInUse, Sent, Stream, passed, sent_at, sent, operated}
 use Rattle.rackd.specs.ScriptText.{RackInUse, Obeyed, obeyed, obeyed_by_line}
-use Rattle.rackd.specs.Runs.{WritesPrefix, Sends, Obeys}
+use Rattle.dp_text.specs.Writes.{WritesPrefix}
+use Rattle.rackd.specs.Runs.{Sends, Obeys}
 
 -- ---- a line
 
@@ -41,21 +42,21 @@ found streams master index stream is read =
       stream_is = slice_get_read streams (length streams) index stream refl within read;
     }
 
-pub sends : (number : ℕ) (world next : World) (streams : List Stream) (master index : ℕ) (octets : List ℕ) (stream following : Stream) (old new : Option (List ℕ)) (r : Result (Unit {0}) Stop)
+pub sends : (journal next : Journal) (streams : List Stream) (master index : ℕ) (octets : List ℕ) (stream following : Stream) (old new : Option (List ℕ)) (r : Result (Unit {0}) Stop)
     → IsFound streams master index stream
-    → OnOk r (next ≡ (passed world stream octets).world) → OnOk r (following ≡ (passed world stream octets).stream) → OnOk r (Appends old new (passed world stream octets).text)
-    → OnErr r (WritesPrefix old new (passed world stream octets).text) → IfErr r (λ stop. stop ≡ stops.WriteFault)
-    → Sends (sent (record { number = number; world = world; streams = streams }) master octets) (record { number = number; world = next; streams = set streams index following }) old new r
-sends number world next streams master index octets stream following old new r at world_is stream_is ok err fault =
-    let line_in_use : LineInUse = record { number = number; world = world; streams = streams } in
+    → OnOk r (next ≡ (passed journal stream octets).journal) → OnOk r (following ≡ (passed journal stream octets).stream) → OnOk r (Appends old new (passed journal stream octets).text)
+    → OnErr r (WritesPrefix old new (passed journal stream octets).text) → IfErr r (λ stop. stop ≡ stops.WriteFault)
+    → Sends (sent (record { journal = journal; streams = streams }) master octets) (record { journal = next; streams = set streams index following }) old new r
+sends journal next streams master index octets stream following old new r at journal_is stream_is ok err fault =
+    let line_in_use : LineInUse = record { journal = journal; streams = streams } in
     let sending = sent_at line_in_use octets index stream in
     let is : sent line_in_use master octets ≡ Some sending =
     ap (option_and_then (λ index. option_map (sent_at line_in_use octets index) (slice_get streams index))) at.place_is ∙ ap (option_map (sent_at line_in_use octets index)) at.stream_is in
-    let leaves = on_both r (λ (w : next ≡ (passed world stream octets).world) (s : following ≡ (passed world stream octets).stream).
-    ap (λ v. record { number = number; world = v; streams = set streams index following }) w
-    ∙ ap (λ f. record { number = number; world = (passed world stream octets).world; streams = set streams index f }) s) world_is stream_is in
-    subst (λ (o : Option Sent). Sends o (record { number = number; world = next; streams = set streams index following }) old new r) (sym is)
-    (ends sending (record { number = number; world = next; streams = set streams index following }) old new r leaves ok err fault)
+    let leaves = on_both r (λ (w : next ≡ (passed journal stream octets).journal) (s : following ≡ (passed journal stream octets).stream).
+    ap (λ v. record { journal = v; streams = set streams index following }) w
+    ∙ ap (λ f. record { journal = (passed journal stream octets).journal; streams = set streams index f }) s) journal_is stream_is in
+    subst (λ (o : Option Sent). Sends o (record { journal = next; streams = set streams index following }) old new r) (sym is)
+    (ends sending (record { journal = next; streams = set streams index following }) old new r leaves ok err fault)
 
 -- ---- a rack
 

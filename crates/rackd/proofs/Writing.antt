@@ -2,7 +2,7 @@
 use Rattle.std.proofs.Common.{◌≡◌, ℕ, List, [], ◌++◌, Option, Some, None, Result, Ok, Err, OnErr, refl, sym, ap, ◌∙◌, append_assoc}
 use Rattle.std.specs.Io.KnownBytes.{Appends, Keeps}
 use Rattle.std.proofs.lemmas.List.{append-nil}
-use Rattle.rackd.specs.Runs.{WritesPrefix}
+use Rattle.dp_text.specs.Writes.{WritesPrefix}
 
 pub appends_none : (old : Option (List ℕ)) → Appends old old []
 appends_none None = tt

@@ -14,6 +14,7 @@ pub data Command : Type 0 where
   send : ℕ → List ℕ → Command
   list_owned : ℕ → Command
   show_slave : ℕ → Command
+  write_journal : Command
   operate : Op → Command
 
 -- `m M HEX..`: master M sends these octets
@@ -39,6 +40,11 @@ list_of words = option_map list_owned (only_number words)
 abbrev pub show_of : List (List ℕ) → Option Command
 show_of words = option_map show_slave (only_number words)
 
+-- `journal`: the audit text of the line
+abbrev pub journal_of : List (List ℕ) → Option Command
+journal_of [] = Some write_journal
+journal_of other = None
+
 -- `in A HEX`, `diag A FLAGS HEX`, `busy A POINT on` or `off`, `tick N` or `halt`: what an operator does, with hex digits in either case
 abbrev pub operation_of : List (List ℕ) → Option Command
 operation_of words = option_map operate (op_of_words Either words)
@@ -51,6 +57,7 @@ command_of_words (word ∷ words) =
     else if same_text word (codes "line") then choice_of words
     else if same_text word (codes "owned") then list_of words
     else if same_text word (codes "show") then show_of words
+    else if same_text word (codes "journal") then journal_of words
     else operation_of (word ∷ words)
 
 -- an empty line and a comment do nothing; a line that is no command is None

@@ -12,16 +12,20 @@ use Rattle.dp_line.specs.Steps.{step}
 use Rattle.dp_line.specs.declared.event.Op.{Op}
 use Rattle.dp_line.specs.declared.event.Op.TheVariants.{Input, Tick, Halt}
 use Rattle.dp_line.specs.LineExamples.{fresh}
+use Rattle.dp_audit.specs.Journal.{Journal, added, taken}
 use Rattle.rackd.specs.LinesInUse.{Stream, LineInUse, Sent, sent, operated, owned_line, show_line}
 
 -- what computes a text
 unfoldable text_on_literals : ⊤
-unfolding hex_on_literals digits step effect slave_after facts_of outcome_of heard verdict_of reply_text acted released
+unfolding hex_on_literals digits taken added step effect slave_after facts_of outcome_of heard verdict_of reply_text acted released
 text_on_literals = tt
 
 -- the line, before anything came
+abbrev journal_1 : Journal
+journal_1 = record { number = 1; opening = fresh; entries = []; state = record { world = fresh; last_walk = 0 } }
+
 abbrev line_1 : LineInUse
-line_1 = record { number = 1; world = fresh; streams = record { master = 1; held = [] } ∷ record { master = 2; held = [] } ∷ [] }
+line_1 = record { journal = journal_1; streams = record { master = 1; held = [] } ∷ record { master = 2; held = [] } ∷ [] }
 
 abbrev text_of_sent : Sent → List ℕ
 text_of_sent sending = sending.text

@@ -3,12 +3,16 @@ use Rattle.std.specs.Prelude.{ℕ, ◌==◌, List, [], ◌∷◌, ◌++◌, map,
 use Rattle.dp_telegram.specs.declared.cutter.Cut.{Cut}
 use Rattle.dp_telegram.specs.declared.cutter.Cut.TheVariants as pieces
 use Rattle.dp_telegram.specs.Stream.{CutStream, cuts_of}
+use Rattle.dp_line.specs.declared.event.Event.{Event}
 use Rattle.dp_line.specs.declared.event.Event.TheVariants.{Request, Operator}
+use Rattle.dp_line.specs.declared.event.Outcome.{Outcome}
 use Rattle.dp_line.specs.declared.event.Op.{Op}
 use Rattle.dp_slave.specs.View.{view_of}
-use Rattle.dp_line.specs.World.{World, Description, start_of, slave_at}
+use Rattle.dp_line.specs.World.{Description, slave_at}
 use Rattle.dp_line.specs.Owned.{owned}
 use Rattle.dp_line.specs.Steps.{step}
+use Rattle.dp_audit.specs.Journal.{Journal, opened, taken}
+use Rattle.dp_audit.specs.AuditText.{audit_text}
 use Rattle.dp_text.specs.Texts.{outcome_line, answer_text, dropped_text, owned_text, show_text}
 
 -- a master's stream: of the octets that came, those that can't be judged yet
@@ -16,10 +20,9 @@ pub record Stream : Type 0 where
   pub master : ℕ
   pub held : List ℕ
 
--- a line in use: its number in the rack, its world, and a stream for each of its masters
+-- a line in use: its journal, and a stream for each of its masters
 pub record LineInUse : Type 0 where
-  pub number : ℕ
-  pub world : World
+  pub journal : Journal
   pub streams : List Stream
 
 -- the stream of a master before anything came
@@ -28,49 +31,52 @@ empty_stream master = record { master = master; held = [] }
 
 -- the line at its start
 abbrev pub line_at_start : Description → LineInUse
-line_at_start line = record { number = line.number; world = start_of line; streams = map empty_stream line.masters }
+line_at_start line = record { journal = opened line; streams = map empty_stream line.masters }
+
+-- what a line answers to an event
+abbrev pub told_of : Journal → Event → Outcome
+told_of journal event = (step journal.state.world event).answer.outcome
 
 -- what pieces of a stream leave and write
 pub record Answered : Type 0 where
-  pub world : World
+  pub journal : Journal
   pub text : List ℕ
 
 -- a frame is one event, and its answer is written; dropped octets are no event, and are told
-abbrev pub piece_answered : World → ℕ → Cut → Answered
-piece_answered world master (pieces.Frame frame octets) =
-    let stepped = step world (Request master octets) in
-    record { world = stepped.world; text = answer_text master stepped.answer.outcome }
-piece_answered world master (pieces.Dropped fault count) = record { world = world; text = dropped_text master fault count }
+abbrev pub piece_answered : Journal → ℕ → Cut → Answered
+piece_answered journal master (pieces.Frame frame octets) =
+    record { journal = taken journal (Request master octets); text = answer_text master (told_of journal (Request master octets)) }
+piece_answered journal master (pieces.Dropped fault count) = record { journal = journal; text = dropped_text master fault count }
 
 -- pieces one after another
-abbrev pub pieces_answered : World → ℕ → List Cut → Answered
-pieces_answered world master [] = record { world = world; text = [] }
-pieces_answered world master (piece ∷ others) =
-    let first = piece_answered world master piece in
-    let rest = pieces_answered first.world master others in
-    record { world = rest.world; text = first.text ++ rest.text }
+abbrev pub pieces_answered : Journal → ℕ → List Cut → Answered
+pieces_answered journal master [] = record { journal = journal; text = [] }
+pieces_answered journal master (piece ∷ others) =
+    let first = piece_answered journal master piece in
+    let rest = pieces_answered first.journal master others in
+    record { journal = rest.journal; text = first.text ++ rest.text }
 
 -- what octets that a master sends leave and write
 pub record Passed : Type 0 where
-  pub world : World
+  pub journal : Journal
   pub stream : Stream
   pub text : List ℕ
 
 -- the pieces of a stream are answered, and what can't be judged yet is held
-abbrev pub cut_passed : World → ℕ → CutStream → Passed
-cut_passed world master cut =
-    let answered = pieces_answered world master cut.cuts in
-    record { world = answered.world; stream = record { master = master; held = cut.rest }; text = answered.text }
+abbrev pub cut_passed : Journal → ℕ → CutStream → Passed
+cut_passed journal master cut =
+    let answered = pieces_answered journal master cut.cuts in
+    record { journal = answered.journal; stream = record { master = master; held = cut.rest }; text = answered.text }
 
 -- octets go on with the stream, in whatever pieces they come
-abbrev pub passed : World → Stream → List ℕ → Passed
-passed world stream octets = cut_passed world stream.master (cuts_of (stream.held ++ octets))
+abbrev pub passed : Journal → Stream → List ℕ → Passed
+passed journal stream octets = cut_passed journal stream.master (cuts_of (stream.held ++ octets))
 
 -- octets that come after others
 abbrev pub then_passed : Passed → List ℕ → Passed
 then_passed before octets =
-    let after = passed before.world before.stream octets in
-    record { world = after.world; stream = after.stream; text = before.text ++ after.text }
+    let after = passed before.journal before.stream octets in
+    record { journal = after.journal; stream = after.stream; text = before.text ++ after.text }
 
 -- what a command to a line leaves and writes
 pub record Sent : Type 0 where
@@ -80,9 +86,9 @@ pub record Sent : Type 0 where
 -- octets on the stream at this index
 abbrev pub sent_at : LineInUse → List ℕ → ℕ → Stream → Sent
 sent_at line_in_use octets index stream =
-    let passing = passed line_in_use.world stream octets in
+    let passing = passed line_in_use.journal stream octets in
     record {
-      line_in_use = record line_in_use { world = passing.world; streams = slice_set line_in_use.streams index passing.stream };
+      line_in_use = record line_in_use { journal = passing.journal; streams = slice_set line_in_use.streams index passing.stream };
       text = passing.text;
     }
 
@@ -96,13 +102,19 @@ sent line_in_use master octets =
 -- the operator does something, which is one event; the streams stay
 abbrev pub operated : LineInUse → Op → Sent
 operated line_in_use op =
-    let stepped = step line_in_use.world (Operator op) in
-    record { line_in_use = record line_in_use { world = stepped.world }; text = outcome_line stepped.answer.outcome }
+    record {
+      line_in_use = record line_in_use { journal = taken line_in_use.journal (Operator op) };
+      text = outcome_line (told_of line_in_use.journal (Operator op));
+    }
 
 -- which slaves a master holds; none for an address that is no master's
 abbrev pub owned_line : LineInUse → ℕ → List ℕ
-owned_line line_in_use master = owned_text (owned line_in_use.world master)
+owned_line line_in_use master = owned_text (owned line_in_use.journal.state.world master)
 
 -- the slave at an address, if one has it
 abbrev pub show_line : LineInUse → ℕ → List ℕ
-show_line line_in_use address = show_text (option_map view_of (slave_at line_in_use.world address))
+show_line line_in_use address = show_text (option_map view_of (slave_at line_in_use.journal.state.world address))
+
+-- the audit text of its journal
+abbrev pub journal_text : LineInUse → List ℕ
+journal_text line_in_use = audit_text line_in_use.journal.number line_in_use.journal.entries

@@ -1,6 +1,7 @@
 -- What a run leaves on its writer, and how it ends (own).
 use Rattle.std.specs.Prelude.{◌≡◌, ℕ, List, ◌++◌, Option, Some, None, Result, Ok, Err}
 use Rattle.std.specs.Io.KnownBytes.{Appends, Keeps}
+use Rattle.dp_text.specs.Writes.{WritesPrefix}
 use Rattle.rack_file.specs.declared.fault.RackFault.{RackFault}
 use Rattle.rack_file.specs.Rack.{RackDescription}
 use Rattle.rackd.specs.declared.run_fault.RunFault.{RunFault}
@@ -9,10 +10,6 @@ use Rattle.rackd.specs.declared.stop.Stop.{Stop}
 use Rattle.rackd.specs.declared.stop.Stop.TheVariants as stops
 use Rattle.rackd.specs.LinesInUse.{LineInUse, Sent}
 use Rattle.rackd.specs.ScriptText.{RackInUse, Obeyed, Played, script_text}
-
--- known bytes grow by a prefix of the text
-abbrev pub WritesPrefix : Option (List ℕ) → Option (List ℕ) → List ℕ → Type 0
-WritesPrefix old new text = (front back : List ℕ) × (text ≡ front ++ back) × Appends old new front
 
 -- a command to a line: at the end the line is as it leaves it, and the writer has its whole text; a prefix where a write failed; and
 -- where it is none nothing is written

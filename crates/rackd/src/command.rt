@@ -1,7 +1,7 @@
 //! The commands of a script.
 
 ghost use Rattle.std.specs.Prelude.{◌≡◌, option_and_then};
-ghost use Rattle.rackd.specs.Commands.{command_of, command_of_words, send_of, only_number as only_number_of};
+ghost use Rattle.rackd.specs.Commands.{command_of, command_of_words, send_of, journal_of, only_number as only_number_of};
 ghost use Rattle.rackd.specs.CommandView.{command_view};
 
 use dp_text::{HexWords, Words, is_text, octet_in};
@@ -24,6 +24,8 @@ pub(crate) enum Command<'a> {
     ListOwned(u8),
     /// `show A`: the slave at this address.
     ShowSlave(u8),
+    /// `journal`: the audit text of the line.
+    WriteJournal,
     /// Any other words. They are a command where they are what an operator does, which is read when it
     /// is done, since that is large.
     Operate {
@@ -62,7 +64,20 @@ fn by_first_word<'a>(mut words: Words<'a>) -> Option<Command<'a>>
     if is_text(first, b"show") {
         return only_number(&mut words).map(|address| Command::ShowSlave(address));
     }
+    if is_text(first, b"journal") {
+        return journal(&mut words);
+    }
     Some(Command::Operate { kind: first, words })
+}
+
+/// The audit text, which no other word asks for.
+fn journal<'a>(words: &mut Words<'a>) -> Option<Command<'a>>
+    ensures { option_and_then command_view result ≡ journal_of words.old }
+{
+    match words.next() {
+        None => Some(Command::WriteJournal),
+        Some(_) => None,
+    }
 }
 
 /// The number from 0 to 255 that is the only word.

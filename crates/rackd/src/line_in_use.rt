@@ -7,14 +7,16 @@ ghost use Rattle.dp_telegram.specs.Stream.{cut_lent, cut_length};
 ghost use Rattle.dp_telegram.specs.FrameText.{frame_at};
 ghost use Rattle.dp_line.specs.declared.event.Event.TheVariants.{Request};
 ghost use Rattle.dp_line.specs.World.{description_of, opening_fault};
-ghost use Rattle.rackd.specs.LinesInUse.{line_at_start, empty_stream, piece_answered, passed, sent, operated, owned_line, show_line};
-ghost use Rattle.rackd.specs.Runs.{WritesPrefix, Sends};
+ghost use Rattle.rackd.specs.LinesInUse.{line_at_start, empty_stream, piece_answered, passed, sent, operated, owned_line, show_line, journal_text};
+ghost use Rattle.dp_text.specs.Writes.{WritesPrefix};
+ghost use Rattle.rackd.specs.Runs.{Sends};
 
 use crate::output::write_whole;
 use crate::stop::Stop;
 use crate::stream_laws::pieces_of_a_stream_do_not_matter;
 use arrayvec::ArrayVec;
-use dp_line::{Event, LineSpec, LineState, Op};
+use dp_audit::Book;
+use dp_line::{Event, LineSpec, Op};
 use dp_telegram::{Cutter, Piece};
 use dp_text::{HexWords, Text};
 use std::alloc::{AllocError, Global};
@@ -45,8 +47,7 @@ impl Model for Stream {
 /// A line in use. Each of its masters has a stream of its own, which commands go on with.
 #[derive(Drop)]
 pub(crate) struct LineInUse {
-    number: u8,
-    state: LineState,
+    book: Book,
     streams: Vec<Stream>,
 }
 
@@ -55,7 +56,7 @@ impl Model for LineInUse {
 
     ghost Value = { View };
 
-    ghost view = { λ s. record { number = s.number; world = s.state.world; streams = s.streams.items } };
+    ghost view = { λ s. record { journal = s.book; streams = s.streams.items } };
 }
 
 impl LineInUse {
@@ -64,19 +65,17 @@ impl LineInUse {
         requires { opening_fault (description_of line.now) ≡ None }
         ensures { IfOk result (λ line_in_use. line_in_use ≡ line_at_start (description_of line.now)) }
     {
-        let state = LineState::open(alloc, line).map_err(|_| AllocError)?;
         Ok(LineInUse {
-            number: line.number,
-            state,
+            book: Book::open(alloc, line).map_err(|_| AllocError)?,
             streams: empty_streams(alloc, &line.masters)?,
         })
     }
 
     /// Its number in the rack.
     pub(crate) fn number(&self) -> u8
-        ensures { result ≡ self.now.number }
+        ensures { result ≡ self.now.journal.number }
     {
-        self.number
+        self.book.number()
     }
 
     /// A master sends octets, and the answers are written; it may be none of the line's.
@@ -92,28 +91,37 @@ impl LineInUse {
         let Some(index) = index_of(&self.streams, master) else {
             return Err(Stop::NoCommand);
         };
-        self.streams[index].pass_words(&mut self.state, octets, text, writer)
+        self.streams[index].pass_words(&mut self.book, octets, text, writer)
     }
 
     /// The operator does something, and the text becomes the answer.
     pub(crate) fn operate(&mut self, op: Op, text: &mut Text)
         ensures { record { line_in_use = self.new; text = text.new } ≡ operated self.old op }
     {
-        text.set_outcome(&self.state.take(&Event::Operator(op)).outcome);
+        text.set_outcome(&self.book.record(&Event::Operator(op)).outcome);
     }
 
     /// Makes the text the list of the slaves that a master holds, oldest lock first.
     pub(crate) fn list_owned(&self, master: u8, text: &mut Text)
         ensures { text.new ≡ owned_line self.now master }
     {
-        text.set_owned(self.state.owned_by(master).as_slice());
+        text.set_owned(self.book.state().owned_by(master).as_slice());
     }
 
     /// Makes the text what is shown of the slave at an address, which none may have.
     pub(crate) fn show_slave(&self, address: u8, text: &mut Text)
         ensures { text.new ≡ show_line self.now address }
     {
-        text.set_show(&self.state.view(address));
+        text.set_show(&self.book.state().view(address));
+    }
+
+    /// Writes the audit text of its journal.
+    pub(crate) fn write_journal<W: Write>(&self, writer: &mut W) -> Result<(), Stop>
+        ensures ok { OnOk result (Appends (W.contents writer.old) (W.contents writer.new) (journal_text self.now)) }
+        ensures err { OnErr result (WritesPrefix (W.contents writer.old) (W.contents writer.new) (journal_text self.now)) }
+        ensures fault { IfErr result (λ stop. stop ≡ Stop.WriteFault) }
+    {
+        self.book.write_text(writer).map_err(|_| Stop::WriteFault)
     }
 }
 
@@ -142,22 +150,22 @@ impl Stream {
     /// Octets come in words, and the answers to the pieces that they complete are written.
     fn pass_words<W: Write>(
         &mut self,
-        state: &mut LineState,
+        book: &mut Book,
         mut octets: HexWords<'_>,
         text: &mut Text,
         writer: &mut W,
     ) -> Result<(), Stop>
-        ensures world { OnOk result (state.new.world ≡ (passed state.old.world self.old octets.entry).world) }
-        ensures stream { OnOk result (self.new ≡ (passed state.old.world self.old octets.entry).stream) }
-        ensures ok { OnOk result (Appends (W.contents writer.old) (W.contents writer.new) (passed state.old.world self.old octets.entry).text) }
-        ensures err { OnErr result (WritesPrefix (W.contents writer.old) (W.contents writer.new) (passed state.old.world self.old octets.entry).text) }
+        ensures journal { OnOk result (book.new ≡ (passed book.old self.old octets.entry).journal) }
+        ensures stream { OnOk result (self.new ≡ (passed book.old self.old octets.entry).stream) }
+        ensures ok { OnOk result (Appends (W.contents writer.old) (W.contents writer.new) (passed book.old self.old octets.entry).text) }
+        ensures err { OnErr result (WritesPrefix (W.contents writer.old) (W.contents writer.new) (passed book.old self.old octets.entry).text) }
         ensures fault { IfErr result (λ stop. stop ≡ Stop.WriteFault) }
     {
         pieces_of_a_stream_do_not_matter();
         let mut chunk = [0; CHUNK];
         loop {
             let count = octets.fill(&mut chunk);
-            self.pass(state, &chunk[..count], text, writer)?;
+            self.pass(book, &chunk[..count], text, writer)?;
             if count < CHUNK {
                 return Ok(());
             }
@@ -167,22 +175,22 @@ impl Stream {
     /// Octets come, and the answers to the pieces that they complete are written.
     fn pass<W: Write>(
         &mut self,
-        state: &mut LineState,
+        book: &mut Book,
         octets: &[u8],
         text: &mut Text,
         writer: &mut W,
     ) -> Result<(), Stop>
-        ensures world { OnOk result (state.new.world ≡ (passed state.old.world self.old octets.now).world) }
-        ensures stream { OnOk result (self.new ≡ (passed state.old.world self.old octets.now).stream) }
-        ensures ok { OnOk result (Appends (W.contents writer.old) (W.contents writer.new) (passed state.old.world self.old octets.now).text) }
-        ensures err { OnErr result (WritesPrefix (W.contents writer.old) (W.contents writer.new) (passed state.old.world self.old octets.now).text) }
+        ensures journal { OnOk result (book.new ≡ (passed book.old self.old octets.now).journal) }
+        ensures stream { OnOk result (self.new ≡ (passed book.old self.old octets.now).stream) }
+        ensures ok { OnOk result (Appends (W.contents writer.old) (W.contents writer.new) (passed book.old self.old octets.now).text) }
+        ensures err { OnErr result (WritesPrefix (W.contents writer.old) (W.contents writer.new) (passed book.old self.old octets.now).text) }
         ensures fault { IfErr result (λ stop. stop ≡ Stop.WriteFault) }
     {
         let mut left = octets;
         loop {
             if let Some(piece) = self.cutter.front() {
                 let count = piece.size();
-                answer_piece(text, state, self.master, piece);
+                answer_piece(text, book, self.master, piece);
                 self.cutter.pass(count);
                 write_whole(writer, text.as_bytes())?;
             } else if left.is_empty() {
@@ -196,21 +204,21 @@ impl Stream {
 }
 
 /// Makes the text the answer to a piece of a master's stream: a frame is one event of the line.
-fn answer_piece(text: &mut Text, state: &mut LineState, master: u8, piece: Piece<'_>)
+fn answer_piece(text: &mut Text, book: &mut Book, master: u8, piece: Piece<'_>)
     requires { cut_length (cut_lent piece) ≤ 255 }
-    ensures { record { world = state.new.world; text = text.new } ≡ piece_answered state.old.world master (cut_lent piece.entry) }
+    ensures { record { journal = book.new; text = text.new } ≡ piece_answered book.old master (cut_lent piece.entry) }
 {
     match piece {
-        Piece::Frame(octets) => answer_frame(text, state, master, octets),
+        Piece::Frame(octets) => answer_frame(text, book, master, octets),
         Piece::Dropped { fault, count } => text.set_dropped(master, fault, count),
     }
 }
 
 /// Makes the text the answer to a frame of a master's stream.
-fn answer_frame(text: &mut Text, state: &mut LineState, master: u8, octets: &[u8])
+fn answer_frame(text: &mut Text, book: &mut Book, master: u8, octets: &[u8])
     requires { length octets.now ≤ 255 }
-    ensures { record { world = state.new.world; text = text.new }
-        ≡ piece_answered state.old.world master (pieces.Frame (frame_at octets.now) (record { items = octets.now })) }
+    ensures { record { journal = book.new; text = text.new }
+        ≡ piece_answered book.old master (pieces.Frame (frame_at octets.now) (record { items = octets.now })) }
 {
     let mut event = Event::Request {
         master,
@@ -219,5 +227,5 @@ fn answer_frame(text: &mut Text, state: &mut LineState, master: u8, octets: &[u8
     if let Event::Request { octets: copy, .. } = &mut event {
         copy.try_extend_from_slice(octets).unwrap();
     }
-    text.set_answer(master, &state.take(&event).outcome);
+    text.set_answer(master, &book.record(&event).outcome);
 }

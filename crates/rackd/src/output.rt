@@ -2,10 +2,10 @@
 
 ghost use Rattle.std.specs.Prelude.{◌≡◌, OnOk, OnErr, IfErr};
 ghost use Rattle.std.specs.Io.KnownBytes.{Appends};
-ghost use Rattle.rackd.specs.Runs.{WritesPrefix};
+ghost use Rattle.dp_text.specs.Writes.{WritesPrefix};
 
 use crate::stop::Stop;
-use std::io::{ErrorKind, Write};
+use std::io::Write;
 
 /// Writes all of the bytes, or a prefix of them where a write fails or takes no octet.
 pub(crate) fn write_whole<W: Write>(writer: &mut W, bytes: &[u8]) -> Result<(), Stop>
@@ -13,20 +13,5 @@ pub(crate) fn write_whole<W: Write>(writer: &mut W, bytes: &[u8]) -> Result<(), 
     ensures err { OnErr result (WritesPrefix (W.contents writer.old) (W.contents writer.new) bytes.now) }
     ensures fault { IfErr result (λ stop. stop ≡ Stop.WriteFault) }
 {
-    let mut rest = bytes;
-    for _ in 0..u64::MAX {
-        if rest.is_empty() {
-            return Ok(());
-        }
-        match writer.write(rest) {
-            Ok(0) => return Err(Stop::WriteFault),
-            Ok(count) => (_, rest) = rest.split_at(count),
-            Err(error) => {
-                if error.kind() != ErrorKind::Interrupted {
-                    return Err(Stop::WriteFault);
-                }
-            }
-        }
-    }
-    Err(Stop::WriteFault)
+    dp_text::write_whole(writer, bytes).map_err(|_| Stop::WriteFault)
 }

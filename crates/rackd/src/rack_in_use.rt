@@ -1,7 +1,7 @@
 //! A rack in use: its lines, and the one that commands speak to.
 
 ghost use Rattle.std.specs.Prelude.{◌≡◌, ◌<◌, ◌==◌, ℕ, List, ◌∷◌, Option, None, option_and_then, All, map, position, length, IfOk, IfSome};
-ghost use Rattle.rackd.specs.Commands.{choose_line, send as send_octets, list_owned as owned_asked, show_slave as slave_asked, operation_of};
+ghost use Rattle.rackd.specs.Commands.{choose_line, send as send_octets, list_owned as owned_asked, show_slave as slave_asked, write_journal as journal_asked, operation_of};
 ghost use Rattle.dp_line.specs.World.{description_of, opening_fault};
 ghost use Rattle.rack_file.specs.Rack.{rack_described};
 ghost use Rattle.rackd.specs.CommandView.{command_view};
@@ -65,6 +65,7 @@ impl RackInUse {
             Command::Send { master, octets } => self.send(master, octets, text, writer),
             Command::ListOwned(master) => self.list_owned(master, text, writer),
             Command::ShowSlave(address) => self.show_slave(address, text, writer),
+            Command::WriteJournal => self.write_journal(writer),
             Command::Operate { kind, words } => self.operate(kind, words, text, writer),
         }
     }
@@ -111,6 +112,13 @@ impl RackInUse {
         write_whole(writer, text.as_bytes())
     }
 
+    /// Writes the audit text of the chosen line.
+    fn write_journal<W: Write>(&self, writer: &mut W) -> Result<(), Stop>
+        ensures { Obeys (obeyed self.now journal_asked) self.now (W.contents writer.old) (W.contents writer.new) result }
+    {
+        self.lines[self.chosen].write_journal(writer)
+    }
+
     /// The operator of the chosen line does what the words say, if they say that; its answer is written.
     fn operate<W: Write>(
         &mut self,
@@ -131,7 +139,7 @@ impl RackInUse {
 
 /// Where the line of a number stands first.
 fn index_of(lines: &[LineInUse], number: u8) -> Option<usize>
-    ensures index { result ≡ position (λ line. line.number == number) lines.now }
+    ensures index { result ≡ position (λ line. line.journal.number == number) lines.now }
     ensures bound { IfSome result (λ index. index < length lines.now) }
 {
     lines.iter().position(|line| line.number() == number)

@@ -13,8 +13,8 @@ loop-piece-preserved-in-Continue-1 g c =
     c.in-Some.ensures.stream left
     ∙ ap (λ behind. with_cut piece (cuts_of (behind ++ left))) (c.in-Some.ensures.left ∙ ap (λ count. drop count held) (sym c.size-count.ensures) ∙ sym c.pass.ensures.held) in record {
       answered =
-          piece_written _ _ (g.W.Write.contents c.loop-piece.writer) _ c.loop-piece.state.world c.answer_piece.new.state.world c.loop-piece.self-inside.master piece c.as_bytes.result.now _ _
-          c.loop-piece.invariant.answered handed (ap (λ text. record { world = c.answer_piece.new.state.world; text = text }) c.as_bytes.ensures ∙ c.answer_piece.ensures) c.in_ok-write_whole.ensures.ok;
+          piece_written _ _ (g.W.Write.contents c.loop-piece.writer) _ c.loop-piece.book c.answer_piece.new.book c.loop-piece.self-inside.master piece c.as_bytes.result.now _ _
+          c.loop-piece.invariant.answered handed (ap (λ text. record { journal = c.answer_piece.new.book; text = text }) c.as_bytes.ensures ∙ c.answer_piece.ensures) c.in_ok-write_whole.ensures.ok;
       most = c.pass.ensures.most;
     }
 
@@ -27,17 +27,17 @@ returns-in_err-write_whole-clause-err g c =
     c.in-Some.ensures.stream left
     ∙ ap (λ behind. with_cut piece (cuts_of (behind ++ left))) (c.in-Some.ensures.left ∙ ap (λ count. drop count held) (sym c.size-count.ensures) ∙ sym c.pass.ensures.held) in
     on_err c.from_residual.result
-    (piece_cut_off _ _ (g.W.Write.contents c.loop-piece.writer) _ c.loop-piece.state.world c.answer_piece.new.state.world c.loop-piece.self-inside.master piece c.as_bytes.result.now _ _
-    c.loop-piece.invariant.answered handed (ap (λ text. record { world = c.answer_piece.new.state.world; text = text }) c.as_bytes.ensures ∙ c.answer_piece.ensures) c.in_err-write_whole.ensures.err)
+    (piece_cut_off _ _ (g.W.Write.contents c.loop-piece.writer) _ c.loop-piece.book c.answer_piece.new.book c.loop-piece.self-inside.master piece c.as_bytes.result.now _ _
+    c.loop-piece.invariant.answered handed (ap (λ text. record { journal = c.answer_piece.new.book; text = text }) c.as_bytes.ensures ∙ c.answer_piece.ensures) c.in_err-write_whole.ensures.err)
 
-pub returns-then-is_empty-clause-world : goal.returns-then-is_empty-clause-world
-returns-then-is_empty-clause-world g c =
-    (all_passed _ _ _ c.loop-piece.state.world c.loop-piece.self-inside.master c.loop-piece.self-inside.cutter c.loop-piece.left.now c.loop-piece.invariant.answered (sym c.if-is_empty.ensures) c.in_default.ensures.rest).world_is
+pub returns-then-is_empty-clause-journal : goal.returns-then-is_empty-clause-journal
+returns-then-is_empty-clause-journal g c =
+    (all_passed _ _ _ c.loop-piece.book c.loop-piece.self-inside.master c.loop-piece.self-inside.cutter c.loop-piece.left.now c.loop-piece.invariant.answered (sym c.if-is_empty.ensures) c.in_default.ensures.rest).journal_is
 
 pub returns-then-is_empty-clause-stream : goal.returns-then-is_empty-clause-stream
 returns-then-is_empty-clause-stream g c =
-    (all_passed _ _ _ c.loop-piece.state.world c.loop-piece.self-inside.master c.loop-piece.self-inside.cutter c.loop-piece.left.now c.loop-piece.invariant.answered (sym c.if-is_empty.ensures) c.in_default.ensures.rest).stream_is
+    (all_passed _ _ _ c.loop-piece.book c.loop-piece.self-inside.master c.loop-piece.self-inside.cutter c.loop-piece.left.now c.loop-piece.invariant.answered (sym c.if-is_empty.ensures) c.in_default.ensures.rest).stream_is
 
 pub returns-then-is_empty-clause-ok : goal.returns-then-is_empty-clause-ok
 returns-then-is_empty-clause-ok g c =
-    (all_passed _ _ _ c.loop-piece.state.world c.loop-piece.self-inside.master c.loop-piece.self-inside.cutter c.loop-piece.left.now c.loop-piece.invariant.answered (sym c.if-is_empty.ensures) c.in_default.ensures.rest).written
+    (all_passed _ _ _ c.loop-piece.book c.loop-piece.self-inside.master c.loop-piece.self-inside.cutter c.loop-piece.left.now c.loop-piece.invariant.answered (sym c.if-is_empty.ensures) c.in_default.ensures.rest).written

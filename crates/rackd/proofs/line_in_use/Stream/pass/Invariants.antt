@@ -7,7 +7,7 @@ use Rattle.rackd.proofs.line_in_use.Stream.pass.Given as goal
 -- what is answered so far, and then what is held and what is left, is what there is to answer
 abbrev pub invariant-loop-piece : goal.invariant-loop-piece
 invariant-loop-piece g l = record {
-  answered : SoFar (passed l.fn.state.world l.fn.self l.octets) (g.W.Write.contents l.fn.writer) (g.W.Write.contents l.writer) l.state.world l.self-inside.master (cuts_of (l.self-inside.cutter ++ l.left));
+  answered : SoFar (passed l.fn.book l.fn.self l.octets) (g.W.Write.contents l.fn.writer) (g.W.Write.contents l.writer) l.book l.self-inside.master (cuts_of (l.self-inside.cutter ++ l.left));
   most : length l.self-inside.cutter ≤ 255;
 }
 
