@@ -2,6 +2,7 @@ pub mod Codes
 pub mod Journal
 pub mod Legal
 pub mod Packed
+pub mod Unpacked
 pub mod AuditText
 pub mod Check
 pub mod AuditExamples

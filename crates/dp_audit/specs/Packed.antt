@@ -115,3 +115,8 @@ pub record IsPackable (entry : Entry) : Type 0 where
   pub point : HasToldPoint entry.event
   pub holder : HasToldHolder entry.facts
   pub outcome : IsOutcomeWithinLimits entry.outcome
+
+-- no refusal of the operator
+abbrev pub IsNoRefusal : Outcome → Type 0
+IsNoRefusal (Refused fault) = ⊥
+IsNoRefusal outcome = Unit {0}

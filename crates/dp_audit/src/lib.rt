@@ -3,6 +3,7 @@
 
 mod entry;
 mod fault;
+mod packing;
 
 pub use entry::{Entry, Receipt};
 pub use fault::{AuditFault, WriteFault};
