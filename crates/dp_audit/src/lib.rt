@@ -4,6 +4,7 @@
 mod entry;
 mod fault;
 mod packing;
+mod unpacking;
 
 pub use entry::{Entry, Receipt};
 pub use fault::{AuditFault, WriteFault};
