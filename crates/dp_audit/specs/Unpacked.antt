@@ -48,20 +48,27 @@ has_bit bit flags = flags / bit % 2 == 1
 
 -- ---- events
 
+-- with counted octets, and what is behind them
+abbrev pub request_with : ℕ → List ℕ × List ℕ → Event × List ℕ
+request_with master read = (Request master (record { items = read.0 }), read.1)
+
 abbrev pub request_in : List ℕ → Option (Event × List ℕ)
 request_in [] = None
-request_in (master ∷ octets) =
-    option_map (λ counted. (Request master (record { items = counted.0 }), counted.1)) (counted_in 255 octets)
+request_in (master ∷ octets) = option_map (request_with master) (counted_in 255 octets)
+
+abbrev pub input_with : ℕ → List ℕ × List ℕ → Event × List ℕ
+input_with address read = (Operator (Input address (record { items = read.0 })), read.1)
 
 abbrev pub input_in : List ℕ → Option (Event × List ℕ)
 input_in [] = None
-input_in (address ∷ octets) =
-    option_map (λ counted. (Operator (Input address (record { items = counted.0 })), counted.1)) (counted_in 244 octets)
+input_in (address ∷ octets) = option_map (input_with address) (counted_in 244 octets)
+
+abbrev pub diag_with : ℕ → Bool → Bool → Bool → List ℕ × List ℕ → Event × List ℕ
+diag_with address ext stat overflow read = (Operator (Diag address ext stat overflow (record { items = read.0 })), read.1)
 
 abbrev pub diag_in : List ℕ → Option (Event × List ℕ)
 diag_in (address ∷ flags ∷ octets) =
-    option_map (λ counted. (Operator (Diag address (has_bit 1 flags) (has_bit 2 flags) (has_bit 4 flags) (record { items = counted.0 })), counted.1))
-    (counted_in 238 octets)
+    option_map (diag_with address (has_bit 1 flags) (has_bit 2 flags) (has_bit 4 flags)) (counted_in 238 octets)
 diag_in octets = None
 
 abbrev pub busy_in : List ℕ → Option (Event × List ℕ)
@@ -97,16 +104,22 @@ facts_in octets = None
 
 -- ---- outcomes
 
+abbrev pub reply_for : List ℕ → List ℕ → Rule → Outcome × List ℕ
+reply_for reply octets rule = (Reply (record { items = reply }) rule, octets)
+
 abbrev pub reply_with : List ℕ → List ℕ → Option (Outcome × List ℕ)
 reply_with reply [] = None
-reply_with reply (code ∷ octets) = option_map (λ rule. (Reply (record { items = reply }) rule, octets)) (rule_of code)
+reply_with reply (code ∷ octets) = option_map (reply_for reply octets) (rule_of code)
 
 abbrev pub reply_in : List ℕ → Option (Outcome × List ℕ)
-reply_in octets = option_and_then (λ counted. reply_with counted.0 counted.1) (counted_in 255 octets)
+reply_in octets = option_and_then (λ read. reply_with read.0 read.1) (counted_in 255 octets)
+
+abbrev pub silence_for : List ℕ → Rule → Outcome × List ℕ
+silence_for octets rule = (Silence rule, octets)
 
 abbrev pub silence_in : List ℕ → Option (Outcome × List ℕ)
 silence_in [] = None
-silence_in (code ∷ octets) = option_map (λ rule. (Silence rule, octets)) (rule_of code)
+silence_in (code ∷ octets) = option_map (silence_for octets) (rule_of code)
 
 -- one more pair before others
 abbrev pub pair_before : ℕ → Option Rule → Option (List (ℕ × Rule)) → Option (List (ℕ × Rule))
@@ -118,15 +131,21 @@ pairs_of [] = Some []
 pairs_of (address ∷ []) = None
 pairs_of (address ∷ code ∷ octets) = pair_before address (rule_of code) (pairs_of octets)
 
+abbrev pub spread_with : List ℕ → List (ℕ × Rule) → Outcome × List ℕ
+spread_with octets pairs = (Spread (record { items = pairs }), octets)
+
 abbrev pub spread_in : List ℕ → Option (Outcome × List ℕ)
 spread_in [] = None
 spread_in (count ∷ octets) =
     if nat_le count 64 && nat_le (2 * count) (length octets)
-    then option_map (λ pairs. (Spread (record { items = pairs }), drop (2 * count) octets)) (pairs_of (take (2 * count) octets))
+    then option_map (spread_with (drop (2 * count) octets)) (pairs_of (take (2 * count) octets))
     else None
 
+abbrev pub released_with : List ℕ × List ℕ → Outcome × List ℕ
+released_with read = (Released (record { items = read.0 }), read.1)
+
 abbrev pub released_in : List ℕ → Option (Outcome × List ℕ)
-released_in octets = option_map (λ counted. (Released (record { items = counted.0 }), counted.1)) (counted_in 64 octets)
+released_in octets = option_map released_with (counted_in 64 octets)
 
 -- by the first octet
 abbrev pub outcome_in : List ℕ → Option (Outcome × List ℕ)
@@ -141,14 +160,22 @@ outcome_in (kind ∷ octets) =
 
 -- ---- records
 
--- what a record at this place tells behind its first two octets
+-- what a record at this place tells behind its first two octets: an event, facts and an outcome
+abbrev pub with_facts : ℕ → Event → Option (State × Option ℕ) × List ℕ → Option Entry
+with_facts place event facts =
+    option_map (λ outcome. record { place = place; event = event; facts = facts.0; outcome = outcome.0 }) (outcome_in facts.1)
+
+abbrev pub with_event : ℕ → Event × List ℕ → Option Entry
+with_event place event = option_and_then (with_facts place event.0) (facts_in event.1)
+
 abbrev pub parts_in : ℕ → List ℕ → Option Entry
-parts_in place octets =
-    option_and_then (λ event.
-        option_and_then (λ facts.
-            option_map (λ outcome. record { place = place; event = event.0; facts = facts.0; outcome = outcome.0 }) (outcome_in facts.1))
-        (facts_in event.1))
-    (event_in octets)
+parts_in place octets = option_and_then (with_event place) (event_in octets)
+
+-- the record that octets begin with, which is as long as its first two octets tell
+abbrev pub record_in : List ℕ → Option (List ℕ)
+record_in (high ∷ low ∷ octets) =
+    if nat_le (256 * high + low) (length octets) then Some (high ∷ low ∷ take (256 * high + low) octets) else None
+record_in octets = None
 
 -- the entry of a record at this place; what stands behind the record doesn't matter
 unfoldable pub entry_in : ℕ → List ℕ → Option Entry

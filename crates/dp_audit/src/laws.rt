@@ -1,0 +1,11 @@
+//! Laws of packed entries: each is what an empty function ensures.
+
+ghost use Rattle.std.specs.Prelude.{◌≡◌, ℕ, List, ◌++◌, Some};
+ghost use Rattle.dp_audit.specs.declared.entry.Entry.{Entry};
+ghost use Rattle.dp_audit.specs.Packed.{IsPackable, record_octets};
+ghost use Rattle.dp_audit.specs.Unpacked.{entry_in};
+
+/// An entry is read back from its record, whatever stands behind it.
+pub fn a_record_is_read_back()
+    ensures { (entry : Entry) → IsPackable entry → (rest : List ℕ) → entry_in entry.place (record_octets entry ++ rest) ≡ Some entry }
+{}
