@@ -7,3 +7,4 @@ pub mod AuditText
 pub mod Check
 pub mod AuditExamples
 pub mod Records
+pub mod Stored

@@ -5,6 +5,7 @@ mod entry;
 mod fault;
 pub mod laws;
 mod packing;
+mod records;
 mod unpacking;
 
 pub use entry::{Entry, Receipt};

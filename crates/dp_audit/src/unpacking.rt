@@ -1,8 +1,9 @@
 //! Entries read from the octets that they were packed into.
 
-ghost use Rattle.std.specs.Prelude.{◌≡◌, ◌≤◌, length, option_map, option_copied};
+ghost use Rattle.std.specs.Prelude.{◌≡◌, ◌≤◌, length, option_map};
+ghost use Rattle.std.specs.Option.{option_copied};
 ghost use Rattle.dp_sap.specs.declared.state.State.TheVariants.{WaitPrm};
-ghost use Rattle.dp_audit.specs.Unpacked.{both_now, busy_in, counted_in, diag_in, entry_in, event_in, facts_in, has_bit as has_bit_of, input_in, none_or_octet, numbered, outcome_in, pairs_items, pairs_of, parts_in, released_in, reply_in, request_in, rule_of, rules_in_order, silence_in, spread_in, states_in_order, tick_in, told_facts, with_rest};
+ghost use Rattle.dp_audit.specs.Unpacked.{both_now, busy_in, counted_in, diag_in, entry_in, event_in, facts_in, has_bit as has_bit_of, input_in, none_or_octet, numbered, outcome_in, pairs_items, pairs_of, parts_in, record_in, released_in, reply_in, request_in, rule_of, rules_in_order, silence_in, spread_in, states_in_order, tick_in, told_facts, with_rest};
 
 use crate::entry::Entry;
 use crate::packing::NONE;
@@ -300,4 +301,19 @@ fn read_parts(place: u32, octets: &[u8]) -> Option<Entry>
         facts,
         outcome,
     })
+}
+
+/// The record that octets begin with.
+pub(crate) fn first_record(octets: &[u8]) -> Option<&[u8]>
+    ensures { option_copied result ≡ record_in octets.now }
+{
+    let [high, low, behind @ ..] = octets else {
+        return None;
+    };
+    let size = 256 * usize::from(*high) + usize::from(*low);
+    if size <= behind.len() {
+        Some(&octets[..size + 2])
+    } else {
+        None
+    }
 }
