@@ -8,5 +8,8 @@ mod packing;
 mod records;
 mod unpacking;
 
+#[cfg(test)]
+mod records_tests;
+
 pub use entry::{Entry, Receipt};
 pub use fault::{AuditFault, WriteFault};
