@@ -1,6 +1,6 @@
 -- What is packed is read back.
-use Rattle.std.proofs.Common.{◌≡◌, ℕ, ◌+◌, ◌*◌, ◌/◌, ◌%◌, ◌≤◌, ◌<◌, ◌==◌, eqb, leb, Bool, true, false, ◌&&◌, cond, List, [], ◌∷◌, ◌++◌, length, take, drop, Option, Some, None, refl, sym, ap, ◌∙◌, append_assoc, append-nil, arith, length-append}
-use Rattle.std.specs.Prelude.{option_map, option_and_then, IfSome}
+use Rattle.std.proofs.Common.{◌≡◌, ℕ, ◌+◌, ◌*◌, ◌/◌, ◌%◌, ◌≤◌, ◌==◌, leb, Bool, true, false, ◌&&◌, List, [], ◌∷◌, ◌++◌, length, take, drop, Option, Some, None, refl, ap, ◌∙◌, append_assoc, arith, length-append}
+use Rattle.std.specs.Prelude.{option_map, option_and_then}
 use Rattle.std.specs.List.{flat_map}
 use Rattle.std.proofs.lemmas.Bool.{cond-true, cond-false, ne_eqb, le-leb}
 use Rattle.std.proofs.lemmas.List.{drop_at, take_at}
@@ -18,7 +18,7 @@ use Rattle.dp_line.specs.declared.event.Outcome.{Outcome}
 use Rattle.dp_line.specs.declared.event.Outcome.TheVariants.{Reply, Silence, Spread, Released, Done, Refused}
 use Rattle.dp_text.specs.Events.{IsOpWithinLimits, IsWithinLimits}
 use Rattle.dp_audit.specs.declared.entry.Entry.{Entry}
-use Rattle.dp_audit.specs.Packed.{HasToldHolder, HasToldPoint, IsOutcomeWithinLimits, IsPackable, IsTold, bit, counted, entry_octets, event_octets, facts_octets, flags_octet, octet_or_none, op_octets, outcome_octets, pair_octets, record_octets}
+use Rattle.dp_audit.specs.Packed.{HasToldHolder, HasToldPoint, IsOutcomeWithinLimits, IsPackable, IsTold, bit, counted, event_octets, facts_octets, flags_octet, octet_or_none, op_octets, outcome_octets, pair_octets, record_octets}
 use Rattle.dp_audit.specs.Unpacked.{counted_in, diag_with, entry_in, event_in, facts_in, has_bit, input_with, none_or_octet, outcome_in, pair_before, pairs_of, parts_in, released_with, reply_for, reply_with, request_with, rule_of, silence_for, spread_in, spread_with, with_event, with_facts}
 use Rattle.dp_audit.proofs.Sizes.{pairs_size}
 

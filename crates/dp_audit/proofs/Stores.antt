@@ -1,7 +1,7 @@
 -- Entries, stored and found.
 use Rattle.std.proofs.Common.{◌≡◌, ◌≢◌, inl, inr, ℕ, zero, suc, ◌+◌, ◌-◌, ◌*◌, ◌/◌, ◌%◌, ◌<◌, ◌≤◌, ◌==◌, leb, Bool, true, false, cond, List, [], ◌∷◌, ◌++◌, length, take, drop, Option, Some, None, refl, sym, ap, ◌∙◌, subst, append_assoc, append-nil, zero-add, arith, length-append}
 use Rattle.std.specs.Prelude.{slice_get, option_map, option_and_then}
-use Rattle.std.specs.List.{AllByRecursion, flat_map}
+use Rattle.std.specs.List.{AllByRecursion}
 use Rattle.std.proofs.lemmas.Bool.{cases_eq, cond-true, cond-false, eq-eqb, le-leb, ne_eqb}
 use Rattle.std.proofs.lemmas.Option.{same_Some}
 use Rattle.std.proofs.lemmas.List.{drop_at, take_at}
@@ -72,7 +72,7 @@ stored_more entries entry octets starts more_octets more_starts places room more
     record {
       records = is_octets ∙ ap (λ o. o ++ record_octets entry) stored.records ∙ sym (packed_more entries entry);
       table = is_starts ∙ ap (λ s. s ++ length octets ∷ []) stored.table ∙ ap (λ o. starts_from 0 entries ++ length o ∷ []) stored.records
-        ∙ ap (λ s. starts_from 0 entries ++ s ∷ []) (sym (zero-add (length (packed entries)))) ∙ sym (starts_more 0 entries entry);
+          ∙ ap (λ s. starts_from 0 entries ++ s ∷ []) (sym (zero-add (length (packed entries)))) ∙ sym (starts_more 0 entries entry);
       packable = all_more entries entry stored.packable packable;
       in_turn = places_more 1 entries entry stored.in_turn (omega (arith, next));
       within = omega arith;
@@ -141,9 +141,6 @@ none_stored octets starts places room start_room no_octets no_starts few enough 
 
 -- ---- finding
 
-cut_record : (octets rest : List ℕ) (size : ℕ) → length octets ≡ size → take size (octets ++ rest) ≡ octets
-cut_record octets rest size is = take_at octets rest size is
-
 pub record_found : (entry : Entry) (rest : List ℕ) → record_in (record_octets entry ++ rest) ≡ Some (record_octets entry)
 unfolding record_octets
 record_found entry rest =
@@ -153,7 +150,7 @@ record_found entry rest =
     let all = length-append octets rest in
     ap (λ n. cond (leb n (length (octets ++ rest))) (Some (size / 256 ∷ size % 256 ∷ take n (octets ++ rest))) None) head
     ∙ cond-true (leb size (length (octets ++ rest))) (Some (size / 256 ∷ size % 256 ∷ take size (octets ++ rest))) None (le-leb size (length (octets ++ rest)) (omega arith))
-    ∙ ap (λ os. Some (size / 256 ∷ size % 256 ∷ os)) (cut_record octets rest size refl)
+    ∙ ap (λ os. Some (size / 256 ∷ size % 256 ∷ os)) (take_at octets rest size refl)
 
 -- the record that begins at one of these starts
 abbrev record_from : List ℕ → Option ℕ → Option (List ℕ)

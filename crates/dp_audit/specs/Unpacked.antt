@@ -1,5 +1,5 @@
 -- Entries read from packed records (own): each part gives its value and the octets behind it, and None where octets are none of its records.
-use Rattle.std.specs.Prelude.{ℕ, ◌+◌, ◌-◌, ◌*◌, ◌/◌, ◌%◌, ◌==◌, ◌&&◌, nat_le, Bool, if◌then◌else◌, List, [], ◌∷◌, ◌++◌, length, take, drop, slice_get, Option, Some, None, option_map, option_and_then}
+use Rattle.std.specs.Prelude.{ℕ, ◌+◌, ◌-◌, ◌*◌, ◌/◌, ◌%◌, ◌==◌, ◌&&◌, nat_le, Bool, if◌then◌else◌, List, [], ◌∷◌, length, take, drop, slice_get, Option, Some, None, option_map, option_and_then}
 use Rattle.std.specs.Borrow.{Bor}
 use Rattle.arrayvec.specs.ArrayVec.{ArrayVec}
 use Rattle.dp_sap.specs.declared.state.State.{State}
@@ -192,9 +192,6 @@ with_rest read = (read.0, read.1.now)
 abbrev pub both_now : Bor (List ℕ) × Bor (List ℕ) → List ℕ × List ℕ
 both_now read = (read.0.now, read.1.now)
 
+-- the pairs of a vector
 abbrev pub pairs_items : ArrayVec (ℕ × Rule) → List (ℕ × Rule)
 pairs_items pairs = pairs.items
-
--- pairs behind others
-abbrev pub pairs_behind : List (ℕ × Rule) → Option (List (ℕ × Rule)) → Option (List (ℕ × Rule))
-pairs_behind others pairs = option_map (λ ps. others ++ ps) pairs

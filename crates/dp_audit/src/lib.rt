@@ -3,13 +3,13 @@
 
 mod entry;
 mod fault;
+mod kinds;
 pub mod laws;
 mod packing;
 mod records;
-mod unpacking;
-
 #[cfg(test)]
 mod records_tests;
+mod unpacking;
 
 pub use entry::{Entry, Receipt};
 pub use fault::{AuditFault, WriteFault};

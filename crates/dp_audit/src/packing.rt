@@ -6,11 +6,11 @@ ghost use Rattle.hex.specs.Hex.{IsBytes};
 ghost use Rattle.dp_text.specs.Events.{IsWithinLimits, IsOpWithinLimits};
 ghost use Rattle.dp_audit.specs.Packed.{IsNoRefusal, IsOutcomeWithinLimits, bit, event_octets, facts_octets, flags_octet as flags_of, octet_or_none, op_octets, outcome_octets, pair_octets, state_octet, two_octets};
 
+use crate::kinds::{
+    BUSY, DIAG, DONE, HALT, INPUT, NO_FACTS, NONE, RELEASED, REPLY, REQUEST, SILENCE, SPREAD, TICK,
+};
 use dp_line::{Event, Facts, Op, Outcome, Rule};
 use dp_sap::State;
-
-/// What stands for a missing octet.
-pub(crate) const NONE: u8 = 255;
 
 /// Puts octets behind the others, where there is room.
 fn append(octets: &mut Vec<u8>, more: &[u8])
@@ -69,7 +69,7 @@ pub(crate) fn pack_event(octets: &mut Vec<u8>, size: u16, event: &Event)
             master,
             octets: request,
         } => {
-            append(octets, &[high, low, 0, *master, request.len() as u8]);
+            append(octets, &[high, low, REQUEST, *master, request.len() as u8]);
             append(octets, request.as_slice());
         }
         Event::Operator(op) => {
@@ -92,7 +92,7 @@ fn pack_op(octets: &mut Vec<u8>, op: &Op)
             address,
             octets: input,
         } => {
-            append(octets, &[1, *address, input.len() as u8]);
+            append(octets, &[INPUT, *address, input.len() as u8]);
             append(octets, input.as_slice());
         }
         Op::Diag {
@@ -103,14 +103,17 @@ fn pack_op(octets: &mut Vec<u8>, op: &Op)
             octets: extended,
         } => {
             let flags = flags_octet(*ext, *stat, *overflow);
-            append(octets, &[2, *address, flags, extended.len() as u8]);
+            append(octets, &[DIAG, *address, flags, extended.len() as u8]);
             append(octets, extended.as_slice());
         }
         Op::Busy { address, point, on } => {
-            append(octets, &[3, *address, point.unwrap_or(NONE), u8::from(*on)]);
+            append(
+                octets,
+                &[BUSY, *address, point.unwrap_or(NONE), u8::from(*on)],
+            );
         }
         Op::Tick(units) => pack_tick(octets, *units),
-        Op::Halt => append(octets, &[5]),
+        Op::Halt => append(octets, &[HALT]),
     }
 }
 
@@ -126,7 +129,7 @@ fn pack_tick(octets: &mut Vec<u8>, units: u32)
     let second = (units / 65_536 % 256) as u8;
     let third = (units / 256 % 256) as u8;
     let fourth = (units % 256) as u8;
-    append(octets, &[4, first, second, third, fourth]);
+    append(octets, &[TICK, first, second, third, fourth]);
 }
 
 /// The flags of a diagnosis in an octet.
@@ -158,7 +161,7 @@ pub(crate) fn pack_answer(octets: &mut Vec<u8>, facts: &Facts, outcome: &Outcome
     ensures limits { IsOutcomeWithinLimits outcome.now }
 {
     let (state, holder) = match facts {
-        None => (0, NONE),
+        None => (NO_FACTS, NONE),
         Some((state, holder)) => (state_code(*state), holder.unwrap_or(NONE)),
     };
     match outcome {
@@ -166,20 +169,20 @@ pub(crate) fn pack_answer(octets: &mut Vec<u8>, facts: &Facts, outcome: &Outcome
             octets: reply,
             rule,
         } => {
-            append(octets, &[state, holder, 0, reply.len() as u8]);
+            append(octets, &[state, holder, REPLY, reply.len() as u8]);
             append(octets, reply.as_slice());
             octets.push_reserved(rule.code());
         }
-        Outcome::Silence(rule) => append(octets, &[state, holder, 1, rule.code()]),
+        Outcome::Silence(rule) => append(octets, &[state, holder, SILENCE, rule.code()]),
         Outcome::Spread(pairs) => {
-            append(octets, &[state, holder, 2, pairs.len() as u8]);
+            append(octets, &[state, holder, SPREAD, pairs.len() as u8]);
             pack_pairs(octets, pairs.as_slice());
         }
         Outcome::Released(addresses) => {
-            append(octets, &[state, holder, 3, addresses.len() as u8]);
+            append(octets, &[state, holder, RELEASED, addresses.len() as u8]);
             append(octets, addresses.as_slice());
         }
-        Outcome::Done => append(octets, &[state, holder, 4]),
+        Outcome::Done => append(octets, &[state, holder, DONE]),
         Outcome::Refused(_) => append(octets, &[state, holder]),
     }
 }

@@ -6,10 +6,18 @@ ghost use Rattle.dp_sap.specs.declared.state.State.TheVariants.{WaitPrm};
 ghost use Rattle.dp_audit.specs.Unpacked.{both_now, busy_in, counted_in, diag_in, entry_in, event_in, facts_in, has_bit as has_bit_of, input_in, none_or_octet, numbered, outcome_in, pairs_items, pairs_of, parts_in, record_in, released_in, reply_in, request_in, rule_of, rules_in_order, silence_in, spread_in, states_in_order, tick_in, told_facts, with_rest};
 
 use crate::entry::Entry;
-use crate::packing::NONE;
+use crate::kinds::{
+    BUSY, DIAG, DONE, HALT, INPUT, NO_FACTS, NONE, RELEASED, REPLY, REQUEST, SILENCE, SPREAD, TICK,
+};
 use arrayvec::ArrayVec;
 use dp_line::{Event, Facts, Op, Outcome, Rule};
-use dp_sap::State;
+use dp_sap::{MOST_DATA, State};
+
+/// The most octets of a request or a reply.
+const MOST_OCTETS: usize = 255;
+
+/// The most octets of an extended diagnosis.
+const MOST_EXTENDED: usize = 238;
 
 /// The most slaves of a line.
 const MOST_SLAVES: usize = 64;
@@ -99,12 +107,12 @@ fn read_event(octets: &[u8]) -> Option<(Event, &[u8])>
         return None;
     };
     match *kind {
-        0 => read_request(octets),
-        1 => read_input(octets),
-        2 => read_diag(octets),
-        3 => read_busy(octets),
-        4 => read_tick(octets),
-        5 => Some((Event::Operator(Op::Halt), octets)),
+        REQUEST => read_request(octets),
+        INPUT => read_input(octets),
+        DIAG => read_diag(octets),
+        BUSY => read_busy(octets),
+        TICK => read_tick(octets),
+        HALT => Some((Event::Operator(Op::Halt), octets)),
         _ => None,
     }
 }
@@ -115,7 +123,7 @@ fn read_request(octets: &[u8]) -> Option<(Event, &[u8])>
     let [master, octets @ ..] = octets else {
         return None;
     };
-    let (request, octets) = read_counted(octets, 255)?;
+    let (request, octets) = read_counted(octets, MOST_OCTETS)?;
     let request = Event::Request {
         master: *master,
         octets: ArrayVec::try_from(request).unwrap(),
@@ -129,7 +137,7 @@ fn read_input(octets: &[u8]) -> Option<(Event, &[u8])>
     let [address, octets @ ..] = octets else {
         return None;
     };
-    let (input, octets) = read_counted(octets, 244)?;
+    let (input, octets) = read_counted(octets, MOST_DATA)?;
     let input = Op::Input {
         address: *address,
         octets: ArrayVec::try_from(input).unwrap(),
@@ -143,7 +151,7 @@ fn read_diag(octets: &[u8]) -> Option<(Event, &[u8])>
     let [address, flags, octets @ ..] = octets else {
         return None;
     };
-    let (extended, octets) = read_counted(octets, 238)?;
+    let (extended, octets) = read_counted(octets, MOST_EXTENDED)?;
     let diag = Op::Diag {
         address: *address,
         ext: has_bit(1, *flags),
@@ -174,7 +182,10 @@ fn read_tick(octets: &[u8]) -> Option<(Event, &[u8])>
     let [a, b, c, d, octets @ ..] = octets else {
         return None;
     };
-    let units = 16_777_216 * u32::from(*a) + 65_536 * u32::from(*b) + 256 * u32::from(*c) + u32::from(*d);
+    let units = 16_777_216 * u32::from(*a)
+        + 65_536 * u32::from(*b)
+        + 256 * u32::from(*c)
+        + u32::from(*d);
     Some((Event::Operator(Op::Tick(units)), octets))
 }
 
@@ -192,7 +203,7 @@ fn read_facts(octets: &[u8]) -> Option<(Facts, &[u8])>
 fn facts_of(state: u8, holder: u8) -> Option<Facts>
     ensures { result ≡ told_facts state holder }
 {
-    if state == 0 {
+    if state == NO_FACTS {
         return Some(None);
     }
     let state = state_at(state)?;
@@ -207,11 +218,11 @@ fn read_outcome(octets: &[u8]) -> Option<(Outcome, &[u8])>
         return None;
     };
     match *kind {
-        0 => read_reply(octets),
-        1 => read_silence(octets),
-        2 => read_spread(octets),
-        3 => read_released(octets),
-        4 => Some((Outcome::Done, octets)),
+        REPLY => read_reply(octets),
+        SILENCE => read_silence(octets),
+        SPREAD => read_spread(octets),
+        RELEASED => read_released(octets),
+        DONE => Some((Outcome::Done, octets)),
         _ => None,
     }
 }
@@ -219,7 +230,7 @@ fn read_outcome(octets: &[u8]) -> Option<(Outcome, &[u8])>
 fn read_reply(octets: &[u8]) -> Option<(Outcome, &[u8])>
     ensures { option_map with_rest result ≡ reply_in octets.now }
 {
-    let (reply, octets) = read_counted(octets, 255)?;
+    let (reply, octets) = read_counted(octets, MOST_OCTETS)?;
     let [code, octets @ ..] = octets else {
         return None;
     };

@@ -1,4 +1,4 @@
-use Rattle.std.proofs.Common.{ℕ, ◌≡◌, ◌+◌, ◌≤◌, List, [], ◌∷◌, ◌++◌, length, Option, refl, ap, ◌∙◌, arith}
+use Rattle.std.proofs.Common.{ℕ, ◌≡◌, ◌+◌, List, [], ◌∷◌, ◌++◌, length, Option, refl, ap, ◌∙◌, arith}
 use Rattle.std.specs.Prelude.{vec_capacity}
 use Rattle.dp_sap.specs.declared.state.State.{State}
 use Rattle.dp_line.specs.declared.event.Event.{Event}
@@ -85,7 +85,7 @@ kept c =
     let more_capacity = c.pack_answer.ensures.capacity in
     let size : c.event_size.result + 2 + c.outcome_size.result ≡ length (event_octets entry.event) + 2 + length (outcome_octets entry.outcome) = rw (c.event_size.ensures.size, c.outcome_size.ensures.size) refl in
     let items : c.pack_answer.new.octets.items ≡ octets.items ++ record_octets entry =
-        rw (c.pack_answer.ensures.items, c.pack_event.ensures.items) (record_is octets.items entry (c.event_size.result + 2 + c.outcome_size.result) size) in
+    rw (c.pack_answer.ensures.items, c.pack_event.ensures.items) (record_is octets.items entry (c.event_size.result + 2 + c.outcome_size.result) size) in
     let more : c.push_reserved.new.self.items ≡ starts.items ++ length octets.items ∷ [] = rw (c.push_reserved.ensures.items, c.len.ensures, octets.ok.0) refl in
     pushed entry octets.items starts.items c.pack_answer.new.octets.items c.push_reserved.new.self.items c.self.inside.places (vec_capacity octets) (vec_capacity c.pack_answer.new.octets) (vec_capacity starts) (vec_capacity c.push_reserved.new.self)
     c.self.invariant packable refl (omega arith) items more (omega arith) (omega (arith, c.push_reserved.ensures.capacity))

@@ -8,7 +8,7 @@ invariant_of-result c =
     let octets = c.in_ok-octets in
     let starts = c.in_ok-starts in
     (none_stored octets.octets.items starts.starts.items c.args.places (vec_capacity octets.octets) (vec_capacity starts.starts)
-    octets.ensures.items starts.ensures.items c.requires octets.ensures.capacity starts.ensures.capacity).0
+    octets.ensures.items starts.ensures.items c.requires (omega (arith, octets.ensures.capacity)) (omega (arith, starts.ensures.capacity))).0
 
 pub returns : goal.returns
 returns c =
@@ -16,4 +16,4 @@ returns c =
     let starts = c.in_ok-starts in
     ap (λ entries. record { entries = entries; places = c.args.places })
     (none_stored octets.octets.items starts.starts.items c.args.places (vec_capacity octets.octets) (vec_capacity starts.starts)
-    octets.ensures.items starts.ensures.items c.requires octets.ensures.capacity starts.ensures.capacity).1
+    octets.ensures.items starts.ensures.items c.requires (omega (arith, octets.ensures.capacity)) (omega (arith, starts.ensures.capacity))).1
