@@ -6,5 +6,6 @@ pub mod Unpacked
 pub mod AuditText
 pub mod Check
 pub mod AuditExamples
+pub mod UnpackedExamples
 pub mod Records
 pub mod Stored
