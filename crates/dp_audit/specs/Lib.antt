@@ -2,8 +2,11 @@ pub mod Codes
 pub mod Journal
 pub mod Legal
 pub mod Packed
+pub mod Unpacked
 pub mod AuditText
 pub mod Check
 pub mod AuditExamples
+pub mod UnpackedExamples
 pub mod Records
 pub mod Kept
+pub mod Stored

@@ -110,7 +110,7 @@ IsOutcomeWithinLimits (Released addresses) = AreOctets 64 addresses.items
 IsOutcomeWithinLimits Done = Unit {0}
 IsOutcomeWithinLimits (Refused fault) = ⊥
 
--- the operator's event isn't refused
+-- no refusal of the operator
 abbrev pub IsNoRefusal : Outcome → Type 0
 IsNoRefusal (Refused fault) = ⊥
 IsNoRefusal outcome = Unit {0}

@@ -4,27 +4,38 @@ ghost use Rattle.std.specs.Prelude.{◌≡◌, ◌+◌, ◌≤◌, ◌<◌, [], 
 ghost use Rattle.std.specs.List.{AllByRecursion};
 ghost use Rattle.dp_audit.specs.Packed.{HasToldHolder, HasToldPoint, IsNoRefusal, IsPackable, record_octets};
 ghost use Rattle.dp_audit.specs.Records.{HavePlaces, RecordsView, entry_at};
+ghost use Rattle.dp_audit.specs.Unpacked.{numbered};
 
 use crate::entry::Entry;
+use crate::packing::{event_size, outcome_size, pack_answer, pack_event};
+use crate::unpacking::{first_record, read_entry};
 use dp_line::{Event, Facts, Outcome};
 use std::alloc::{AllocError, Global};
-
 use std::marker::Model;
 
-/// Stand-in.
+/// The most octets of one record, with its head.
+const LONGEST: usize = 520;
+
+/// The entries of a journal, each as a record behind that of the entry before it. Contracts see the
+/// entries, and for how many there is room.
 #[derive(Drop)]
 pub(crate) struct Records {
-    entries: Vec<Entry>,
     octets: Vec<u8>,
+    /// Where the record of each entry begins.
+    starts: Vec<u32>,
     places: u32,
 }
 
 impl Model for Records {
+    ghost use Rattle.std.specs.Prelude.{vec_capacity};
     ghost use Rattle.dp_audit.specs.Records.{RecordsView};
+    ghost use Rattle.dp_audit.specs.Stored.{AreStored, entries_in};
 
     ghost Value = { RecordsView };
 
-    ghost view = { λ r. record { entries = r.entries.items; places = r.places } };
+    ghost view = { λ r. record { entries = entries_in r.octets.items 1 r.starts.items; places = r.places } };
+
+    ghost invariant = { λ r. AreStored (entries_in r.octets.items 1 r.starts.items) r.octets.items r.starts.items r.places (vec_capacity r.octets) (vec_capacity r.starts) };
 }
 
 impl Records {
@@ -33,9 +44,11 @@ impl Records {
         requires { places ≤ 65536 }
         ensures { IfOk result (λ records. records ≡ record { entries = []; places = places }) }
     {
+        let octets = Vec::with_capacity(alloc, LONGEST * places as usize)?;
+        let starts = Vec::with_capacity(alloc, places as usize)?;
         Ok(Records {
-            entries: Vec::with_capacity(alloc, places as usize)?,
-            octets: Vec::with_capacity(alloc, 520 * places as usize)?,
+            octets,
+            starts,
             places,
         })
     }
@@ -50,33 +63,35 @@ impl Records {
           entries = self.old.entries ++ (record { place = length self.old.entries + 1; event = event.now; facts = facts.now; outcome = outcome.now }) ∷ [];
         } }
     {
-        self.entries.push_reserved(Entry {
-            place: self.entries.len() as u32 + 1,
-            event: event.clone().unwrap(),
-            facts: *facts,
-            outcome: outcome.clone().unwrap(),
-        });
+        let size = event_size(event) + 2 + outcome_size(outcome);
+        self.starts.push_reserved(self.octets.len() as u32);
+        pack_event(&mut self.octets, size as u16, event);
+        pack_answer(&mut self.octets, facts, outcome);
     }
 
     /// How many entries there are.
     pub(crate) fn count(&self) -> u32
         ensures { result ≡ length self.now.entries }
     {
-        self.entries.len() as u32
+        self.starts.len() as u32
     }
 
     /// The entry at a place.
     pub(crate) fn entry(&self, place: u32) -> Option<Entry>
         ensures { result ≡ entry_at self.now.entries place }
     {
-        None
+        self.are_packed();
+        let octets = self.record(place)?;
+        read_entry(place, octets)
     }
 
     /// The record of the entry at a place, with its head.
     pub(crate) fn record(&self, place: u32) -> Option<&[u8]>
         ensures { option_map (λ octets. octets.now) result ≡ option_map record_octets (entry_at self.now.entries place) }
     {
-        None
+        let start = start_at(&self.starts, place)?;
+        let (_, octets) = self.octets.split_at(start as usize);
+        first_record(octets)
     }
 
     /// The entries have the places from 1 on, and each has a record of its own; facts of the type, for proofs.
@@ -85,6 +100,16 @@ impl Records {
         ensures packable { AllByRecursion IsPackable self.now.entries }
         ensures within { length self.now.entries ≤ self.now.places }
     {
-        let _ = &self.entries;
+        let _ = &self.octets;
     }
+}
+
+/// Where the record at a place begins.
+fn start_at(starts: &[u32], place: u32) -> Option<u32>
+    ensures { result ≡ numbered starts.now place }
+{
+    if place == 0 {
+        return None;
+    }
+    starts.get(place as usize - 1).copied()
 }

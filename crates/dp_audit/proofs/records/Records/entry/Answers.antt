@@ -1,9 +1,7 @@
-use Rattle.std.proofs.Common.{rules, ◌≡◌, ◌+◌, ◌≤◌, ◌<◌, [], ◌∷◌, ◌++◌, length, IfOk, option_map, ℕ, ◌-◌, ◌*◌, ◌/◌, ◌%◌, Bool, true, false, nat_eq, nat_lt, List, slice_index_or, slice_set, bit_and, bit_or, Fits, w8, w32, w64, Bor, MutBor}
-use Rattle.std.specs.List.{AllByRecursion}
-use Rattle.dp_audit.specs.Packed.{HasToldHolder, HasToldPoint, IsNoRefusal, IsPackable, record_octets}
-use Rattle.dp_audit.specs.Records.{HavePlaces, RecordsView, entry_at}
+use Rattle.dp_audit.proofs.Stores.{entry_read_at}
 use Rattle.dp_audit.proofs.records.Records.entry.Goals as goal
 
--- src/records.rt:69:5
 pub returns : goal.returns
-returns c = ?
+returns c =
+    entry_read_at c.args.self.now.entries c.args.place c.in_ok-octets.octets.now c.read_entry.result c.are_packed.ensures.places c.are_packed.ensures.packable
+    c.in_ok-octets.ensures c.read_entry.ensures
