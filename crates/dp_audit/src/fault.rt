@@ -1,23 +1,9 @@
-//! Why an audit text isn't written, and why it isn't accepted.
+//! Why an audit text isn't accepted.
 
 ghost use Rattle.std.specs.Prelude.{◌≡◌};
-ghost use Rattle.dp_audit.specs.Codes.{audit_fault_code, write_fault_code};
+ghost use Rattle.dp_audit.specs.Codes.{audit_fault_code};
 
 use thiserror::Error;
-
-/// A write failed, or took no octet. A prefix of the text may be out.
-#[derive(Clone, Copy, Debug, PartialEq, Eq, Error)]
-#[error("cannot write")]
-pub struct WriteFault;
-
-impl WriteFault {
-    /// The number of the fault, 1 (own).
-    pub const fn code(self) -> u8
-        ensures { result ≡ write_fault_code }
-    {
-        1
-    }
-}
 
 /// Why an audit text isn't accepted. Lines count from 1, the header; the first that is wrong is named.
 #[derive(Clone, Copy, Debug, PartialEq, Eq, Error)]

@@ -5,4 +5,5 @@ mod entry;
 mod fault;
 
 pub use entry::{Entry, Receipt};
-pub use fault::{AuditFault, WriteFault};
+pub use dp_text::WriteFault;
+pub use fault::AuditFault;
