@@ -4,5 +4,6 @@ pub mod Legal
 pub mod Packed
 pub mod AuditText
 pub mod Check
+pub mod Checking
 pub mod AuditExamples
 pub mod Records
