@@ -9,17 +9,17 @@ use Rattle.dp_text.specs.Words.{same_text}
 use Rattle.dp_audit.specs.Check.{bar, parted}
 
 -- there is a bar at the front
-abbrev begins : List ℕ → Bool
+abbrev pub begins : List ℕ → Bool
 begins text = same_text (take 3 text) bar
 
 begins_here : (text : List ℕ) → OccursAt text bar 0 → begins text ≡ true
 begins_here text occurs = (and_parts _ _ (occurs_at-true text bar 0 occurs)).1
 
-never_one : (x : Bool) → (x && false) ≡ true → ⊥
+pub never_one : (x : Bool) → (x && false) ≡ true → ⊥
 never_one true e = false≢true e
 never_one false e = false≢true e
 
-never_two : (x y : Bool) → (x && (y && false)) ≡ true → ⊥
+pub never_two : (x y : Bool) → (x && (y && false)) ≡ true → ⊥
 never_two true y e = never_one y e
 never_two false y e = false≢true e
 
@@ -50,7 +50,7 @@ not_begun text never = elim (cases_Bool (begins text)) [
   | inr other ↦ other
 ]
 
-abbrev in_front : ℕ → Option (List ℕ × List ℕ) → Option (List ℕ × List ℕ)
+abbrev pub in_front : ℕ → Option (List ℕ × List ℕ) → Option (List ℕ × List ℕ)
 in_front octet = option_map (λ parts. (octet ∷ parts.0, parts.1))
 
 pub found : (text : List ℕ) (k : ℕ) → NoneBefore (OccursAt text bar) 0 (length text + 1) k × OccursAt text bar k → parted text ≡ Some (take k text, drop (k + 3) text)

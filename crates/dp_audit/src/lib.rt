@@ -6,6 +6,7 @@ mod entry;
 mod fault;
 mod reading;
 mod records;
+pub mod text_laws;
 mod writing;
 
 pub use checking::check_text;
