@@ -5,6 +5,7 @@ pub mod Packed
 pub mod Unpacked
 pub mod AuditText
 pub mod Check
+pub mod Checking
 pub mod AuditExamples
 pub mod UnpackedExamples
 pub mod Records

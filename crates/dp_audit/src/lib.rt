@@ -2,18 +2,24 @@
 #![tactic(auto)]
 
 mod book;
+mod checking;
 mod entry;
 mod fault;
 mod kinds;
 pub mod laws;
 mod packing;
+mod reading;
 mod records;
 #[cfg(test)]
 mod records_tests;
+pub mod text_laws;
+#[cfg(test)]
+mod text_tests;
 mod unpacking;
 mod writing;
 
 pub use book::Book;
+pub use checking::check_text;
 pub use dp_text::WriteFault;
 pub use entry::{Entry, Receipt};
 pub use fault::AuditFault;

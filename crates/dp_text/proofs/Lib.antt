@@ -8,3 +8,4 @@ pub mod ReadBack
 pub mod ReadExactly
 pub mod HexPairs
 pub mod Writing
+pub mod Limits

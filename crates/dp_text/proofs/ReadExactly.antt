@@ -27,11 +27,11 @@ use Rattle.dp_text.proofs.ReadBack.{own, same_is, two_joined, three_joined}
 
 -- ---- texts and numbers
 
-some_by : {X : Type 0} (test : Bool) (x y : X) → cond test (Some x) None ≡ Some y → (test ≡ true) × (x ≡ y)
+pub some_by : {X : Type 0} (test : Bool) (x y : X) → cond test (Some x) None ≡ Some y → (test ≡ true) × (x ≡ y)
 some_by true x y e = (refl, cc)
 some_by false x y e = absurd cc
 
-number_is : (most : ℕ) (word : List ℕ) (number : ℕ) → most < 2 ^ 64 → number_to most word ≡ Some number → decimal number ≡ word
+pub number_is : (most : ℕ) (word : List ℕ) (number : ℕ) → most < 2 ^ 64 → number_to most word ≡ Some number → decimal number ≡ word
 number_is most word number bound e =
     let (test, is) = some_by (is_plain_decimal word && leb (digits_value 10 word) most) (digits_value 10 word) number e in
     let (plain, within) = and_parts (is_plain_decimal word) (leb (digits_value 10 word) most) test in
@@ -119,7 +119,7 @@ some_few : (most : ℕ) (read : Option (List ℕ)) (octets : List ℕ) → optio
 some_few most None octets e = absurd cc
 some_few most (Some items) octets e = ap Some (some_by (leb (length items) most) items octets e).1
 
-some_same : {X : Type 0} {x y : X} → Some x ≡ Some y → x ≡ y
+pub some_same : {X : Type 0} {x y : X} → Some x ≡ Some y → x ≡ y
 some_same e = cc
 
 octets_are : (most : ℕ) (word octets : List ℕ) → event_octets Lower most word ≡ Some octets → octets_text octets ≡ word
@@ -260,20 +260,20 @@ halt_is [] op e = let is : Halt ≡ op = some_same e in ap op_text is
 halt_is (more ∷ words) op e = absurd cc
 
 -- a row of the table of first words: it is that word, or another row
-row : (test : Bool) (here others : Option Op) (op : Op) (P : Type 0) → cond test here others ≡ Some op → (test ≡ true → here ≡ Some op → P) → (others ≡ Some op → P) → P
+pub row : (test : Bool) (here others : Option Op) (op : Op) (P : Type 0) → cond test here others ≡ Some op → (test ≡ true → here ≡ Some op → P) → (others ≡ Some op → P) → P
 row true here others op P e yes_here elsewhere = yes_here refl e
 row false here others op P e yes_here elsewhere = elsewhere e
 
-abbrev from_halt : List ℕ → List (List ℕ) → Option Op
+abbrev pub from_halt : List ℕ → List (List ℕ) → Option Op
 from_halt word words = cond (same_text word (codes "halt")) (halt_of words) None
 
-abbrev from_tick : List ℕ → List (List ℕ) → Option Op
+abbrev pub from_tick : List ℕ → List (List ℕ) → Option Op
 from_tick word words = cond (same_text word (codes "tick")) (tick_of words) (from_halt word words)
 
-abbrev from_busy : List ℕ → List (List ℕ) → Option Op
+abbrev pub from_busy : List ℕ → List (List ℕ) → Option Op
 from_busy word words = cond (same_text word (codes "busy")) (busy_of words) (from_tick word words)
 
-abbrev from_diag : List ℕ → List (List ℕ) → Option Op
+abbrev pub from_diag : List ℕ → List (List ℕ) → Option Op
 from_diag word words = cond (same_text word (codes "diag")) (diag_of Lower words) (from_busy word words)
 
 op_is : (words : List (List ℕ)) (op : Op) → op_of_words Lower words ≡ Some op → join_with_byte 32 words ≡ op_text op

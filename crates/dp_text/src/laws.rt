@@ -21,3 +21,13 @@ pub fn an_event_is_read_from_its_text()
 pub fn only_its_text_is_read_as_an_event()
     ensures { (text : List ℕ) (event : Event) → event_of text ≡ Some event → event_text event ≡ text }
 {}
+
+/// Nothing but its text is read as a number.
+pub fn only_its_text_is_read_as_a_number()
+    ensures { (most : ℕ) (word : List ℕ) (number : ℕ) → most < 2 ^ 64 → number_to most word ≡ Some number → decimal number ≡ word }
+{}
+
+/// An event that is read is within the limits of texts.
+pub fn an_event_read_is_within_limits()
+    ensures { (text : List ℕ) (event : Event) → event_of text ≡ Some event → IsWithinLimits event }
+{}

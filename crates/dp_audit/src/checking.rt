@@ -1,0 +1,148 @@
+//! Checking an audit text, line by line.
+
+ghost use Rattle.std.specs.Prelude.{◌≡◌, ◌+◌, ◌∷◌, ◌&&◌, ◌⊎◌, true, Err, None};
+ghost use Rattle.dp_line.specs.World.{description_of, opening_fault};
+ghost use Rattle.dp_line.specs.Events.{is_halt as is_operators_halt};
+ghost use Rattle.dp_line.specs.Effects.{effect};
+ghost use Rattle.dp_text.specs.Words.{same_text};
+ghost use Rattle.dp_text.specs.Texts.{facts_text, outcome_text};
+ghost use Rattle.dp_audit.specs.AuditText.{header_text};
+ghost use Rattle.dp_audit.specs.Check.{checked, checked_lines, is_recorded_at, judged_line, tells_policy};
+ghost use Rattle.dp_audit.specs.Checking.{TakesLine};
+
+use crate::fault::AuditFault;
+use crate::reading::{LineParts, Placed, parts_in, placed_in};
+use crate::writing::set_header;
+use dp_line::{Event, Facts, LineSpec, LineState, Op, Outcome};
+use dp_text::{Lines, Text, is_text};
+use std::alloc::Global;
+
+/// How many entries an audit text of a line has, 0 to 65,536; or which line is the first that makes it
+/// none of a legal journal of the line.
+///
+/// It takes the memory of a line and no more: `OutOfMemory` only where that was refused.
+pub fn check_text(alloc: Global, line: &LineSpec, text: &str) -> Result<u32, AuditFault>
+    requires { opening_fault (description_of line.now) ≡ None }
+    ensures { (result ≡ Err AuditFault.OutOfMemory) ⊎ (result ≡ checked (description_of line.now) text.now) }
+{
+    let Ok(mut state) = LineState::open(alloc, line) else {
+        return Err(AuditFault::OutOfMemory);
+    };
+    let mut written = Text::new();
+    let mut lines = Lines::of(text.as_bytes());
+    let Some(header) = lines.next() else {
+        return Err(AuditFault::BadLine(1));
+    };
+    let Some(first) = lines.next() else {
+        return Err(AuditFault::BadLine(1));
+    };
+    if !is_header(line.number, header, &mut written) {
+        return Err(AuditFault::BadLine(1));
+    }
+    check_lines(&mut state, first, &mut lines, &mut written)
+}
+
+/// The header of the line of this number.
+fn is_header(number: u8, header: &[u8], written: &mut Text) -> bool
+    ensures { result ≡ same_text header.now (header_text number) }
+{
+    set_header(written, number);
+    is_text(header, written.as_bytes())
+}
+
+/// How many entries there are with those of this line and of the lines behind it.
+fn check_lines(
+    state: &mut LineState,
+    first: &[u8],
+    lines: &mut Lines<'_>,
+    written: &mut Text,
+) -> Result<u32, AuditFault>
+    ensures { result ≡ checked_lines state.old.world state.old.world.count (first.now ∷ lines.old) }
+{
+    let mut line = first;
+    while let Some(next) = lines.next() {
+        check_line(state, line, written)?;
+        line = next;
+    }
+    if line.is_empty() {
+        Ok(state.count())
+    } else {
+        Err(AuditFault::BadLine(line_number(state)))
+    }
+}
+
+/// The number of the line of the next entry; the header is 1.
+fn line_number(state: &LineState) -> u64
+    ensures { result ≡ state.now.world.count + 2 }
+{
+    u64::from(state.count()) + 2
+}
+
+/// Takes the event of a line that is the next entry.
+fn check_line(state: &mut LineState, line: &[u8], written: &mut Text) -> Result<(), AuditFault>
+    ensures { TakesLine (judged_line state.old.world line.now) state.old.world state.new.world result }
+{
+    let number = line_number(state);
+    let Some(parts) = parts_in(line) else {
+        return Err(AuditFault::BadLine(number));
+    };
+    let Some(placed) = placed_in(parts.event) else {
+        return Err(AuditFault::BadLine(number));
+    };
+    if is_entry(state, &placed, &parts, written) {
+        Ok(())
+    } else {
+        Err(AuditFault::NotThePolicy(number))
+    }
+}
+
+/// The event is recorded at this place, and facts and outcome are told as the policy gives them. Then it
+/// has taken effect.
+fn is_entry(
+    state: &mut LineState,
+    placed: &Placed,
+    parts: &LineParts<'_>,
+    written: &mut Text,
+) -> bool
+    ensures judged { result ≡ (is_recorded_at state.old.world placed.now.place placed.now.event
+        && tells_policy state.old.world placed.now.event parts.now.facts.now parts.now.outcome.now) }
+    ensures taken { result ≡ true → state.new.world ≡ (effect state.old.world placed.now.event).world }
+{
+    if u64::from(placed.place) != u64::from(state.count()) + 1 {
+        return false;
+    }
+    let step = state.take(&placed.event);
+    if step.place.is_some() {
+        return tells(&step.facts, &step.outcome, parts, written);
+    }
+    match step.halted {
+        Some(addresses) => {
+            is_halt(&placed.event) && tells(&None, &Outcome::Released(addresses), parts, written)
+        }
+        None => false,
+    }
+}
+
+/// The parts of a line are the texts of these facts and this outcome.
+fn tells(facts: &Facts, outcome: &Outcome, parts: &LineParts<'_>, written: &mut Text) -> bool
+    ensures { result ≡ (same_text parts.now.facts.now (facts_text facts.now) && same_text parts.now.outcome.now (outcome_text outcome.now)) }
+{
+    written.clear();
+    written.push_facts(facts);
+    if !is_text(parts.facts, written.as_bytes()) {
+        return false;
+    }
+    written.clear();
+    written.push_outcome(outcome);
+    is_text(parts.outcome, written.as_bytes())
+}
+
+/// The operator's own halt.
+fn is_halt(event: &Event) -> bool
+    ensures { result ≡ is_operators_halt event.now }
+{
+    match event {
+        Event::Operator(Op::Halt) => true,
+        _ => false,
+    }
+}
