@@ -7,7 +7,7 @@ use Rattle.std.proofs.lemmas.Option.{same_Some}
 use Rattle.std.proofs.lemmas.List.{drop_at, take_at}
 use Rattle.std.proofs.lemmas.List.Concat.{flat_map-append}
 use Rattle.dp_audit.specs.declared.entry.Entry.{Entry}
-use Rattle.dp_audit.specs.Packed.{IsPackable, entry_octets, event_octets, facts_octets, outcome_octets, packed, record_octets, two_octets}
+use Rattle.dp_audit.specs.Packed.{IsPackable, packed_entry, packed_event, packed_facts, packed_outcome, packed_entries, record_octets, two_octets}
 use Rattle.dp_audit.specs.Unpacked.{entry_in, numbered, record_in}
 use Rattle.dp_audit.specs.Records.{HavePlaces, entry_at}
 use Rattle.dp_audit.specs.Stored.{AreStored, entries_in, entry_before, starts_from}
@@ -24,13 +24,13 @@ places_more : (place : ℕ) (entries : List Entry) (entry : Entry) → HavePlace
 places_more place [] entry have next = (omega (arith, next), tt)
 places_more place (first ∷ entries) entry have next = (have.0, places_more (place + 1) entries entry have.1 (omega (arith, next)))
 
-packed_more : (entries : List Entry) (entry : Entry) → packed (entries ++ entry ∷ []) ≡ packed entries ++ record_octets entry
-packed_more entries entry = flat_map-append record_octets entries (entry ∷ []) ∙ ap (λ octets. packed entries ++ octets) (append-nil (record_octets entry))
+packed_more : (entries : List Entry) (entry : Entry) → packed_entries (entries ++ entry ∷ []) ≡ packed_entries entries ++ record_octets entry
+packed_more entries entry = flat_map-append record_octets entries (entry ∷ []) ∙ ap (λ octets. packed_entries entries ++ octets) (append-nil (record_octets entry))
 
-starts_more : (start : ℕ) (entries : List Entry) (entry : Entry) → starts_from start (entries ++ entry ∷ []) ≡ starts_from start entries ++ (start + length (packed entries)) ∷ []
+starts_more : (start : ℕ) (entries : List Entry) (entry : Entry) → starts_from start (entries ++ entry ∷ []) ≡ starts_from start entries ++ (start + length (packed_entries entries)) ∷ []
 starts_more start [] entry = ap (λ s. s ∷ []) (omega arith)
 starts_more start (first ∷ entries) entry =
-    let joined = length-append (record_octets first) (packed entries) in
+    let joined = length-append (record_octets first) (packed_entries entries) in
     ap (λ starts. start ∷ starts) (starts_more (start + length (record_octets first)) entries entry)
     ∙ ap (λ s. start ∷ (starts_from (start + length (record_octets first)) entries ++ s ∷ [])) (omega arith)
 
@@ -45,19 +45,19 @@ first_read place before others entry packable here =
     ∙ entry_read place entry others packable
     ∙ ap (λ p. Some (record entry { place = p })) (sym here)
 
-stored_read : (before : List ℕ) (place : ℕ) (entries : List Entry) → AllByRecursion IsPackable entries → HavePlaces place entries → entries_in (before ++ packed entries) place (starts_from (length before) entries) ≡ entries
+stored_read : (before : List ℕ) (place : ℕ) (entries : List Entry) → AllByRecursion IsPackable entries → HavePlaces place entries → entries_in (before ++ packed_entries entries) place (starts_from (length before) entries) ≡ entries
 unfolding entries_in
 stored_read before place [] all have = refl
 stored_read before place (entry ∷ entries) all have =
     let record_of = record_octets entry in
-    let others = packed entries in
+    let others = packed_entries entries in
     let further = before ++ record_of in
     ap (λ e. entry_before e (entries_in (before ++ (record_of ++ others)) (place + 1) (starts_from (length before + length record_of) entries))) (first_read place before others entry all.0 have.0)
     ∙ ap (λ octets. entry ∷ entries_in octets (place + 1) (starts_from (length before + length record_of) entries)) (sym (append_assoc before record_of others))
     ∙ ap (λ start. entry ∷ entries_in (further ++ others) (place + 1) (starts_from start entries)) (sym (length-append before record_of))
     ∙ ap (λ es. entry ∷ es) (stored_read further (place + 1) entries all.1 have.1)
 
-pub read_whole : (entries : List Entry) → AllByRecursion IsPackable entries → HavePlaces 1 entries → entries_in (packed entries) 1 (starts_from 0 entries) ≡ entries
+pub read_whole : (entries : List Entry) → AllByRecursion IsPackable entries → HavePlaces 1 entries → entries_in (packed_entries entries) 1 (starts_from 0 entries) ≡ entries
 read_whole entries all have = stored_read [] 1 entries all have
 
 -- ---- keeping
@@ -72,7 +72,7 @@ stored_more entries entry octets starts more_octets more_starts places room more
     record {
       records = is_octets ∙ ap (λ o. o ++ record_octets entry) stored.records ∙ sym (packed_more entries entry);
       table = is_starts ∙ ap (λ s. s ++ length octets ∷ []) stored.table ∙ ap (λ o. starts_from 0 entries ++ length o ∷ []) stored.records
-          ∙ ap (λ s. starts_from 0 entries ++ s ∷ []) (sym (zero-add (length (packed entries)))) ∙ sym (starts_more 0 entries entry);
+          ∙ ap (λ s. starts_from 0 entries ++ s ∷ []) (sym (zero-add (length (packed_entries entries)))) ∙ sym (starts_more 0 entries entry);
       packable = all_more entries entry stored.packable packable;
       in_turn = places_more 1 entries entry stored.in_turn (omega (arith, next));
       within = omega arith;
@@ -84,7 +84,7 @@ stored_more entries entry octets starts more_octets more_starts places room more
 -- what is stored is what is read
 pub read_is : (entries : List Entry) (octets starts : List ℕ) (places room start_room : ℕ) → AreStored entries octets starts places room start_room → entries_in octets 1 starts ≡ entries
 read_is entries octets starts places room start_room stored =
-    ap (λ o. entries_in o 1 starts) stored.records ∙ ap (λ s. entries_in (packed entries) 1 s) stored.table ∙ read_whole entries stored.packable stored.in_turn
+    ap (λ o. entries_in o 1 starts) stored.records ∙ ap (λ s. entries_in (packed_entries entries) 1 s) stored.table ∙ read_whole entries stored.packable stored.in_turn
 
 -- ---- sizes
 
@@ -103,17 +103,17 @@ octets_count entries octets starts places room start_room stored =
 
 -- ---- one record more
 
-pub record_is : (before : List ℕ) (entry : Entry) (size : ℕ) → size ≡ length (event_octets entry.event) + 2 + length (outcome_octets entry.outcome)
-    → (before ++ (two_octets size ++ event_octets entry.event)) ++ (facts_octets entry.facts ++ outcome_octets entry.outcome) ≡ before ++ record_octets entry
+pub record_is : (before : List ℕ) (entry : Entry) (size : ℕ) → size ≡ length (packed_event entry.event) + 2 + length (packed_outcome entry.outcome)
+    → (before ++ (two_octets size ++ packed_event entry.event)) ++ (packed_facts entry.facts ++ packed_outcome entry.outcome) ≡ before ++ record_octets entry
 unfolding record_octets
 record_is before entry size is =
-    let event = event_octets entry.event in
-    let facts = facts_octets entry.facts in
-    let outcome = outcome_octets entry.outcome in
-    let whole : size ≡ length (entry_octets entry) = is ∙ sym (entry_size entry) in
+    let event = packed_event entry.event in
+    let facts = packed_facts entry.facts in
+    let outcome = packed_outcome entry.outcome in
+    let whole : size ≡ length (packed_entry entry) = is ∙ sym (entry_size entry) in
     append_assoc before (two_octets size ++ event) (facts ++ outcome)
     ∙ ap (λ octets. before ++ (two_octets size ++ octets)) (sym (append_assoc event facts outcome))
-    ∙ ap (λ n. before ++ (two_octets n ++ entry_octets entry)) whole
+    ∙ ap (λ n. before ++ (two_octets n ++ packed_entry entry)) whole
 
 -- what a push leaves: it is stored, and read as one entry more
 pub pushed : (entry : Entry) (octets starts more_octets more_starts : List ℕ) (places room more_room start_room more_start_room : ℕ)
@@ -144,7 +144,7 @@ none_stored octets starts places room start_room no_octets no_starts few enough 
 pub record_found : (entry : Entry) (rest : List ℕ) → record_in (record_octets entry ++ rest) ≡ Some (record_octets entry)
 unfolding record_octets
 record_found entry rest =
-    let octets = entry_octets entry in
+    let octets = packed_entry entry in
     let size = length octets in
     let head : 256 * (size / 256) + size % 256 ≡ size = omega arith in
     let all = length-append octets rest in
@@ -157,12 +157,12 @@ abbrev record_from : List ℕ → Option ℕ → Option (List ℕ)
 record_from octets start = option_and_then (λ s. record_in (drop s octets)) start
 
 found_from : (before : List ℕ) (entries : List Entry) (index : ℕ)
-    → record_from (before ++ packed entries) (slice_get (starts_from (length before) entries) index) ≡ option_map record_octets (slice_get entries index)
+    → record_from (before ++ packed_entries entries) (slice_get (starts_from (length before) entries) index) ≡ option_map record_octets (slice_get entries index)
 found_from before [] index = refl
-found_from before (entry ∷ entries) zero = ap record_in (behind before (record_octets entry) (packed entries)) ∙ record_found entry (packed entries)
+found_from before (entry ∷ entries) zero = ap record_in (behind before (record_octets entry) (packed_entries entries)) ∙ record_found entry (packed_entries entries)
 found_from before (entry ∷ entries) (suc index) =
     let first = record_octets entry in
-    let others = packed entries in
+    let others = packed_entries entries in
     ap (λ octets. record_from octets (slice_get (starts_from (length before + length first) entries) index)) (sym (append_assoc before first others))
     ∙ ap (λ start. record_from ((before ++ first) ++ others) (slice_get (starts_from start entries) index)) (sym (length-append before first))
     ∙ found_from (before ++ first) entries index
@@ -171,14 +171,14 @@ pub found : (entries : List Entry) (octets starts : List ℕ) (places room start
     → option_and_then (λ start. record_in (drop start octets)) (slice_get starts index) ≡ option_map record_octets (slice_get entries index)
 found entries octets starts places room start_room stored index =
     ap (λ o. record_from o (slice_get starts index)) stored.records
-    ∙ ap (λ s. record_from (packed entries) (slice_get s index)) stored.table
+    ∙ ap (λ s. record_from (packed_entries entries) (slice_get s index)) stored.table
     ∙ found_from [] entries index
 
-start_within : (start : ℕ) (entries : List Entry) (index at : ℕ) → slice_get (starts_from start entries) index ≡ Some at → at ≤ start + length (packed entries)
+start_within : (start : ℕ) (entries : List Entry) (index at : ℕ) → slice_get (starts_from start entries) index ≡ Some at → at ≤ start + length (packed_entries entries)
 start_within start [] index at e = absurd cc
 start_within start (entry ∷ entries) zero at e = let same = same_Some start at e in omega arith
 start_within start (entry ∷ entries) (suc index) at e =
-    let joined = length-append (record_octets entry) (packed entries) in
+    let joined = length-append (record_octets entry) (packed_entries entries) in
     let later = start_within (start + length (record_octets entry)) entries index at e in
     omega arith
 

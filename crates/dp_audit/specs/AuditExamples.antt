@@ -1,14 +1,14 @@
 -- Records and audit texts, worked out.
-use Rattle.std.specs.Prelude.{◌≡◌, ⊤, true, [], ◌∷◌, codes, Some, None, refl}
+use Rattle.std.specs.Prelude.{◌≡◌, ⊤, true, false, [], ◌∷◌, codes, Some, None, refl}
 use Rattle.std.specs.Fmt.{digits}
 use Rattle.hex.proofs.OnLiterals.{hex_on_literals}
-use Rattle.dp_sap.specs.declared.state.State.TheVariants.{WaitPrm, DataExch}
+use Rattle.dp_sap.specs.declared.state.State.TheVariants.{WaitPrm, WaitCfg, DataExch}
 use Rattle.dp_responder.specs.declared.rule.Rule.TheVariants as rules
 use Rattle.dp_line.specs.declared.event.Event.TheVariants.{Request, Operator}
-use Rattle.dp_line.specs.declared.event.Op.TheVariants.{Diag, Busy, Tick, Halt}
-use Rattle.dp_line.specs.declared.event.Outcome.TheVariants.{Reply, Spread, Released, Done}
+use Rattle.dp_line.specs.declared.event.Op.TheVariants.{Input, Diag, Busy, Tick, Halt}
+use Rattle.dp_line.specs.declared.event.Outcome.TheVariants.{Reply, Silence, Spread, Released, Done}
 use Rattle.dp_audit.specs.declared.entry.Entry.{Entry}
-use Rattle.dp_audit.specs.Packed.{record_octets}
+use Rattle.dp_audit.specs.Packed.{flags_octet, record_octets}
 use Rattle.dp_audit.specs.AuditText.{audit_text}
 use Rattle.dp_audit.specs.Check.{parts_of}
 
@@ -36,16 +36,37 @@ pub a_packed_tick : record_octets tick_entry ≡ 0x00 ∷ 0x09 ∷ 0x04 ∷ 0x00
 unfolding record_octets
 a_packed_tick = refl
 
--- the longest time has its high octet first
+-- a time has its high octet first
 pub a_packed_time : record_octets (record tick_entry { event = Operator (Tick 0x01020304) }) ≡ 0x00 ∷ 0x09 ∷ 0x04 ∷ 0x01 ∷ 0x02 ∷ 0x03 ∷ 0x04 ∷ 0x00 ∷ 0xFF ∷ 0x03 ∷ 0x00 ∷ []
 unfolding record_octets
 a_packed_time = refl
 
 pub a_packed_diagnosis :
-    record_octets (record { place = 3; event = Operator (Diag 5 true true true (record { items = 0x03 ∷ 0x01 ∷ 0xFF ∷ [] })); facts = Some (DataExch, Some 1); outcome = Done })
-    ≡ 0x00 ∷ 0x0A ∷ 0x02 ∷ 0x05 ∷ 0x07 ∷ 0x03 ∷ 0x03 ∷ 0x01 ∷ 0xFF ∷ 0x03 ∷ 0x01 ∷ 0x04 ∷ []
+    record_octets (record { place = 3; event = Operator (Diag 5 false true true (record { items = 0x03 ∷ 0x01 ∷ 0xFF ∷ [] })); facts = Some (DataExch, Some 1); outcome = Done })
+    ≡ 0x00 ∷ 0x0A ∷ 0x02 ∷ 0x05 ∷ 0x06 ∷ 0x03 ∷ 0x03 ∷ 0x01 ∷ 0xFF ∷ 0x03 ∷ 0x01 ∷ 0x04 ∷ []
 unfolding record_octets
 a_packed_diagnosis = refl
+
+pub one_flag : flags_octet true false false ≡ 1
+one_flag = refl
+
+pub a_packed_input :
+    record_octets (record { place = 3; event = Operator (Input 5 (record { items = 0xAA ∷ 0x55 ∷ [] })); facts = Some (WaitCfg, Some 1); outcome = Done })
+    ≡ 0x00 ∷ 0x08 ∷ 0x01 ∷ 0x05 ∷ 0x02 ∷ 0xAA ∷ 0x55 ∷ 0x02 ∷ 0x01 ∷ 0x04 ∷ []
+unfolding record_octets
+a_packed_input = refl
+
+pub a_packed_silence :
+    record_octets (record { place = 3; event = Request 1 (record { items = 0xDC ∷ [] }); facts = None; outcome = Silence rules.NoFrame })
+    ≡ 0x00 ∷ 0x08 ∷ 0x00 ∷ 0x01 ∷ 0x01 ∷ 0xDC ∷ 0x00 ∷ 0xFF ∷ 0x01 ∷ 0x02 ∷ []
+unfolding record_octets
+a_packed_silence = refl
+
+pub another_packed_mark :
+    record_octets (record { place = 3; event = Operator (Busy 5 (Some 61) false); facts = Some (WaitPrm, None); outcome = Done })
+    ≡ 0x00 ∷ 0x07 ∷ 0x03 ∷ 0x05 ∷ 0x3D ∷ 0x00 ∷ 0x01 ∷ 0xFF ∷ 0x04 ∷ []
+unfolding record_octets
+another_packed_mark = refl
 
 pub a_packed_mark :
     record_octets (record { place = 3; event = Operator (Busy 5 None true); facts = Some (DataExch, Some 1); outcome = Done })
@@ -53,6 +74,7 @@ pub a_packed_mark :
 unfolding record_octets
 a_packed_mark = refl
 
+-- how the answer to a broadcast is packed, whatever the request is
 pub a_packed_broadcast :
     record_octets (record { place = 3; event = Request 1 (record { items = 0xDC ∷ [] }); facts = None; outcome = Spread (record { items = (7, rules.NotActive) ∷ (126, rules.Done) ∷ [] }) })
     ≡ 0x00 ∷ 0x0C ∷ 0x00 ∷ 0x01 ∷ 0x01 ∷ 0xDC ∷ 0x00 ∷ 0xFF ∷ 0x02 ∷ 0x02 ∷ 0x07 ∷ 0x0E ∷ 0x7E ∷ 0x13 ∷ []

@@ -101,7 +101,7 @@ going_on bad n others = Err (BadLine (n + 2))
 going_on not_the_policy n others = Err (NotThePolicy (n + 2))
 going_on (entry event) n others = others event
 
--- the lines behind n entries that left this world; what follows the last LF is no line, but has none
+-- the lines behind n entries that left this world; behind the last LF nothing may follow, since that would be a line without its LF
 abbrev pub checked_lines : World → ℕ → List (List ℕ) → Result ℕ AuditFault
 checked_lines world n [] = Ok n
 checked_lines world n (last ∷ []) = if length last == 0 then Ok n else Err (BadLine (n + 2))

@@ -2,7 +2,7 @@
 use Rattle.std.specs.Prelude.{◌≡◌, ℕ, ◌+◌, ◌*◌, ◌≤◌, List, [], ◌∷◌, length, drop, Option, Some, None}
 use Rattle.std.specs.List.{AllByRecursion}
 use Rattle.dp_audit.specs.declared.entry.Entry.{Entry}
-use Rattle.dp_audit.specs.Packed.{IsPackable, packed, record_octets}
+use Rattle.dp_audit.specs.Packed.{IsPackable, packed_entries, record_octets}
 use Rattle.dp_audit.specs.Unpacked.{entry_in}
 use Rattle.dp_audit.specs.Records.{HavePlaces}
 
@@ -23,7 +23,7 @@ entries_in octets place (start ∷ starts) = entry_before (entry_in place (drop 
 
 -- entries are stored in octets with their starts, and in vectors of so much room there is room for so many
 pub record AreStored (entries : List Entry) (octets starts : List ℕ) (places octet_room start_room : ℕ) : Type 0 where
-  pub records : octets ≡ packed entries
+  pub records : octets ≡ packed_entries entries
   pub table : starts ≡ starts_from 0 entries
   pub packable : AllByRecursion IsPackable entries
   pub in_turn : HavePlaces 1 entries

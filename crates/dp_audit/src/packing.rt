@@ -4,7 +4,7 @@ ghost use Rattle.std.specs.Prelude.{◌≡◌, ◌+◌, ◌*◌, ◌<◌, ◌≤
 ghost use Rattle.std.specs.List.{AllByRecursion, flat_map};
 ghost use Rattle.hex.specs.Hex.{IsBytes};
 ghost use Rattle.dp_text.specs.Events.{IsWithinLimits, IsOpWithinLimits};
-ghost use Rattle.dp_audit.specs.Packed.{IsNoRefusal, IsOutcomeWithinLimits, bit, event_octets, facts_octets, flags_octet as flags_of, octet_or_none, op_octets, outcome_octets, pair_octets, state_octet, two_octets};
+ghost use Rattle.dp_audit.specs.Packed.{IsNoRefusal, IsOutcomeWithinLimits, bit, packed_event, packed_facts, flags_octet as flags_of, octet_or_none, packed_op, packed_outcome, packed_pair, state_octet, two_octets};
 
 use crate::kinds::{
     BUSY, DIAG, DONE, HALT, INPUT, NO_FACTS, NONE, RELEASED, REPLY, REQUEST, SILENCE, SPREAD, TICK,
@@ -25,7 +25,7 @@ fn append(octets: &mut Vec<u8>, more: &[u8])
 
 /// How many octets an event is packed into.
 pub(crate) fn event_size(event: &Event) -> usize
-    ensures size { result ≡ length (event_octets event.now) }
+    ensures size { result ≡ length (packed_event event.now) }
     ensures most { result ≤ 258 }
 {
     match event {
@@ -41,7 +41,7 @@ pub(crate) fn event_size(event: &Event) -> usize
 /// How many octets an outcome is packed into.
 #[tactic(auto, using(crate::proofs::Sizes::pairs_size))]
 pub(crate) fn outcome_size(outcome: &Outcome) -> usize
-    ensures size { result ≡ length (outcome_octets outcome.now) }
+    ensures size { result ≡ length (packed_outcome outcome.now) }
     ensures most { result ≤ 258 }
 {
     match outcome {
@@ -56,9 +56,9 @@ pub(crate) fn outcome_size(outcome: &Outcome) -> usize
 
 /// Packs the head of a record, how many octets follow it, and then an event.
 pub(crate) fn pack_event(octets: &mut Vec<u8>, size: u16, event: &Event)
-    requires { vec_len octets.old + 2 + length (event_octets event.now) ≤ vec_capacity octets.old }
-    ensures items { octets.new.items ≡ octets.old.items ++ (two_octets size ++ event_octets event.now) }
-    ensures len { vec_len octets.new ≡ vec_len octets.old + 2 + length (event_octets event.now) }
+    requires { vec_len octets.old + 2 + length (packed_event event.now) ≤ vec_capacity octets.old }
+    ensures items { octets.new.items ≡ octets.old.items ++ (two_octets size ++ packed_event event.now) }
+    ensures len { vec_len octets.new ≡ vec_len octets.old + 2 + length (packed_event event.now) }
     ensures capacity { vec_capacity octets.old ≤ vec_capacity octets.new }
     ensures limits { IsWithinLimits event.now }
 {
@@ -81,9 +81,9 @@ pub(crate) fn pack_event(octets: &mut Vec<u8>, size: u16, event: &Event)
 
 /// Packs what an operator does.
 fn pack_op(octets: &mut Vec<u8>, op: &Op)
-    requires { vec_len octets.old + length (op_octets op.now) ≤ vec_capacity octets.old }
-    ensures items { octets.new.items ≡ octets.old.items ++ op_octets op.now }
-    ensures len { vec_len octets.new ≡ vec_len octets.old + length (op_octets op.now) }
+    requires { vec_len octets.old + length (packed_op op.now) ≤ vec_capacity octets.old }
+    ensures items { octets.new.items ≡ octets.old.items ++ packed_op op.now }
+    ensures len { vec_len octets.new ≡ vec_len octets.old + length (packed_op op.now) }
     ensures capacity { vec_capacity octets.old ≤ vec_capacity octets.new }
     ensures limits { IsOpWithinLimits op.now }
 {
@@ -120,7 +120,7 @@ fn pack_op(octets: &mut Vec<u8>, op: &Op)
 /// Packs a tick, the high octet of its units first.
 fn pack_tick(octets: &mut Vec<u8>, units: u32)
     requires { vec_len octets.old + 5 ≤ vec_capacity octets.old }
-    ensures items { octets.new.items ≡ octets.old.items ++ op_octets (Op.Tick units) }
+    ensures items { octets.new.items ≡ octets.old.items ++ packed_op (Op.Tick units) }
     ensures len { vec_len octets.new ≡ vec_len octets.old + 5 }
     ensures capacity { vec_capacity octets.old ≤ vec_capacity octets.new }
     ensures limits { units < 4294967296 }
@@ -153,10 +153,10 @@ fn state_code(state: State) -> u8
 /// Packs facts and an outcome.
 #[tactic(auto, using(crate::proofs::Sizes::pairs_size))]
 pub(crate) fn pack_answer(octets: &mut Vec<u8>, facts: &Facts, outcome: &Outcome)
-    requires room { vec_len octets.old + 2 + length (outcome_octets outcome.now) ≤ vec_capacity octets.old }
+    requires room { vec_len octets.old + 2 + length (packed_outcome outcome.now) ≤ vec_capacity octets.old }
     requires recorded { IsNoRefusal outcome.now }
-    ensures items { octets.new.items ≡ octets.old.items ++ (facts_octets facts.now ++ outcome_octets outcome.now) }
-    ensures len { vec_len octets.new ≡ vec_len octets.old + 2 + length (outcome_octets outcome.now) }
+    ensures items { octets.new.items ≡ octets.old.items ++ (packed_facts facts.now ++ packed_outcome outcome.now) }
+    ensures len { vec_len octets.new ≡ vec_len octets.old + 2 + length (packed_outcome outcome.now) }
     ensures capacity { vec_capacity octets.old ≤ vec_capacity octets.new }
     ensures limits { IsOutcomeWithinLimits outcome.now }
 {
@@ -191,7 +191,7 @@ pub(crate) fn pack_answer(octets: &mut Vec<u8>, facts: &Facts, outcome: &Outcome
 #[tactic(auto, using(crate::proofs::Sizes::sizes))]
 fn pack_pairs(octets: &mut Vec<u8>, pairs: &[(u8, Rule)])
     requires { vec_len octets.old + 2 * length pairs.now ≤ vec_capacity octets.old }
-    ensures items { octets.new.items ≡ octets.old.items ++ flat_map pair_octets pairs.now }
+    ensures items { octets.new.items ≡ octets.old.items ++ flat_map packed_pair pairs.now }
     ensures len { vec_len octets.new ≡ vec_len octets.old + 2 * length pairs.now }
     ensures capacity { vec_capacity octets.old ≤ vec_capacity octets.new }
     ensures bytes { AllByRecursion (λ pair. pair.0 < 256) pairs.now }

@@ -1,5 +1,5 @@
-use Rattle.std.proofs.Common.{◌≡◌, refl, sym, ap, subst, ◌∙◌, append-nil, arith}
-use Rattle.dp_audit.specs.Packed.{HasToldHolder, HasToldPoint, IsNoRefusal}
+use Rattle.std.proofs.Common.{refl, sym, subst, append-nil, arith}
+use Rattle.dp_audit.specs.Packed.{HasToldHolder, IsNoRefusal}
 use Rattle.dp_audit.proofs.Histories.{added_unplaced, is_recorded, was_running}
 use Rattle.dp_audit.proofs.Tellings.{told_holder, told_outcome, told_point}
 use Rattle.dp_audit.proofs.book.keep.Goals as goal

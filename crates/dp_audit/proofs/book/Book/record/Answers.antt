@@ -1,5 +1,3 @@
-use Rattle.std.proofs.Common.{◌≡◌, refl}
-use Rattle.dp_audit.specs.Journal.{taken}
 use Rattle.dp_audit.proofs.Histories.{kept_taken, taken_is}
 use Rattle.dp_audit.proofs.book.Book.record.Goals as goal
 

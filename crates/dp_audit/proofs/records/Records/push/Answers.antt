@@ -4,7 +4,7 @@ use Rattle.dp_sap.specs.declared.state.State.{State}
 use Rattle.dp_line.specs.declared.event.Event.{Event}
 use Rattle.dp_line.specs.declared.event.Outcome.{Outcome}
 use Rattle.dp_audit.specs.declared.entry.Entry.{Entry}
-use Rattle.dp_audit.specs.Packed.{IsPackable, event_octets, outcome_octets, record_octets}
+use Rattle.dp_audit.specs.Packed.{IsPackable, packed_event, packed_outcome, record_octets}
 use Rattle.dp_audit.specs.Stored.{AreStored, entries_in}
 use Rattle.dp_audit.proofs.Stores.{counted, octets_count, pushed, record_is}
 use Rattle.dp_audit.proofs.records.Records.push.Goals as goal
@@ -83,7 +83,7 @@ kept c =
     let room = c.requires.room in
     let capacity = c.pack_event.ensures.capacity in
     let more_capacity = c.pack_answer.ensures.capacity in
-    let size : c.event_size.result + 2 + c.outcome_size.result ≡ length (event_octets entry.event) + 2 + length (outcome_octets entry.outcome) = rw (c.event_size.ensures.size, c.outcome_size.ensures.size) refl in
+    let size : c.event_size.result + 2 + c.outcome_size.result ≡ length (packed_event entry.event) + 2 + length (packed_outcome entry.outcome) = rw (c.event_size.ensures.size, c.outcome_size.ensures.size) refl in
     let items : c.pack_answer.new.octets.items ≡ octets.items ++ record_octets entry =
     rw (c.pack_answer.ensures.items, c.pack_event.ensures.items) (record_is octets.items entry (c.event_size.result + 2 + c.outcome_size.result) size) in
     let more : c.push_reserved.new.self.items ≡ starts.items ++ length octets.items ∷ [] = rw (c.push_reserved.ensures.items, c.len.ensures, octets.ok.0) refl in
