@@ -76,7 +76,7 @@ accepted_is_legal numbers events limits line text count e = by (lines_of text) r
               sym (join_with_byte-slice_split 10 text) ∙ ap (join_with_byte 10) is
               ∙ ap (λ (h : List ℕ). h ++ 10 ∷ join_with_byte 10 (next ∷ lines)) (same_is header (header_text line.number) same)
               ∙ ap (λ (t : List ℕ). header_text line.number ++ 10 ∷ t)
-                  (sym walked.written ∙ ap (λ (t : List ℕ). lines_text walked.entries ++ t) read.nothing ∙ append-nil (lines_text walked.entries))
+              (sym walked.written ∙ ap (λ (t : List ℕ). lines_text walked.entries ++ t) read.nothing ∙ append-nil (lines_text walked.entries))
               ∙ sym (append_assoc (header_text line.number) (codes "\n") (lines_text walked.entries));
         }
 
@@ -124,8 +124,8 @@ same_entries numbers events world (e ∷ entries) (f ∷ others) legal other_leg
     let first : e ≡ f = same_entry numbers events world e f legal.0 other_legal.0 limits.0 other_limits.0 room line in
     ap (λ (x : Entry). x ∷ entries) first
     ∙ ap (λ (xs : List Entry). f ∷ xs)
-        (same_entries numbers events (after_entry world e) entries others legal.1 (subst (λ (x : Entry). IsLegal (after_entry world x) others) (sym first) other_legal.1)
-        limits.1 other_limits.1 (room_kept world e legal.0 room) lines)
+    (same_entries numbers events (after_entry world e) entries others legal.1 (subst (λ (x : Entry). IsLegal (after_entry world x) others) (sym first) other_legal.1)
+    limits.1 other_limits.1 (room_kept world e legal.0 room) lines)
 
 pub same_text_same_journal : NumbersAreRead → EventsAreRead → (line : Description) (entries others : List Entry) → opening_fault line ≡ None → IsLegal (start_of line) entries → IsLegal (start_of line) others
     → AllByRecursion (λ e. IsWithinLimits e.event) entries → AllByRecursion (λ e. IsWithinLimits e.event) others

@@ -5,5 +5,6 @@ pub mod Packed
 pub mod AuditText
 pub mod Check
 pub mod Checking
+pub mod FirstWrong
 pub mod AuditExamples
 pub mod Records
