@@ -202,7 +202,6 @@ both_no_lf xs ys first second = list_all-append is_no_lf xs ys ∙ and_from _ _ 
 pub header_has_no_lf : (number : ℕ) → HasNoLf (header_text number)
 header_has_no_lf number = plain_has_no_lf (decimal number) (number_is_plain number)
 
-
 pub placed_is_plain : (entry : Entry) → IsPlain ((decimal entry.place ++ codes " ") ++ event_text entry.event)
 placed_is_plain entry = three_plain (decimal entry.place) (codes " ") (event_text entry.event) (number_is_plain entry.place) refl (event_is_plain entry.event)
 

@@ -30,7 +30,7 @@ use Rattle.dp_audit.proofs.Written.{lines_text}
 
 -- ---- lines
 
-line_first : (line behind : List ℕ) → HasNoLf line → lines_of (line_text line ++ behind) ≡ line ∷ lines_of behind
+pub line_first : (line behind : List ℕ) → HasNoLf line → lines_of (line_text line ++ behind) ≡ line ∷ lines_of behind
 line_first line behind none =
     ap lines_of (append_assoc line (codes "\n") behind) ∙ slice_split_at (λ octet. octet == 10) line 10 behind (none_passes 10 line none) refl
 
@@ -39,7 +39,7 @@ abbrev pub entry_lines : List Entry → List (List ℕ)
 entry_lines [] = [] ∷ []
 entry_lines (e ∷ entries) = entry_text e ∷ entry_lines entries
 
-lines_are : (entries : List Entry) → lines_of (lines_text entries) ≡ entry_lines entries
+pub lines_are : (entries : List Entry) → lines_of (lines_text entries) ≡ entry_lines entries
 lines_are [] = refl
 lines_are (e ∷ entries) = line_first (entry_text e) (lines_text entries) (entry_has_no_lf e) ∙ ap (λ (ls : List (List ℕ)). entry_text e ∷ ls) (lines_are entries)
 

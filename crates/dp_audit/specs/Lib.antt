@@ -6,6 +6,7 @@ pub mod Unpacked
 pub mod AuditText
 pub mod Check
 pub mod Checking
+pub mod FirstWrong
 pub mod AuditExamples
 pub mod UnpackedExamples
 pub mod Records

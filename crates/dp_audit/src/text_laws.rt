@@ -5,9 +5,11 @@ ghost use Rattle.std.specs.List.{AllByRecursion};
 ghost use Rattle.dp_line.specs.World.{Description, opening_fault, start_of};
 ghost use Rattle.dp_text.specs.Events.{IsWithinLimits};
 ghost use Rattle.dp_audit.specs.declared.entry.Entry.{Entry as Entries};
+ghost use Rattle.dp_audit.specs.declared.fault.AuditFault.{AuditFault as Faults};
 ghost use Rattle.dp_audit.specs.Legal.{IsLegal};
 ghost use Rattle.dp_audit.specs.AuditText.{audit_text};
 ghost use Rattle.dp_audit.specs.Check.{IsAuditOf, checked};
+ghost use Rattle.dp_audit.specs.FirstWrong.{IsFirstWrong};
 
 /// A text that is accepted is the audit text of a legal journal of the line, with as many entries as are
 /// answered, each event within the limits of its text.
@@ -40,4 +42,17 @@ pub fn different_journals_have_different_texts()
 {
     dp_text::laws::a_number_is_read_from_its_text();
     dp_text::laws::an_event_is_read_from_its_text();
+}
+
+/// The line that is named is the first wrong one of the text of a line that can be opened: what stands
+/// before it is the header and the entries of a legal journal, and it is badly formed, or well formed
+/// but no entry that may follow.
+pub fn the_first_wrong_line_is_named()
+    ensures { (line : Description) (text : List ℕ) (fault : Faults) → opening_fault line ≡ None → checked line text ≡ Err fault → IsFirstWrong line text fault }
+{
+    dp_text::laws::a_number_is_read_from_its_text();
+    dp_text::laws::an_event_is_read_from_its_text();
+    dp_text::laws::only_its_text_is_read_as_a_number();
+    dp_text::laws::only_its_text_is_read_as_an_event();
+    dp_text::laws::an_event_read_is_within_limits();
 }

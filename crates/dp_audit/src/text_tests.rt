@@ -52,7 +52,10 @@ fn line(alloc: Global, capacity: u32) -> Result<LineSpec, AllocError>
 fn run_is_accepted(rt: HostRuntime) -> Result<(), Fail> {
     let line = line(rt.alloc(), 1000)?;
     assert_eq!(rt; check_text(rt.alloc(), &line, RUN), Ok(5));
-    assert_eq!(rt; check_text(rt.alloc(), &line, "rack-audit 1 line 1\n"), Ok(0));
+    assert_eq!(rt;
+        check_text(rt.alloc(), &line, "rack-audit 1 line 1\n"),
+        Ok(0)
+    );
     Ok(())
 }
 
@@ -67,7 +70,10 @@ fn header_is_wrong(rt: HostRuntime) -> Result<(), Fail> {
     ];
     let line = line(rt.alloc(), 1000)?;
     for text in texts {
-        assert_eq!(rt; check_text(rt.alloc(), &line, text), Err(AuditFault::BadLine(1)));
+        assert_eq!(rt;
+            check_text(rt.alloc(), &line, text),
+            Err(AuditFault::BadLine(1))
+        );
     }
     Ok(())
 }
@@ -84,7 +90,10 @@ fn first_entry_is_badly_formed(rt: HostRuntime) -> Result<(), Fail> {
     ];
     let line = line(rt.alloc(), 1000)?;
     for text in texts {
-        assert_eq!(rt; check_text(rt.alloc(), &line, text), Err(AuditFault::BadLine(2)));
+        assert_eq!(rt;
+            check_text(rt.alloc(), &line, text),
+            Err(AuditFault::BadLine(2))
+        );
     }
     Ok(())
 }
@@ -100,7 +109,10 @@ fn first_entry_is_not_the_policy(rt: HostRuntime) -> Result<(), Fail> {
     ];
     let line = line(rt.alloc(), 1000)?;
     for text in texts {
-        assert_eq!(rt; check_text(rt.alloc(), &line, text), Err(AuditFault::NotThePolicy(2)));
+        assert_eq!(rt;
+            check_text(rt.alloc(), &line, text),
+            Err(AuditFault::NotThePolicy(2))
+        );
     }
     Ok(())
 }
@@ -134,7 +146,10 @@ fn halt_at_last_place(rt: HostRuntime) -> Result<(), Fail> {
     let halted = "rack-audit 1 line 1\n1 tick 1 | none | released\n2 halt | none | released\n";
     assert_eq!(rt; check_text(rt.alloc(), &line, halted), Ok(2));
     let ticked = "rack-audit 1 line 1\n1 tick 1 | none | released\n2 tick 1 | none | released\n";
-    assert_eq!(rt; check_text(rt.alloc(), &line, ticked), Err(AuditFault::NotThePolicy(3)));
+    assert_eq!(rt;
+        check_text(rt.alloc(), &line, ticked),
+        Err(AuditFault::NotThePolicy(3))
+    );
     Ok(())
 }
 
