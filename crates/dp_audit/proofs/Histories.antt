@@ -1,9 +1,8 @@
 -- What a step adds to a journal, which stays legal.
-use Rattle.std.proofs.Common.{◌≡◌, ℕ, ◌+◌, ◌<◌, ◌≤◌, Bool, true, false, cond, List, [], ◌∷◌, ◌++◌, length, Option, Some, None, refl, sym, ap, subst, ◌∙◌, length-append, append-nil, arith}
+use Rattle.std.proofs.Common.{◌≡◌, ℕ, ◌+◌, ◌<◌, Bool, true, false, cond, List, [], ◌∷◌, ◌++◌, Option, Some, None, refl, sym, ap, subst, ◌∙◌, length-append, append-nil, arith}
 use Rattle.std.specs.List.{list_all}
 use Rattle.dp_telegram.specs.Access.{is_station}
 use Rattle.std.specs.Prelude.{◌&&◌, not, nat_le, IfSome, Result, Ok, Err}
-use Rattle.std.proofs.lemmas.Bool.{and_parts}
 use Rattle.std.proofs.lemmas.Bool.Decides.{nat_tests}
 use Rattle.arrayvec.specs.ArrayVec.{ArrayVec}
 use Rattle.dp_line.specs.declared.event.Event.{Event}
@@ -17,7 +16,7 @@ use Rattle.dp_line.specs.declared.fault.OpenFault.TheVariants.{Limit}
 use Rattle.dp_line.specs.World.{Description, World, is_last_place, is_within_limits, opening_fault, start_of}
 use Rattle.dp_line.specs.Events.{misfit}
 use Rattle.dp_line.specs.Effects.{Stepped, effect, facts_of, held_addresses, outcome_of}
-use Rattle.dp_line.specs.Steps.{step, step_by_fit, step_of_fitting, told_halted, unrecorded}
+use Rattle.dp_line.specs.Steps.{step, step_by_fit, told_halted, unrecorded}
 use Rattle.dp_audit.specs.declared.entry.Entry.{Entry}
 use Rattle.dp_line.specs.Walk.{LineRecord, walk_after}
 use Rattle.dp_audit.specs.Journal.{Journal, added, added_by_fit, entry_of, taken, told, told_at, told_unplaced}
@@ -47,13 +46,13 @@ added_cond world event b is = ap (λ b. cond b [] (added_by_fit world event (mis
 by_last : (world : World) (event : Event) (last : Bool) → world.halted ≡ false → misfit world event ≡ None → is_last_place world ≡ last → Way world event
 by_last world event true running fits is =
     let taken = step_cond world event false running ∙ ap (step_by_fit world event) fits
-        ∙ ap (λ b. cond b (record { world = (effect world (Operator Halt)).world; answer = unrecorded (told_halted event) (Some (held_addresses world)) }) (effect world event)) is in
+    ∙ ap (λ b. cond b (record { world = (effect world (Operator Halt)).world; answer = unrecorded (told_halted event) (Some (held_addresses world)) }) (effect world event)) is in
     let more = added_cond world event false running ∙ ap (added_by_fit world event) fits ∙ ap (λ b. entry_of world (cond b (Operator Halt) event) ∷ []) is in
     halts (ap (λ (s : Stepped). s.world) taken) (ap (λ (s : Stepped). s.answer.place) taken) (ap (λ (s : Stepped). s.answer.halted) taken) more
     (record { place = refl; running = running; fits = refl; last = λ _. refl; facts = refl; outcome = refl })
 by_last world event false running fits is =
     let taken = step_cond world event false running ∙ ap (step_by_fit world event) fits
-        ∙ ap (λ b. cond b (record { world = (effect world (Operator Halt)).world; answer = unrecorded (told_halted event) (Some (held_addresses world)) }) (effect world event)) is in
+    ∙ ap (λ b. cond b (record { world = (effect world (Operator Halt)).world; answer = unrecorded (told_halted event) (Some (held_addresses world)) }) (effect world event)) is in
     let more = added_cond world event false running ∙ ap (added_by_fit world event) fits ∙ ap (λ b. entry_of world (cond b (Operator Halt) event) ∷ []) is in
     goes taken more is
     (record { place = refl; running = running; fits = fits; last = λ l. (let t : true ≡ false = sym l ∙ is in cc); facts = refl; outcome = refl })

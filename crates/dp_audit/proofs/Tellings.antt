@@ -1,8 +1,8 @@
 -- What a line records has a packed record of its own.
-use Rattle.std.proofs.Common.{◌≡◌, ℕ, ◌+◌, ◌<◌, ◌≤◌, Bool, true, false, ◌||◌, ◌&&◌, cond, eqb, List, [], ◌∷◌, Option, Some, None, inl, inr, refl, sym, ap, subst, ◌∙◌, arith, lit<}
-use Rattle.std.specs.Prelude.{is_some, nat_lt}
-use Rattle.std.specs.List.{list_all, list_any}
-use Rattle.std.proofs.lemmas.Bool.{and_parts, cases_eq, eqb-true, ne_eqb}
+use Rattle.std.proofs.Common.{◌≡◌, ℕ, ◌<◌, Bool, true, false, ◌||◌, cond, eqb, List, [], ◌∷◌, Option, Some, None, refl, arith}
+use Rattle.std.specs.Prelude.{is_some}
+use Rattle.std.specs.List.{AllByRecursion, list_all, list_any}
+use Rattle.std.proofs.lemmas.Bool.{and_parts, eqb-true}
 use Rattle.std.proofs.lemmas.Bool.Decides.{nat_tests}
 use Rattle.dp_sap.specs.declared.state.State.{State}
 use Rattle.dp_sap.specs.AccessTable.{is_in_table}
@@ -13,16 +13,16 @@ use Rattle.dp_slave.specs.SlaveRecord.{SlaveRecord}
 use Rattle.dp_line.specs.declared.event.Event.{Event}
 use Rattle.dp_line.specs.declared.event.Event.TheVariants.{Request, Operator}
 use Rattle.dp_line.specs.declared.event.Op.TheVariants.{Input, Diag, Busy, Tick, Halt}
-use Rattle.dp_line.specs.declared.event.Outcome.{Outcome}
-use Rattle.dp_line.specs.declared.fault.OperatorFault.{OperatorFault}
 use Rattle.dp_line.specs.declared.fault.OperatorFault.TheVariants.{UnknownPoint}
 use Rattle.dp_line.specs.World.{World, slave_among}
 use Rattle.dp_line.specs.Events.{misfit, misfit_where}
 use Rattle.dp_line.specs.Hearing.{Hearing, heard}
 use Rattle.dp_line.specs.Served.{answered}
-use Rattle.dp_line.specs.Effects.{facts_of, is_spread, outcome_heard, outcome_of, outcome_of_one, outcome_spread}
+use Rattle.dp_line.specs.Effects.{facts_of, is_spread, outcome_of, outcome_of_one, outcome_spread}
 use Rattle.dp_line.specs.Stations.{HaveMasters}
-use Rattle.dp_audit.specs.Packed.{HasToldHolder, HasToldPoint, IsNoRefusal}
+use Rattle.dp_text.specs.Events.{IsWithinLimits}
+use Rattle.dp_audit.specs.declared.entry.Entry.{Entry}
+use Rattle.dp_audit.specs.Packed.{HasToldHolder, HasToldPoint, IsNoRefusal, IsPackable}
 
 -- ---- points
 
@@ -136,3 +136,9 @@ told_outcome world (Operator (Diag address ext stat overflow octets)) = tt
 told_outcome world (Operator (Busy address point on)) = tt
 told_outcome world (Operator (Tick units)) = tt
 told_outcome world (Operator Halt) = tt
+
+-- ---- entries that have records
+
+pub events_within : (entries : List Entry) → AllByRecursion IsPackable entries → AllByRecursion (λ entry. IsWithinLimits entry.event) entries
+events_within [] packable = tt
+events_within (entry ∷ entries) packable = (packable.0.event, events_within entries packable.1)

@@ -1,7 +1,8 @@
 //! A line with its journal.
 
 ghost use Rattle.std.specs.Prelude.{◌≡◌, ◌+◌, ◌≤◌, ◌<◌, [], ◌∷◌, ◌++◌, true, false, length, None, IfSome, MatchResult, OnOk, OnErr, option_map};
-ghost use Rattle.std.specs.List.{list_all};
+ghost use Rattle.std.specs.List.{AllByRecursion, list_all};
+ghost use Rattle.dp_text.specs.Events.{IsWithinLimits};
 ghost use Rattle.dp_telegram.specs.Access.{is_station};
 ghost use Rattle.dp_line.specs.declared.event.Event.TheVariants.{Operator};
 ghost use Rattle.dp_line.specs.declared.event.Op.TheVariants.{Halt};
@@ -151,8 +152,8 @@ impl Book {
         &self.state
     }
 
-    /// The entries are a legal history from the opening, the line is what they leave, and they have their
-    /// places: facts of the type, for proofs.
+    /// The entries are a legal history from the opening, the line is what they leave, they have their
+    /// places, and each event is within the limits of its text: facts of the type, for proofs.
     pub fn is_legal(&self)
         ensures legal { IsLegal self.now.opening self.now.entries }
         ensures after { self.now.state.world ≡ after_entries self.now.opening self.now.entries }
@@ -160,8 +161,9 @@ impl Book {
         ensures within { length self.now.entries ≤ self.now.opening.places }
         ensures places { self.now.state.world.places ≡ self.now.opening.places }
         ensures masters { self.now.state.world.masters ≡ self.now.opening.masters }
+        ensures limits { AllByRecursion (λ entry. IsWithinLimits entry.event) self.now.entries }
     {
-        let _ = &self.state;
+        self.records.are_packed();
     }
 }
 

@@ -36,18 +36,25 @@ pub fn check_text(alloc: Global, line: &LineSpec, text: &str) -> Result<u32, Aud
     let Some(first) = lines.next() else {
         return Err(AuditFault::BadLine(1));
     };
-    if !is_header(line.number, header, &mut written) {
+    if !is_header(header, line.number, &mut written) {
         return Err(AuditFault::BadLine(1));
     }
     check_lines(&mut state, first, &mut lines, &mut written)
 }
 
-/// The header of the line of this number.
-fn is_header(number: u8, header: &[u8], written: &mut Text) -> bool
-    ensures { result ≡ same_text header.now (header_text number) }
+/// A line, without its LF, is the header of the audit texts of the line of this number.
+pub fn is_header_of(line: &[u8], number: u8) -> bool
+    ensures { result ≡ same_text line.now (header_text number) }
+{
+    is_header(line, number, &mut Text::new())
+}
+
+/// The same, with room to write the header into.
+fn is_header(line: &[u8], number: u8, written: &mut Text) -> bool
+    ensures { result ≡ same_text line.now (header_text number) }
 {
     set_header(written, number);
-    is_text(header, written.as_bytes())
+    is_text(line, written.as_bytes())
 }
 
 /// How many entries there are with those of this line and of the lines behind it.

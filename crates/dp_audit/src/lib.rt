@@ -19,7 +19,7 @@ mod unpacking;
 mod writing;
 
 pub use book::Book;
-pub use checking::check_text;
+pub use checking::{check_text, is_header_of};
 pub use dp_text::WriteFault;
 pub use entry::{Entry, Receipt};
 pub use fault::AuditFault;

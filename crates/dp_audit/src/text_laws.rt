@@ -1,6 +1,6 @@
 //! Laws of audit texts: each is what an empty function ensures.
 
-ghost use Rattle.std.specs.Prelude.{◌≡◌, ℕ, List, Ok, Err, None};
+ghost use Rattle.std.specs.Prelude.{◌≡◌, ℕ, List, length, Ok, Err, None};
 ghost use Rattle.std.specs.List.{AllByRecursion};
 ghost use Rattle.dp_line.specs.World.{Description, opening_fault, start_of};
 ghost use Rattle.dp_text.specs.Events.{IsWithinLimits};
@@ -10,6 +10,8 @@ ghost use Rattle.dp_audit.specs.Legal.{IsLegal};
 ghost use Rattle.dp_audit.specs.AuditText.{audit_text};
 ghost use Rattle.dp_audit.specs.Check.{IsAuditOf, checked};
 ghost use Rattle.dp_audit.specs.FirstWrong.{IsFirstWrong};
+
+use crate::book::Book;
 
 /// A text that is accepted is the audit text of a legal journal of the line, with as many entries as are
 /// answered, each event within the limits of its text.
@@ -55,4 +57,17 @@ pub fn the_first_wrong_line_is_named()
     dp_text::laws::only_its_text_is_read_as_a_number();
     dp_text::laws::only_its_text_is_read_as_an_event();
     dp_text::laws::an_event_read_is_within_limits();
+}
+
+/// The audit text of a book is accepted, and the answer is how many entries it has: whoever checks what
+/// [`Book::write_text`] wrote, on a line of the description that the book was opened with, is answered so.
+pub fn the_text_of_a_book_is_accepted(book: &Book)
+    ensures { (line : Description)
+        → opening_fault line ≡ None
+        → book.now.opening ≡ start_of line
+        → book.now.number ≡ line.number
+        → checked line (audit_text book.now.number book.now.entries) ≡ Ok (length book.now.entries) }
+{
+    book.is_legal();
+    every_legal_text_is_accepted();
 }
