@@ -17,7 +17,7 @@ use crate::event::{Facts, Outcome};
 use crate::reply;
 use arrayvec::ArrayVec;
 use dp_globalctl::Command;
-use dp_responder::{Judged, Rule, judge};
+use dp_responder::{Judged, Rule, judge, judge_sdn};
 use dp_sap::{CHK_CFG, GET_CFG, GLOBAL_CONTROL, RD_INP, RD_OUTP, SET_PRM, SLAVE_DIAG};
 use dp_slave::Slave;
 use dp_telegram::function_code::{Function, OK, RS};
@@ -50,11 +50,9 @@ impl Request<'_> {
         ensures slave { slave.new ≡ with_slave slave.old (served_to self.now slave.old.slave) }
         ensures rule { result ≡ rule_of self.now slave.old.slave }
     {
-        let mut outcome = Outcome::Done;
-        self.serve_data(slave, &mut outcome);
-        match outcome {
-            Outcome::Silence(rule) => rule,
-            _ => Rule::Done,
+        match judge_sdn(slave.points(), self.sender, self.telegram.fc, self.parts) {
+            Some(rule) => rule,
+            None => self.control(slave),
         }
     }
 
