@@ -7,3 +7,4 @@ pub mod Numerals
 pub mod ReadBack
 pub mod ReadExactly
 pub mod HexPairs
+pub mod HexTable
