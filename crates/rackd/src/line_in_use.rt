@@ -14,7 +14,7 @@ use crate::output::write_whole;
 use crate::stop::Stop;
 use crate::stream_laws::pieces_of_a_stream_do_not_matter;
 use arrayvec::ArrayVec;
-use dp_line::{Event, LineSpec, LineState, Op};
+use dp_line::{Event, LineSpec, LineState, Op, Step};
 use dp_telegram::{Cutter, Piece};
 use dp_text::{HexWords, Text};
 use std::alloc::{AllocError, Global};
@@ -99,7 +99,9 @@ impl LineInUse {
     pub(crate) fn operate(&mut self, op: Op, text: &mut Text)
         ensures { record { line_in_use = self.new; text = text.new } ≡ operated self.old op }
     {
-        text.set_outcome(&self.state.take(&Event::Operator(op)).outcome);
+        let mut step = Step::blank();
+        self.state.take_to(&Event::Operator(op), &mut step);
+        text.set_outcome(&step.outcome);
     }
 
     /// Makes the text the list of the slaves that a master holds, oldest lock first.
@@ -219,5 +221,7 @@ fn answer_frame(text: &mut Text, state: &mut LineState, master: u8, octets: &[u8
     if let Event::Request { octets: copy, .. } = &mut event {
         copy.try_extend_from_slice(octets).unwrap();
     }
-    text.set_answer(master, &state.take(&event).outcome);
+    let mut step = Step::blank();
+    state.take_to(&event, &mut step);
+    text.set_answer(master, &step.outcome);
 }
