@@ -134,16 +134,16 @@ impl Request<'_> {
         ensures answer { outcome.new ≡ answer_to self.now slave.old.slave }
     {
         if self.parts.dsap == Some(GLOBAL_CONTROL) {
-            *outcome = without_reply(self.control(slave));
-            return;
+            return unanswered(self.control(slave), outcome);
         }
-        let mut octets = ArrayVec::new();
-        self.reply(slave, &mut octets);
-        slave.remember(self.sender, self.telegram.fc, &octets);
         *outcome = Outcome::Reply {
-            octets,
+            octets: ArrayVec::new(),
             rule: Rule::Done,
         };
+        if let Outcome::Reply { octets, .. } = outcome {
+            self.reply(slave, octets);
+            slave.remember(self.sender, self.telegram.fc, octets);
+        }
     }
 
     /// Does a Global_Control to the slave, where it selects it; whether it does is its rule.
@@ -206,13 +206,13 @@ impl Request<'_> {
     }
 }
 
-/// The answer to a Global_Control to one slave, by its rule.
-fn without_reply(rule: Rule) -> Outcome
-    ensures { result ≡ answered rule None }
+/// Writes the answer to a Global_Control to one slave, by its rule.
+fn unanswered(rule: Rule, outcome: &mut Outcome)
+    ensures { outcome.new ≡ answered rule None }
 {
     match rule {
-        Rule::Done => Outcome::Done,
-        other => Outcome::Silence(other),
+        Rule::Done => *outcome = Outcome::Done,
+        other => *outcome = Outcome::Silence(other),
     }
 }
 
