@@ -21,7 +21,7 @@ use dp_responder::{Judged, Rule, judge, judge_sdn};
 use dp_sap::{CHK_CFG, GET_CFG, GLOBAL_CONTROL, RD_INP, RD_OUTP, SET_PRM, SLAVE_DIAG};
 use dp_slave::Slave;
 use dp_telegram::function_code::{Function, OK, RS};
-use dp_telegram::{Frame, Octets, Parts, Telegram, encode};
+use dp_telegram::{Octets, Parts, Telegram, acknowledge_to};
 
 /// A request of a master that has reached a slave.
 #[derive(Drop)]
@@ -109,9 +109,12 @@ impl Request<'_> {
         ensures { outcome.new ≡ Answers.Reply (record { items = short_reply self.now.telegram.now function }) rule }
     {
         *outcome = Outcome::Reply {
-            octets: reply::short(self.telegram, function),
+            octets: ArrayVec::new(),
             rule,
         };
+        if let Outcome::Reply { octets, .. } = outcome {
+            reply::short(self.telegram, function, octets);
+        }
     }
 
     /// Refuses an SRD: writes the refusal, and remembers it.
@@ -121,9 +124,10 @@ impl Request<'_> {
         ensures slave { slave.new ≡ with_slave slave.old (served_to self.now slave.old.slave) }
         ensures answer { outcome.new ≡ answer_to self.now slave.old.slave }
     {
-        let octets = reply::short(self.telegram, function);
-        slave.remember(self.sender, self.telegram.fc, &octets);
-        *outcome = Outcome::Reply { octets, rule };
+        self.without_data(function, rule, outcome);
+        if let Outcome::Reply { octets, .. } = outcome {
+            slave.remember(self.sender, self.telegram.fc, octets);
+        }
     }
 
     /// Does the service of a request that no row refuses, and writes the answer.
@@ -178,11 +182,11 @@ impl Request<'_> {
             }
             Some(SET_PRM) => {
                 slave.set_prm(self.sender, self.place, &self.parts.payload);
-                *text = encode(&Frame::Ack);
+                acknowledge_to(text);
             }
             Some(CHK_CFG) => {
                 slave.chk_cfg(&self.parts.payload);
-                *text = encode(&Frame::Ack);
+                acknowledge_to(text);
             }
             Some(point) => reply::positive(
                 self.telegram,
