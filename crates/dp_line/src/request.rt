@@ -177,7 +177,8 @@ impl Request<'_> {
         match self.parts.dsap {
             None => self.exchange(slave, text),
             Some(SLAVE_DIAG) => {
-                let diagnosis = slave.slave_diag(self.sender);
+                let mut diagnosis = ArrayVec::new();
+                slave.slave_diag_to(self.sender, &mut diagnosis);
                 reply::positive(self.telegram, self.parts, &diagnosis, false, text)
             }
             Some(SET_PRM) => {
