@@ -80,30 +80,26 @@ impl Book {
         ensures receipt { result ≡ receipt_of event (step_of self.old.state.world event).answer }
         ensures journal { self.new ≡ taken self.old event }
     {
-        let Step {
-            place,
-            facts,
-            outcome,
-            ..
-        } = self.record(&event);
+        let mut step = Step::blank();
+        self.take_to(&event, &mut step);
         Receipt {
-            place,
+            place: step.place,
             event,
-            facts,
-            outcome,
+            facts: step.facts,
+            outcome: step.outcome,
         }
     }
 
-    /// The same of an event that stays where it is; the answer is the line's. It takes no memory.
-    pub fn record(&mut self, event: &Event) -> Step
-        ensures answer { result ≡ (step_of self.old.state.world event.now).answer }
+    /// The same of an event that stays where it is; the answer is written where one lies, and moved
+    /// nowhere. It takes no memory.
+    pub fn take_to(&mut self, event: &Event, answer: &mut Step)
+        ensures answer { answer.new ≡ (step_of self.old.state.world event.now).answer }
         ensures journal { self.new ≡ taken self.old event.now }
     {
         self.state.holders_are_masters();
         let before = Snapshot::of(&self.state);
-        let step = self.state.take(event);
-        keep(&mut self.records, &before, event, &step);
-        step
+        self.state.take_to(event, answer);
+        keep(&mut self.records, &before, event, answer);
     }
 
     /// The number of its line in the rack.

@@ -33,6 +33,15 @@ pub struct DiagFacts {
 pub fn octets(facts: &DiagFacts) -> ArrayVec<u8, MOST_DATA>
     ensures { result.items ≡ diagnosis_text facts.now }
 {
+    let mut octets = ArrayVec::new();
+    octets_to(facts, &mut octets);
+    octets
+}
+
+/// Puts the octets of the diagnosis where octets lie, as [`octets`] answers them.
+pub fn octets_to(facts: &DiagFacts, octets: &mut ArrayVec<u8, MOST_DATA>)
+    ensures { octets.new.items ≡ diagnosis_text facts.now }
+{
     let [ident_high, ident_low] = facts.ident.to_be_bytes();
     let head = [
         octet_1(facts),
@@ -42,10 +51,9 @@ pub fn octets(facts: &DiagFacts) -> ArrayVec<u8, MOST_DATA>
         ident_high,
         ident_low,
     ];
-    let mut octets = ArrayVec::new();
+    octets.clear();
     octets.try_extend_from_slice(&head).unwrap();
     octets.try_extend_from_slice(&facts.diag.octets).unwrap();
-    octets
 }
 
 /// Station_status_1 (IEC 61158-6-3, Slave_Diag response).

@@ -11,7 +11,7 @@ pub mod laws;
 
 pub use diag::{Diag, MOST_EXTENDED};
 pub use dp_sap::State;
-pub use facts::{DiagFacts, octets};
+pub use facts::{DiagFacts, octets, octets_to};
 
 #[cfg(test)]
 mod tests;

@@ -1,5 +1,5 @@
 -- What a Global_Control to all does at each slave.
-use Rattle.std.proofs.Common.{◌≡◌, ◌≢◌, ℕ, Bool, true, false, not, cond, eqb, List, Option, Some, None, refl, sym, ap, subst, ◌∙◌}
+use Rattle.std.proofs.Common.{◌≡◌, ℕ, Bool, true, false, not, cond, eqb, List, Option, Some, None, refl, ap, ◌∙◌}
 use Rattle.std.specs.Prelude.{◌&&◌, ◌||◌, is_none, length}
 use Rattle.std.specs.Option.{option_map_or}
 use Rattle.dp_sap.specs.declared.state.State.{State}
@@ -10,7 +10,7 @@ use Rattle.dp_telegram.specs.declared.frame.Telegram.{Telegram}
 use Rattle.dp_telegram.specs.declared.access.Parts.{Parts}
 use Rattle.dp_telegram.specs.declared.function_code.Function.{Function}
 use Rattle.dp_telegram.specs.declared.function_code.Function.TheVariants.{SdaLow, SdnLow, SdaHigh, SdnHigh, FdlStatus, SrdLow, SrdHigh, Ident, LsapStatus, Reserved}
-use Rattle.dp_telegram.specs.FunctionCode.{function_of, asks_srd, asks_sdn, not_activated, no_resource, user_error, frame_count_bit, frame_count_is_valid}
+use Rattle.dp_telegram.specs.FunctionCode.{function_of, asks_srd, asks_sdn, not_activated, frame_count_bit, frame_count_is_valid}
 use Rattle.dp_responder.specs.Memory.{Remembered, is_repeat, kept_reply, remembered_of, same_bit}
 use Rattle.dp_responder.specs.Judgement.{admits, first_judged, judgement, point_has, takes_length, uses}
 use Rattle.dp_responder.specs.declared.judgement.Judged.{Judged}
@@ -19,12 +19,10 @@ use Rattle.dp_responder.specs.declared.rule.Rule.{Rule}
 use Rattle.dp_responder.specs.declared.rule.Rule.TheVariants as rules
 use Rattle.dp_slave.specs.SlaveRecord.{SlaveRecord, is_held_by, points_of}
 use Rattle.dp_slave.specs.Fields.{acted, holder_after, since_after}
-use Rattle.dp_slave.specs.Services.{service_act, service_answer}
-use Rattle.dp_line.specs.Verdict.{asks_fdl_status, asks_unserved, is_fdl_status, is_global_control, is_not_selected, is_unserved, rule_at}
-use Rattle.dp_line.specs.declared.event.Outcome.TheVariants.{Silence}
-use Rattle.dp_line.specs.ReplyText.{positive_reply, reply_text}
-use Rattle.dp_line.specs.Served.{answer_of, answered, executed, served}
-use Rattle.dp_line.proofs.Judging.{answer_by, rows_by, says_so, silence_served}
+use Rattle.dp_slave.specs.Services.{service_act}
+use Rattle.dp_line.specs.Verdict.{asks_fdl_status, asks_unserved, is_fdl_status, is_global_control, is_unserved}
+use Rattle.dp_line.specs.Served.{executed, served}
+use Rattle.dp_line.proofs.Judging.{rows_by, says_so, silence_served}
 use Rattle.dp_line.proofs.Writes.{holders_equal}
 
 -- what a Global_Control to all is
@@ -130,103 +128,3 @@ pub control_since : (slave : SlaveRecord) (sender place : ℕ) (telegram : Teleg
     → (served slave sender place telegram parts).since ≡ slave.since
 unfolding served
 control_since slave sender place telegram parts control = executed_since slave sender place parts _ (control_is parts telegram control).1
-
--- nobody replies to it
-unanswered_by : (slave : SlaveRecord) (sender : ℕ) (telegram : Telegram) (parts : Parts) (unselected : Bool) → asks_sdn (function_of telegram.fc) ≡ true
-    → reply_text slave sender telegram parts (cond unselected rules.NotSelected rules.Done) ≡ None
-unfolding reply_text
-unanswered_by slave sender telegram parts true sdn = refl
-unanswered_by slave sender telegram parts false sdn = ap (λ b. cond b None (Some (positive_reply telegram parts (service_answer slave parts.dsap)))) sdn
-
--- so its judgement is silence, or it passes
-data IsUnreplied (judged : Judged) : Type 0 where
-  silent : (rule : Rule) → judged ≡ verdicts.Silent rule → IsUnreplied judged
-  passes : judged ≡ verdicts.Pass → IsUnreplied judged
-
-silent_row : (sdn : Bool) (rule : Rule) (function : ℕ) → sdn ≡ true → IsUnreplied (cond sdn (verdicts.Silent rule) (verdicts.Refuse function rule))
-silent_row true rule function e = silent rule refl
-silent_row false rule function e = absurd cc
-
-judged_silent : (fc : ℕ) (off stranger other busy long : Bool) (stored : List ℕ) → asks_sdn (function_of fc) ≡ true
-    → IsUnreplied (first_judged fc (rows_by false off stranger other busy long stored))
-judged_silent fc true stranger other busy long stored sdn = silent_row (asks_sdn (function_of fc)) rules.NotActive not_activated sdn
-judged_silent fc false true other busy long stored sdn = silent_row (asks_sdn (function_of fc)) rules.NotHolder not_activated sdn
-judged_silent fc false false true busy long stored sdn = silent_row (asks_sdn (function_of fc)) rules.NoService not_activated sdn
-judged_silent fc false false false true long stored sdn = silent_row (asks_sdn (function_of fc)) rules.Busy no_resource sdn
-judged_silent fc false false false false true stored sdn = silent_row (asks_sdn (function_of fc)) rules.Length user_error sdn
-judged_silent fc false false false false false stored sdn = passes refl
-
-control_judged : (slave : SlaveRecord) (sender : ℕ) (telegram : Telegram) (parts : Parts) → is_global_control parts telegram ≡ true
-    → IsUnreplied (judgement (points_of slave) (remembered_of slave.memory sender) sender telegram.fc parts)
-control_judged slave sender telegram parts control =
-    let sdn = (control_is parts telegram control).0 in
-    let last = remembered_of slave.memory sender in
-    let point = access_row (points_of slave) parts.dsap in
-    let stranger = point_has (λ (p : Point). not (admits sender p.access)) point in
-    let service = point_has (λ (p : Point). not (uses telegram.fc p.service)) point in
-    let marked = point_has (λ (p : Point). p.busy) point in
-    let long = point_has (λ (p : Point). not (takes_length (length parts.payload.items) p)) point in
-    let rest = first_judged telegram.fc (rows_by false (is_none point) stranger service marked long (kept_reply last)) in
-    let none : judgement (points_of slave) last sender telegram.fc parts ≡ rest = ap (λ b. cond b (verdicts.Repeat (record { items = kept_reply last })) rest) (no_repeat last telegram.fc sdn) in
-    subst IsUnreplied (sym none) (judged_silent telegram.fc (is_none point) stranger service marked long (kept_reply last) sdn)
-
-answered_silent : (slave : SlaveRecord) (sender : ℕ) (telegram : Telegram) (parts : Parts) → is_global_control parts telegram ≡ true
-    → IsUnreplied (judgement (points_of slave) (remembered_of slave.memory sender) sender telegram.fc parts)
-    → answer_of slave sender telegram parts ≡ answered (rule_at sender telegram parts slave) None
-answered_silent slave sender telegram parts control (silent rule is) =
-    let asks = control_asks parts telegram control in
-    let says = says_so slave sender telegram parts (verdicts.Silent rule) asks.0 asks.1 is in
-    answer_by slave sender telegram parts rule None says.0 says.1 ∙ ap (λ r. answered r None) (sym says.0)
-answered_silent slave sender telegram parts control (passes is) =
-    let asks = control_asks parts telegram control in
-    let says = says_so slave sender telegram parts verdicts.Pass asks.0 asks.1 is in
-    answer_by slave sender telegram parts (cond (is_not_selected parts slave) rules.NotSelected rules.Done) None says (unanswered_by slave sender telegram parts (is_not_selected parts slave) (control_is parts telegram control).0)
-    ∙ ap (λ r. answered r None) (sym says)
-
--- so its answer is its rule alone
-pub control_answered : (slave : SlaveRecord) (sender : ℕ) (telegram : Telegram) (parts : Parts) → is_global_control parts telegram ≡ true
-    → answer_of slave sender telegram parts ≡ answered (rule_at sender telegram parts slave) None
-control_answered slave sender telegram parts control = answered_silent slave sender telegram parts control (control_judged slave sender telegram parts control)
-
--- the rule that an answer without a reply tells
-pub told_silent : (rule told : Rule) → answered rule None ≡ Silence told → told ≡ rule
-told_silent rules.Done told e = absurd cc
-told_silent rules.Halted told e = cc
-told_silent rules.NoFrame told e = cc
-told_silent rules.NoMaster told e = cc
-told_silent rules.ForeignSender told e = cc
-told_silent rules.Token told e = cc
-told_silent rules.NotRequest told e = cc
-told_silent rules.BadFunction told e = cc
-told_silent rules.BadExtension told e = cc
-told_silent rules.BadBroadcast told e = cc
-told_silent rules.NoStation told e = cc
-told_silent rules.Status told e = cc
-told_silent rules.NoService told e = cc
-told_silent rules.Repeat told e = cc
-told_silent rules.NotActive told e = cc
-told_silent rules.NotHolder told e = cc
-told_silent rules.Busy told e = cc
-told_silent rules.Length told e = cc
-told_silent rules.NotSelected told e = cc
-
-pub told_done : (rule : Rule) → ((told : Rule) → answered rule None ≢ Silence told) → rules.Done ≡ rule
-told_done rules.Done other = refl
-told_done rules.Halted other = absurd (other rules.Halted refl)
-told_done rules.NoFrame other = absurd (other rules.NoFrame refl)
-told_done rules.NoMaster other = absurd (other rules.NoMaster refl)
-told_done rules.ForeignSender other = absurd (other rules.ForeignSender refl)
-told_done rules.Token other = absurd (other rules.Token refl)
-told_done rules.NotRequest other = absurd (other rules.NotRequest refl)
-told_done rules.BadFunction other = absurd (other rules.BadFunction refl)
-told_done rules.BadExtension other = absurd (other rules.BadExtension refl)
-told_done rules.BadBroadcast other = absurd (other rules.BadBroadcast refl)
-told_done rules.NoStation other = absurd (other rules.NoStation refl)
-told_done rules.Status other = absurd (other rules.Status refl)
-told_done rules.NoService other = absurd (other rules.NoService refl)
-told_done rules.Repeat other = absurd (other rules.Repeat refl)
-told_done rules.NotActive other = absurd (other rules.NotActive refl)
-told_done rules.NotHolder other = absurd (other rules.NotHolder refl)
-told_done rules.Busy other = absurd (other rules.Busy refl)
-told_done rules.Length other = absurd (other rules.Length refl)
-told_done rules.NotSelected other = absurd (other rules.NotSelected refl)

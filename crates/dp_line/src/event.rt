@@ -1,5 +1,8 @@
 //! What comes to a line, and what a line answers.
 
+ghost use Rattle.std.specs.Prelude.{◌≡◌, None};
+ghost use Rattle.dp_line.specs.declared.event.Outcome.{Outcome as Answers};
+
 use crate::fault::OperatorFault;
 use crate::limits::MOST_SLAVES;
 use arrayvec::ArrayVec;
@@ -100,4 +103,19 @@ pub struct Step {
     /// Addresses of the slaves that had a holder, ascending, where this event met the last place and the
     /// halt was recorded instead of it; else None.
     pub halted: Option<ArrayVec<u8, MOST_SLAVES>>,
+}
+
+impl Step {
+    /// The answer to what was not recorded and done without a word: room for
+    /// [`crate::LineState::take_to`].
+    pub fn blank() -> Step
+        ensures { result ≡ record { place = None; facts = None; outcome = Answers.Done; halted = None } }
+    {
+        Step {
+            place: None,
+            facts: None,
+            outcome: Outcome::Done,
+            halted: None,
+        }
+    }
 }

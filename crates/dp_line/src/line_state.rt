@@ -86,18 +86,31 @@ impl LineState {
         ensures answer { result ≡ (step self.old.world event.now).answer }
         ensures walk { self.new.last_walk ≡ walk_after self.old.world event.now self.old.last_walk }
     {
+        let mut answer = Step::blank();
+        self.take_to(event, &mut answer);
+        answer
+    }
+
+    /// Takes one event, and writes the answer where one lies.
+    ///
+    /// It is [`LineState::take`] that moves no answer, which costs the copy of 376 octets.
+    pub fn take_to(&mut self, event: &Event, answer: &mut Step)
+        ensures world { self.new.world ≡ (step self.old.world event.now).world }
+        ensures answer { answer.new ≡ (step self.old.world event.now).answer }
+        ensures walk { self.new.last_walk ≡ walk_after self.old.world event.now self.old.last_walk }
+    {
         if self.halted {
-            return unrecorded(told_halted(event), None);
+            return unrecorded(told_halted(event), None, answer);
         }
         if let Some(fault) = self.misfit(event) {
-            return unrecorded(Outcome::Refused(fault), None);
+            return unrecorded(Outcome::Refused(fault), None, answer);
         }
         if self.places - self.count <= 1 {
-            return unrecorded(told_halted(event), Some(self.halt()));
+            return unrecorded(told_halted(event), Some(self.halt()), answer);
         }
         match event {
-            Event::Request { master, octets } => self.take_request(*master, octets),
-            Event::Operator(op) => self.take_op(op),
+            Event::Request { master, octets } => self.take_request(*master, octets, answer),
+            Event::Operator(op) => self.take_op(op, answer),
         }
     }
 
@@ -160,78 +173,73 @@ impl LineState {
     }
 
     /// Takes what an operator does, which fits and takes a place.
-    fn take_op(&mut self, op: &Op) -> Step
+    fn take_op(&mut self, op: &Op, answer: &mut Step)
         requires room { takes_no_more self.old.world ≡ false }
         requires fits { misfit_among self.old.world.slaves op.now ≡ None }
         ensures line { self.new ≡ record self.old { world = (effect self.old.world (Operator op.now)).world } }
-        ensures answer { result ≡ (effect self.old.world (Operator op.now)).answer }
+        ensures answer { answer.new ≡ (effect self.old.world (Operator op.now)).answer }
     {
         match op {
-            Op::Input { address, .. } => self.operate(*address, op),
-            Op::Diag { address, .. } => self.operate(*address, op),
-            Op::Busy { address, .. } => self.operate(*address, op),
-            Op::Tick(time) => self.tick(*time),
-            Op::Halt => self.take_halt(),
+            Op::Input { address, .. } => self.operate(*address, op, answer),
+            Op::Diag { address, .. } => self.operate(*address, op, answer),
+            Op::Busy { address, .. } => self.operate(*address, op, answer),
+            Op::Tick(time) => self.tick(*time, answer),
+            Op::Halt => self.take_halt(answer),
         }
     }
 
     /// Takes what is done to one slave.
-    fn operate(&mut self, address: u8, op: &Op) -> Step
+    fn operate(&mut self, address: u8, op: &Op, answer: &mut Step)
         requires room { takes_no_more self.old.world ≡ false }
         requires address { address_of_op op.now ≡ Some address }
         requires fits { misfit_among self.old.world.slaves op.now ≡ None }
         ensures line { self.new ≡ record self.old { world = (effect self.old.world (Operator op.now)).world } }
-        ensures answer { result ≡ (effect self.old.world (Operator op.now)).answer }
+        ensures answer { answer.new ≡ (effect self.old.world (Operator op.now)).answer }
     {
         let facts = self.stations.operate(address, op);
         self.count += 1;
-        recorded(self.count, facts, Outcome::Done)
+        recorded(self.count, facts, Outcome::Done, answer)
     }
 
     /// Time passes, in units of 10 ms.
-    fn tick(&mut self, time: u32) -> Step
+    fn tick(&mut self, time: u32, answer: &mut Step)
         requires room { takes_no_more self.old.world ≡ false }
         ensures line { self.new ≡ record self.old { world = (effect self.old.world (Operator (Tick time))).world } }
-        ensures answer { result ≡ (effect self.old.world (Operator (Tick time))).answer }
+        ensures answer { answer.new ≡ (effect self.old.world (Operator (Tick time))).answer }
     {
         let let_go = self.stations.tick(time);
         self.count += 1;
-        recorded(self.count, None, Outcome::Released(let_go))
+        recorded(self.count, None, Outcome::Released(let_go), answer)
     }
 
     /// Takes the operator's halt.
-    fn take_halt(&mut self) -> Step
+    fn take_halt(&mut self, answer: &mut Step)
         requires room { takes_no_more self.old.world ≡ false }
         ensures line { self.new ≡ record self.old { world = (effect self.old.world (Operator Halt)).world } }
-        ensures answer { result ≡ (effect self.old.world (Operator Halt)).answer }
+        ensures answer { answer.new ≡ (effect self.old.world (Operator Halt)).answer }
     {
         let let_go = self.halt();
-        recorded(self.count, None, Outcome::Released(let_go))
+        recorded(self.count, None, Outcome::Released(let_go), answer)
     }
 
     /// Takes a request that takes a place.
-    fn take_request(&mut self, master: u8, octets: &[u8]) -> Step
+    fn take_request(&mut self, master: u8, octets: &[u8], answer: &mut Step)
         requires { takes_no_more self.old.world ≡ false }
         ensures world { self.new.world ≡ (effect self.old.world (Request master (record { items = octets.now }))).world }
-        ensures answer { result ≡ (effect self.old.world (Request master (record { items = octets.now }))).answer }
+        ensures answer { answer.new ≡ (effect self.old.world (Request master (record { items = octets.now }))).answer }
         ensures walk { self.new.last_walk ≡ walk_heard (heard self.old.world master octets.now) self.old.last_walk }
     {
         let place = self.count + 1;
-        let mut step = Step {
-            place: Some(place),
-            facts: None,
-            outcome: Outcome::Done,
-            halted: None,
-        };
-        step.facts = self.stations.answer(
+        answer.place = Some(place);
+        answer.halted = None;
+        answer.facts = self.stations.answer(
             master,
             place,
             octets,
-            &mut step.outcome,
+            &mut answer.outcome,
             &mut self.last_walk,
         );
         self.count = place;
-        step
     }
 
     /// Records the halt, which releases every slave; the addresses of those that had a holder,
@@ -257,27 +265,23 @@ fn told_halted(event: &Event) -> Outcome
     }
 }
 
-/// The answer to an event that isn't recorded, with the addresses of the slaves that had a holder where
+/// Writes the answer to an event that isn't recorded, with the addresses of the slaves that had a holder where
 /// the halt was recorded instead.
-fn unrecorded(outcome: Outcome, halted: Option<ArrayVec<u8, MOST_SLAVES>>) -> Step
-    ensures { result ≡ unrecorded_step outcome (option_map (λ addresses. addresses.items) halted) }
+fn unrecorded(outcome: Outcome, halted: Option<ArrayVec<u8, MOST_SLAVES>>, answer: &mut Step)
+    ensures { answer.new ≡ unrecorded_step outcome (option_map (λ addresses. addresses.items) halted) }
 {
-    Step {
-        place: None,
-        facts: None,
-        outcome,
-        halted,
-    }
+    answer.place = None;
+    answer.facts = None;
+    answer.outcome = outcome;
+    answer.halted = halted;
 }
 
-/// The answer to an event that is recorded.
-fn recorded(place: u32, facts: Facts, outcome: Outcome) -> Step
-    ensures { result ≡ record { place = Some place; facts = facts; outcome = outcome; halted = None } }
+/// Writes the answer to an event that is recorded.
+fn recorded(place: u32, facts: Facts, outcome: Outcome, answer: &mut Step)
+    ensures { answer.new ≡ record { place = Some place; facts = facts; outcome = outcome; halted = None } }
 {
-    Step {
-        place: Some(place),
-        facts,
-        outcome,
-        halted: None,
-    }
+    answer.place = Some(place);
+    answer.facts = facts;
+    answer.outcome = outcome;
+    answer.halted = None;
 }

@@ -7,18 +7,19 @@ ghost use Rattle.dp_line.specs.ReplyText.{short_reply, positive_reply, data_repl
 
 use arrayvec::ArrayVec;
 use dp_telegram::function_code::{DH, DL};
-use dp_telegram::{Frame, Octets, Parts, Telegram, encode};
+use dp_telegram::{Octets, Parts, Telegram, acknowledge_to};
 
-/// A reply without data.
-pub(crate) fn short(telegram: &Telegram, function: u8) -> Octets
-    ensures { result.items ≡ short_reply telegram.now function }
+/// Writes a reply without data.
+pub(crate) fn short(telegram: &Telegram, function: u8, text: &mut Octets)
+    ensures { text.new.items ≡ short_reply telegram.now function }
 {
-    encode(&Frame::Telegram(Telegram {
+    let reply = Telegram {
         da: telegram.source(),
         sa: telegram.destination(),
         fc: function,
         du: ArrayVec::new(),
-    }))
+    };
+    reply.encode_to(text);
 }
 
 /// Writes a positive reply with these octets, of high priority or not; where there are none, it is the
@@ -33,13 +34,13 @@ pub(crate) fn positive(
     requires { length octets.now ≤ most_data }
     ensures { text.new.items ≡ positive_reply telegram.now parts.now (record { high = high; octets = octets.now }) }
 {
-    *text = if !octets.is_empty() {
-        with_data(telegram, parts, data_function(high), octets)
+    if !octets.is_empty() {
+        with_data(telegram, parts, data_function(high), octets, text);
     } else if high {
-        short(telegram, DH)
+        short(telegram, DH, text);
     } else {
-        encode(&Frame::Ack)
-    };
+        acknowledge_to(text);
+    }
 }
 
 /// The function of a reply with data.
@@ -49,19 +50,20 @@ fn data_function(high: bool) -> u8
     if high { DH } else { DL }
 }
 
-/// A reply with data.
-fn with_data(telegram: &Telegram, parts: &Parts, function: u8, octets: &[u8]) -> Octets
+/// Writes a reply with data.
+fn with_data(telegram: &Telegram, parts: &Parts, function: u8, octets: &[u8], text: &mut Octets)
     requires { length octets.now ≤ most_data }
-    ensures { result.items ≡ data_reply telegram.now parts.now function octets.now }
+    ensures { text.new.items ≡ data_reply telegram.now parts.now function octets.now }
 {
-    let mut du = ArrayVec::new();
-    du.try_extend_from_slice(parts.ssap.as_slice()).unwrap();
-    du.try_extend_from_slice(parts.dsap.as_slice()).unwrap();
-    du.try_extend_from_slice(octets).unwrap();
-    encode(&Frame::Telegram(Telegram {
+    let mut reply = Telegram {
         da: telegram.sa,
         sa: telegram.da,
         fc: function,
-        du,
-    }))
+        du: ArrayVec::new(),
+    };
+    let du = &mut reply.du;
+    du.try_extend_from_slice(parts.ssap.as_slice()).unwrap();
+    du.try_extend_from_slice(parts.dsap.as_slice()).unwrap();
+    du.try_extend_from_slice(octets).unwrap();
+    reply.encode_to(text);
 }

@@ -17,11 +17,11 @@ use crate::event::{Facts, Outcome};
 use crate::reply;
 use arrayvec::ArrayVec;
 use dp_globalctl::Command;
-use dp_responder::{Judged, Rule, judge};
+use dp_responder::{Judged, Rule, judge, judge_sdn};
 use dp_sap::{CHK_CFG, GET_CFG, GLOBAL_CONTROL, RD_INP, RD_OUTP, SET_PRM, SLAVE_DIAG};
 use dp_slave::Slave;
 use dp_telegram::function_code::{Function, OK, RS};
-use dp_telegram::{Frame, Octets, Parts, Telegram, encode};
+use dp_telegram::{Octets, Parts, Telegram, acknowledge_to};
 
 /// A request of a master that has reached a slave.
 #[derive(Drop)]
@@ -50,11 +50,9 @@ impl Request<'_> {
         ensures slave { slave.new ≡ with_slave slave.old (served_to self.now slave.old.slave) }
         ensures rule { result ≡ rule_of self.now slave.old.slave }
     {
-        let mut outcome = Outcome::Done;
-        self.serve_data(slave, &mut outcome);
-        match outcome {
-            Outcome::Silence(rule) => rule,
-            _ => Rule::Done,
+        match judge_sdn(slave.points(), self.sender, self.telegram.fc, self.parts) {
+            Some(rule) => rule,
+            None => self.control(slave),
         }
     }
 
@@ -111,9 +109,12 @@ impl Request<'_> {
         ensures { outcome.new ≡ Answers.Reply (record { items = short_reply self.now.telegram.now function }) rule }
     {
         *outcome = Outcome::Reply {
-            octets: reply::short(self.telegram, function),
+            octets: ArrayVec::new(),
             rule,
         };
+        if let Outcome::Reply { octets, .. } = outcome {
+            reply::short(self.telegram, function, octets);
+        }
     }
 
     /// Refuses an SRD: writes the refusal, and remembers it.
@@ -123,9 +124,10 @@ impl Request<'_> {
         ensures slave { slave.new ≡ with_slave slave.old (served_to self.now slave.old.slave) }
         ensures answer { outcome.new ≡ answer_to self.now slave.old.slave }
     {
-        let octets = reply::short(self.telegram, function);
-        slave.remember(self.sender, self.telegram.fc, &octets);
-        *outcome = Outcome::Reply { octets, rule };
+        self.without_data(function, rule, outcome);
+        if let Outcome::Reply { octets, .. } = outcome {
+            slave.remember(self.sender, self.telegram.fc, octets);
+        }
     }
 
     /// Does the service of a request that no row refuses, and writes the answer.
@@ -136,16 +138,16 @@ impl Request<'_> {
         ensures answer { outcome.new ≡ answer_to self.now slave.old.slave }
     {
         if self.parts.dsap == Some(GLOBAL_CONTROL) {
-            *outcome = without_reply(self.control(slave));
-            return;
+            return unanswered(self.control(slave), outcome);
         }
-        let mut octets = ArrayVec::new();
-        self.reply(slave, &mut octets);
-        slave.remember(self.sender, self.telegram.fc, &octets);
         *outcome = Outcome::Reply {
-            octets,
+            octets: ArrayVec::new(),
             rule: Rule::Done,
         };
+        if let Outcome::Reply { octets, .. } = outcome {
+            self.reply(slave, octets);
+            slave.remember(self.sender, self.telegram.fc, octets);
+        }
     }
 
     /// Does a Global_Control to the slave, where it selects it; whether it does is its rule.
@@ -175,16 +177,17 @@ impl Request<'_> {
         match self.parts.dsap {
             None => self.exchange(slave, text),
             Some(SLAVE_DIAG) => {
-                let diagnosis = slave.slave_diag(self.sender);
+                let mut diagnosis = ArrayVec::new();
+                slave.slave_diag_to(self.sender, &mut diagnosis);
                 reply::positive(self.telegram, self.parts, &diagnosis, false, text)
             }
             Some(SET_PRM) => {
                 slave.set_prm(self.sender, self.place, &self.parts.payload);
-                *text = encode(&Frame::Ack);
+                acknowledge_to(text);
             }
             Some(CHK_CFG) => {
                 slave.chk_cfg(&self.parts.payload);
-                *text = encode(&Frame::Ack);
+                acknowledge_to(text);
             }
             Some(point) => reply::positive(
                 self.telegram,
@@ -208,13 +211,13 @@ impl Request<'_> {
     }
 }
 
-/// The answer to a Global_Control to one slave, by its rule.
-fn without_reply(rule: Rule) -> Outcome
-    ensures { result ≡ answered rule None }
+/// Writes the answer to a Global_Control to one slave, by its rule.
+fn unanswered(rule: Rule, outcome: &mut Outcome)
+    ensures { outcome.new ≡ answered rule None }
 {
     match rule {
-        Rule::Done => Outcome::Done,
-        other => Outcome::Silence(other),
+        Rule::Done => *outcome = Outcome::Done,
+        other => *outcome = Outcome::Silence(other),
     }
 }
 

@@ -1,5 +1,5 @@
 -- The verdict of a slave on a request, from the repeat to the length (own order).
-use Rattle.std.specs.Prelude.{ℕ, Bool, true, false, not, ◌&&◌, ◌==◌, nat_le, if◌then◌else◌, List, [], ◌∷◌, length, map, Option, is_none}
+use Rattle.std.specs.Prelude.{ℕ, Bool, true, false, not, ◌&&◌, ◌==◌, nat_le, if◌then◌else◌, List, [], ◌∷◌, length, map, Option, Some, None, is_none}
 use Rattle.std.specs.Option.{option_map_or}
 use Rattle.dp_telegram.specs.FunctionCode.{function_of, asks_srd, asks_sdn, not_activated, no_resource, user_error}
 use Rattle.dp_telegram.specs.declared.access.Parts.{Parts}
@@ -76,6 +76,16 @@ judged_by fc rule (the_function function) = if asks_sdn (function_of fc) then ve
 abbrev pub first_judged : ℕ → List JudgementRow → Judged
 first_judged fc [] = verdicts.Pass
 first_judged fc (row ∷ rows) = if row.applies then judged_by fc row.rule row.answer else first_judged fc rows
+
+-- the first row that applies: its rule, and what it answers
+abbrev pub first_refusal : List JudgementRow → Option (Rule × RowAnswer)
+first_refusal [] = None
+first_refusal (row ∷ rows) = if row.applies then Some (row.rule, row.answer) else first_refusal rows
+
+-- what comes of an SDN that is refused by this rule, or by none: it passes, or there is silence
+abbrev pub judged_in_silence : Option Rule → Judged
+judged_in_silence None = verdicts.Pass
+judged_in_silence (Some rule) = verdicts.Silent rule
 
 abbrev pub judgement : PointsView → Option Remembered → ℕ → ℕ → Parts → Judged
 judgement points last sender fc parts = first_judged fc (judgement_rows points last sender fc parts)

@@ -1,10 +1,11 @@
 //! What comes of a request, before it is served.
 
-ghost use Rattle.std.specs.Prelude.{◌≡◌, ◌≤◌, Some, length};
+ghost use Rattle.std.specs.Prelude.{◌≡◌, ◌≤◌, Option, Some, option_map, length, true};
 ghost use Rattle.dp_sap.specs.AccessTable.{access_row};
 ghost use Rattle.dp_responder.specs.declared.judgement.Judged.TheVariants as verdicts;
-ghost use Rattle.dp_responder.specs.Memory.{is_repeat as is_repeated, remembered_of};
-ghost use Rattle.dp_responder.specs.Judgement.{admits as is_admitted, first_judged, judged_by, judgement, refusal_rows, takes_length as is_taken, the_function, uses as is_used};
+ghost use Rattle.dp_telegram.specs.FunctionCode.{asks_sdn, function_of};
+ghost use Rattle.dp_responder.specs.Memory.{Remembered, is_repeat as is_repeated, remembered_of};
+ghost use Rattle.dp_responder.specs.Judgement.{admits as is_admitted, first_judged, first_refusal, judged_by, judged_in_silence, judgement, refusal_rows, takes_length as is_taken, the_function, uses as is_used};
 
 use crate::memory::{FrameMemory, Last};
 use crate::rule::Rule;
@@ -26,6 +27,13 @@ pub enum Judged {
     Silent(Rule),
 }
 
+/// A refusal: its rule, and the function of the reply without data: RS, RR or UE.
+#[derive(Clone, Copy)]
+struct Refusal {
+    rule: Rule,
+    function: u8,
+}
+
 /// Judges a request by the rows of the verdict from the repeat to the length (own order): repeat,
 /// point off, sender not admitted, another service, point busy, length.
 ///
@@ -36,7 +44,29 @@ pub fn judge(points: &Points, memory: &FrameMemory, sender: u8, fc: u8, parts: &
 {
     match memory.last_of(sender) {
         Some(last) if is_repeat(last, fc) => repeated(last),
-        _ => refuse_at(open_point(points, parts.dsap), sender, fc, &parts.payload),
+        _ => judge_anew(points, sender, fc, parts),
+    }
+}
+
+/// Judges a request that is no repeat.
+fn judge_anew(points: &Points, sender: u8, fc: u8, parts: &Parts) -> Judged
+    ensures { result ≡ first_judged fc (refusal_rows (access_row points.now parts.now.dsap) sender fc parts.now.payload.items) }
+{
+    match refuse(points, sender, fc, parts) {
+        Some(refusal) => refused(fc, refusal),
+        None => Judged::Pass,
+    }
+}
+
+/// Judges an SDN, which is no repeat and gets no reply, by the same rows: the rule that refuses it;
+/// None where it passes.
+pub fn judge_sdn(points: &Points, sender: u8, fc: u8, parts: &Parts) -> Option<Rule>
+    requires { asks_sdn (function_of fc) ≡ true }
+    ensures { (last : Option Remembered) → judgement points.now last sender fc parts.now ≡ judged_in_silence result }
+{
+    match refuse(points, sender, fc, parts) {
+        Some(refusal) => Some(refusal.rule),
+        None => None,
     }
 }
 
@@ -64,36 +94,51 @@ fn open_point(points: &Points, number: Option<u8>) -> Option<Point>
     if point.active { Some(point) } else { None }
 }
 
-/// Judges a request that is no repeat at the point that it names.
-fn refuse_at(point: Option<Point>, sender: u8, fc: u8, payload: &[u8]) -> Judged
-    ensures { result ≡ first_judged fc (refusal_rows point sender fc payload.now) }
+/// How a request that is no repeat is refused, if it is.
+fn refuse(points: &Points, sender: u8, fc: u8, parts: &Parts) -> Option<Refusal>
+    ensures { option_map (λ refusal. (refusal.rule, the_function refusal.function)) result
+        ≡ first_refusal (refusal_rows (access_row points.now parts.now.dsap) sender fc parts.now.payload.items) }
+{
+    refuse_at(open_point(points, parts.dsap), sender, fc, &parts.payload)
+}
+
+/// The same at the point that the request names.
+fn refuse_at(point: Option<Point>, sender: u8, fc: u8, payload: &[u8]) -> Option<Refusal>
+    ensures { option_map (λ refusal. (refusal.rule, the_function refusal.function)) result
+        ≡ first_refusal (refusal_rows point sender fc payload.now) }
 {
     let Some(point) = point else {
-        return refused(fc, Rule::NotActive, RS);
+        return by(Rule::NotActive, RS);
     };
     if !admits(point.access, sender) {
-        return refused(fc, Rule::NotHolder, RS);
+        return by(Rule::NotHolder, RS);
     }
     if !uses(fc, point.service) {
-        return refused(fc, Rule::NoService, RS);
+        return by(Rule::NoService, RS);
     }
     if point.busy {
-        return refused(fc, Rule::Busy, RR);
+        return by(Rule::Busy, RR);
     }
     if !takes_length(&point, payload.len()) {
-        return refused(fc, Rule::Length, UE);
+        return by(Rule::Length, UE);
     }
-    Judged::Pass
+    None
+}
+
+fn by(rule: Rule, function: u8) -> Option<Refusal>
+    ensures { result ≡ Some (record { rule = rule; function = function }) }
+{
+    Some(Refusal { rule, function })
 }
 
 /// A refusal, to which an SDN gets no reply.
-fn refused(fc: u8, rule: Rule, function: u8) -> Judged
-    ensures { result ≡ judged_by fc rule (the_function function) }
+fn refused(fc: u8, refusal: Refusal) -> Judged
+    ensures { result ≡ judged_by fc refusal.rule (the_function refusal.function) }
 {
     if Function::of(fc).is_sdn() {
-        Judged::Silent(rule)
+        Judged::Silent(refusal.rule)
     } else {
-        Judged::Refuse(function, rule)
+        Judged::Refuse(refusal.function, refusal.rule)
     }
 }
 

@@ -2,7 +2,8 @@
 //! remembers of each master, so that a repeated request is answered and not executed again, and the
 //! rows of the verdict from the repeat to the length.
 //!
-//! [`judge`] tells what comes of a request under the slave's points and its [`FrameMemory`];
+//! [`judge`] tells what comes of a request under the slave's points and its [`FrameMemory`], and
+//! [`judge_sdn`] what comes of one that is never replied to;
 //! [`FrameMemory::remember`] keeps the reply. [`Rule`] names every row of the verdict.
 #![tactic(auto)]
 
@@ -11,7 +12,7 @@ pub mod laws;
 mod memory;
 mod rule;
 
-pub use judgement::{Judged, judge};
+pub use judgement::{Judged, judge, judge_sdn};
 pub use memory::FrameMemory;
 pub use rule::Rule;
 

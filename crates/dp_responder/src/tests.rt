@@ -144,3 +144,13 @@ fn rules_have_numbers_and_names(rt: HostRuntime) {
         assert_eq!(rt; rule.name(), name);
     }
 }
+
+#[test]
+fn sdn_is_refused_in_silence(rt: HostRuntime) -> Result<(), Fail> {
+    let points = exchanging();
+    let control = to_point(Some(GLOBAL_CONTROL), &[0x20, 0x00])?;
+    assert_eq!(rt; judge_sdn(&points, 1, 0x46, &control), None);
+    let stranger = judge_sdn(&points, 2, 0x46, &control);
+    assert_eq!(rt; stranger, Some(Rule::NotHolder));
+    Ok(())
+}

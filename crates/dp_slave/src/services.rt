@@ -165,10 +165,20 @@ impl Slave {
 
     /// Slave_Diag by the sender: the 6 to 244 octets of the diagnosis. The holder has read it then,
     /// and its watchdog is set to the full time; another master changes nothing.
-    #[tactic(auto, unfolding(crate::specs::Fields::acted))]
     pub fn slave_diag(&mut self, sender: u8) -> ArrayVec<u8, MOST_DATA>
         ensures slave { self.new ≡ with_slave self.old (acted self.old.slave (tells_diagnosis sender)) }
         ensures octets { result.items ≡ diagnosis_text (diag_facts self.old.slave) }
+    {
+        let mut octets = ArrayVec::new();
+        self.slave_diag_to(sender, &mut octets);
+        octets
+    }
+
+    /// Slave_Diag that puts its octets where octets lie, as [`Slave::slave_diag`] answers them.
+    #[tactic(auto, unfolding(crate::specs::Fields::acted))]
+    pub fn slave_diag_to(&mut self, sender: u8, octets: &mut ArrayVec<u8, MOST_DATA>)
+        ensures slave { self.new ≡ with_slave self.old (acted self.old.slave (tells_diagnosis sender)) }
+        ensures octets { octets.new.items ≡ diagnosis_text (diag_facts self.old.slave) }
     {
         let mut facts = DiagFacts {
             state: self.points.state(),
@@ -191,7 +201,7 @@ impl Slave {
             self.diag.unread = false;
             self.left = self.left_again();
         }
-        dp_diag::octets(&facts)
+        dp_diag::octets_to(&facts, octets);
     }
 
     /// The master holds the slave.

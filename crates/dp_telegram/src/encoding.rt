@@ -1,6 +1,7 @@
 //! Frames into octets.
 
 ghost use Rattle.std.specs.Prelude.{◌≡◌, ◌+◌, ◌≤◌, ◌++◌, [], length};
+ghost use Rattle.dp_telegram.specs.declared.frame.Frame.TheVariants as frames;
 ghost use Rattle.dp_telegram.specs.FrameText.{Spells, text_of, checked, body_of, reading_of};
 ghost use Rattle.dp_telegram.specs.Encoding.{head_text};
 
@@ -29,6 +30,27 @@ pub fn encode(frame: &Frame) -> Octets
         }
     }
     text
+}
+
+/// Makes a text that of the short acknowledgement.
+///
+/// It is [`encode`] that moves no text, which costs the copy of 264 octets each time.
+pub fn acknowledge_to(text: &mut Octets)
+    ensures { text.new.items ≡ text_of frames.Ack }
+{
+    text.clear();
+    text.push(SC);
+}
+
+impl Telegram {
+    /// Makes a text that of the telegram, as [`acknowledge_to`] does of the short acknowledgement.
+    pub fn encode_to(&self, text: &mut Octets)
+        ensures { text.new.items ≡ text_of (frames.Telegram self.now) }
+    {
+        text.clear();
+        push_head(text, self.du.len());
+        push_checked(text, self);
+    }
 }
 
 /// The start delimiter of a telegram, with the lengths that follow it in SD2.

@@ -23,7 +23,7 @@ pub use access::{Parts, request};
 pub use address::{GLOBAL_ADDRESS, LAST_STATION, is_station};
 pub use cutter::{Cut, Cutter, Piece};
 pub use decoding::{decode, decode_to};
-pub use encoding::encode;
+pub use encoding::{acknowledge_to, encode};
 pub use fault::FrameFault;
 pub use frame::{Frame, Octets, Telegram};
 pub use function_code::Function;

@@ -58,6 +58,24 @@ fn reads_and_writes_frames(rt: HostRuntime) -> Result<(), Fail> {
 }
 
 #[test]
+fn writes_where_a_text_lies(rt: HostRuntime) -> Result<(), Fail> {
+    let mut text = ArrayVec::new();
+    text.try_extend_from_slice(&[0x12, 0x34])?;
+    acknowledge_to(&mut text);
+    assert_eq!(rt; text.as_slice(), [0xE5].as_slice());
+    let telegram = Telegram {
+        da: 0x05,
+        sa: 0x01,
+        fc: 0x49,
+        du: ArrayVec::new(),
+    };
+    telegram.encode_to(&mut text);
+    let status = [0x10, 0x05, 0x01, 0x49, 0x4F, 0x16];
+    assert_eq!(rt; text.as_slice(), status.as_slice());
+    Ok(())
+}
+
+#[test]
 fn eight_octets_as_sd3_and_sd2(rt: HostRuntime) -> Result<(), Fail> {
     let frame = telegram(0x05, 0x01, 0x6D, &[0; 8])?;
     let sd3 = [0xA2, 0x05, 0x01, 0x6D, 0, 0, 0, 0, 0, 0, 0, 0, 0x73, 0x16];

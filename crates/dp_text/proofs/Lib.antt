@@ -9,3 +9,4 @@ pub mod ReadExactly
 pub mod HexPairs
 pub mod Writing
 pub mod Limits
+pub mod HexTable

@@ -1,7 +1,7 @@
 -- Octets in words of hex digits (own).
-use Rattle.std.specs.Prelude.{ℕ, ◌+◌, ◌*◌, ◌/◌, ◌%◌, ◌==◌, if◌then◌else◌, List, [], ◌∷◌, ◌++◌, length, Option, Some, None, option_map, option_and_then}
+use Rattle.std.specs.Prelude.{ℕ, ◌+◌, ◌*◌, ◌%◌, ◌==◌, if◌then◌else◌, List, [], ◌∷◌, ◌++◌, length, Option, Some, None, option_map, option_and_then, unwrap_or}
 use Rattle.std.specs.Result.{result_ok}
-use Rattle.hex.specs.Hex.{decode_of}
+use Rattle.hex.specs.Hex.{decode_of, hex_digit_value}
 
 -- the octets of a word of whole pairs of hex digits, in either case; None where the word is empty or isn't such
 abbrev pub octets_of_word : List ℕ → Option (List ℕ)
@@ -15,9 +15,9 @@ octets_of_words (word ∷ words) =
 
 -- ---- the same octets, digit by digit
 
--- the value of a hex digit: its low four bits, and 9 more for a letter
+-- the value of a hex digit in either case, and 255 of what is none
 abbrev pub digit_value : ℕ → ℕ
-digit_value digit = digit % 16 + 9 * (digit / 64)
+digit_value digit = unwrap_or (hex_digit_value digit) 255
 
 -- the octet of two digits
 abbrev pub pair_octet : ℕ → ℕ → ℕ

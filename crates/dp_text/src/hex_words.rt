@@ -9,6 +9,24 @@ ghost use Rattle.dp_text.specs.HexWords.{octets_of_word, octets_of_words, digit_
 use crate::words::SPACE;
 use std::marker::Model;
 
+/// Of each octet its value as a hex digit in either case, and 255 where it is none.
+const VALUES: [u8; 256] = [
+    255, 255, 255, 255, 255, 255, 255, 255, 255, 255, 255, 255, 255, 255, 255, 255, 255, 255, 255,
+    255, 255, 255, 255, 255, 255, 255, 255, 255, 255, 255, 255, 255, 255, 255, 255, 255, 255, 255,
+    255, 255, 255, 255, 255, 255, 255, 255, 255, 255, 0, 1, 2, 3, 4, 5, 6, 7, 8, 9, 255, 255, 255,
+    255, 255, 255, 255, 10, 11, 12, 13, 14, 15, 255, 255, 255, 255, 255, 255, 255, 255, 255, 255,
+    255, 255, 255, 255, 255, 255, 255, 255, 255, 255, 255, 255, 255, 255, 255, 255, 10, 11, 12, 13,
+    14, 15, 255, 255, 255, 255, 255, 255, 255, 255, 255, 255, 255, 255, 255, 255, 255, 255, 255,
+    255, 255, 255, 255, 255, 255, 255, 255, 255, 255, 255, 255, 255, 255, 255, 255, 255, 255, 255,
+    255, 255, 255, 255, 255, 255, 255, 255, 255, 255, 255, 255, 255, 255, 255, 255, 255, 255, 255,
+    255, 255, 255, 255, 255, 255, 255, 255, 255, 255, 255, 255, 255, 255, 255, 255, 255, 255, 255,
+    255, 255, 255, 255, 255, 255, 255, 255, 255, 255, 255, 255, 255, 255, 255, 255, 255, 255, 255,
+    255, 255, 255, 255, 255, 255, 255, 255, 255, 255, 255, 255, 255, 255, 255, 255, 255, 255, 255,
+    255, 255, 255, 255, 255, 255, 255, 255, 255, 255, 255, 255, 255, 255, 255, 255, 255, 255, 255,
+    255, 255, 255, 255, 255, 255, 255, 255, 255, 255, 255, 255, 255, 255, 255, 255, 255, 255, 255,
+    255, 255, 255,
+];
+
 /// The octets of words of hex digits, decoded where they are asked for. Contracts see those that are
 /// left.
 #[derive(Debug, Drop)]
@@ -94,23 +112,19 @@ fn is_pair(high: u8, low: u8) -> bool
 fn is_hex_digit(digit: u8) -> bool
     ensures { result ≡ is_digit_of_hex digit }
 {
-    match digit {
-        b'0'..=b'9' | b'A'..=b'F' | b'a'..=b'f' => true,
-        _ => false,
-    }
+    value_of(digit) < 16
 }
 
 /// The octet of two hex digits.
 fn octet_of(high: u8, low: u8) -> u8
     ensures { result ≡ pair_octet high low }
 {
-    ((16 * value_of(high) + value_of(low)) % 256) as u8
+    ((16 * u16::from(value_of(high)) + u16::from(value_of(low))) % 256) as u8
 }
 
-/// The value of a hex digit: its low four bits, and 9 more for a letter.
-fn value_of(digit: u8) -> u16
-    ensures value { result ≡ digit_value digit }
-    ensures bound { result < 64 }
+/// The value of a hex digit, and 255 of what is none.
+fn value_of(digit: u8) -> u8
+    ensures { result ≡ digit_value digit }
 {
-    u16::from(digit % 16 + 9 * (digit / 64))
+    VALUES[usize::from(digit)]
 }

@@ -16,7 +16,7 @@ use crate::stop::Stop;
 use crate::stream_laws::pieces_of_a_stream_do_not_matter;
 use arrayvec::ArrayVec;
 use dp_audit::Book;
-use dp_line::{Event, LineSpec, Op};
+use dp_line::{Event, LineSpec, Op, Step};
 use dp_telegram::{Cutter, Piece};
 use dp_text::{HexWords, Text};
 use std::alloc::{AllocError, Global};
@@ -98,7 +98,9 @@ impl LineInUse {
     pub(crate) fn operate(&mut self, op: Op, text: &mut Text)
         ensures { record { line_in_use = self.new; text = text.new } ≡ operated self.old op }
     {
-        text.set_outcome(&self.book.record(&Event::Operator(op)).outcome);
+        let mut step = Step::blank();
+        self.book.take_to(&Event::Operator(op), &mut step);
+        text.set_outcome(&step.outcome);
     }
 
     /// Makes the text the list of the slaves that a master holds, oldest lock first.
@@ -227,5 +229,7 @@ fn answer_frame(text: &mut Text, book: &mut Book, master: u8, octets: &[u8])
     if let Event::Request { octets: copy, .. } = &mut event {
         copy.try_extend_from_slice(octets).unwrap();
     }
-    text.set_answer(master, &book.record(&event).outcome);
+    let mut step = Step::blank();
+    book.take_to(&event, &mut step);
+    text.set_answer(master, &step.outcome);
 }

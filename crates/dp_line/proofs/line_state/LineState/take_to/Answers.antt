@@ -10,7 +10,7 @@ use Rattle.dp_line.specs.Walk.{LineRecord}
 use Rattle.dp_line.specs.Steps.{told_halted, unrecorded}
 use Rattle.dp_line.proofs.Events.{request_effect, step_halted, step_refused, step_at_last_place, step_is_effect}
 use Rattle.dp_line.proofs.Visits.{op_walk, over_walk, refused_walk, request_visits}
-use Rattle.dp_line.proofs.line_state.LineState.take.Goals as goal
+use Rattle.dp_line.proofs.line_state.LineState.take_to.Goals as goal
 
 pub returns-then-self-clause-world : goal.returns-then-self-clause-world
 returns-then-self-clause-world c =
