@@ -1,19 +1,19 @@
 -- A text that is accepted, and two journals of one text.
 use Rattle.std.proofs.Common.{◌≡◌, ℕ, ◌+◌, ◌==◌, Bool, true, false, cond, List, [], ◌∷◌, ◌++◌, length, Option, None, Result, Ok, refl, sym, ap, subst, ◌∙◌, append_assoc, codes, arith}
 use Rattle.std.specs.List.{AllByRecursion, join_with_byte}
-use Rattle.std.proofs.lemmas.Bool.{cases_Bool, eqb-true}
+use Rattle.std.proofs.lemmas.Bool.{eqb-true}
 use Rattle.std.proofs.lemmas.List.{append-nil, append_cancel_left, nil_from_length}
 use Rattle.std.proofs.lemmas.List.Splits.{join_with_byte-slice_split}
 use Rattle.dp_sap.specs.declared.state.State.{State}
 use Rattle.dp_line.specs.declared.event.Event.{Event}
 use Rattle.dp_line.specs.declared.event.Outcome.{Outcome}
 use Rattle.dp_line.specs.World.{Description, World, start_of, opening_fault}
-use Rattle.dp_line.specs.Effects.{effect, facts_of, outcome_of}
+use Rattle.dp_line.specs.Effects.{facts_of}
 use Rattle.dp_text.specs.Words.{lines_of, same_text}
 use Rattle.dp_text.specs.Events.{IsWithinLimits}
 use Rattle.dp_audit.specs.declared.entry.Entry.{Entry}
 use Rattle.dp_audit.specs.declared.fault.AuditFault.{AuditFault}
-use Rattle.dp_audit.specs.declared.fault.AuditFault.TheVariants.{BadLine, NotThePolicy}
+use Rattle.dp_audit.specs.declared.fault.AuditFault.TheVariants.{BadLine}
 use Rattle.dp_audit.specs.Journal.{entry_of}
 use Rattle.dp_audit.specs.Legal.{Follows, IsLegal, after_entry, after_entries}
 use Rattle.dp_audit.specs.AuditText.{audit_text, entry_text, header_text, line_text}
@@ -22,8 +22,8 @@ use Rattle.dp_audit.proofs.Parts.{NumbersAreRead, EventsAreRead, OnlyNumbersAreR
 use Rattle.dp_audit.proofs.Judged.{entry_judged, same_is}
 use Rattle.dp_audit.proofs.Lines.{fails, succeeds}
 use Rattle.dp_audit.proofs.Written.{lines_text}
-use Rattle.dp_audit.proofs.Texts.{HasRoom, HasFirst, entry_lines, lines_are, has_first, room_at_start, room_kept, small_place}
-use Rattle.dp_audit.proofs.Walk.{IsWrong, Stops, Walk, walk}
+use Rattle.dp_audit.proofs.Texts.{HasRoom, entry_lines, lines_are, has_first, room_at_start, room_kept, small_place}
+use Rattle.dp_audit.proofs.Walk.{IsWrong, Stops, walk}
 
 -- ---- what is accepted is legal
 

@@ -1,7 +1,7 @@
 -- The first wrong line of a text.
-use Rattle.std.proofs.Common.{◌≡◌, ◌≢◌, ℕ, ◌+◌, ◌==◌, Bool, true, false, ◌&&◌, cond, List, [], ◌∷◌, ◌++◌, length, Option, Some, None, Result, Ok, Err, inl, inr, refl, sym, ap, subst, ◌∙◌, append_assoc, codes, arith}
+use Rattle.std.proofs.Common.{◌≡◌, ◌≢◌, ℕ, ◌+◌, ◌==◌, Bool, true, false, ◌&&◌, cond, List, [], ◌∷◌, ◌++◌, length, Option, Some, None, Result, Err, inl, inr, refl, sym, ap, subst, ◌∙◌, append_assoc, codes, arith}
 use Rattle.std.specs.List.{AllByRecursion, join_with_byte, onto_first}
-use Rattle.std.proofs.lemmas.Bool.{cases_Bool, false≢true, eqb-true, eqb-false}
+use Rattle.std.proofs.lemmas.Bool.{cases_Bool, false≢true, eqb-false}
 use Rattle.std.proofs.lemmas.List.Splits.{join_with_byte-slice_split, slice_split-cons_yes, slice_split-cons_no}
 use Rattle.dp_line.specs.declared.event.Event.{Event}
 use Rattle.dp_line.specs.World.{Description, World, start_of, opening_fault}
@@ -10,18 +10,18 @@ use Rattle.dp_text.specs.Words.{lines_of, same_text}
 use Rattle.dp_text.specs.Events.{IsWithinLimits}
 use Rattle.dp_audit.specs.declared.entry.Entry.{Entry}
 use Rattle.dp_audit.specs.declared.fault.AuditFault.{AuditFault}
-use Rattle.dp_audit.specs.declared.fault.AuditFault.TheVariants.{BadLine, NotThePolicy}
+use Rattle.dp_audit.specs.declared.fault.AuditFault.TheVariants.{BadLine}
 use Rattle.dp_audit.specs.Legal.{Follows, IsLegal, after_entry, after_entries}
 use Rattle.dp_audit.specs.AuditText.{audit_text, entry_text, header_text, line_text}
 use Rattle.dp_audit.specs.Check.{LineParts, Placed, Judged, bad, not_the_policy, entry, parts_of, placed_of, is_recorded_at, tells_policy, judged_placed, judged_parts, judged_line, going_on, checked_lines, checked_text, checked}
-use Rattle.dp_audit.specs.FirstWrong.{HasNoLf, BeginsWith, IsBadlyFormed, unparted, unplaced, IsWellFormed, BeginsBadly, unended, badly_formed, BeginsAgainstPolicy, HasNoHeader, ComesBefore, IsFirstWrong, at_header, at_form, at_policy}
+use Rattle.dp_audit.specs.FirstWrong.{HasNoLf, BeginsWith, IsBadlyFormed, unparted, unplaced, IsWellFormed, unended, badly_formed, HasNoHeader, ComesBefore, IsFirstWrong, at_header, at_form, at_policy}
 use Rattle.dp_audit.proofs.Plain.{header_has_no_lf}
 use Rattle.dp_audit.proofs.Parts.{NumbersAreRead, EventsAreRead, OnlyNumbersAreRead, OnlyEventsAreRead, EventsAreWithinLimits}
 use Rattle.dp_audit.proofs.Judged.{entry_judged, is_same, same_is}
 use Rattle.dp_audit.proofs.Lines.{fails, succeeds}
 use Rattle.dp_audit.proofs.Written.{lines_text}
 use Rattle.dp_audit.proofs.Texts.{HasRoom, HasFirst, line_first, room_at_start, room_kept, small_place}
-use Rattle.dp_audit.proofs.Walk.{IsWrong, Stops, Walk, walk}
+use Rattle.dp_audit.proofs.Walk.{IsWrong, Stops, walk}
 
 -- ---- lines have no LF
 

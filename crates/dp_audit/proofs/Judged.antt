@@ -5,8 +5,6 @@ use Rattle.std.specs.Fmt.{decimal}
 use Rattle.std.proofs.lemmas.Bool.{false≢true, and_parts, and_from, not-true, eqb-true, eq-eqb, cond-true}
 use Rattle.std.proofs.lemmas.Slice.Eq.{bytes_eq-Decides}
 use Rattle.dp_line.specs.declared.event.Event.{Event}
-use Rattle.dp_line.specs.declared.event.Event.TheVariants.{Operator}
-use Rattle.dp_line.specs.declared.event.Op.TheVariants.{Halt}
 use Rattle.dp_line.specs.World.{World, is_last_place}
 use Rattle.dp_line.specs.Events.{is_halt, misfit}
 use Rattle.dp_line.specs.Effects.{facts_of, outcome_of}
@@ -17,7 +15,7 @@ use Rattle.dp_audit.specs.declared.entry.Entry.{Entry}
 use Rattle.dp_audit.specs.Journal.{entry_of}
 use Rattle.dp_audit.specs.Legal.{Follows}
 use Rattle.dp_audit.specs.AuditText.{entry_text}
-use Rattle.dp_audit.specs.Check.{LineParts, Placed, Judged, bad, not_the_policy, entry, parts_of, placed_of, is_recorded_at, tells_policy, judged_placed, judged_parts, judged_line}
+use Rattle.dp_audit.specs.Check.{LineParts, Placed, not_the_policy, entry, parts_of, placed_of, is_recorded_at, tells_policy, judged_placed, judged_parts, judged_line}
 use Rattle.dp_audit.proofs.Plain.{placed_is_plain, facts_are_plain, outcome_is_plain}
 use Rattle.dp_audit.proofs.Parts.{NumbersAreRead, EventsAreRead, OnlyNumbersAreRead, OnlyEventsAreRead, EventsAreWithinLimits, IsPlacedText, whole, parts_read, parts_back, placed_read, placed_back}
 use Rattle.dp_audit.proofs.Taken.{is_the_halt}

@@ -1,12 +1,11 @@
 -- The lines of an audit text, one after another.
 use Rattle.std.proofs.Common.{◌≡◌, ℕ, ◌+◌, ◌==◌, true, false, cond, List, [], ◌∷◌, length, Result, Ok, Err, refl, sym, ap, ◌∙◌}
 use Rattle.std.proofs.lemmas.Bool.{cond-true, cond-false}
-use Rattle.dp_line.specs.declared.event.Event.{Event}
 use Rattle.dp_line.specs.World.{Description, World, start_of}
 use Rattle.dp_line.specs.Effects.{effect}
 use Rattle.dp_text.specs.Words.{lines_of, same_text}
 use Rattle.dp_audit.specs.declared.fault.AuditFault.{AuditFault}
-use Rattle.dp_audit.specs.declared.fault.AuditFault.TheVariants.{BadLine, NotThePolicy}
+use Rattle.dp_audit.specs.declared.fault.AuditFault.TheVariants.{BadLine}
 use Rattle.dp_audit.specs.AuditText.{header_text}
 use Rattle.dp_audit.specs.Check.{Judged, bad, not_the_policy, entry, judged_line, going_on, checked_lines, checked_text, checked}
 use Rattle.dp_audit.specs.Checking.{TakesLine}

@@ -1,5 +1,5 @@
 -- A line and its three parts, and the first of these as a place with an event.
-use Rattle.std.proofs.Common.{◌≡◌, ℕ, suc, ◌+◌, ◌^◌, ◌<◌, ◌≤◌, ◌==◌, Bool, true, false, not, ◌&&◌, cond, List, [], ◌∷◌, ◌++◌, length, take, drop, Option, Some, None, ◌⊎◌, inl, inr, refl, sym, ap, subst, ◌∙◌, append_assoc, codes, arith}
+use Rattle.std.proofs.Common.{◌≡◌, ℕ, ◌+◌, ◌^◌, ◌<◌, ◌≤◌, ◌==◌, Bool, true, false, not, ◌&&◌, cond, List, [], ◌∷◌, ◌++◌, take, drop, Option, Some, None, ◌⊎◌, inl, inr, refl, sym, ap, subst, ◌∙◌, append_assoc, codes, arith}
 use Rattle.std.specs.Prelude.{All, is_none, option_map, option_and_then}
 use Rattle.std.specs.List.{list_all, onto_first}
 use Rattle.std.specs.Fmt.{decimal}
@@ -11,7 +11,7 @@ use Rattle.dp_line.specs.declared.event.Event.{Event}
 use Rattle.dp_text.specs.Numbers.{number_to}
 use Rattle.dp_text.specs.Words.{words_of, same_text}
 use Rattle.dp_text.specs.Texts.{event_text}
-use Rattle.dp_text.specs.Events.{IsWithinLimits, event_of, event_of_words}
+use Rattle.dp_text.specs.Events.{IsWithinLimits, event_of}
 use Rattle.dp_audit.specs.Check.{LineParts, Placed, bar, parted, last_parts, parts_of, placed_of, placed_of_words}
 use Rattle.dp_audit.proofs.Bars.{begins, in_front, never_one, never_two}
 use Rattle.dp_audit.proofs.Plain.{IsPlain, is_plain, number_passes}

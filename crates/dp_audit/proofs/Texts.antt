@@ -1,31 +1,25 @@
 -- The audit texts of legal journals.
-use Rattle.std.proofs.Common.{◌≡◌, ℕ, ◌+◌, ◌-◌, ◌<◌, ◌≤◌, ◌==◌, leb, Bool, true, false, not, ◌&&◌, ◌||◌, cond, List, [], ◌∷◌, ◌++◌, length, Option, Some, None, Result, Ok, Err, refl, sym, ap, subst, ◌∙◌, append_assoc, codes, arith}
-use Rattle.std.specs.List.{AllByRecursion, list_all, join_with_byte, flat_map}
-use Rattle.std.proofs.lemmas.Bool.{cases_Bool, and_parts, not-true, leb-true, leb-false, eqb-true, cond-true, cond-false}
-use Rattle.std.proofs.lemmas.List.{append_cancel_left, nil_from_length}
-use Rattle.std.proofs.lemmas.List.Splits.{slice_split_at, join_with_byte-slice_split}
+use Rattle.std.proofs.Common.{◌≡◌, ℕ, ◌+◌, ◌<◌, ◌≤◌, ◌==◌, leb, Bool, true, false, not, ◌&&◌, ◌||◌, cond, List, [], ◌∷◌, ◌++◌, length, Option, Some, None, Ok, refl, sym, ap, ◌∙◌, append_assoc, codes, arith}
+use Rattle.std.specs.List.{AllByRecursion, list_all}
+use Rattle.std.proofs.lemmas.Bool.{and_parts, leb-true, leb-false}
+use Rattle.std.proofs.lemmas.List.Splits.{slice_split_at}
 use Rattle.dp_telegram.specs.Access.{is_station}
 use Rattle.dp_line.specs.declared.event.Event.{Event}
-use Rattle.dp_line.specs.declared.event.Event.TheVariants.{Operator}
-use Rattle.dp_line.specs.declared.event.Op.TheVariants.{Halt}
 use Rattle.dp_line.specs.declared.fault.OpenFault.{OpenFault}
 use Rattle.dp_line.specs.declared.fault.OpenFault.TheVariants.{Limit}
 use Rattle.dp_line.specs.World.{Description, World, is_last_place, start_of, opening_fault, is_within_limits, slave_is_within_limits}
 use Rattle.dp_line.specs.Events.{is_halt}
-use Rattle.dp_line.specs.Effects.{effect, facts_of, outcome_of}
-use Rattle.dp_text.specs.Words.{lines_of, same_text}
+use Rattle.dp_line.specs.Effects.{effect}
+use Rattle.dp_text.specs.Words.{lines_of}
 use Rattle.dp_text.specs.Events.{IsWithinLimits}
 use Rattle.dp_audit.specs.declared.entry.Entry.{Entry}
-use Rattle.dp_audit.specs.declared.fault.AuditFault.{AuditFault}
-use Rattle.dp_audit.specs.declared.fault.AuditFault.TheVariants.{BadLine, NotThePolicy}
-use Rattle.dp_audit.specs.Journal.{entry_of}
 use Rattle.dp_audit.specs.Legal.{Follows, IsLegal, after_entry}
 use Rattle.dp_audit.specs.AuditText.{audit_text, entry_text, header_text, line_text}
-use Rattle.dp_audit.specs.Check.{IsAuditOf, Judged, bad, not_the_policy, entry, judged_line, going_on, checked_lines, checked_text, checked}
+use Rattle.dp_audit.specs.Check.{IsAuditOf, Judged, entry, judged_line, going_on, checked_lines, checked}
 use Rattle.dp_audit.proofs.Plain.{HasNoLf, entry_has_no_lf, header_has_no_lf}
-use Rattle.dp_audit.proofs.Parts.{NumbersAreRead, EventsAreRead, OnlyNumbersAreRead, OnlyEventsAreRead, EventsAreWithinLimits, none_passes}
-use Rattle.dp_audit.proofs.Judged.{IsEntryLine, judged_entry, entry_judged, is_same, same_is}
-use Rattle.dp_audit.proofs.Lines.{fails, succeeds, good_header}
+use Rattle.dp_audit.proofs.Parts.{NumbersAreRead, EventsAreRead, none_passes}
+use Rattle.dp_audit.proofs.Judged.{entry_judged, is_same}
+use Rattle.dp_audit.proofs.Lines.{succeeds, good_header}
 use Rattle.dp_audit.proofs.Written.{lines_text}
 
 -- ---- lines

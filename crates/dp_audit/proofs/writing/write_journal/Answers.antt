@@ -1,4 +1,4 @@
-use Rattle.std.proofs.Common.{◌≡◌, ◌+◌, ◌<◌, ◌++◌, codes, length, List, ℕ, subst, sym, ap, ◌∙◌, arith}
+use Rattle.std.proofs.Common.{◌≡◌, ◌++◌, codes, List, ℕ, subst, ap, ◌∙◌, arith}
 use Rattle.std.specs.Io.KnownBytes.{Appends}
 use Rattle.dp_audit.specs.AuditText.{header_text, line_text}
 use Rattle.dp_audit.proofs.Written.{at_start, header_prefix, line_prefix, line_appended, all_written, is_there, on_err}
