@@ -7,6 +7,7 @@ use crate::writing::write_journal;
 use arrayvec::ArrayVec;
 use dp_line::{Device, Event, LineSpec, Op, Outcome, SlaveSpec};
 use std::alloc::{AllocError, Global};
+use std::io::{self, Write};
 use std::test::Fail;
 
 /// The run of a master that locks the slave at address 5, configures it and exchanges data once.
@@ -164,9 +165,9 @@ fn halt_releases(rt: HostRuntime) -> Result<(), Fail> {
     Ok(())
 }
 
-#[test]
-fn journal_is_written(rt: HostRuntime) -> Result<(), Fail> {
-    let mut records = Records::with_places(rt.alloc(), 2)?;
+/// The tick of 10 units and the halt that lets go of the slave at address 5.
+fn two_records(alloc: Global) -> Result<Records, AllocError> {
+    let mut records = Records::with_places(alloc, 2)?;
     let mut let_go = ArrayVec::new();
     let_go.push(5);
     records.push(
@@ -179,9 +180,49 @@ fn journal_is_written(rt: HostRuntime) -> Result<(), Fail> {
         &None,
         &Outcome::Released(let_go),
     );
+    Ok(records)
+}
+
+const TWO_RECORDS: &str =
+    "rack-audit 1 line 7\n1 tick 10 | none | released\n2 halt | none | released 5\n";
+
+/// Takes 7 octets at a call, as long as there is room.
+#[derive(Drop)]
+struct Narrow {
+    room: usize,
+    taken: Vec<u8>,
+}
+
+impl Write for Narrow {
+    fn write(&mut self, buf: &[u8]) -> io::Result<usize> {
+        let count = buf.len().min(self.room).min(7);
+        self.taken.extend_from_slice(&buf[..count])?;
+        self.room -= count;
+        Ok(count)
+    }
+
+    fn flush(&mut self) -> io::Result<()> {
+        Ok(())
+    }
+}
+
+#[test]
+fn journal_is_written(rt: HostRuntime) -> Result<(), Fail> {
+    let records = two_records(rt.alloc())?;
     let mut written: Vec<u8> = Vec::new(rt.alloc());
     assert_eq!(rt; write_journal(7, &records, &mut written), Ok(()));
-    let text = "rack-audit 1 line 7\n1 tick 10 | none | released\n2 halt | none | released 5\n";
-    assert!(rt; written.as_slice() == text.as_bytes());
+    assert!(rt; written.as_slice() == TWO_RECORDS.as_bytes());
+    Ok(())
+}
+
+#[test]
+fn journal_is_cut_short(rt: HostRuntime) -> Result<(), Fail> {
+    let records = two_records(rt.alloc())?;
+    let mut narrow = Narrow {
+        room: 30,
+        taken: Vec::new(rt.alloc()),
+    };
+    assert_eq!(rt; write_journal(7, &records, &mut narrow), Err(WriteFault));
+    assert!(rt; narrow.taken.as_slice() == &TWO_RECORDS.as_bytes()[..30]);
     Ok(())
 }
