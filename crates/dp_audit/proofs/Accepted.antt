@@ -17,7 +17,7 @@ use Rattle.dp_audit.specs.declared.fault.AuditFault.TheVariants.{BadLine}
 use Rattle.dp_audit.specs.Journal.{entry_of}
 use Rattle.dp_audit.specs.Legal.{Follows, IsLegal, after_entry, after_entries}
 use Rattle.dp_audit.specs.AuditText.{audit_text, entry_text, header_text, line_text}
-use Rattle.dp_audit.specs.Check.{IsAuditOf, Judged, bad, not_the_policy, entry, judged_line, going_on, checked_lines, checked_text, checked}
+use Rattle.dp_audit.specs.Check.{IsAuditOf, Judged, bad, not_the_policy, right, judged_line, going_on, checked_lines, checked_from_header, checked}
 use Rattle.dp_audit.proofs.Parts.{NumbersAreRead, EventsAreRead, OnlyNumbersAreRead, OnlyEventsAreRead, EventsAreWithinLimits}
 use Rattle.dp_audit.proofs.Judged.{entry_judged, same_is}
 use Rattle.dp_audit.proofs.Lines.{fails, succeeds}
@@ -35,7 +35,7 @@ record IsAllRead (rest : List (List ℕ)) (n count : ℕ) : Type 0 where
 wrong_is_refused : (judged : Judged) (n count : ℕ) (others : Event → Result ℕ AuditFault) → IsWrong judged → going_on judged n others ≡ Ok count → ⊥
 wrong_is_refused bad n count others wrong e = absurd cc
 wrong_is_refused not_the_policy n count others wrong e = absurd cc
-wrong_is_refused (entry event) n count others wrong e = absurd wrong
+wrong_is_refused (right event) n count others wrong e = absurd wrong
 
 last_by : (test : Bool) (n count : ℕ) → cond test (succeeds n) (fails (BadLine (n + 2))) ≡ succeeds count → (test ≡ true) × (n ≡ count)
 last_by true n count e = (refl, cc)
@@ -60,7 +60,7 @@ pub accepted_is_legal : OnlyNumbersAreRead → OnlyEventsAreRead → EventsAreWi
 unfolding checked audit_text
 accepted_is_legal numbers events limits line text count e = by (lines_of text) refl e
   where
-    by : (lines : List (List ℕ)) → lines_of text ≡ lines → checked_text line lines ≡ succeeds count → IsAuditOf line text count
+    by : (lines : List (List ℕ)) → lines_of text ≡ lines → checked_from_header line lines ≡ succeeds count → IsAuditOf line text count
     by [] is e = absurd cc
     by (header ∷ []) is e = absurd cc
     by (header ∷ next ∷ lines) is e =
@@ -91,7 +91,7 @@ is_entry_of world e follows =
     ∙ ap (λ (f : Option (State × Option ℕ)). made (world.count + 1) e.event f e.outcome) follows.facts
     ∙ ap (λ (o : Outcome). made (world.count + 1) e.event (facts_of world e.event) o) follows.outcome
 
-same_event : {a b : Event} → entry a ≡ entry b → a ≡ b
+same_event : {a b : Event} → right a ≡ right b → a ≡ b
 same_event e = cc
 
 same_entry : NumbersAreRead → EventsAreRead → (world : World) (e f : Entry) → Follows world e → Follows world f → IsWithinLimits e.event → IsWithinLimits f.event → HasRoom world → entry_text e ≡ entry_text f → e ≡ f

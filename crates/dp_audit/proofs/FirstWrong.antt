@@ -13,7 +13,7 @@ use Rattle.dp_audit.specs.declared.fault.AuditFault.{AuditFault}
 use Rattle.dp_audit.specs.declared.fault.AuditFault.TheVariants.{BadLine}
 use Rattle.dp_audit.specs.Legal.{Follows, IsLegal, after_entry, after_entries}
 use Rattle.dp_audit.specs.AuditText.{audit_text, entry_text, header_text, line_text}
-use Rattle.dp_audit.specs.Check.{LineParts, Placed, Judged, bad, not_the_policy, entry, parts_of, placed_of, is_recorded_at, tells_policy, judged_placed, judged_parts, judged_line, going_on, checked_lines, checked_text, checked}
+use Rattle.dp_audit.specs.Check.{LineParts, Placed, Judged, bad, not_the_policy, right, line_parts, placed_of, is_recorded_at, tells_policy, judged_placed, judged_parts, judged_line, going_on, checked_lines, checked_from_header, checked}
 use Rattle.dp_audit.specs.FirstWrong.{HasNoLf, BeginsWith, IsBadlyFormed, unparted, unplaced, IsWellFormed, unended, badly_formed, HasNoHeader, ComesBefore, IsFirstWrong, at_header, at_form, at_policy}
 use Rattle.dp_audit.proofs.Plain.{header_has_no_lf}
 use Rattle.dp_audit.proofs.Parts.{NumbersAreRead, EventsAreRead, OnlyNumbersAreRead, OnlyEventsAreRead, EventsAreWithinLimits}
@@ -47,33 +47,33 @@ lines_have_first (octet ∷ text) = elim (cases_Bool (octet == 10)) [
 
 -- ---- why a line is wrong
 
-placed_or_not : (test : Bool) (e : Event) → cond test (entry e) not_the_policy ≡ bad → ⊥
+placed_or_not : (test : Bool) (e : Event) → cond test (right e) not_the_policy ≡ bad → ⊥
 placed_or_not true e is = absurd cc
 placed_or_not false e is = absurd cc
 
 judged_bad : (world : World) (line : List ℕ) → judged_line world line ≡ bad → IsBadlyFormed line
-judged_bad world line e = by_parts (parts_of line) refl e
+judged_bad world line e = by_parts (line_parts line) refl e
   where
-    by_placed : (found : LineParts) → parts_of line ≡ Some found → (placed : Option Placed) → placed_of found.event ≡ placed → judged_placed world found placed ≡ bad → IsBadlyFormed line
+    by_placed : (found : LineParts) → line_parts line ≡ Some found → (placed : Option Placed) → placed_of found.placed ≡ placed → judged_placed world found placed ≡ bad → IsBadlyFormed line
     by_placed found read None at e = unplaced found read at
     by_placed found read (Some placed) at e = absurd (placed_or_not (is_recorded_at world placed.place placed.event && tells_policy world placed.event found.facts found.outcome) placed.event e)
 
-    by_parts : (found : Option LineParts) → parts_of line ≡ found → judged_parts world found ≡ bad → IsBadlyFormed line
+    by_parts : (found : Option LineParts) → line_parts line ≡ found → judged_parts world found ≡ bad → IsBadlyFormed line
     by_parts None read e = unparted read
-    by_parts (Some found) read e = by_placed found read (placed_of found.event) refl e
+    by_parts (Some found) read e = by_placed found read (placed_of found.placed) refl e
 
 judged_well : (world : World) (line : List ℕ) → judged_line world line ≡ not_the_policy → IsWellFormed line
-judged_well world line e = by_parts (parts_of line) refl e
+judged_well world line e = by_parts (line_parts line) refl e
   where
-    by_placed : (found : LineParts) → parts_of line ≡ Some found → (placed : Option Placed) → placed_of found.event ≡ placed → judged_placed world found placed ≡ not_the_policy → IsWellFormed line
+    by_placed : (found : LineParts) → line_parts line ≡ Some found → (placed : Option Placed) → placed_of found.placed ≡ placed → judged_placed world found placed ≡ not_the_policy → IsWellFormed line
     by_placed found read None at e = absurd cc
     by_placed found read (Some placed) at e = record { parts = found; parted = read; placed = placed; read = at }
 
-    by_parts : (found : Option LineParts) → parts_of line ≡ found → judged_parts world found ≡ not_the_policy → IsWellFormed line
+    by_parts : (found : Option LineParts) → line_parts line ≡ found → judged_parts world found ≡ not_the_policy → IsWellFormed line
     by_parts None read e = absurd cc
-    by_parts (Some found) read e = by_placed found read (placed_of found.event) refl e
+    by_parts (Some found) read e = by_placed found read (placed_of found.placed) refl e
 
-is_no_entry : (event : Event) → not_the_policy ≡ entry event → ⊥
+is_no_entry : (event : Event) → not_the_policy ≡ right event → ⊥
 is_no_entry event e = absurd cc
 
 no_entry_follows : NumbersAreRead → EventsAreRead → (world : World) (line : List ℕ) → HasRoom world → judged_line world line ≡ not_the_policy
@@ -133,7 +133,7 @@ stopped numbers events line text fault entries (wrong ∷ next ∷ lines) legal 
           form = judged_well (after_entries (start_of line) entries) wrong judged;
           other = no_entry_follows numbers events (after_entries (start_of line) entries) wrong room judged;
         }) (same_fault e)
-    by (entry event) judged stops e = absurd stops
+    by (right event) judged stops e = absurd stops
 
 -- ---- a whole text
 
@@ -158,7 +158,7 @@ pub first_wrong : NumbersAreRead → EventsAreRead → OnlyNumbersAreRead → On
 unfolding checked audit_text
 first_wrong numbers events only_numbers only_events limits line text fault opens e = by (lines_of text) refl e
   where
-    by : (lines : List (List ℕ)) → lines_of text ≡ lines → checked_text line lines ≡ fails fault → IsFirstWrong line text fault
+    by : (lines : List (List ℕ)) → lines_of text ≡ lines → checked_from_header line lines ≡ fails fault → IsFirstWrong line text fault
     by [] is e = at_header (no_header line text [] is (λ behind. nil_is_no_cons)) (same_fault e)
     by (only ∷ []) is e =
         at_header (no_header line text (only ∷ []) is (λ behind same. nil_is_no_cons ((heads same).1 ∙ (lines_have_first behind).is))) (same_fault e)

@@ -49,13 +49,13 @@ by_last world event true running fits is =
     ∙ ap (λ b. cond b (record { world = (effect world (Operator Halt)).world; answer = unrecorded (told_halted event) (Some (held_addresses world)) }) (effect world event)) is in
     let more = added_cond world event false running ∙ ap (added_by_fit world event) fits ∙ ap (λ b. entry_of world (cond b (Operator Halt) event) ∷ []) is in
     halts (ap (λ (s : Stepped). s.world) taken) (ap (λ (s : Stepped). s.answer.place) taken) (ap (λ (s : Stepped). s.answer.halted) taken) more
-    (record { place = refl; running = running; fits = refl; last = λ _. refl; facts = refl; outcome = refl })
+    (record { place = refl; running = running; fits = refl; halts_at_last = λ _. refl; facts = refl; outcome = refl })
 by_last world event false running fits is =
     let taken = step_cond world event false running ∙ ap (step_by_fit world event) fits
     ∙ ap (λ b. cond b (record { world = (effect world (Operator Halt)).world; answer = unrecorded (told_halted event) (Some (held_addresses world)) }) (effect world event)) is in
     let more = added_cond world event false running ∙ ap (added_by_fit world event) fits ∙ ap (λ b. entry_of world (cond b (Operator Halt) event) ∷ []) is in
     goes taken more is
-    (record { place = refl; running = running; fits = fits; last = λ l. (let t : true ≡ false = sym l ∙ is in cc); facts = refl; outcome = refl })
+    (record { place = refl; running = running; fits = fits; halts_at_last = λ l. (let t : true ≡ false = sym l ∙ is in cc); facts = refl; outcome = refl })
 
 by_fit : (world : World) (event : Event) (fault : Option OperatorFault) → world.halted ≡ false → misfit world event ≡ fault → Way world event
 by_fit world event (Some fault) running is =

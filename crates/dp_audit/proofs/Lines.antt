@@ -7,7 +7,7 @@ use Rattle.dp_text.specs.Words.{lines_of, same_text}
 use Rattle.dp_audit.specs.declared.fault.AuditFault.{AuditFault}
 use Rattle.dp_audit.specs.declared.fault.AuditFault.TheVariants.{BadLine}
 use Rattle.dp_audit.specs.AuditText.{header_text}
-use Rattle.dp_audit.specs.Check.{Judged, bad, not_the_policy, entry, judged_line, going_on, checked_lines, checked_text, checked}
+use Rattle.dp_audit.specs.Check.{Judged, bad, not_the_policy, right, judged_line, going_on, checked_lines, checked_from_header, checked}
 use Rattle.dp_audit.specs.Checking.{TakesLine}
 
 taken_by : (judged : Judged) (world after : World) (next : List ℕ) (lines : List (List ℕ)) → TakesLine judged world after (Ok tt)
@@ -15,7 +15,7 @@ taken_by : (judged : Judged) (world after : World) (next : List ℕ) (lines : Li
 unfolding effect
 taken_by bad world after next lines never = absurd cc
 taken_by not_the_policy world after next lines never = absurd cc
-taken_by (entry event) world after next lines (done, is) = ap (λ (w : World). checked_lines w w.count (next ∷ lines)) (sym is)
+taken_by (right event) world after next lines (done, is) = ap (λ (w : World). checked_lines w w.count (next ∷ lines)) (sym is)
 
 -- ---- a line with its LF
 
@@ -38,7 +38,7 @@ refused_by : (judged : Judged) (world after : World) (next : List ℕ) (lines : 
     → fails fault ≡ going_on judged world.count (λ event. checked_lines (effect world event).world (world.count + 1) (next ∷ lines))
 refused_by bad world after next lines fault e = ap fails (same_fault e)
 refused_by not_the_policy world after next lines fault e = ap fails (same_fault e)
-refused_by (entry event) world after next lines fault (never, is) = absurd cc
+refused_by (right event) world after next lines fault (never, is) = absurd cc
 
 -- at a line that isn't
 pub refused : (world after : World) (line next : List ℕ) (lines : List (List ℕ)) (fault : AuditFault) → TakesLine (judged_line world line) world after (Err fault)
@@ -61,16 +61,16 @@ not_ended world n line lines none some = rw (none, some) refl
 
 pub no_line : (line : Description) (text : List ℕ) → lines_of text ≡ [] → fails (BadLine 1) ≡ checked line text
 unfolding checked
-no_line line text is = sym (ap (checked_text line) is)
+no_line line text is = sym (ap (checked_from_header line) is)
 
 pub no_lf : (line : Description) (text header : List ℕ) (rest : List (List ℕ)) → lines_of text ≡ header ∷ rest → rest ≡ [] → fails (BadLine 1) ≡ checked line text
 unfolding checked
-no_lf line text header rest is none = sym (ap (checked_text line) (is ∙ ap (λ (ls : List (List ℕ)). header ∷ ls) none))
+no_lf line text header rest is none = sym (ap (checked_from_header line) (is ∙ ap (λ (ls : List (List ℕ)). header ∷ ls) none))
 
 behind_header : (line : Description) (text header first : List ℕ) (rest lines : List (List ℕ)) → lines_of text ≡ header ∷ rest → rest ≡ first ∷ lines
     → checked line text ≡ cond (same_text header (header_text line.number)) (checked_lines (start_of line) 0 (first ∷ lines)) (fails (BadLine 1))
 unfolding checked
-behind_header line text header first rest lines is more = ap (checked_text line) (is ∙ ap (λ (ls : List (List ℕ)). header ∷ ls) more)
+behind_header line text header first rest lines is more = ap (checked_from_header line) (is ∙ ap (λ (ls : List (List ℕ)). header ∷ ls) more)
 
 pub bad_header : (line : Description) (text header first : List ℕ) (rest lines : List (List ℕ)) → lines_of text ≡ header ∷ rest → rest ≡ first ∷ lines
     → same_text header (header_text line.number) ≡ false → fails (BadLine 1) ≡ checked line text

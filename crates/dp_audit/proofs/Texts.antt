@@ -15,7 +15,7 @@ use Rattle.dp_text.specs.Events.{IsWithinLimits}
 use Rattle.dp_audit.specs.declared.entry.Entry.{Entry}
 use Rattle.dp_audit.specs.Legal.{Follows, IsLegal, after_entry}
 use Rattle.dp_audit.specs.AuditText.{audit_text, entry_text, header_text, line_text}
-use Rattle.dp_audit.specs.Check.{IsAuditOf, Judged, entry, judged_line, going_on, checked_lines, checked}
+use Rattle.dp_audit.specs.Check.{IsAuditOf, Judged, right, judged_line, going_on, checked_lines, checked}
 use Rattle.dp_audit.proofs.Plain.{HasNoLf, entry_has_no_lf, header_has_no_lf}
 use Rattle.dp_audit.proofs.Parts.{NumbersAreRead, EventsAreRead, none_passes}
 use Rattle.dp_audit.proofs.Judged.{entry_judged, is_same}
@@ -93,14 +93,14 @@ room_kept world e follows room = record {
 
     by : (last : Bool) → is_last_place world ≡ last → (is_halt e.event || world.halted) ≡ false → world.count + 1 < world.places
     by false is running = let more = leb-false world.places (world.count + 1) is in omega arith
-    by true is running = absurd (let halt : true ≡ false = sym (ap is_halt (follows.last is)) ∙ runs (is_halt e.event) world.halted running in cc)
+    by true is running = absurd (let halt : true ≡ false = sym (ap is_halt (follows.halts_at_last is)) ∙ runs (is_halt e.event) world.halted running in cc)
 
 pub small_place : (world : World) (e : Entry) → Follows world e → HasRoom world → world.count + 1 ≤ 4294967295
 small_place world e follows room = let left = room.left follows.running in let most = room.most in omega arith
 
 -- ---- a legal journal's text is accepted
 
-gone_on : (world : World) (n : ℕ) (line : List ℕ) (lines : List (List ℕ)) (event : Event) → HasFirst lines → judged_line world line ≡ entry event
+gone_on : (world : World) (n : ℕ) (line : List ℕ) (lines : List (List ℕ)) (event : Event) → HasFirst lines → judged_line world line ≡ right event
     → checked_lines world n (line ∷ lines) ≡ checked_lines (effect world event).world (n + 1) lines
 gone_on world n line lines event has e =
     ap (λ (ls : List (List ℕ)). checked_lines world n (line ∷ ls)) has.is

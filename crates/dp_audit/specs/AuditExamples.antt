@@ -10,7 +10,7 @@ use Rattle.dp_line.specs.declared.event.Outcome.TheVariants.{Reply, Silence, Spr
 use Rattle.dp_audit.specs.declared.entry.Entry.{Entry}
 use Rattle.dp_audit.specs.Packed.{flags_octet, record_octets}
 use Rattle.dp_audit.specs.AuditText.{audit_text}
-use Rattle.dp_audit.specs.Check.{parts_of}
+use Rattle.dp_audit.specs.Check.{line_parts}
 
 -- FDL status, first on a fresh line
 abbrev pub status_entry : Entry
@@ -105,15 +105,15 @@ a_request_and_the_halt = refl
 
 -- ---- parts
 
-pub three_parts : parts_of (codes "2 halt | none | released") ≡ Some (record { event = codes "2 halt"; facts = codes "none"; outcome = codes "released" })
+pub three_parts : line_parts (codes "2 halt | none | released") ≡ Some (record { placed = codes "2 halt"; facts = codes "none"; outcome = codes "released" })
 three_parts = refl
 
-pub two_parts : parts_of (codes "2 halt | none") ≡ None
+pub two_parts : line_parts (codes "2 halt | none") ≡ None
 two_parts = refl
 
-pub four_parts : parts_of (codes "2 halt | none | released | 5") ≡ None
+pub four_parts : line_parts (codes "2 halt | none | released | 5") ≡ None
 four_parts = refl
 
 -- the first bar takes the space that a second one would begin with
-pub bars_side_by_side : parts_of (codes "a | | b | c") ≡ Some (record { event = codes "a"; facts = codes "| b"; outcome = codes "c" })
+pub bars_side_by_side : line_parts (codes "a | | b | c") ≡ Some (record { placed = codes "a"; facts = codes "| b"; outcome = codes "c" })
 bars_side_by_side = refl

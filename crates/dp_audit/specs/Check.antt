@@ -28,19 +28,19 @@ parted (octet ∷ octets) =
     if same_text (take 3 (octet ∷ octets)) bar then Some ([], drop 2 octets)
     else option_map (λ parts. (octet ∷ parts.0, parts.1)) (parted octets)
 
--- the three parts of a line
+-- the three parts of a line: place and event, facts, outcome
 pub record LineParts : Type 0 where
-  pub event : List ℕ
+  pub placed : List ℕ
   pub facts : List ℕ
   pub outcome : List ℕ
 
--- the last part has no bar
+-- the three, from the first and the other two; None where the last has a bar
 abbrev pub last_parts : List ℕ → List ℕ × List ℕ → Option LineParts
-last_parts event parts =
-    if is_none (parted parts.1) then Some (record { event = event; facts = parts.0; outcome = parts.1 }) else None
+last_parts placed parts =
+    if is_none (parted parts.1) then Some (record { placed = placed; facts = parts.0; outcome = parts.1 }) else None
 
-abbrev pub parts_of : List ℕ → Option LineParts
-parts_of line = option_and_then (λ first. option_and_then (last_parts first.0) (parted first.1)) (parted line)
+abbrev pub line_parts : List ℕ → Option LineParts
+line_parts line = option_and_then (λ first. option_and_then (last_parts first.0) (parted first.1)) (parted line)
 
 -- a place with its event
 pub record Placed : Type 0 where
@@ -58,8 +58,8 @@ placed_of text = placed_of_words (words_of text)
 
 -- ---- the policy
 
--- the event is recorded at this place of the line: it is the next one, the line isn't halted, and the event fits and is the halt at the
--- last place
+-- the event is recorded at this place of the line: it is the next one, the line isn't halted, the event fits, and at the last place it is
+-- the halt
 abbrev pub is_recorded_at : World → ℕ → Event → Bool
 is_recorded_at world place event =
     place == world.count + 1
@@ -76,30 +76,30 @@ tells_policy world event facts outcome =
 pub data Judged : Type 0 where
   bad : Judged
   not_the_policy : Judged
-  entry : Event → Judged
+  right : Event → Judged
 
 abbrev pub judged_placed : World → LineParts → Option Placed → Judged
 judged_placed world parts None = bad
 judged_placed world parts (Some placed) =
     if is_recorded_at world placed.place placed.event && tells_policy world placed.event parts.facts parts.outcome
-    then entry placed.event
+    then right placed.event
     else not_the_policy
 
 abbrev pub judged_parts : World → Option LineParts → Judged
 judged_parts world None = bad
-judged_parts world (Some parts) = judged_placed world parts (placed_of parts.event)
+judged_parts world (Some parts) = judged_placed world parts (placed_of parts.placed)
 
 -- a line behind entries that left this world
 abbrev pub judged_line : World → List ℕ → Judged
-judged_line world line = judged_parts world (parts_of line)
+judged_line world line = judged_parts world (line_parts line)
 
 -- ---- a text
 
--- what the first wrong line is called, or how many entries there are, when n of them come before
+-- behind n entries stands line n + 2: it is named where it is wrong, and else the others are looked at
 abbrev pub going_on : Judged → ℕ → (Event → Result ℕ AuditFault) → Result ℕ AuditFault
 going_on bad n others = Err (BadLine (n + 2))
 going_on not_the_policy n others = Err (NotThePolicy (n + 2))
-going_on (entry event) n others = others event
+going_on (right event) n others = others event
 
 -- the lines behind n entries that left this world; behind the last LF nothing may follow, since that would be a line without its LF
 abbrev pub checked_lines : World → ℕ → List (List ℕ) → Result ℕ AuditFault
@@ -109,17 +109,17 @@ checked_lines world n (line ∷ next ∷ lines) =
     going_on (judged_line world line) n (λ event. checked_lines (effect world event).world (n + 1) (next ∷ lines))
 
 -- the header comes first, with its LF
-abbrev pub checked_text : Description → List (List ℕ) → Result ℕ AuditFault
-checked_text line [] = Err (BadLine 1)
-checked_text line (header ∷ []) = Err (BadLine 1)
-checked_text line (header ∷ next ∷ lines) =
-    if same_text header (header_text line.number) then checked_lines (start_of line) 0 (next ∷ lines) else Err (BadLine 1)
+abbrev pub checked_from_header : Description → List (List ℕ) → Result ℕ AuditFault
+checked_from_header description [] = Err (BadLine 1)
+checked_from_header description (header ∷ []) = Err (BadLine 1)
+checked_from_header description (header ∷ next ∷ lines) =
+    if same_text header (header_text description.number) then checked_lines (start_of description) 0 (next ∷ lines) else Err (BadLine 1)
 
 -- how many entries an audit text of the line has, or which line of it is the first that is wrong
 unfoldable pub checked : Description → List ℕ → Result ℕ AuditFault
-checked line text = checked_text line (lines_of text)
+checked description text = checked_from_header description (lines_of text)
 
--- ---- the same without a walk through the lines
+-- ---- what is accepted, without a walk through the lines
 
 -- the text is the audit text of a legal journal of the line with so many entries, each event within the limits of its text
 pub record IsAuditOf (line : Description) (text : List ℕ) (count : ℕ) : Type 0 where

@@ -8,7 +8,7 @@ use Rattle.dp_audit.specs.declared.fault.AuditFault.{AuditFault}
 use Rattle.dp_audit.specs.declared.fault.AuditFault.TheVariants.{BadLine, NotThePolicy}
 use Rattle.dp_audit.specs.Legal.{Follows, IsLegal, after_entries}
 use Rattle.dp_audit.specs.AuditText.{audit_text, entry_text, header_text, line_text}
-use Rattle.dp_audit.specs.Check.{LineParts, Placed, parts_of, placed_of}
+use Rattle.dp_audit.specs.Check.{LineParts, Placed, line_parts, placed_of}
 
 -- ---- a line of a text
 
@@ -23,15 +23,15 @@ pub record BeginsWith (text line : List ℕ) : Type 0 where
 
 -- the line doesn't part into three, or its first part is no place with an event
 pub data IsBadlyFormed (line : List ℕ) : Type 0 where
-  unparted : parts_of line ≡ None → IsBadlyFormed line
-  unplaced : (found : LineParts) → parts_of line ≡ Some found → placed_of found.event ≡ None → IsBadlyFormed line
+  unparted : line_parts line ≡ None → IsBadlyFormed line
+  unplaced : (found : LineParts) → line_parts line ≡ Some found → placed_of found.placed ≡ None → IsBadlyFormed line
 
 -- the line parts into three, and its first part is a place with an event
 pub record IsWellFormed (line : List ℕ) : Type 0 where
   pub parts : LineParts
-  pub parted : parts_of line ≡ Some parts
+  pub parted : line_parts line ≡ Some parts
   pub placed : Placed
-  pub read : placed_of parts.event ≡ Some placed
+  pub read : placed_of parts.placed ≡ Some placed
 
 -- ---- the first line of what is left of a text
 

@@ -93,7 +93,7 @@ fn check_line(state: &mut LineState, line: &[u8], written: &mut Text) -> Result<
     let Some(parts) = parts_in(line) else {
         return Err(AuditFault::BadLine(number));
     };
-    let Some(placed) = placed_in(parts.event) else {
+    let Some(placed) = placed_in(parts.placed) else {
         return Err(AuditFault::BadLine(number));
     };
     if is_entry(state, &placed, &parts, written) {
