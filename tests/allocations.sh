@@ -87,6 +87,9 @@ rack() {
 { rack 1 1 1; printf '%%%%\n'; for n in $(seq 5000); do printf '# a comment, which is read and does nothing: %s\n' "$n"; done; } >"$work/comments"
 { rack 1 1 1; printf '%%%%\nm 100'; for _ in $(seq 3000); do printf ' 33'; done; } >"$work/noise"
 printf 'what is no rack' >"$work/bad"
+rack 1 1 1 >"$work/rack"
+printf 'm 100 68 05 05 68 81 E4 6D 3C 3E 4C 16\njournal\n' >"$work/script"
+printf 'rack-audit 1 line 1\n' >"$work/audit"
 
 sweep 'help' 4 /dev/null --help
 sweep 'version' 4 /dev/null --version
@@ -96,6 +99,8 @@ sweep 'a small rack' 4 "$work/small"
 sweep 'eight lines' 4 "$work/lines"
 sweep 'many comments' 64 "$work/comments"
 sweep 'noise' 16 "$work/noise"
+sweep 'two files' 4 /dev/null run "$work/rack" "$work/script"
+sweep 'a check' 4 /dev/null check "$work/rack" "$work/audit"
 
 # in_turn NAME INPUT WORD..: makes each allocation of a run fail in turn, and no other. The program ends for want of
 # memory, or as it does without, where it can do without that memory.
@@ -144,6 +149,8 @@ else
   in_turn 'a bad rack' "$work/bad"
   in_turn 'a small rack' "$work/small"
   in_turn 'noise' "$work/noise"
+  in_turn 'two files' /dev/null run "$work/rack" "$work/script"
+  in_turn 'a check' /dev/null check "$work/rack" "$work/audit"
 fi
 
 echo "$passed passed, $failed failed"

@@ -55,6 +55,17 @@ for example in slave-diag streams two-lines lock-and-exchange day-of-a-line sync
   expect "the example $example" 0 "$(cat "$top/examples/$example.out")" ''
 done
 
+"$rackd" run "$top/examples/audit-rack.toml" "$top/examples/audit-script.txt" >"$work/out" 2>"$work/err"
+status=$?
+expect 'the example audit-script' 0 "$(cat "$top/examples/audit-script.out")" ''
+hold 'its end is the audit text' [ "$(sed -n '/^rack-audit/,$p' "$work/out")" = "$(cat "$top/examples/audit.txt")" ]
+"$rackd" check "$top/examples/audit-rack.toml" "$top/examples/audit.txt" >"$work/out" 2>"$work/err"
+status=$?
+expect 'the example audit' 0 "$(cat "$top/examples/audit.out")" ''
+"$rackd" check "$top/examples/audit-rack.toml" "$top/examples/audit-changed.txt" >"$work/out" 2>"$work/err"
+status=$?
+expect 'the example audit-changed' 1 "$(cat "$top/examples/audit-changed.out")" ''
+
 run "$rack%%%%\n$slave_diag\n"; expect 'a request' 0 "$reply" ''
 run "$rack%%%%\n$slave_diag"; expect 'no LF at the end' 0 "$reply" ''
 run "$rack%%%%\n\n# a comment\nline 1\nm 1 6805056885816d3c3eed16\n"; expect 'comments, a choice, one word of hex' 0 "$reply" ''
@@ -108,7 +119,7 @@ run "${rack%'\n'}"; expect 'a rack without its last LF' 0 '' ''
 # ---- words
 
 run '' --help
-hold 'help' eval '[ "$status" = 0 ] && [ ! -s "$work/err" ] && [[ $(cat "$work/out") == *"exactly %%"*"Exit statuses"* ]]'
+hold 'help' eval '[ "$status" = 0 ] && [ ! -s "$work/err" ] && [[ $(cat "$work/out") == *"rackd run RACK SCRIPT"*"rackd check RACK AUDIT"*"exactly %%"*"'journal'"*"Exit statuses"*"  1  a check that is not legal"* ]]'
 cp "$work/out" "$work/help"
 help=$(cat "$work/help")
 example='[[line]]'${help#*'[[line]]'}
@@ -116,13 +127,64 @@ example='[[line]]'${help#*'[[line]]'}
 status=$?
 hold 'the example of the help' eval '[ "$status" = 0 ] && [ -s "$work/out" ] && says "$help" "$(cat "$work/out")"'
 run '' --version; expect 'version' 0 'rackd 0.1.0' ''
-for words in word -h -V --hel --help=1 --version=1 '' 'run rack script' '--line 1'; do
+for words in word -h -V --hel --help=1 --version=1 '' '--line 1' help 'play rack script' run 'run rack' 'run rack script word' \
+  'run --help' 'run --line rack script' check 'check rack' 'check rack audit word' 'check rack audit --version'; do
   if [ "$words" ]; then read -ra list <<<"$words"; else list=(''); fi
   run "$rack%%%%\n$slave_diag\n" "${list[@]}"
   hold "wrong words: $words" eval '[ "$status" = 2 ] && [ ! -s "$work/out" ] && [ -s "$work/err" ]'
 done
 run "$rack" $'\xff'; expect 'a word that is not UTF-8' 2 '' 'rackd: a word is not UTF-8'
 run "$rack" --help $'\xff'; expect 'help and a word that is not UTF-8' 2 '' 'rackd: a word is not UTF-8'
+
+# ---- run and check
+
+printf "$rack" >"$work/rack"
+printf "$slave_diag\n" >"$work/script"
+printf "$slave_diag\nx\n" >"$work/wrong"
+printf '\xff\n' >"$work/latin"
+: >"$work/empty"
+entry="1 req 1 6805056885816d3c3eed16 | WaitPrm none | reply ${reply#1: reply }"
+printf 'rack-audit 1 line 1\n%s\n' "$entry" >"$work/audit"
+
+run '' run "$work/rack" "$work/script"; expect 'a rack and a script in files' 0 "$reply" ''
+run 'x' run "$work/rack" "$work/script"; expect 'standard input is left' 0 "$reply" ''
+run '' run "$work/rack" "$work/empty"; expect 'an empty file as script' 0 '' ''
+run '' run "$work/rack" "$work/wrong"; expect 'a file with a line that is no command' 2 "$reply" 'rackd: script line 2'
+run '' run "$work/script" "$work/wrong"; expect 'a file that is no rack' 2 '' 'rackd: rack NotToml'
+printf "$rack%%%%\n" >"$work/both"
+run '' run "$work/both" "$work/script"; expect 'two percent signs in a rack file' 2 '' 'rackd: rack NotToml'
+printf '%%%%\n' >"$work/mark"
+run '' run "$work/rack" "$work/mark"; expect 'two percent signs in a script file' 2 '' 'rackd: script line 1'
+run '' check "$work/rack" "$work/audit"; expect 'a legal audit text' 0 'legal 1' ''
+run 'x' check "$work/rack" "$work/audit"; expect 'a check leaves standard input' 0 'legal 1' ''
+run '' check "$work/rack" "$work/empty"; expect 'an empty audit text' 1 'bad line 1' ''
+printf 'rack-audit 1 line 2\n%s\n' "$entry" >"$work/other"
+run '' check "$work/rack" "$work/other"; expect 'an audit text of another line' 1 'bad line 1' ''
+printf 'rack-audit 1 line 1\n%s' "$entry" >"$work/short"
+run '' check "$work/rack" "$work/short"; expect 'an audit text without its last LF' 1 'bad line 2' ''
+printf 'rack-audit 1 line 1\r\n%s\r\n' "$entry" >"$work/crlf"
+run '' check "$work/rack" "$work/crlf"; expect 'an audit text with CR LF' 1 'bad line 1' ''
+printf 'rack-audit 1 line 1\n%s\n' "${entry/WaitPrm/WaitCfg}" >"$work/facts"
+run '' check "$work/rack" "$work/facts"; expect 'other facts' 1 'not the policy 2' ''
+run '' check "$work/script" "$work/audit"; expect 'a check on a file that is no rack' 2 '' 'rackd: rack NotToml'
+run '' check "$work/script" "$work/empty"; expect 'the rack comes before the audit text' 2 '' 'rackd: rack NotToml'
+
+for word in run check; do
+  run '' "$word" "$work/none" "$work/audit"; expect "$word: no rack file" 2 '' "rackd: cannot read $work/none"
+  run '' "$word" "$work/rack" "$work/none"; expect "$word: no second file" 2 '' "rackd: cannot read $work/none"
+  run '' "$word" "$work/nothing" "$work/none"; expect "$word: the rack file comes first" 2 '' "rackd: cannot read $work/nothing"
+  run '' "$word" "$work/script" "$work/none"; expect "$word: files come before what they hold" 2 '' "rackd: cannot read $work/none"
+  run '' "$word" "$work/none" "$work/none" word
+  hold "$word: words come before files" eval '[ "$status" = 2 ] && ! grep -q "cannot read" "$work/err"'
+  run '' "$word" "$work/latin" "$work/audit"; expect "$word: a rack that is not UTF-8" 2 '' "rackd: cannot read $work/latin"
+  run '' "$word" "$work/rack" "$work/latin"; expect "$word: a second file that is not UTF-8" 2 '' "rackd: cannot read $work/latin"
+  run '' "$word" "$work" "$work/audit"; expect "$word: a folder" 2 '' "rackd: cannot read $work"
+  run "$rack" "$word" - "$work/audit"; expect "$word: a word - is no standard input" 2 '' 'rackd: cannot read -'
+done
+printf "$rack" >"$work/-"
+cd "$work" || exit 1
+run '' run - script; expect 'a file whose name is -' 0 "$reply" ''
+cd "$OLDPWD" || exit 1
 
 # ---- standard error closed or full: no status changes
 # silent NAME STATUS INPUT WORD..
@@ -152,6 +214,10 @@ silent 'an unknown key' 2 "colour = 1\n$rack"
 silent 'two lines with one number' 2 "$rack$rack"
 silent 'a rack that is refused' 2 "${rack/1000/1}"
 silent 'no command' 2 "$rack%%%%\nx\n"
+closed=4 silent 'a script in a file' 0 '' run "$work/rack" "$work/script"
+closed=4 silent 'a legal audit text' 0 '' check "$work/rack" "$work/audit"
+closed=4 silent 'a check that is not legal' 1 '' check "$work/rack" "$work/empty"
+silent 'a file that is missing' 2 '' check "$work/rack" "$work/none"
 closed=4 silent 'a reply and no command' 2 "$rack%%%%\n$slave_diag\nx\n"
 
 for closing in '<&-' '<&- 2>&-' '<&- >&-'; do
@@ -174,6 +240,9 @@ printf "$rack%%%%\n$slave_diag\n" >"$work/one"
 "$program" --help >&- 2>"$work/err"; status=$?; unwritten 'help, standard output closed'
 "$program" --help >/dev/full 2>"$work/err"; status=$?; unwritten 'help, standard output full'
 "$program" --version >/dev/full 2>"$work/err"; status=$?; unwritten 'version, standard output full'
+"$program" run "$work/rack" "$work/script" >/dev/full 2>"$work/err"; status=$?; unwritten 'a script in a file, standard output full'
+"$program" check "$work/rack" "$work/audit" >/dev/full 2>"$work/err"; status=$?; unwritten 'a check, standard output full'
+"$program" check "$work/rack" "$work/empty" >&- 2>"$work/err"; status=$?; unwritten 'a check that is not legal, standard output closed'
 printf "$rack%%%%\n$slave_diag\nx\n" >"$work/both"
 "$program" <"$work/both" >/dev/full 2>"$work/err"; status=$?; unwritten 'a fault of the output before one of the script'
 

@@ -6,10 +6,10 @@ use Rattle.std.proofs.lemmas.Fmt.{decimal_digit, decimal_step, length-decimal-le
 below_64_bits : (n : ℕ) → n < 2 ^ 32 → n < 2 ^ 64
 below_64_bits n small = omega arith
 
-pub last_digit : (n : ℕ) → 10 ≤ n → n < 2 ^ 32 → decimal n ≡ decimal (n / 10) ++ (48 + n % 10) ∷ []
-last_digit n large small = decimal_step n large (below_64_bits n small)
+pub last_digit : (n : ℕ) → 10 ≤ n → n < 2 ^ 64 → decimal n ≡ decimal (n / 10) ++ (48 + n % 10) ∷ []
+last_digit n large small = decimal_step n large small
 
-pub one_digit_more : (n : ℕ) → 10 ≤ n → n < 2 ^ 32 → length (decimal n) ≡ length (decimal (n / 10)) + 1
+pub one_digit_more : (n : ℕ) → 10 ≤ n → n < 2 ^ 64 → length (decimal n) ≡ length (decimal (n / 10)) + 1
 one_digit_more n large small = ap length (last_digit n large small) ∙ length-append (decimal (n / 10)) ((48 + n % 10) ∷ [])
 
 -- a digit, and a number by its last digit
@@ -21,4 +21,7 @@ short n small = length-decimal-le 10 n (lit< tt) (omega arith) (below_64_bits n 
 pub short_octet : (n : ℕ) → n < 256 → length (decimal n) ≤ 3
 short_octet n small = length-decimal-le 3 n (lit< tt) (omega arith) (omega arith)
 
-pub ruleset are_short = (short, short_octet)
+pub short_long : (n : ℕ) → n < 2 ^ 64 → length (decimal n) ≤ 20
+short_long n small = length-decimal-le 20 n (lit< tt) (omega arith) small
+
+pub ruleset are_short = (short, short_octet, short_long)

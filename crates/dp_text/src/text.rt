@@ -96,7 +96,7 @@ impl Text {
         ensures text { self.new ≡ self.old ++ decimal number }
         ensures most { length self.new ≤ length self.old + 10 }
     {
-        self.push_decimal(number);
+        self.push_decimal(u64::from(number));
     }
 
     /// Puts a number from 0 to 255 behind it, in plain decimal.
@@ -106,11 +106,21 @@ impl Text {
         ensures text { self.new ≡ self.old ++ decimal number }
         ensures most { length self.new ≤ length self.old + 3 }
     {
-        self.push_decimal(u32::from(number));
+        self.push_decimal(u64::from(number));
+    }
+
+    /// Puts a long number behind it, in plain decimal.
+    #[tactic(auto, using(crate::proofs::Decimals::are_short))]
+    pub fn push_long(&mut self, number: u64)
+        requires { length self.old + 20 ≤ LONGEST }
+        ensures text { self.new ≡ self.old ++ decimal number }
+        ensures most { length self.new ≤ length self.old + 20 }
+    {
+        self.push_decimal(number);
     }
 
     #[tactic(auto, using(crate::proofs::Decimals::by_last_digit))]
-    fn push_decimal(&mut self, number: u32)
+    fn push_decimal(&mut self, number: u64)
         requires { length self.old + length (decimal number) ≤ LONGEST }
         ensures text { self.new ≡ self.old ++ decimal number }
         ensures size { length self.new ≡ length self.old + length (decimal number) }

@@ -5,3 +5,4 @@ mod Parting
 mod Passing
 mod Played
 mod Sending
+mod Checked

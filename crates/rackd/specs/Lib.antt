@@ -5,6 +5,8 @@ pub mod LinesInUse
 pub mod LineInUseExamples
 pub mod ScriptText
 pub mod Runs
+pub mod Checks
+pub mod CheckExamples
 pub mod Input
 pub mod InputExamples
 pub mod Ending

@@ -10,6 +10,8 @@ use Rattle.rackd.specs.declared.stop.Stop.{Stop}
 use Rattle.rackd.specs.declared.stop.Stop.TheVariants as stops
 use Rattle.rackd.specs.LinesInUse.{LineInUse, Sent}
 use Rattle.rackd.specs.ScriptText.{RackInUse, Obeyed, Played, script_text}
+use Rattle.dp_audit.specs.declared.fault.AuditFault.{AuditFault}
+use Rattle.rackd.specs.Checks.{checked_on, verdict_text, verdict_status}
 
 -- a command to a line: at the end the line is as it leaves it, and the writer has its whole text; a prefix where a write failed; and
 -- where it is none nothing is written
@@ -37,7 +39,7 @@ Plays played old new (Err runs.WriteFault) = WritesPrefix old new played.text
 Plays played old new (Err (runs.Rack fault)) = ⊥
 
 -- a rack that isn't accepted is reported, or the want of memory, and nothing is written
-abbrev pub RefusesRack : RackFault → Option (List ℕ) → Option (List ℕ) → Result (Unit {0}) RunFault → Type 0
+abbrev pub RefusesRack : {T : Type 0} → RackFault → Option (List ℕ) → Option (List ℕ) → Result T RunFault → Type 0
 RefusesRack fault old new (Err (runs.Rack told)) = (told ≡ fault) × Keeps old new
 RefusesRack fault old new (Err runs.OutOfMemory) = Keeps old new
 RefusesRack fault old new other = ⊥
@@ -46,3 +48,16 @@ RefusesRack fault old new other = ⊥
 abbrev pub RunsText : Result RackDescription RackFault → List ℕ → Option (List ℕ) → Option (List ℕ) → Result (Unit {0}) RunFault → Type 0
 RunsText (Ok rack) script old new result = Plays (script_text rack script) old new result
 RunsText (Err fault) script old new result = RefusesRack fault old new result
+
+-- at the end of a check the writer has the whole verdict, a prefix of it where a write failed, and nothing where memory was refused
+abbrev pub Tells : Result ℕ AuditFault → Option (List ℕ) → Option (List ℕ) → Result ℕ RunFault → Type 0
+Tells verdict old new (Ok status) = (status ≡ verdict_status verdict) × Appends old new (verdict_text verdict)
+Tells verdict old new (Err runs.WriteFault) = WritesPrefix old new (verdict_text verdict)
+Tells verdict old new (Err runs.OutOfMemory) = Keeps old new
+Tells verdict old new (Err (runs.Script line)) = ⊥
+Tells verdict old new (Err (runs.Rack fault)) = ⊥
+
+-- a check of an audit text on the rack that a text describes, or doesn't
+abbrev pub RunsCheck : Result RackDescription RackFault → List ℕ → Option (List ℕ) → Option (List ℕ) → Result ℕ RunFault → Type 0
+RunsCheck (Ok rack) audit old new result = Tells (checked_on rack audit) old new result
+RunsCheck (Err fault) audit old new result = RefusesRack fault old new result

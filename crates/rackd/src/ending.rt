@@ -10,35 +10,41 @@ use std::fmt;
 /// What kept the program from its work. Its `Display` is the line on standard error without its LF, and
 /// takes no memory.
 #[derive(Clone, Copy, Debug, PartialEq, Eq)]
-pub enum Fault {
+pub enum Fault<'a> {
     /// A word isn't UTF-8.
     BadWord,
-    /// Standard input can't be read, or isn't UTF-8.
-    CannotRead,
+    /// The file at this path, or standard input for `-`, can't be read, or isn't UTF-8.
+    CannotRead(&'a str),
     /// The run ended early.
     Run(RunFault),
 }
 
-/// The exit status: 2 for words and input that can't be used, 3 for want of memory, 4 for a fault of
-/// standard output.
-pub fn status(fault: Fault) -> u8
-    ensures { result ≡ status_of fault }
+impl<'a> From<RunFault> for Fault<'a> {
+    fn from(fault: RunFault) -> Fault<'a> {
+        Fault::Run(fault)
+    }
+}
+
+/// The exit status: 2 for words, files and input that can't be used, 3 for want of memory, 4 for a fault
+/// of standard output.
+pub fn status(fault: Fault<'_>) -> u8
+    ensures { result ≡ status_of fault.entry }
 {
     match fault {
         Fault::Run(RunFault::OutOfMemory | RunFault::Rack(RackFault::OutOfMemory)) => 3,
         Fault::Run(RunFault::WriteFault) => 4,
-        Fault::BadWord | Fault::CannotRead => 2,
+        Fault::BadWord | Fault::CannotRead(_) => 2,
         Fault::Run(RunFault::Rack(_) | RunFault::Script(_)) => 2,
     }
 }
 
-impl fmt::Display for Fault {
+impl<'a> fmt::Display for Fault<'a> {
     ghost output = { λ fault. Some (fault_text fault) };
 
     fn fmt<W: fmt::Write>(&self, f: &mut fmt::Formatter<W>) -> fmt::Result {
         match self {
             Fault::BadWord => f.write_str("rackd: a word is not UTF-8"),
-            Fault::CannotRead => f.write_str("rackd: cannot read -"),
+            Fault::CannotRead(path) => write!(f, "rackd: cannot read {path}"),
             Fault::Run(fault) => write!(f, "rackd: {fault}"),
         }
     }

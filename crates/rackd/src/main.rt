@@ -1,11 +1,15 @@
 //! The rack of simulated DP slaves: the program.
 //!
 //! Without words it reads a rack text, a line `%%` and a script from standard input, and writes the
-//! answers of the script. `--help` and `--version` are answered on standard output.
+//! answers of the script. `run` reads rack and script from two files, `check` a rack and an audit text,
+//! which it checks. `--help` and `--version` are answered on standard output.
 #![tactic(auto)]
 
 #[cfg(test)]
+mod audit_tests;
+#[cfg(test)]
 mod broadcast_tests;
+mod check;
 mod command;
 mod command_line;
 mod ending;
@@ -33,41 +37,52 @@ mod stream_tests;
 #[cfg(test)]
 mod text_tests;
 
+use check::run_check;
 use clap::error::ErrorKind as Answer;
+use command_line::{Asked, read_words, words_of};
 use ending::{Fault, status};
 pub use rack_file::{Rack, RackFault, RackLine, read_rack};
 use run::run_text;
 use run_fault::RunFault;
+use std::fs;
 use std::io::{self, BufWriter, ErrorKind, Write};
 use std::process::ExitCode;
 
 fn main(rt: HostRuntime) -> ExitCode {
-    match obey_words(&rt) {
-        Ok(code) => code,
-        Err(fault) => {
-            // A closed or full standard error changes no status.
-            let _ = rt.eprintln(fault);
-            ExitCode::from(status(fault))
-        }
+    match words_of(&rt) {
+        Ok(words) => match obey(&rt, words.as_slice()) {
+            Ok(code) => code,
+            Err(fault) => report(&rt, fault),
+        },
+        Err(fault) => report(&rt, fault),
     }
 }
 
+/// Reports a fault on standard error, and answers its exit status.
+fn report(rt: &HostRuntime, fault: Fault<'_>) -> ExitCode {
+    // A closed or full standard error changes no status.
+    let _ = rt.eprintln(fault);
+    ExitCode::from(status(fault))
+}
+
 /// Does what the words ask for.
-fn obey_words(rt: &HostRuntime) -> Result<ExitCode, Fault> {
-    match command_line::answer_to_words(rt)? {
-        None => run_input(rt).map(|()| ExitCode::SUCCESS),
-        Some(answer) => tell(rt, &answer),
+fn obey<'a>(rt: &HostRuntime, words: &'a [String]) -> Result<ExitCode, Fault<'a>> {
+    match read_words(rt.alloc(), words)? {
+        Asked::Input => run_input(rt),
+        Asked::Run { rack, script } => run_files(rt, rack, script),
+        Asked::Check { rack, audit } => check_files(rt, rack, audit),
+        Asked::Answer(answer) => Ok(tell(rt, &answer)?),
     }
 }
 
 /// Tells what `clap` answers: help and the version on standard output, what is wrong with the words on
 /// standard error.
-fn tell(rt: &HostRuntime, answer: &clap::Error) -> Result<ExitCode, Fault> {
+fn tell(rt: &HostRuntime, answer: &clap::Error) -> Result<ExitCode, RunFault> {
     match answer.kind() {
-        Answer::OutOfMemory => Err(Fault::Run(RunFault::OutOfMemory)),
+        Answer::OutOfMemory => Err(RunFault::OutOfMemory),
         Answer::DisplayHelp | Answer::DisplayVersion => match answer.print(rt) {
             Ok(()) => Ok(ExitCode::SUCCESS),
-            Err(_) => Err(Fault::Run(RunFault::WriteFault)),
+            Err(_) => Err(RunFault::WriteFault),
         },
         _ => {
             let _ = answer.print(rt);
@@ -76,24 +91,63 @@ fn tell(rt: &HostRuntime, answer: &clap::Error) -> Result<ExitCode, Fault> {
     }
 }
 
-/// All of standard input.
-fn read_input(rt: &HostRuntime) -> Result<String, Fault> {
-    io::read_to_string(rt.alloc(), rt.reader()).map_err(|error| match error.kind() {
-        ErrorKind::OutOfMemory => Fault::Run(RunFault::OutOfMemory),
-        _ => Fault::CannotRead,
-    })
+/// Runs the script of standard input on its rack.
+fn run_input<'a>(rt: &HostRuntime) -> Result<ExitCode, Fault<'a>> {
+    let text = io::read_to_string(rt.alloc(), rt.reader()).map_err(|error| read_fault(
+        error.kind(),
+        "-",
+    ))?;
+    let (rack, script) = input::split_input(text.as_str());
+    Ok(run_out(rt, rack, script)?)
 }
 
-/// Runs the script of standard input on its rack.
-fn run_input(rt: &HostRuntime) -> Result<(), Fault> {
-    let text = read_input(rt)?;
-    let (rack, script) = input::split_input(text.as_str());
+/// Runs the script of a file on the rack of another.
+fn run_files<'a>(rt: &HostRuntime, rack: &'a str, script: &'a str) -> Result<ExitCode, Fault<'a>> {
+    let rack = read_file(rt, rack)?;
+    let script = read_file(rt, script)?;
+    Ok(run_out(rt, rack.as_str(), script.as_str())?)
+}
+
+/// Checks the audit text of a file on the rack of another.
+fn check_files<'a>(rt: &HostRuntime, rack: &'a str, audit: &'a str) -> Result<ExitCode, Fault<'a>> {
+    let rack = read_file(rt, rack)?;
+    let audit = read_file(rt, audit)?;
+    Ok(check_out(rt, rack.as_str(), audit.as_str())?)
+}
+
+/// All of a file.
+fn read_file<'a>(rt: &HostRuntime, path: &'a str) -> Result<String, Fault<'a>> {
+    fs::read_to_string(rt, path).map_err(|error| read_fault(error.kind(), path))
+}
+
+/// The fault of a file that can't be read, for this reason.
+fn read_fault(reason: ErrorKind, path: &str) -> Fault<'_> {
+    match reason {
+        ErrorKind::OutOfMemory => Fault::Run(RunFault::OutOfMemory),
+        _ => Fault::CannotRead(path),
+    }
+}
+
+/// Runs a script on a rack, and writes the answers on standard output.
+fn run_out(rt: &HostRuntime, rack: &str, script: &str) -> Result<ExitCode, RunFault> {
     let Ok(mut output) = BufWriter::new(rt.alloc(), io::writer(rt)) else {
-        return Err(Fault::Run(RunFault::OutOfMemory));
+        return Err(RunFault::OutOfMemory);
     };
     let ran = run_text(rt.alloc(), rack, script, &mut output);
     if output.flush().is_err() {
-        return Err(Fault::Run(RunFault::WriteFault));
+        return Err(RunFault::WriteFault);
     }
-    ran.map_err(Fault::Run)
+    ran.map(|()| ExitCode::SUCCESS)
+}
+
+/// Checks an audit text on a rack, and writes what it is found to be on standard output.
+fn check_out(rt: &HostRuntime, rack: &str, audit: &str) -> Result<ExitCode, RunFault> {
+    let Ok(mut output) = BufWriter::new(rt.alloc(), io::writer(rt)) else {
+        return Err(RunFault::OutOfMemory);
+    };
+    let checked = run_check(rt.alloc(), rack, audit, &mut output);
+    if output.flush().is_err() {
+        return Err(RunFault::WriteFault);
+    }
+    checked.map(|status| ExitCode::from(status))
 }

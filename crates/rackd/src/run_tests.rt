@@ -34,6 +34,9 @@ fn tells_how_it_ends(rt: HostRuntime) -> Result<(), Fail> {
     let text = fault.to_string(rt.alloc())?;
     assert_eq!(rt; text.as_str(), "rackd: script line 2");
     assert_eq!(rt; status(Fault::Run(RunFault::WriteFault)), 4);
-    assert_eq!(rt; status(Fault::CannotRead), 2);
+    let unread = Fault::CannotRead("a/rack.toml");
+    assert_eq!(rt; status(unread), 2);
+    let text = unread.to_string(rt.alloc())?;
+    assert_eq!(rt; text.as_str(), "rackd: cannot read a/rack.toml");
     Ok(())
 }

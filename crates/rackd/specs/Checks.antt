@@ -1,0 +1,35 @@
+-- What an audit text is found to be on a rack, and what is told of it (own).
+use Rattle.std.specs.Prelude.{codes, ℕ, List, [], ◌∷◌, ◌++◌, find, Option, Some, None, Result, Ok, Err}
+use Rattle.std.specs.Fmt.{decimal}
+use Rattle.rack_file.specs.Rack.{LineDescription, RackDescription}
+use Rattle.dp_text.specs.Words.{lines_of, same_text}
+use Rattle.dp_audit.specs.declared.fault.AuditFault.{AuditFault}
+use Rattle.dp_audit.specs.declared.fault.AuditFault.TheVariants as faults
+use Rattle.dp_audit.specs.AuditText.{header_text}
+use Rattle.dp_audit.specs.Check.{checked}
+
+-- of the lines of a rack, the first whose header the first line of a text is
+abbrev pub line_named : List LineDescription → List (List ℕ) → Option LineDescription
+line_named lines [] = None
+line_named lines (header ∷ others) = find (λ line. same_text header (header_text line.line.number)) lines
+
+-- an audit text is checked on the line that it names, and its first line is bad where it names none
+abbrev pub checked_by_line : Option LineDescription → List ℕ → Result ℕ AuditFault
+checked_by_line None text = Err (faults.BadLine 1)
+checked_by_line (Some line) text = checked line.line text
+
+-- how many entries an audit text has, or which line of it is the first that is wrong
+abbrev pub checked_on : RackDescription → List ℕ → Result ℕ AuditFault
+checked_on rack text = checked_by_line (line_named rack.lines (lines_of text)) text
+
+-- what is written of an audit text; want of memory isn't written
+abbrev pub verdict_text : Result ℕ AuditFault → List ℕ
+verdict_text (Ok count) = codes "legal " ++ decimal count ++ codes "\n"
+verdict_text (Err (faults.BadLine line)) = codes "bad line " ++ decimal line ++ codes "\n"
+verdict_text (Err (faults.NotThePolicy line)) = codes "not the policy " ++ decimal line ++ codes "\n"
+verdict_text (Err faults.OutOfMemory) = []
+
+-- 0 where it is legal
+abbrev pub verdict_status : Result ℕ AuditFault → ℕ
+verdict_status (Ok count) = 0
+verdict_status (Err fault) = 1
