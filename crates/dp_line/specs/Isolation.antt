@@ -55,7 +55,8 @@ process_data slave = record {
   diag = slave.diag;
 }
 
--- the frame memory of one master
+-- the frame memory of one master. It says more than what is remembered of the master (remembered_of): also whether the slave has a memory
+-- for it, without which nothing is ever remembered
 abbrev pub frame_memory : ℕ → SlaveRecord → Option MasterMemory
 frame_memory master slave = find (λ m. m.master == master) slave.memory
 
