@@ -1,5 +1,5 @@
 -- While a master holds a slave, the requests of other masters change nothing that it sees of the slave.
-use Rattle.std.proofs.Common.{◌≡◌, ℕ, ◌+◌, Bool, true, false, cond, eqb, List, [], ◌∷◌, Option, Some, None, refl, sym, ap, subst, ◌∙◌}
+use Rattle.std.proofs.Common.{◌≡◌, ℕ, ◌+◌, Bool, true, false, cond, eqb, List, [], ◌∷◌, ◌++◌, Option, Some, None, refl, sym, ap, subst, ◌∙◌}
 use Rattle.std.specs.Prelude.{option_map}
 use Rattle.std.specs.Option.{option_map_or}
 use Rattle.arrayvec.specs.ArrayVec.{ArrayVec}
@@ -168,12 +168,14 @@ later_same master address event first second events others next false held more 
 watched_mine : (master address : ℕ) (world : World) (event : Event) (events : List Event) → is_holder_at master address world ≡ true → is_no_others master event ≡ true
     → watched master address world (event ∷ events) ≡ seen_by address event (step world event).world (step world event).answer ∷ watched master address (step world event).world events
 watched_mine master address world event events held mine =
-    cond-true (is_holder_at master address world) _ [] held ∙ cond-true (is_no_others master event) _ (watched master address (step world event).world events) mine
+    cond-true (is_holder_at master address world) _ [] held
+    ∙ ap (λ (l : List Seen). l ++ watched master address (step world event).world events) (cond-true (is_no_others master event) _ [] mine)
 
 watched_others : (master address : ℕ) (world : World) (event : Event) (events : List Event) → is_holder_at master address world ≡ true → is_no_others master event ≡ false
     → watched master address world (event ∷ events) ≡ watched master address (step world event).world events
 watched_others master address world event events held others =
-    cond-true (is_holder_at master address world) _ [] held ∙ cond-false (is_no_others master event) _ (watched master address (step world event).world events) others
+    cond-true (is_holder_at master address world) _ [] held
+    ∙ ap (λ (l : List Seen). l ++ watched master address (step world event).world events) (cond-false (is_no_others master event) _ [] others)
 
 -- one event more
 abbrev IsSame : ℕ → ℕ → List Event → List Event → Type 0

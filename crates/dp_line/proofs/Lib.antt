@@ -30,6 +30,7 @@ pub mod IsolationOfPairs
 pub mod Isolation
 pub mod BusSteps
 pub mod BusVerdict
+pub mod Controlled
 pub mod BusLives
 pub mod BusTime
 pub mod BusHalt

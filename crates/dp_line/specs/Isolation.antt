@@ -1,5 +1,5 @@
 -- What a master sees of a slave that it holds, and what it means that other masters change nothing of that (own).
-use Rattle.std.specs.Prelude.{◌≡◌, ◌≢◌, ℕ, ◌==◌, nat_eq, Bool, true, false, if◌then◌else◌, List, [], ◌∷◌, find, Option, Some, None, option_map}
+use Rattle.std.specs.Prelude.{◌≡◌, ◌≢◌, ℕ, ◌==◌, nat_eq, Bool, true, false, if◌then◌else◌, List, [], ◌∷◌, ◌++◌, find, Option, Some, None, option_map}
 use Rattle.std.specs.Option.{option_and_then, option_eq, option_map_or}
 use Rattle.std.specs.List.{AllByRecursion, filter, list_any}
 use Rattle.dp_sap.specs.declared.state.State.{State}
@@ -19,6 +19,7 @@ use Rattle.dp_line.specs.declared.event.Step.{Step}
 use Rattle.dp_line.specs.World.{Ascend, World, slave_at}
 use Rattle.dp_line.specs.Events.{address_of_op}
 use Rattle.dp_line.specs.Hearing.{is_to_all, telegram_spelt}
+use Rattle.dp_line.specs.Effects.{Stepped}
 use Rattle.dp_line.specs.Steps.{run, step}
 
 -- all that services and operators change of a slave, but for the place of its lock, its busy marks and its frame memories
@@ -54,7 +55,8 @@ process_data slave = record {
   diag = slave.diag;
 }
 
--- the frame memory of one master
+-- the frame memory of one master. It says more than what is remembered of the master (remembered_of): also whether the slave has a memory
+-- for it, without which nothing is ever remembered
 abbrev pub frame_memory : ℕ → SlaveRecord → Option MasterMemory
 frame_memory master slave = find (λ m. m.master == master) slave.memory
 
@@ -132,12 +134,13 @@ seen_by address event after answer = record {
 abbrev pub is_holder_at : ℕ → ℕ → World → Bool
 is_holder_at master address world = option_map_or (is_held_by master) (slave_at world address) false
 
--- what is seen by each event that is no other master's request, up to and including the one that ends the master's hold
+-- what is seen by one event, and nothing by another master's request
+abbrev pub noticed : ℕ → ℕ → Event → Stepped → List Seen
+noticed master address event stepped = if is_no_others master event then seen_by address event stepped.world stepped.answer ∷ [] else []
+
+-- what is seen by each event, up to and including the one that ends the master's hold
 abbrev pub watched : ℕ → ℕ → World → List Event → List Seen
 watched master address world [] = []
 watched master address world (event ∷ events) =
     let stepped = step world event in
-    let later = watched master address stepped.world events in
-    if is_holder_at master address world then
-    if is_no_others master event then seen_by address event stepped.world stepped.answer ∷ later else later
-    else []
+    if is_holder_at master address world then noticed master address event stepped ++ watched master address stepped.world events else []

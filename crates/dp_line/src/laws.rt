@@ -14,7 +14,7 @@ ghost use Rattle.dp_line.specs.Events.{misfit, time_passes};
 ghost use Rattle.dp_line.specs.Hearing.{heard};
 ghost use Rattle.dp_line.specs.Verdict.{verdict_of, concerns_a_slave};
 ghost use Rattle.dp_line.specs.Stations.{HaveMasters};
-ghost use Rattle.dp_line.specs.Effects.{facts_of, outcome_of, rule_taken, slave_after};
+ghost use Rattle.dp_line.specs.Effects.{facts_of, is_spread, outcome_of, rule_taken, slave_after};
 ghost use Rattle.dp_line.specs.Steps.{run, step, told_halted, unrecorded};
 ghost use Rattle.dp_line.specs.Owned.{owned as owned_by_world};
 ghost use Rattle.dp_line.specs.Isolation.{Agrees, MeetsNoLastPlace, only_requests_of, process_data, watched};
@@ -52,7 +52,10 @@ pub struct After {
 /// that those events left: a request gets the octets, or no reply and the reason, on a halted line and
 /// at the last place too. Every slave is as the policy leaves it. A refusal, also that of one slave of a
 /// broadcast, changes no process data of a slave, but where the halt is recorded instead of the event.
-/// And the list of each master is the slaves that are locked to it, oldest lock first.
+/// Each slave that the answer to a broadcast doesn't tell with the rule Done refuses it, so `refusal`
+/// speaks of it: a broadcast is Done at none but the slaves that its sender holds
+/// ([`only_held_slaves_are_controlled`]), and the answer tells the rules of all of these. And the list
+/// of each master is the slaves that are locked to it, oldest lock first.
 pub fn headline(
     line: &mut LineState,
     before: &[Event],
@@ -91,6 +94,15 @@ pub fn a_refusal_changes_nothing()
         → slave_at world (address_of_slave slave) ≡ Some slave
         → rule_taken (heard world master octets.items) slave ≢ Rules.Done
         → record (slave_after world (Events.Request master octets) slave) { memory = slave.memory } ≡ slave }
+{}
+
+/// A broadcast that the line takes is Done at none but the slaves that its sender holds: every other
+/// slave refuses it.
+pub fn only_held_slaves_are_controlled()
+    ensures { (world : World) (master : ℕ) (octets : Vectors ℕ) (slave : SlaveRecord)
+        → is_spread (heard world master octets.items) ≡ true
+        → rule_taken (heard world master octets.items) slave ≡ Rules.Done
+        → slave.holder ≡ Some master }
 {}
 
 /// What no slave is concerned by changes no slave at all.
