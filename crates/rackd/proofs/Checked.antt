@@ -1,5 +1,5 @@
 -- The line of a rack that an audit text names.
-use Rattle.std.proofs.Common.{◌≡◌, ℕ, Bool, true, false, List, [], ◌∷◌, map, All, Option, Some, None, cond, Result, Err, refl, sym, ap, ◌∙◌}
+use Rattle.std.proofs.Common.{◌≡◌, ℕ, Bool, true, false, List, [], ◌∷◌, map, All, Option, Some, None, cond, refl, sym, ap, ◌∙◌}
 use Rattle.std.specs.Prelude.{find, option_map}
 use Rattle.std.specs.List.{AllByRecursion}
 use Rattle.std.proofs.lemmas.List.Elements.{recursion_from_All}
@@ -7,10 +7,7 @@ use Rattle.dp_line.specs.World.{description_of, opening_fault}
 use Rattle.rack_file.specs.declared.rack.RackLine.{RackLine}
 use Rattle.rack_file.specs.Rack.{LineDescription, line_described}
 use Rattle.dp_text.specs.Words.{lines_of, same_text}
-use Rattle.dp_audit.specs.declared.fault.AuditFault.{AuditFault}
-use Rattle.dp_audit.specs.declared.fault.AuditFault.TheVariants as faults
 use Rattle.dp_audit.specs.AuditText.{header_text}
-use Rattle.dp_audit.specs.Check.{checked}
 use Rattle.rackd.specs.Checks.{line_named, checked_by_line, checked_on}
 
 -- this is the header of the line

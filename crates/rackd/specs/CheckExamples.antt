@@ -5,6 +5,10 @@ use Rattle.hex.proofs.OnLiterals.{hex_on_literals}
 use Rattle.dp_slave.specs.SlaveRecord.{released}
 use Rattle.dp_slave.specs.Fields.{acted}
 use Rattle.dp_line.specs.World.{ascending}
+use Rattle.dp_line.specs.Hearing.{heard}
+use Rattle.dp_line.specs.Verdict.{verdict_of, rule_at}
+use Rattle.dp_line.specs.ReplyText.{reply_text}
+use Rattle.dp_line.specs.Served.{served}
 use Rattle.dp_line.specs.Effects.{effect, slave_after, facts_of, outcome_of}
 use Rattle.dp_line.specs.LineExamples.{slave_5}
 use Rattle.rack_file.specs.Rack.{RackDescription}
@@ -17,9 +21,9 @@ unfoldable check_on_literals : ⊤
 unfolding checked digits
 check_on_literals = tt
 
--- and on one with entries of an operator
+-- and on one with entries
 unfoldable check_on_entries : ⊤
-unfolding check_on_literals hex_on_literals ascending effect slave_after facts_of outcome_of acted released
+unfolding check_on_literals hex_on_literals ascending effect slave_after facts_of outcome_of served heard verdict_of rule_at reply_text acted released
 check_on_entries = tt
 
 -- line 1 with masters 1 and 2 and slave 5
@@ -57,6 +61,15 @@ empty_line_behind_the_header = refl
 pub an_entry : checked_on rack_1 (codes "rack-audit 1 line 1\n1 in 5 aa55 | WaitPrm none | done\n") ≡ Ok 1
 unfolding check_on_entries
 an_entry = refl
+
+-- master 1 asks for the diagnosis, and one digit of the reply is another
+pub a_reply : checked_on rack_1 (codes "rack-audit 1 line 1\n1 req 1 6805056885816d3c3eed16 | WaitPrm none | reply 680b0b688185083e3c020500ff80a1af16 Done\n") ≡ Ok 1
+unfolding check_on_entries
+a_reply = refl
+
+pub another_reply : checked_on rack_1 (codes "rack-audit 1 line 1\n1 req 1 6805056885816d3c3eed16 | WaitPrm none | reply 680b0b688185083e3c020500ff80a0af16 Done\n") ≡ Err (NotThePolicy 2)
+unfolding check_on_entries
+another_reply = refl
 
 pub capital_letter : checked_on rack_1 (codes "rack-audit 1 line 1\n1 in 5 Aa55 | WaitPrm none | done\n") ≡ Err (BadLine 2)
 unfolding check_on_entries

@@ -1,5 +1,5 @@
 -- What a run leaves on its writer, and how it ends (own).
-use Rattle.std.specs.Prelude.{◌≡◌, ℕ, List, ◌++◌, Option, Some, None, Result, Ok, Err}
+use Rattle.std.specs.Prelude.{◌≡◌, ℕ, List, Option, Some, None, Result, Ok, Err}
 use Rattle.std.specs.Io.KnownBytes.{Appends, Keeps}
 use Rattle.dp_text.specs.Writes.{WritesPrefix}
 use Rattle.rack_file.specs.declared.fault.RackFault.{RackFault}

@@ -1,5 +1,4 @@
-use Rattle.std.proofs.Common.{◌≡◌, ◌∷◌, ◌∙◌, Some, None, inl, inr, sym, ap, rules}
-use Rattle.dp_text.specs.Words.{lines_of}
+use Rattle.std.proofs.Common.{◌∙◌, Some, None, inl, inr, sym, rules}
 use Rattle.rackd.proofs.Checked.{verdict_of_named, found_opens}
 use Rattle.rackd.proofs.check.verdict_on.Goals as goal
 
