@@ -3,7 +3,7 @@ use Rattle.std.proofs.Common.{◌≡◌, ℕ, false, List, Some, None, refl, sym
 use Rattle.std.specs.Prelude.{◌↔◌}
 use Rattle.std.specs.List.{AllByRecursion}
 use Rattle.std.specs.Option.{option_and_then}
-use Rattle.std.proofs.lemmas.Bool.{cond-false, eqb-false}
+use Rattle.std.proofs.lemmas.Bool.{eqb-false}
 use Rattle.arrayvec.specs.ArrayVec.{ArrayVec}
 use Rattle.dp_telegram.specs.declared.frame.Frame.{Frame}
 use Rattle.dp_telegram.specs.declared.frame.Frame.TheVariants as frames
@@ -16,11 +16,12 @@ use Rattle.dp_line.specs.declared.event.Event.{Event}
 use Rattle.dp_line.specs.declared.event.Event.TheVariants.{Request}
 use Rattle.dp_line.specs.declared.event.Outcome.{Outcome}
 use Rattle.dp_line.specs.declared.event.Outcome.TheVariants.{Reply}
-use Rattle.dp_line.specs.World.{Description, World, opening_fault, slave_among, slave_at, start_of}
+use Rattle.dp_line.specs.World.{Description, World, opening_fault, slave_at, start_of}
 use Rattle.dp_line.specs.Hearing.{asked_among, heard, is_to_all, telegram_of_frame}
 use Rattle.dp_line.specs.Verdict.{verdict_of}
 use Rattle.dp_line.specs.Steps.{run, step}
 use Rattle.dp_line.specs.Bus.{HasReason, gets_reply, is_kept_off, is_no_question, HasShortConfiguration, HasShortReport, IsAnswered, IsReplyTo}
+use Rattle.dp_line.proofs.Asked.{asks_one}
 use Rattle.dp_line.proofs.BusSteps.{heard_sender}
 use Rattle.dp_line.proofs.BusVerdict.{from_sender, telegram_frame}
 use Rattle.dp_line.proofs.BusLives.{StaysSound}
@@ -42,7 +43,7 @@ asked_is : (world : World) (master : ℕ) (octets : List ℕ) (telegram : Telegr
     → is_to_all telegram ≡ false → (heard world master octets).slave ≡ Some slave → slave_at world (address_of telegram.da) ≡ Some slave
 unfolding heard
 asked_is world master octets telegram slave spelt to_all found =
-    sym (cond-false (is_to_all telegram) None (slave_among world.slaves (address_of telegram.da)) to_all) ∙ sym (ap (option_and_then (asked_among world.slaves)) spelt) ∙ found
+    sym (asks_one world.slaves telegram to_all) ∙ sym (ap (option_and_then (asked_among world.slaves)) spelt) ∙ found
 
 reason_by : TextsAgree → (world : World) (master : ℕ) (octets : List ℕ) (outcome : Outcome) → IsEnding (heard world master octets) outcome → HasReason world octets outcome
 reason_by agree world master octets outcome (replies telegram parts slave text concerned to_all found srd has is) =

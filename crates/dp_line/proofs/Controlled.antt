@@ -24,7 +24,7 @@ use Rattle.dp_line.proofs.Controls.{control_is}
 abbrev LetsIn : ℕ → Option Point → Type 0
 LetsIn sender point = (is_none point ≡ false) × (point_has (λ p. not (admits sender p.access)) point ≡ false)
 
--- the point of Global_Control does so where the sender holds the slave alone
+-- the point of Global_Control does so only where the sender holds the slave
 open_to : (state : State) (holder : Option ℕ) (out_len sender : ℕ) (busy : BusyMarks)
     → LetsIn sender (access_row (record { state = state; holder = holder; out_len = out_len; busy = busy }) global_control) → holder ≡ Some sender
 open_to WaitPrm holder out_len sender busy on = absurd cc

@@ -11,7 +11,7 @@ use Rattle.dp_line.specs.declared.event.Event.{Event}
 use Rattle.dp_line.specs.declared.event.Event.TheVariants.{Request, Operator}
 use Rattle.dp_line.specs.World.{World, address_of_slave, slave_among}
 use Rattle.dp_line.specs.Events.{address_of_op}
-use Rattle.dp_line.specs.Hearing.{asked_among, heard, is_to_all, telegram_spelt}
+use Rattle.dp_line.specs.Hearing.{address_asked, asked_among, heard, telegram_spelt}
 use Rattle.dp_line.specs.Verdict.{concerns_a_slave, verdict_of}
 use Rattle.dp_line.specs.Effects.{facts_of, state_and_holder}
 use Rattle.dp_line.specs.Stations.{HaveMasters}
@@ -29,13 +29,13 @@ found masters address [] have = tt
 found masters address (slave ∷ slaves) have =
     where_true masters (eqb (address_of_slave slave) address) (Some slave) (slave_among slaves address) have.0 (found masters address slaves have.1)
 
-asked : (masters : List ℕ) (slaves : List SlaveRecord) → HaveMasters masters slaves → (telegram : Option Telegram) → HasKnownHolder masters (option_and_then (asked_among slaves) telegram)
-asked masters slaves have None = tt
-asked masters slaves have (Some telegram) = where_true masters (is_to_all telegram) None (slave_among slaves _) tt (found masters _ slaves have)
-
 addressed : (masters : List ℕ) (slaves : List SlaveRecord) → HaveMasters masters slaves → (address : Option ℕ) → HasKnownHolder masters (option_and_then (slave_among slaves) address)
 addressed masters slaves have None = tt
 addressed masters slaves have (Some address) = found masters address slaves have
+
+asked : (masters : List ℕ) (slaves : List SlaveRecord) → HaveMasters masters slaves → (telegram : Option Telegram) → HasKnownHolder masters (option_and_then (asked_among slaves) telegram)
+asked masters slaves have None = tt
+asked masters slaves have (Some telegram) = addressed masters slaves have (address_asked telegram)
 
 -- what facts tell of a slave
 told : (masters : List ℕ) (slave : Option SlaveRecord) (state : State) (holder : ℕ) → HasKnownHolder masters slave → option_map state_and_holder slave ≡ Some (state, Some holder)

@@ -2,6 +2,7 @@ pub mod Judging
 pub mod Passing
 pub mod Controls
 pub mod Walks
+pub mod Asked
 pub mod Hearings
 pub mod Answering
 pub mod Table

@@ -27,6 +27,7 @@ use Rattle.dp_line.specs.Verdict.{verdict_of, rows_where_known, rule_at, concern
 use Rattle.dp_line.specs.Served.{executed, served}
 use Rattle.dp_line.specs.Effects.{Stepped, effect, halted_world, held_addresses, is_for, is_spread, outcome_of, own_rule, rule_taken, rule_where_known, served_where_asked, slave_after, slave_after_request}
 use Rattle.dp_line.specs.Steps.{step, run, told_halted, unrecorded}
+use Rattle.dp_line.proofs.Asked.{asks_none, asks_one}
 use Rattle.dp_line.proofs.BusVerdict.{heard_by_slaves, reached_rule}
 use Rattle.dp_line.proofs.Hearings.{unanswered}
 use Rattle.dp_line.proofs.Events.{step_halted, step_refused, step_at_last_place, step_is_effect}
@@ -145,8 +146,8 @@ unfolding heard
 addressed world master octets slave telegram here spelt = record {
   one = λ one same.
       ap (option_and_then (asked_among world.slaves)) spelt
-      ∙ cond-false (is_to_all telegram) None (slave_at world (address_of telegram.da)) one ∙ ap (slave_at world) (sym same) ∙ here;
-  all = λ all. ap (option_and_then (asked_among world.slaves)) spelt ∙ cond-true (is_to_all telegram) None (slave_at world (address_of telegram.da)) all;
+      ∙ asks_one world.slaves telegram one ∙ ap (slave_at world) (sym same) ∙ here;
+  all = λ all. ap (option_and_then (asked_among world.slaves)) spelt ∙ asks_none world.slaves telegram all;
 }
 
 -- a slave that refuses a broadcast by its own rule

@@ -4,8 +4,6 @@ use Rattle.std.specs.Option.{option_and_then, option_eq, option_map_or}
 use Rattle.std.specs.List.{AllByRecursion, filter, list_any}
 use Rattle.dp_sap.specs.declared.state.State.{State}
 use Rattle.dp_sap.specs.declared.state.State.TheVariants.{WaitPrm}
-use Rattle.dp_telegram.specs.declared.frame.Telegram.{Telegram}
-use Rattle.dp_telegram.specs.Access.{address_of}
 use Rattle.dp_responder.specs.Memory.{MasterMemory}
 use Rattle.dp_responder.specs.declared.rule.Rule.{Rule}
 use Rattle.dp_prm.specs.declared.prm.Prm.{Prm}
@@ -18,7 +16,7 @@ use Rattle.dp_line.specs.declared.event.Outcome.TheVariants.{Spread, Released}
 use Rattle.dp_line.specs.declared.event.Step.{Step}
 use Rattle.dp_line.specs.World.{Ascend, World, slave_at}
 use Rattle.dp_line.specs.Events.{address_of_op}
-use Rattle.dp_line.specs.Hearing.{is_to_all, telegram_spelt}
+use Rattle.dp_line.specs.Hearing.{address_asked, telegram_spelt}
 use Rattle.dp_line.specs.Effects.{Stepped}
 use Rattle.dp_line.specs.Steps.{run, step}
 
@@ -94,10 +92,6 @@ pub record Agrees (master address : ℕ) (world other : World) : Type 0 where
 -- no halt is recorded instead of an event of the list
 abbrev pub MeetsNoLastPlace : World → List Event → Type 0
 MeetsNoLastPlace world events = AllByRecursion (λ answer. answer.halted ≡ None) (run world events).answers
-
--- the one address that a telegram is for, None where it is for all stations
-abbrev pub address_asked : Telegram → Option ℕ
-address_asked telegram = if is_to_all telegram then None else Some (address_of telegram.da)
 
 -- the address that an event is for alone
 abbrev pub address_of_event : Event → Option ℕ
