@@ -2,9 +2,13 @@
 #![tactic(auto)]
 
 mod book;
+#[cfg(test)]
+mod book_tests;
 mod checking;
 mod entry;
 mod fault;
+#[cfg(test)]
+mod fixtures;
 mod kinds;
 pub mod laws;
 mod packing;

@@ -1,4 +1,5 @@
 use crate::entry::Entry;
+use crate::fixtures::{STATUS_RECORD, TICK_RECORD, status, status_reply};
 use crate::records::Records;
 use arrayvec::ArrayVec;
 use dp_line::{Event, Op, Outcome, Rule};
@@ -8,26 +9,14 @@ use std::test::Fail;
 /// FDL status, first on a fresh line, and a tick of 10 units that lets nobody go.
 #[test]
 fn two_entries(rt: HostRuntime) -> Result<(), Fail> {
-    let status = Event::Request {
-        master: 1,
-        octets: ArrayVec::try_from([0x10, 0x05, 0x01, 0x49, 0x4F, 0x16].as_slice())?,
-    };
-    let told = Outcome::Reply {
-        octets: ArrayVec::try_from([0x10, 0x01, 0x05, 0x00, 0x06, 0x16].as_slice())?,
-        rule: Rule::Status,
-    };
+    let status = status()?;
+    let told = status_reply()?;
     let tick = Event::Operator(Op::Tick(10));
     let nobody = Outcome::Released(ArrayVec::new());
     let mut records = Records::with_places(rt.alloc(), 2)?;
     records.push(&status, &Some((State::WaitPrm, None)), &told);
     records.push(&tick, &None, &nobody);
-    let first = [
-        0x00, 0x14, 0x00, 0x01, 0x06, 0x10, 0x05, 0x01, 0x49, 0x4F, 0x16, 0x01, 0xFF, 0x00, 0x06,
-        0x10, 0x01, 0x05, 0x00, 0x06, 0x16, 0x0B,
-    ];
-    let second = [
-        0x00, 0x09, 0x04, 0x00, 0x00, 0x00, 0x0A, 0x00, 0xFF, 0x03, 0x00,
-    ];
+    let (first, second) = (STATUS_RECORD, TICK_RECORD);
     assert_eq!(rt; records.record(1), Some(first.as_slice()));
     assert_eq!(rt; records.record(2), Some(second.as_slice()));
     assert_eq!(rt; records.count(), 2);

@@ -1,11 +1,9 @@
-ghost use Rattle.std.specs.Prelude.{◌≡◌, ◌≤◌, IfOk, None};
-ghost use Rattle.dp_line.specs.World.{description_of, opening_fault};
-
 use super::*;
+use crate::fixtures::line;
 use crate::records::Records;
 use crate::writing::write_journal;
 use arrayvec::ArrayVec;
-use dp_line::{Device, Event, LineSpec, Op, Outcome, SlaveSpec};
+use dp_line::{Event, Op, Outcome};
 use std::alloc::{AllocError, Global};
 use std::io::{self, Write};
 use std::test::Fail;
@@ -18,36 +16,6 @@ const RUN: &str = "rack-audit 1 line 1
 4 req 1 6807076885817d3e3e21113116 | WaitCfg 1 | reply e5 Done
 5 req 1 6805056805015d1234a916 | DataExch 1 | reply 68050568010508aa550d16 Done
 ";
-
-/// Line 1 with masters 1 and 2 and a slave of two octets of inputs and of outputs at address 5.
-fn line(alloc: Global, capacity: u32) -> Result<LineSpec, AllocError>
-    requires least { 2 ≤ capacity }
-    requires most { capacity ≤ 65536 }
-    ensures { IfOk result (λ line. opening_fault (description_of line) ≡ None) }
-{
-    let mut masters = ArrayVec::new();
-    masters.push(1);
-    masters.push(2);
-    let mut cfg = ArrayVec::new();
-    cfg.push(0x21);
-    cfg.push(0x11);
-    let mut slaves = Vec::new(alloc);
-    slaves.push(SlaveSpec {
-        address: 5,
-        ident: 0x80A1,
-        cfg,
-        sync: true,
-        freeze: true,
-        user_max: 237,
-        device: Device::Still,
-    })?;
-    Ok(LineSpec {
-        number: 1,
-        capacity,
-        masters,
-        slaves,
-    })
-}
 
 #[test]
 fn run_is_accepted(rt: HostRuntime) -> Result<(), Fail> {
