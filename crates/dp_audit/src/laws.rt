@@ -1,4 +1,4 @@
-//! Laws of packed_entries entries: each is what an empty function ensures.
+//! Laws of packed entries: each is what an empty function ensures.
 
 ghost use Rattle.std.specs.Prelude.{◌≡◌, ◌+◌, ◌*◌, ◌≤◌, ℕ, List, [], ◌∷◌, ◌++◌, length, Some};
 ghost use Rattle.dp_audit.specs.declared.entry.Entry.{Entry};
