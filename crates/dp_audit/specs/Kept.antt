@@ -1,4 +1,4 @@
--- What is true of every book (own).
+-- What is true of every book (own). No public clause cites this module.
 use Rattle.std.specs.Prelude.{◌≡◌, ℕ, ◌≤◌, ◌<◌, true, false, List, length}
 use Rattle.std.specs.List.{list_all}
 use Rattle.dp_telegram.specs.Access.{is_station}

@@ -1,4 +1,4 @@
--- Entries, stored as their records and a table of where these begin (own).
+-- Entries, stored as their records and a table of where these begin (own). No public clause cites this module.
 use Rattle.std.specs.Prelude.{◌≡◌, ℕ, ◌+◌, ◌*◌, ◌≤◌, List, [], ◌∷◌, length, drop, Option, Some, None}
 use Rattle.std.specs.List.{AllByRecursion}
 use Rattle.dp_audit.specs.declared.entry.Entry.{Entry}

@@ -1,4 +1,5 @@
--- Entries read from packed records (own): each part gives its value and the octets behind it, and None where octets are none of its records.
+-- Entries read from packed records (own): each part gives its value and the octets behind it, and None where octets are none of its records. No
+-- public clause cites this module, but for `entry_in`.
 use Rattle.std.specs.Prelude.{ℕ, ◌+◌, ◌-◌, ◌*◌, ◌/◌, ◌%◌, ◌==◌, ◌&&◌, nat_le, Bool, if◌then◌else◌, List, [], ◌∷◌, length, take, drop, slice_get, Option, Some, None, option_map, option_and_then}
 use Rattle.std.specs.Borrow.{Bor}
 use Rattle.arrayvec.specs.ArrayVec.{ArrayVec}

@@ -75,7 +75,8 @@ impl Book {
     }
 
     /// Takes one event, and tells what came of it. The line's step is recorded: the event as an entry, or
-    /// at the last place the halt in its stead, or nothing where it is refused. It takes no memory.
+    /// at the last place the halt in its stead, or nothing where the line is halted or the event doesn't
+    /// fit. It takes no memory.
     pub fn take(&mut self, event: Event) -> Receipt
         ensures receipt { result ≡ receipt_of event (step_of self.old.state.world event).answer }
         ensures journal { self.new ≡ taken self.old event }

@@ -1,4 +1,4 @@
-//! Laws of audit texts: each is what an empty function ensures.
+//! Laws of audit texts: each is what a function that does nothing ensures.
 
 ghost use Rattle.std.specs.Prelude.{◌≡◌, ℕ, List, length, Ok, Err, None};
 ghost use Rattle.std.specs.List.{AllByRecursion};

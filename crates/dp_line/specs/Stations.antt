@@ -1,5 +1,5 @@
 -- How the stations of a line are kept: slaves by their index, and the lists of the masters threaded through them. No public clause
--- cites this module.
+-- cites this module, but for `HaveMasters`.
 use Rattle.std.specs.Prelude.{◌≡◌, ◌≢◌, ℕ, zero, suc, ◌+◌, ◌≤◌, ◌<◌, ◌==◌, nat_eq, Bool, true, false, if◌then◌else◌, List, [], ◌∷◌, length, map, Option, Some, None, IfSome, option_map, slice_get, slice_set, slice_index_or, position}
 use Rattle.std.specs.Option.{option_and_then, option_eq}
 use Rattle.std.specs.List.{AllByRecursion, list_any}

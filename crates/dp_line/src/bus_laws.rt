@@ -1,4 +1,4 @@
-//! Laws of a line in the bus's own words: each is what an empty function ensures.
+//! Laws of a line in the bus's own words: each is what a function that does nothing ensures.
 
 ghost use Rattle.std.specs.Prelude.{◌≡◌, ◌≢◌, ℕ, List, None, Some, is_some, true};
 ghost use Rattle.std.specs.List.{AllByRecursion};

@@ -93,7 +93,7 @@ impl LineState {
 
     /// Takes one event, and writes the answer where one lies.
     ///
-    /// It is [`LineState::take`] that moves no answer, which costs the copy of 376 octets.
+    /// It does what [`LineState::take`] does, and spares the copy of the answer, 376 octets.
     pub fn take_to(&mut self, event: &Event, answer: &mut Step)
         ensures world { self.new.world ≡ (step self.old.world event.now).world }
         ensures answer { answer.new ≡ (step self.old.world event.now).answer }

@@ -34,7 +34,7 @@ pub fn encode(frame: &Frame) -> Octets
 
 /// Makes a text that of the short acknowledgement.
 ///
-/// It is [`encode`] that moves no text, which costs the copy of 264 octets each time.
+/// It does what [`encode`] does, and spares the copy of the text, 264 octets.
 pub fn acknowledge_to(text: &mut Octets)
     ensures { text.new.items ≡ text_of frames.Ack }
 {

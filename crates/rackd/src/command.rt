@@ -70,7 +70,7 @@ fn by_first_word<'a>(mut words: Words<'a>) -> Option<Command<'a>>
     Some(Command::Operate { kind: first, words })
 }
 
-/// The audit text, which no other word asks for.
+/// The audit text; no other word may stand behind it.
 fn journal<'a>(words: &mut Words<'a>) -> Option<Command<'a>>
     ensures { option_and_then command_view result ≡ journal_of words.old }
 {

@@ -1,4 +1,4 @@
-//! A line in use: its number in the rack, and the streams of its masters.
+//! A line in use: its journal, and the streams of its masters.
 
 ghost use Rattle.std.specs.Prelude.{◌≡◌, ◌≤◌, ◌==◌, length, None, map, position, IfOk, OnOk, OnErr, IfErr};
 ghost use Rattle.std.specs.Io.KnownBytes.{Appends};
