@@ -77,30 +77,6 @@ show 5 DataExch 1 in aa55 out 1234 wd 1
 }
 
 #[test]
-fn halt_at_last_place(rt: HostRuntime) -> Result<(), Fail> {
-    // what does not fit is refused before the last place is looked at, and takes none
-    let script = format!(in rt.alloc();
-        "\
-{SLAVE_DIAG}in 9 aa
-{SLAVE_DIAG}{SLAVE_DIAG}tick 1
-"
-    )?;
-    let rack = rack_of(rt.alloc(), 2, &[5])?;
-    plays_on(
-        rt.alloc(),
-        &rack,
-        &script,
-        "\
-1: reply 680b0b688185083e3c020500ff80a1af16 Done
-refused NoStation
-1: silence Halted
-1: silence Halted
-refused Halted
-",
-    )
-}
-
-#[test]
 fn halt_of_the_operator(rt: HostRuntime) -> Result<(), Fail> {
     plays_after_a(
         rt.alloc(),
