@@ -2,12 +2,14 @@
 use Rattle.std.proofs.Common.{◌≡◌, ℕ, ◌+◌, ◌<◌, Bool, true, false, cond, List, [], ◌∷◌, ◌++◌, Option, Some, None, refl, sym, ap, subst, ◌∙◌, length-append, append-nil, arith}
 use Rattle.std.specs.List.{list_all}
 use Rattle.dp_telegram.specs.Access.{is_station}
-use Rattle.std.specs.Prelude.{◌&&◌, not, nat_le, IfSome, Result, Ok, Err}
+use Rattle.std.specs.Prelude.{◌&&◌, not, nat_le, IfSome, Result, Ok, Err, option_map}
 use Rattle.std.proofs.lemmas.Bool.Decides.{nat_tests}
 use Rattle.arrayvec.specs.ArrayVec.{ArrayVec}
 use Rattle.dp_line.specs.declared.event.Event.{Event}
 use Rattle.dp_line.specs.declared.event.Event.TheVariants.{Operator}
+use Rattle.dp_line.specs.declared.event.Op.{Op}
 use Rattle.dp_line.specs.declared.event.Op.TheVariants.{Halt}
+use Rattle.dp_line.specs.declared.event.Outcome.{Outcome}
 use Rattle.dp_line.specs.declared.event.Outcome.TheVariants.{Released}
 use Rattle.dp_line.specs.declared.event.Step.{Step}
 use Rattle.dp_line.specs.declared.fault.OperatorFault.{OperatorFault}
@@ -15,23 +17,16 @@ use Rattle.dp_line.specs.declared.fault.OpenFault.{OpenFault}
 use Rattle.dp_line.specs.declared.fault.OpenFault.TheVariants.{Limit}
 use Rattle.dp_line.specs.World.{Description, World, is_last_place, is_within_limits, opening_fault, start_of}
 use Rattle.dp_line.specs.Events.{misfit}
-use Rattle.dp_line.specs.Effects.{Stepped, effect, facts_of, held_addresses, outcome_of}
+use Rattle.dp_line.specs.Effects.{Stepped, effect, facts_of, halted_world, held_addresses, outcome_of}
 use Rattle.dp_line.specs.Steps.{step, step_by_fit, told_halted, unrecorded}
 use Rattle.dp_audit.specs.declared.entry.Entry.{Entry}
 use Rattle.dp_line.specs.Walk.{LineRecord, walk_after}
-use Rattle.dp_audit.specs.Journal.{Journal, added, added_by_fit, entry_of, taken, told, told_at, told_unplaced}
+use Rattle.dp_audit.specs.Journal.{Journal, added, added_by_fit, entry_of, taken}
 use Rattle.dp_audit.specs.Legal.{Follows, IsLegal, after_entries, after_entry}
 use Rattle.dp_audit.specs.Kept.{Kept}
+use Rattle.dp_audit.specs.Ways.{Way, meets_halt, is_refused, brings_halt, is_recorded}
 
 -- ---- the ways of a step
-
--- a step ends in one of three ways: nothing changes, the halt is recorded, or the event
-pub data Way (world : World) (event : Event) : Type 0 where
-  stays : (step world event).world ≡ world → (step world event).answer.place ≡ None → (step world event).answer.halted ≡ None → added world event ≡ [] → Way world event
-  halts : (step world event).world ≡ (effect world (Operator Halt)).world → (step world event).answer.place ≡ None
-      → (step world event).answer.halted ≡ Some (record { items = held_addresses world }) → added world event ≡ entry_of world (Operator Halt) ∷ []
-      → Follows world (entry_of world (Operator Halt)) → Way world event
-  goes : step world event ≡ effect world event → added world event ≡ entry_of world event ∷ [] → is_last_place world ≡ false → Follows world (entry_of world event) → Way world event
 
 step_cond : (world : World) (event : Event) (b : Bool) → world.halted ≡ b
     → step world event ≡ cond b (record { world = world; answer = unrecorded (told_halted event) None }) (step_by_fit world event (misfit world event))
@@ -46,46 +41,74 @@ added_cond world event b is = ap (λ b. cond b [] (added_by_fit world event (mis
 by_last : (world : World) (event : Event) (last : Bool) → world.halted ≡ false → misfit world event ≡ None → is_last_place world ≡ last → Way world event
 by_last world event true running fits is =
     let taken = step_cond world event false running ∙ ap (step_by_fit world event) fits
-    ∙ ap (λ b. cond b (record { world = (effect world (Operator Halt)).world; answer = unrecorded (told_halted event) (Some (held_addresses world)) }) (effect world event)) is in
+    ∙ ap (λ b. cond b (record { world = halted_world world; answer = unrecorded (told_halted event) (Some (held_addresses world)) }) (effect world event)) is in
     let more = added_cond world event false running ∙ ap (added_by_fit world event) fits ∙ ap (λ b. entry_of world (cond b (Operator Halt) event) ∷ []) is in
-    halts (ap (λ (s : Stepped). s.world) taken) (ap (λ (s : Stepped). s.answer.place) taken) (ap (λ (s : Stepped). s.answer.halted) taken) more
+    brings_halt is taken more
     (record { place = refl; running = running; fits = refl; halts_at_last = λ _. refl; facts = refl; outcome = refl })
 by_last world event false running fits is =
     let taken = step_cond world event false running ∙ ap (step_by_fit world event) fits
-    ∙ ap (λ b. cond b (record { world = (effect world (Operator Halt)).world; answer = unrecorded (told_halted event) (Some (held_addresses world)) }) (effect world event)) is in
+    ∙ ap (λ b. cond b (record { world = halted_world world; answer = unrecorded (told_halted event) (Some (held_addresses world)) }) (effect world event)) is in
     let more = added_cond world event false running ∙ ap (added_by_fit world event) fits ∙ ap (λ b. entry_of world (cond b (Operator Halt) event) ∷ []) is in
-    goes taken more is
+    is_recorded is taken more
     (record { place = refl; running = running; fits = fits; halts_at_last = λ l. (let t : true ≡ false = sym l ∙ is in cc); facts = refl; outcome = refl })
 
 by_fit : (world : World) (event : Event) (fault : Option OperatorFault) → world.halted ≡ false → misfit world event ≡ fault → Way world event
 by_fit world event (Some fault) running is =
-    let taken = step_cond world event false running ∙ ap (step_by_fit world event) is in
-    stays (ap (λ (s : Stepped). s.world) taken) (ap (λ (s : Stepped). s.answer.place) taken) (ap (λ (s : Stepped). s.answer.halted) taken)
+    is_refused fault running is (step_cond world event false running ∙ ap (step_by_fit world event) is)
     (added_cond world event false running ∙ ap (added_by_fit world event) is)
 by_fit world event None running is = by_last world event (is_last_place world) running is refl
 
 by_halted : (world : World) (event : Event) (halted : Bool) → world.halted ≡ halted → Way world event
-by_halted world event true is =
-    let taken = step_cond world event true is in
-    stays (ap (λ (s : Stepped). s.world) taken) (ap (λ (s : Stepped). s.answer.place) taken) (ap (λ (s : Stepped). s.answer.halted) taken) (added_cond world event true is)
+by_halted world event true is = meets_halt is (step_cond world event true is) (added_cond world event true is)
 by_halted world event false is = by_fit world event (misfit world event) is refl
 
 pub way : (world : World) (event : Event) → Way world event
 way world event = by_halted world event world.halted refl
 
+-- what doesn't fit leaves the journal
+same_journal : (journal : Journal) (op : Op) (entries : List Entry) (world : World) → entries ≡ journal.entries → world ≡ journal.state.world
+    → record journal { entries = entries; state = record { world = world; last_walk = journal.state.last_walk } } ≡ journal
+same_journal journal op entries world e w = rw (e, w) refl
+
+pub refused_leaves : (journal : Journal) (op : Op) (fault : OperatorFault) → journal.state.world.halted ≡ false → misfit journal.state.world (Operator op) ≡ Some fault → taken journal (Operator op) ≡ journal
+unfolding taken
+refused_leaves journal op fault running misfits =
+    let world = journal.state.world in
+    same_journal journal op _ _
+    (ap (λ (l : List Entry). journal.entries ++ l) (added_cond world (Operator op) false running ∙ ap (added_by_fit world (Operator op)) misfits) ∙ append-nil journal.entries)
+    (ap (λ (s : Stepped). s.world) (step_cond world (Operator op) false running ∙ ap (step_by_fit world (Operator op)) misfits))
+
 -- ---- what a step adds, by its answer
+
+-- by the answer of a step, at the next place: the event where it has one, or the halt that was recorded in its stead, or nothing
+abbrev pub told_unplaced : ℕ → Option (ArrayVec ℕ) → List Entry
+told_unplaced next (Some addresses) = record { place = next; event = Operator Halt; facts = None; outcome = Released addresses } ∷ []
+told_unplaced next None = []
+
+abbrev pub told_at : Event → Step → ℕ → Option ℕ → List Entry
+told_at event answer next (Some place) = record { place = next; event = event; facts = answer.facts; outcome = answer.outcome } ∷ []
+told_at event answer next None = told_unplaced next answer.halted
+
+abbrev pub told : ℕ → Event → Step → List Entry
+told next event answer = told_at event answer next answer.place
 
 halt_entry : (world : World) → entry_of world (Operator Halt) ≡ record { place = world.count + 1; event = Operator Halt; facts = None; outcome = Released (record { items = held_addresses world }) }
 unfolding facts_of outcome_of
 halt_entry world = refl
 
+-- what an answer without a place tells
+told_no_place : (world : World) (event : Event) (addresses : Option (List ℕ)) (outcome : Outcome) (left : World)
+    → step world event ≡ record { world = left; answer = unrecorded outcome addresses }
+    → told (world.count + 1) event (step world event).answer ≡ told_unplaced (world.count + 1) (option_map (λ items. record { items = items }) addresses)
+told_no_place world event addresses outcome left is = ap (λ (s : Stepped). told (world.count + 1) event s.answer) is
+
 told_way : (world : World) (event : Event) → Way world event → added world event ≡ told (world.count + 1) event (step world event).answer
 unfolding effect
-told_way world event (stays same place halted none) =
-    none ∙ sym (ap (told_at event (step world event).answer (world.count + 1)) place ∙ ap (told_unplaced (world.count + 1)) halted)
-told_way world event (halts left place halted one follows) =
-    one ∙ ap (λ e. e ∷ []) (halt_entry world) ∙ sym (ap (told_at event (step world event).answer (world.count + 1)) place ∙ ap (told_unplaced (world.count + 1)) halted)
-told_way world event (goes taken one room follows) = one ∙ sym (ap (λ (s : Stepped). told (world.count + 1) event s.answer) taken)
+told_way world event (meets_halt halted is none) = none ∙ sym (told_no_place world event None _ world is)
+told_way world event (is_refused fault running misfits is none) = none ∙ sym (told_no_place world event None _ world is)
+told_way world event (brings_halt last is one follows) =
+    one ∙ ap (λ e. e ∷ []) (halt_entry world) ∙ sym (told_no_place world event (Some (held_addresses world)) _ _ is)
+told_way world event (is_recorded room is one follows) = one ∙ sym (ap (λ (s : Stepped). told (world.count + 1) event s.answer) is)
 
 pub added_told : (world : World) (event : Event) → added world event ≡ told (world.count + 1) event (step world event).answer
 added_told world event = told_way world event (way world event)
@@ -131,19 +154,27 @@ one_more opening world after entries places entry kept follows is more =
 place_left : (world : World) → is_last_place world ≡ false → world.count + 1 < world.places
 place_left world room = grind (arith, nat_tests)
 
+-- nothing is added
+none_more : (opening world after : World) (entries more : List Entry) (places : ℕ) → Kept opening world entries places → after ≡ world → more ≡ []
+    → Kept opening after (entries ++ more) places
+none_more opening world after entries more places kept same none =
+    subst (λ w. Kept opening w (entries ++ more) places) (sym same)
+    (subst (λ l. Kept opening world l places) (sym (ap (λ (l : List Entry). entries ++ l) none ∙ append-nil entries)) kept)
+
 kept_way : (opening world : World) (entries : List Entry) (places : ℕ) (event : Event) → Kept opening world entries places → Way world event
     → Kept opening (step world event).world (entries ++ added world event) places
 unfolding effect
-kept_way opening world entries places event kept (stays same place halted none) =
-    subst (λ w. Kept opening w (entries ++ added world event) places) (sym same)
-    (subst (λ l. Kept opening world l places) (sym (ap (λ (l : List Entry). entries ++ l) none ∙ append-nil entries)) kept)
-kept_way opening world entries places event kept (halts left place halted one follows) =
+kept_way opening world entries places event kept (meets_halt halted is none) =
+    none_more opening world _ entries _ places kept (ap (λ (s : Stepped). s.world) is) none
+kept_way opening world entries places event kept (is_refused fault running misfits is none) =
+    none_more opening world _ entries _ places kept (ap (λ (s : Stepped). s.world) is) none
+kept_way opening world entries places event kept (brings_halt last is one follows) =
     subst (λ l. Kept opening (step world event).world (entries ++ l) places) (sym one)
-    (one_more opening world (step world event).world entries places (entry_of world (Operator Halt)) kept follows left
-    (λ on. (let t : true ≡ false = sym (ap (λ (w : World). w.halted) left) ∙ on in cc)))
-kept_way opening world entries places event kept (goes taken one room follows) =
+    (one_more opening world (step world event).world entries places (entry_of world (Operator Halt)) kept follows (ap (λ (s : Stepped). s.world) is)
+    (λ on. (let t : true ≡ false = sym (ap (λ (s : Stepped). s.world.halted) is) ∙ on in cc)))
+kept_way opening world entries places event kept (is_recorded room is one follows) =
     subst (λ l. Kept opening (step world event).world (entries ++ l) places) (sym one)
-    (one_more opening world (step world event).world entries places (entry_of world event) kept follows (ap (λ (s : Stepped). s.world) taken)
+    (one_more opening world (step world event).world entries places (entry_of world event) kept follows (ap (λ (s : Stepped). s.world) is)
     (λ _. place_left world room))
 
 pub kept_taken : (opening world : World) (entries : List Entry) (places : ℕ) (event : Event) → Kept opening world entries places
@@ -164,34 +195,46 @@ taken_is before event state world walk = ap (λ (s : LineRecord). record before 
 
 -- ---- what the answer of a step tells
 
-pub record IsRecorded (world : World) (event : Event) (answer : Step) : Type 0 where
+pub record IsEntered (world : World) (event : Event) (answer : Step) : Type 0 where
   pub running : world.halted ≡ false
   pub fits : misfit world event ≡ None
   pub facts : answer.facts ≡ facts_of world event
   pub outcome : answer.outcome ≡ outcome_of world event
   pub adds : added world event ≡ record { place = world.count + 1; event = event; facts = answer.facts; outcome = answer.outcome } ∷ []
 
-by_way : (world : World) (event : Event) (place : ℕ) → Way world event → (step world event).answer.place ≡ Some place → IsRecorded world event (step world event).answer
+-- an answer without a place has none
+no_place : (world : World) (event : Event) (place : ℕ) (left : World) (outcome : Outcome) (addresses : Option (List ℕ)) {X : Type 0}
+    → step world event ≡ record { world = left; answer = unrecorded outcome addresses } → (step world event).answer.place ≡ Some place → X
+no_place world event place left outcome addresses is placed = (let no : None ≡ Some place = sym (ap (λ (s : Stepped). s.answer.place) is) ∙ placed in absurd cc)
+
+by_way : (world : World) (event : Event) (place : ℕ) → Way world event → (step world event).answer.place ≡ Some place → IsEntered world event (step world event).answer
 unfolding effect
-by_way world event place (stays same none halted nothing) is = absurd cc
-by_way world event place (halts left none halted one follows) is = absurd cc
-by_way world event place (goes taken one room follows) is = record {
+by_way world event place (meets_halt halted is none) placed = no_place world event place _ _ None is placed
+by_way world event place (is_refused fault running misfits is none) placed = no_place world event place _ _ None is placed
+by_way world event place (brings_halt last is one follows) placed = no_place world event place _ _ (Some (held_addresses world)) is placed
+by_way world event place (is_recorded room is one follows) placed = record {
   running = follows.running;
   fits = follows.fits;
-  facts = ap (λ (s : Stepped). s.answer.facts) taken;
-  outcome = ap (λ (s : Stepped). s.answer.outcome) taken;
-  adds = added_told world event ∙ ap (told_at event (step world event).answer (world.count + 1)) is;
+  facts = ap (λ (s : Stepped). s.answer.facts) is;
+  outcome = ap (λ (s : Stepped). s.answer.outcome) is;
+  adds = added_told world event ∙ ap (told_at event (step world event).answer (world.count + 1)) placed;
 }
 
-pub is_recorded : (world : World) (event : Event) (answer : Step) (place : ℕ) → answer ≡ (step world event).answer → answer.place ≡ Some place → IsRecorded world event answer
-is_recorded world event answer place is placed =
-    subst (IsRecorded world event) (sym is) (by_way world event place (way world event) (sym (ap (λ (a : Step). a.place) is) ∙ placed))
+pub entered : (world : World) (event : Event) (answer : Step) (place : ℕ) → answer ≡ (step world event).answer → answer.place ≡ Some place → IsEntered world event answer
+entered world event answer place is placed =
+    subst (IsEntered world event) (sym is) (by_way world event place (way world event) (sym (ap (λ (a : Step). a.place) is) ∙ placed))
+
+-- an answer that tells no halt tells none
+no_halt : (world : World) (event : Event) (addresses : ArrayVec ℕ) (stepped : Stepped) {X : Type 0}
+    → step world event ≡ stepped → stepped.answer.halted ≡ None → (step world event).answer.halted ≡ Some addresses → X
+no_halt world event addresses stepped is none told = (let no : None ≡ Some addresses = sym none ∙ sym (ap (λ (s : Stepped). s.answer.halted) is) ∙ told in absurd cc)
 
 halt_way : (world : World) (event : Event) (addresses : ArrayVec ℕ) → Way world event → (step world event).answer.halted ≡ Some addresses → world.halted ≡ false
 unfolding effect
-halt_way world event addresses (stays same none halted nothing) is = absurd cc
-halt_way world event addresses (halts left none halted one follows) is = follows.running
-halt_way world event addresses (goes taken one room follows) is = (let no : None ≡ Some addresses = sym (ap (λ (s : Stepped). s.answer.halted) taken) ∙ is in absurd cc)
+halt_way world event addresses (meets_halt halted is none) told = no_halt world event addresses _ is refl told
+halt_way world event addresses (is_refused fault running misfits is none) told = running
+halt_way world event addresses (brings_halt last is one follows) told = follows.running
+halt_way world event addresses (is_recorded room is one follows) told = follows.running
 
 pub was_running : (world : World) (event : Event) (answer : Step) (addresses : ArrayVec ℕ) → answer ≡ (step world event).answer → answer.halted ≡ Some addresses → world.halted ≡ false
 was_running world event answer addresses is halted = halt_way world event addresses (way world event) (sym (ap (λ (a : Step). a.halted) is) ∙ halted)

@@ -3,8 +3,6 @@ use Rattle.std.specs.Prelude.{ℕ, ◌+◌, if◌then◌else◌, List, [], ◌�
 use Rattle.dp_line.specs.declared.event.Event.{Event}
 use Rattle.dp_line.specs.declared.event.Event.TheVariants.{Operator}
 use Rattle.dp_line.specs.declared.event.Op.TheVariants.{Halt}
-use Rattle.arrayvec.specs.ArrayVec.{ArrayVec}
-use Rattle.dp_line.specs.declared.event.Outcome.TheVariants.{Released}
 use Rattle.dp_line.specs.declared.event.Step.{Step}
 use Rattle.dp_line.specs.declared.fault.OperatorFault.{OperatorFault}
 use Rattle.dp_line.specs.World.{World, Description, is_last_place, start_of}
@@ -56,15 +54,3 @@ taken journal event = record journal {
 -- what is told of an event is the answer of the line's step
 abbrev pub receipt_of : Event → Step → Receipt
 receipt_of event answer = record { place = answer.place; event = event; facts = answer.facts; outcome = answer.outcome }
-
--- the same by the answer of a step, at the next place: the event where it has one, or the halt that was recorded in its stead, or nothing
-abbrev pub told_unplaced : ℕ → Option (ArrayVec ℕ) → List Entry
-told_unplaced next (Some addresses) = record { place = next; event = Operator Halt; facts = None; outcome = Released addresses } ∷ []
-told_unplaced next None = []
-
-abbrev pub told_at : Event → Step → ℕ → Option ℕ → List Entry
-told_at event answer next (Some place) = record { place = next; event = event; facts = answer.facts; outcome = answer.outcome } ∷ []
-told_at event answer next None = told_unplaced next answer.halted
-
-abbrev pub told : ℕ → Event → Step → List Entry
-told next event answer = told_at event answer next answer.place

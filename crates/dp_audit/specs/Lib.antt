@@ -1,6 +1,7 @@
 pub mod Codes
 pub mod Journal
 pub mod Legal
+pub mod Ways
 pub mod Packed
 pub mod Unpacked
 pub mod AuditText

@@ -117,6 +117,13 @@ impl Book {
         self.records.count()
     }
 
+    /// How many entries there may be: the last place, 2 to 65,536, which is the halt's.
+    pub fn places(&self) -> u32
+        ensures { result ≡ self.now.opening.places }
+    {
+        self.records.places()
+    }
+
     /// The entry at a place; None exactly where the place isn't one from 1 to [`Book::count`].
     pub fn entry(&self, place: u32) -> Option<Entry>
         ensures { result ≡ entry_at self.now.entries place }

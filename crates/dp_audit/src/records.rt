@@ -76,6 +76,13 @@ impl Records {
         self.starts.len() as u32
     }
 
+    /// For how many entries there is room.
+    pub(crate) fn places(&self) -> u32
+        ensures { result ≡ self.now.places }
+    {
+        self.places
+    }
+
     /// The entry at a place.
     pub(crate) fn entry(&self, place: u32) -> Option<Entry>
         ensures { result ≡ entry_at self.now.entries place }

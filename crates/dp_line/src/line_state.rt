@@ -1,6 +1,7 @@
 //! A line: its masters, its slaves and the places of its journal.
 
-ghost use Rattle.std.specs.Prelude.{◌≡◌, false, None, Some, IfSome, MatchResult, option_map};
+ghost use Rattle.std.specs.Prelude.{◌≡◌, ◌==◌, false, None, Some, IfSome, MatchResult, option_map};
+ghost use Rattle.std.specs.List.{list_any};
 ghost use Rattle.dp_slave.specs.View.{view_of};
 ghost use Rattle.dp_line.specs.World.{description_of, opening_fault, slave_at, takes_no_more};
 ghost use Rattle.dp_line.specs.Owned.{owned};
@@ -126,6 +127,13 @@ impl LineState {
         ensures { result ≡ self.now.world.halted }
     {
         self.halted
+    }
+
+    /// The address is a master's.
+    pub fn is_master(&self, address: u8) -> bool
+        ensures { result ≡ list_any (λ master. master == address) self.now.world.masters }
+    {
+        self.stations.has_master(address)
     }
 
     /// The addresses of the slaves that a master holds, oldest lock first; none for an address that is
