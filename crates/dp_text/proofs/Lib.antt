@@ -6,6 +6,8 @@ pub mod HexSpellings
 pub mod Numerals
 pub mod ReadBack
 pub mod ReadExactly
+pub mod Cases
+pub mod LinesRead
 pub mod HexPairs
 pub mod Writing
 pub mod Limits

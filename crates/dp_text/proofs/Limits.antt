@@ -22,13 +22,13 @@ use Rattle.dp_text.proofs.ReadExactly.{some_by, some_same, row, from_halt, from_
 
 -- ---- numbers and octets
 
-number_within : (most : ℕ) (word : List ℕ) (number : ℕ) → number_to most word ≡ Some number → number ≤ most
+pub number_within : (most : ℕ) (word : List ℕ) (number : ℕ) → number_to most word ≡ Some number → number ≤ most
 number_within most word number e =
     let (test, is) = some_by (is_plain_decimal word && leb (digits_value 10 word) most) (digits_value 10 word) number e in
     let within = leb-true (digits_value 10 word) most (and_parts (is_plain_decimal word) (leb (digits_value 10 word) most) test).1 in
     omega (arith, is, within)
 
-octet_within : (word : List ℕ) (number : ℕ) → octet_number word ≡ Some number → number < 256
+pub octet_within : (word : List ℕ) (number : ℕ) → octet_number word ≡ Some number → number < 256
 octet_within word number e = let within = number_within 255 word number e in omega arith
 
 few : (most : ℕ) (read : Option (List ℕ)) (octets : List ℕ) → option_and_then (octets_within most) read ≡ Some octets → (length octets ≤ most) × (read ≡ Some octets)
@@ -47,7 +47,7 @@ are_bytes word octets e = elim (cases_eq (length word) 0) [
 no_octets : (most : ℕ) → AreOctets most []
 no_octets most = (omega arith, λ i. omega arith)
 
-octets_within_limits : (most : ℕ) (word octets : List ℕ) → event_octets Lower most word ≡ Some octets → AreOctets most octets
+pub octets_within_limits : (most : ℕ) (word octets : List ℕ) → event_octets Lower most word ≡ Some octets → AreOctets most octets
 octets_within_limits most word octets e = elim (cases_Bool (same_text word (codes "-"))) [
   | inl dash ↦
       let none : [] ≡ octets = some_same (sym (cond-true (same_text word (codes "-")) (Some []) (cond (list_any is_ascii_uppercase word) None (octets_up_to most word)) dash) ∙ e) in
@@ -62,7 +62,7 @@ octets_within_limits most word octets e = elim (cases_Bool (same_text word (code
       ]
 ]
 
-point_within : (word : List ℕ) (point : Option ℕ) → point_of word ≡ Some point → IfSome point (λ number. number < 256)
+pub point_within : (word : List ℕ) (point : Option ℕ) → point_of word ≡ Some point → IfSome point (λ number. number < 256)
 point_within word None e = tt
 point_within word (Some number) e = elim (cases_Bool (same_text word (codes "default"))) [
   | inl same ↦ absurd (let o = sym (cond-true (same_text word (codes "default")) (Some None) (option_map Some (octet_number word)) same) ∙ e in cc)

@@ -62,15 +62,15 @@ both a b x y = rw (x, y) refl
 neither : (a b : Bool) → a ≡ false → b ≡ false → (a || b) ≡ false
 neither a b x y = rw (x, y) refl
 
-never : (a : Bool) → (a && false) ≡ false
+pub never : (a : Bool) → (a && false) ≡ false
 never true = refl
 never false = refl
 
 -- no space, and no capital letter
-abbrev is_written : ℕ → Bool
+abbrev pub is_written : ℕ → Bool
 is_written octet = not (octet == 32) && not (is_ascii_uppercase octet)
 
-abbrev all_written : List ℕ → Bool
+abbrev pub all_written : List ℕ → Bool
 all_written [] = true
 all_written (octet ∷ octets) = is_written octet && all_written octets
 
@@ -88,7 +88,7 @@ hex_is_written (octet ∷ octets) =
     both (is_written (slice_index lower_digits (octet / 16))) (is_written (slice_index lower_digits (octet % 16)) && all_written (encode_lower octets)) high
     (both (is_written (slice_index lower_digits (octet % 16))) (all_written (encode_lower octets)) low (hex_is_written octets))
 
-text_is_written : (octets : List ℕ) → all_written (octets_text octets) ≡ true
+pub text_is_written : (octets : List ℕ) → all_written (octets_text octets) ≡ true
 text_is_written [] = refl
 text_is_written (octet ∷ octets) = hex_is_written (octet ∷ octets)
 
@@ -118,7 +118,7 @@ digits_read most octet octets few bytes =
     ap (option_and_then (octets_within most)) (cond-false (length word == 0) None (result_ok (decode_of word)) filled ∙ ap result_ok (decode_of-encode_lower (octet ∷ octets) bytes))
     ∙ cond-true (leb (length (octet ∷ octets)) most) (Some (octet ∷ octets)) None (le-leb (length (octet ∷ octets)) most few)
 
-octets_read : (most : ℕ) (octets : List ℕ) → AreOctets most octets → event_octets Lower most (octets_text octets) ≡ Some octets
+pub octets_read : (most : ℕ) (octets : List ℕ) → AreOctets most octets → event_octets Lower most (octets_text octets) ≡ Some octets
 octets_read most [] are = refl
 octets_read most (octet ∷ octets) are =
     let word = encode_lower (octet ∷ octets) in
@@ -128,7 +128,7 @@ octets_read most (octet ∷ octets) are =
 
 -- ---- flags, points and states
 
-flags_are_written : (ext stat overflow : Bool) → all_written (flags_text ext stat overflow) ≡ true
+pub flags_are_written : (ext stat overflow : Bool) → all_written (flags_text ext stat overflow) ≡ true
 flags_are_written false false false = refl
 flags_are_written false false true = refl
 flags_are_written false true false = refl
@@ -138,7 +138,7 @@ flags_are_written true false true = refl
 flags_are_written true true false = refl
 flags_are_written true true true = refl
 
-flags_read : (ext stat overflow : Bool) → flags_of (flags_text ext stat overflow) ≡ Some (ext, stat, overflow)
+pub flags_read : (ext stat overflow : Bool) → flags_of (flags_text ext stat overflow) ≡ Some (ext, stat, overflow)
 flags_read false false false = refl
 flags_read false false true = refl
 flags_read false true false = refl
@@ -182,16 +182,16 @@ point_read (Some number) small =
 
 -- ---- words
 
-IsWord : List ℕ → Type 0
+unfoldable pub IsWord : List ℕ → Type 0
 IsWord word = All (λ octet. (octet == 32) ≡ false) word
 
-number_is_word : (number : ℕ) → number < 2 ^ 64 → IsWord (decimal number)
+pub number_is_word : (number : ℕ) → number < 2 ^ 64 → IsWord (decimal number)
 unfolding IsWord
 number_is_word number small = λ k d within.
     let other = not_in_digits own (decimal number) 32 (digits_decimal own number small) (λ range. omega (arith, range)) k within in
     ne_eqb (get_or (decimal number) k d) 32 (λ e. other (get_or_default (decimal number) k 0 d within ∙ e))
 
-written_is_word : (word : List ℕ) → all_written word ≡ true → IsWord word
+pub written_is_word : (word : List ℕ) → all_written word ≡ true → IsWord word
 unfolding IsWord
 written_is_word word all = no_space word all
 
@@ -199,11 +199,11 @@ point_is_word : (point : Option ℕ) → IfSome point (λ number. number < 256) 
 point_is_word None small = written_is_word (codes "default") refl
 point_is_word (Some number) small = number_is_word number (omega arith)
 
-last_word : (word : List ℕ) → IsWord word → words_of word ≡ word ∷ []
+pub last_word : (word : List ℕ) → IsWord word → words_of word ≡ word ∷ []
 unfolding IsWord
 last_word word is = slice_split_none (λ octet. octet == 32) word is
 
-next_word : (word rest : List ℕ) → IsWord word → words_of (word ++ 32 ∷ rest) ≡ word ∷ words_of rest
+pub next_word : (word rest : List ℕ) → IsWord word → words_of (word ++ 32 ∷ rest) ≡ word ∷ words_of rest
 unfolding IsWord
 next_word word rest is = slice_split_at (λ octet. octet == 32) word 32 rest is refl
 
@@ -213,11 +213,11 @@ two_joined a b = append_assoc a (32 ∷ []) b
 pub three_joined : (a b c : List ℕ) → (((a ++ 32 ∷ []) ++ b) ++ 32 ∷ []) ++ c ≡ a ++ 32 ∷ (b ++ 32 ∷ c)
 three_joined a b c = two_joined ((a ++ 32 ∷ []) ++ b) c ∙ append_assoc (a ++ 32 ∷ []) b (32 ∷ c) ∙ two_joined a (b ++ 32 ∷ c)
 
-two_words : (a b : List ℕ) → IsWord a → IsWord b → words_of ((a ++ 32 ∷ []) ++ b) ≡ a ∷ b ∷ []
+pub two_words : (a b : List ℕ) → IsWord a → IsWord b → words_of ((a ++ 32 ∷ []) ++ b) ≡ a ∷ b ∷ []
 two_words a b first second =
     ap words_of (two_joined a b) ∙ next_word a b first ∙ ap (λ words. a ∷ words) (last_word b second)
 
-three_words : (a b c : List ℕ) → IsWord a → IsWord b → IsWord c → words_of ((((a ++ 32 ∷ []) ++ b) ++ 32 ∷ []) ++ c) ≡ a ∷ b ∷ c ∷ []
+pub three_words : (a b c : List ℕ) → IsWord a → IsWord b → IsWord c → words_of ((((a ++ 32 ∷ []) ++ b) ++ 32 ∷ []) ++ c) ≡ a ∷ b ∷ c ∷ []
 three_words a b c first second third =
     ap words_of (three_joined a b c) ∙ next_word a (b ++ 32 ∷ c) first
     ∙ ap (λ words. a ∷ words) (next_word b c second ∙ ap (λ words. b ∷ words) (last_word c third))
@@ -249,7 +249,7 @@ diag_read address ext stat overflow octets small are =
     ∙ ap (option_and_then (λ set. option_map (diag_with address set) (event_octets Lower 238 (octets_text octets.items)))) (flags_read ext stat overflow)
     ∙ ap (option_map (diag_with address (ext, stat, overflow))) (octets_read 238 octets.items are)
 
-busy_read : (address : ℕ) (point : Option ℕ) (on : Bool) → address < 256 → IfSome point (λ number. number < 256)
+pub busy_read : (address : ℕ) (point : Option ℕ) (on : Bool) → address < 256 → IfSome point (λ number. number < 256)
     → busy_of (words_of ((((decimal address ++ 32 ∷ []) ++ point_text point) ++ 32 ∷ []) ++ on_or_off_text on)) ≡ Some (Busy address point on)
 busy_read address point on small known =
     ap busy_of (three_words (decimal address) (point_text point) (on_or_off_text on) (number_is_word address (omega arith)) (point_is_word point known) (written_is_word (on_or_off_text on) (state_is_written on)))
@@ -257,7 +257,7 @@ busy_read address point on small known =
     ∙ ap (option_and_then (λ at. option_map (Busy address at) (on_or_off (on_or_off_text on)))) (point_read point known)
     ∙ ap (option_map (Busy address point)) (state_read on)
 
-tick_read : (units : ℕ) → units < 4294967296 → tick_of (words_of (decimal units)) ≡ Some (Tick units)
+pub tick_read : (units : ℕ) → units < 4294967296 → tick_of (words_of (decimal units)) ≡ Some (Tick units)
 tick_read units small =
     ap tick_of (last_word (decimal units) (number_is_word units (omega arith)))
     ∙ ap (option_map Tick) (number_read units 4294967295 (omega arith) (omega arith))

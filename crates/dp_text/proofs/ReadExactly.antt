@@ -122,7 +122,7 @@ some_few most (Some items) octets e = ap Some (some_by (leb (length items) most)
 pub some_same : {X : Type 0} {x y : X} → Some x ≡ Some y → x ≡ y
 some_same e = cc
 
-octets_are : (most : ℕ) (word octets : List ℕ) → event_octets Lower most word ≡ Some octets → octets_text octets ≡ word
+pub octets_are : (most : ℕ) (word octets : List ℕ) → event_octets Lower most word ≡ Some octets → octets_text octets ≡ word
 octets_are most word octets e = elim (cases_Bool (same_text word (codes "-"))) [
   | inl dash ↦
       let none : [] ≡ octets = some_same (sym (cond-true (same_text word (codes "-")) (Some []) (cond (list_any is_ascii_uppercase word) None (octets_up_to most word)) dash) ∙ e) in
@@ -148,16 +148,16 @@ text_is text_of (first ∷ values) word value e = elim (cases_Bool (same_text wo
   | inr other ↦ text_is text_of values word value (sym (cond-false (same_text word (text_of first)) (Some first) (first_with_text text_of values word) other) ∙ e)
 ]
 
-flags_are : (word : List ℕ) (flags : Flags) → flags_of word ≡ Some flags → flags_text flags.0 flags.1 flags.2 ≡ word
+pub flags_are : (word : List ℕ) (flags : Flags) → flags_of word ≡ Some flags → flags_text flags.0 flags.1 flags.2 ≡ word
 flags_are word flags e = text_is text_of_flags all_flags word flags e
 
-state_is : (word : List ℕ) (on : Bool) → on_or_off word ≡ Some on → on_or_off_text on ≡ word
+pub state_is : (word : List ℕ) (on : Bool) → on_or_off word ≡ Some on → on_or_off_text on ≡ word
 state_is word on e = text_is on_or_off_text (true ∷ false ∷ []) word on e
 
-octet_is : (word : List ℕ) (number : ℕ) → octet_number word ≡ Some number → decimal number ≡ word
+pub octet_is : (word : List ℕ) (number : ℕ) → octet_number word ≡ Some number → decimal number ≡ word
 octet_is word number e = number_is 255 word number (omega arith) e
 
-point_is : (word : List ℕ) (point : Option ℕ) → point_of word ≡ Some point → point_text point ≡ word
+pub point_is : (word : List ℕ) (point : Option ℕ) → point_of word ≡ Some point → point_text point ≡ word
 point_is word point e = elim (cases_Bool (same_text word (codes "default"))) [
   | inl same ↦
       let is : None ≡ point = some_same (sym (cond-true (same_text word (codes "default")) (Some None) (option_map Some (octet_number word)) same) ∙ e) in
@@ -173,11 +173,11 @@ point_is word point e = elim (cases_Bool (same_text word (codes "default"))) [
 
 -- ---- what an operator does
 
-two_are : (a b first second : List ℕ) → a ≡ first → b ≡ second → first ++ 32 ∷ second ≡ (a ++ 32 ∷ []) ++ b
+pub two_are : (a b first second : List ℕ) → a ≡ first → b ≡ second → first ++ 32 ∷ second ≡ (a ++ 32 ∷ []) ++ b
 two_are a b first second e f =
     ap (λ x. x ++ 32 ∷ second) (sym e) ∙ ap (λ x. a ++ 32 ∷ x) (sym f) ∙ sym (two_joined a b)
 
-three_are : (a b c first second third : List ℕ) → a ≡ first → b ≡ second → c ≡ third → first ++ 32 ∷ (second ++ 32 ∷ third) ≡ (((a ++ 32 ∷ []) ++ b) ++ 32 ∷ []) ++ c
+pub three_are : (a b c first second third : List ℕ) → a ≡ first → b ≡ second → c ≡ third → first ++ 32 ∷ (second ++ 32 ∷ third) ≡ (((a ++ 32 ∷ []) ++ b) ++ 32 ∷ []) ++ c
 three_are a b c first second third e f g =
     ap (λ x. x ++ 32 ∷ (second ++ 32 ∷ third)) (sym e)
     ∙ ap (λ x. a ++ 32 ∷ (x ++ 32 ∷ third)) (sym f)

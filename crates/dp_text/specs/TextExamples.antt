@@ -20,7 +20,7 @@ use Rattle.dp_text.specs.Texts.{event_text, facts_text, answer_text, outcome_lin
 use Rattle.dp_text.specs.Events.{op_of_words, event_of}
 
 -- what computes a text
-unfoldable text_on_literals : ⊤
+unfoldable pub text_on_literals : ⊤
 unfolding hex_on_literals digits
 text_on_literals = tt
 

@@ -109,6 +109,10 @@ dropped_text master fault count =
 abbrev pub owned_text : List ℕ → List ℕ
 owned_text addresses = codes "owned" ++ addresses_text addresses ++ codes "\n"
 
+-- the line that tells how many inputs of devices were recorded: `stepped N`
+abbrev pub stepped_text : ℕ → List ℕ
+stepped_text recorded = codes "stepped " ++ decimal recorded ++ codes "\n"
+
 -- what a watchdog has left, or `off`
 abbrev pub watchdog_text : Option ℕ → List ℕ
 watchdog_text None = codes "off"

@@ -4,6 +4,8 @@ ghost use Rattle.std.specs.Prelude.{◌≡◌, ◌≤◌, ◌<◌, ◌^◌, ℕ,
 ghost use Rattle.std.specs.Fmt.{decimal};
 ghost use Rattle.dp_line.specs.declared.event.Event.{Event};
 ghost use Rattle.dp_text.specs.Numbers.{number_to};
+ghost use Rattle.dp_text.specs.declared.op_line.OpLine.{OpLine};
+ghost use Rattle.dp_text.specs.OpLines.{IsOpLine, op_line_of};
 ghost use Rattle.dp_text.specs.Texts.{event_text};
 ghost use Rattle.dp_text.specs.Events.{IsWithinLimits, event_of};
 
@@ -30,4 +32,14 @@ pub fn only_its_text_is_read_as_a_number()
 /// An event that is read is within the limits of texts.
 pub fn an_event_read_is_within_limits()
     ensures { (text : List ℕ) (event : Event) → event_of text ≡ Some event → IsWithinLimits event }
+{}
+
+/// A line of an operator that is written so is read as that line.
+pub fn a_line_is_read_as_it_is_written()
+    ensures { (text : List ℕ) (line : OpLine) → IsOpLine text line → op_line_of text ≡ Some line }
+{}
+
+/// Nothing but what is written so is read as a line of an operator: no other line is a command.
+pub fn only_what_is_written_so_is_read_as_a_line()
+    ensures { (text : List ℕ) (line : OpLine) → op_line_of text ≡ Some line → IsOpLine text line }
 {}

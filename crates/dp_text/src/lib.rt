@@ -8,6 +8,7 @@ mod events;
 mod hex_words;
 pub mod laws;
 mod number;
+mod op_line;
 mod ops;
 mod output;
 mod text;
@@ -16,7 +17,8 @@ mod words;
 
 pub use events::{event_in, octets_in};
 pub use hex_words::HexWords;
-pub use number::{number_in, octet_in};
+pub use number::{number_in, octet_in, only_octet_in};
+pub use op_line::{OpLine, TextFault, op_line_in, read_op};
 pub use ops::{HexCase, op_in};
 pub use output::{WriteFault, write_whole};
 pub use text::{LONGEST, Text};

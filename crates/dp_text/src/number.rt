@@ -4,6 +4,9 @@ ghost use Rattle.std.specs.Prelude.{◌≡◌, ◌≤◌, ◌&&◌, nat_le, if�
 ghost use Rattle.std.specs.Str.{all_ascii_digits};
 ghost use Rattle.std.specs.Str.Parse.{digits_value};
 ghost use Rattle.dp_text.specs.Numbers.{number_to, octet_number};
+ghost use Rattle.dp_text.specs.OpLines.{only_octet};
+
+use crate::words::Words;
 
 /// The number, 0 to the most, that a word is in plain decimal: digits without a sign, and no leading
 /// zero but 0 itself.
@@ -25,6 +28,17 @@ pub fn octet_in(word: &[u8]) -> Option<u8>
     match number_in(word, 255) {
         Some(number) => Some(number as u8),
         None => None,
+    }
+}
+
+/// The number from 0 to 255 that is the only word in plain decimal.
+pub fn only_octet_in(words: &mut Words<'_>) -> Option<u8>
+    ensures { result ≡ only_octet words.old }
+{
+    let number = words.next()?;
+    match words.next() {
+        None => octet_in(number),
+        Some(_) => None,
     }
 }
 

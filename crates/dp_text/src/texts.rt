@@ -5,7 +5,7 @@ ghost use Rattle.std.specs.Fmt.{decimal};
 ghost use Rattle.hex.specs.Hex.{encode_lower};
 ghost use Rattle.dp_responder.specs.Rules.{rule_name};
 ghost use Rattle.dp_line.specs.Names.{operator_fault_name};
-ghost use Rattle.dp_text.specs.Texts.{octets_text, event_text, holder_text, facts_text, flags_text, letter_where, point_text, on_or_off_text, op_text, outcome_text, outcome_line, answer_text, dropped_text, addresses_text, pair_text, pairs_text, owned_text, watchdog_text, slave_text, show_text};
+ghost use Rattle.dp_text.specs.Texts.{octets_text, event_text, holder_text, facts_text, flags_text, letter_where, point_text, on_or_off_text, op_text, outcome_text, outcome_line, answer_text, dropped_text, addresses_text, pair_text, pairs_text, owned_text, stepped_text, watchdog_text, slave_text, show_text};
 
 use crate::text::{LONGEST, Text};
 use dp_line::{Event, Facts, Op, OperatorFault, Outcome, Rule, SlaveView};
@@ -58,6 +58,17 @@ impl Text {
         self.clear();
         self.push_str("owned");
         self.push_addresses(addresses);
+        self.push_str("\n");
+    }
+
+    /// Makes it the line that tells how many inputs of devices were recorded: `stepped N`, with its LF.
+    #[tactic(auto, using(crate::proofs::Lengths::lengths))]
+    pub fn set_stepped(&mut self, recorded: u8)
+        ensures { self.new ≡ stepped_text recorded }
+    {
+        self.clear();
+        self.push_str("stepped ");
+        self.push_octet(recorded);
         self.push_str("\n");
     }
 

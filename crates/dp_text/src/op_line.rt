@@ -1,0 +1,108 @@
+//! Reading the lines of an operator.
+
+ghost use Rattle.std.specs.Prelude.{◌≡◌, ok_or};
+ghost use Rattle.dp_text.specs.Codes.{text_fault_code, text_fault_name};
+ghost use Rattle.dp_text.specs.OpLines.{op_line_of, op_line_of_words, step_of};
+
+use crate::number::only_octet_in;
+use crate::ops::{HexCase, op_in};
+use crate::words::{Words, is_text};
+use dp_line::Op;
+use thiserror::Error;
+
+/// What a line of an operator asks for (own).
+#[derive(Clone, Debug, Drop, PartialEq, Eq)]
+pub enum OpLine {
+    /// The operator does something.
+    Event(Op),
+    /// `owned M`: which slaves a master holds, by its address, 0 to 255.
+    Owned(u8),
+    /// `show A`: the slave at this address, 0 to 255.
+    Show(u8),
+    /// `step`: the devices of the line set the inputs of their slaves.
+    Step,
+    /// Nothing: the line is empty, or begins with `#`.
+    Nothing,
+}
+
+/// Why a line of an operator isn't read.
+#[derive(Clone, Copy, Debug, PartialEq, Eq, Error)]
+#[error("{}", self.name())]
+pub enum TextFault {
+    /// The line is no command (own).
+    NotACommand,
+}
+
+impl TextFault {
+    /// The number of the fault (own).
+    pub const fn code(self) -> u8
+        ensures { result ≡ text_fault_code self }
+    {
+        match self {
+            TextFault::NotACommand => 1,
+        }
+    }
+
+    /// Its name in texts (own).
+    pub const fn name(self) -> &'static str
+        ensures { result.now ≡ text_fault_name self }
+    {
+        match self {
+            TextFault::NotACommand => "NotACommand",
+        }
+    }
+}
+
+/// What a line of an operator, without its LF, asks for: `in A HEX`, `diag A FLAGS HEX`,
+/// `busy A POINT on` or `off`, `tick N`, `halt`, `owned M`, `show A`, `step`, or nothing where it is
+/// empty or begins with `#`.
+///
+/// The words are parted by one space. A and M are 0 to 255, POINT that or `default`, and N 0 to
+/// 4,294,967,295 units of 10 ms, all in plain decimal. HEX is `-` or pairs of digits in either case, of
+/// at most 244 octets of inputs and 238 of a diagnosis. FLAGS are of `e` (ext), `s` (stat) and `o`
+/// (overflow) those that are set, in this order, or `-`. `NotACommand` exactly for any other line (own).
+pub fn read_op(line: &str) -> Result<OpLine, TextFault>
+    ensures { result ≡ ok_or (op_line_of line.now) TextFault.NotACommand }
+{
+    match op_line_in(line.as_bytes()) {
+        Some(op_line) => Ok(op_line),
+        None => Err(TextFault::NotACommand),
+    }
+}
+
+/// The same of the octets of a line; None where it is no command.
+pub fn op_line_in(line: &[u8]) -> Option<OpLine>
+    ensures { result ≡ op_line_of line.now }
+{
+    match line {
+        [] => Some(OpLine::Nothing),
+        [b'#', ..] => Some(OpLine::Nothing),
+        [_, ..] => op_line_in_words(&mut Words::of(line)),
+    }
+}
+
+/// The line by its first word.
+fn op_line_in_words(words: &mut Words<'_>) -> Option<OpLine>
+    ensures { result ≡ op_line_of_words words.old }
+{
+    let kind = words.next()?;
+    if is_text(kind, b"owned") {
+        return only_octet_in(words).map(|master| OpLine::Owned(master));
+    }
+    if is_text(kind, b"show") {
+        return only_octet_in(words).map(|address| OpLine::Show(address));
+    }
+    if is_text(kind, b"step") {
+        return step_in(words);
+    }
+    Some(OpLine::Event(op_in(HexCase::Either, kind, words)?))
+}
+
+fn step_in(words: &mut Words<'_>) -> Option<OpLine>
+    ensures { result ≡ step_of words.old }
+{
+    match words.next() {
+        None => Some(OpLine::Step),
+        Some(_) => None,
+    }
+}
