@@ -1,0 +1,9 @@
+pub mod ClaimKeeps
+pub mod Sums
+pub mod LockKeeps
+pub mod Taken
+pub mod Goes
+pub mod Sends
+pub mod Sharing
+pub mod Equality
+pub mod Agreeing

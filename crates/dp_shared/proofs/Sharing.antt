@@ -1,0 +1,14 @@
+-- A shelf and a pass may go to another thread.
+use denote.Param.Send.{IsSend, sendable}
+use Rattle.std.proofs.Crossing.{crosses}
+use Rattle.atomic_table.proofs.shared.Seat.TheSendSync as seat
+use Rattle.dp_audit.proofs.Sharing.{book_send}
+use Rattle.dp_shared.specs.contracts.shelf.Shelf as shelf
+use Rattle.dp_shared.specs.contracts.pass.Pass as pass
+
+pub shelf_send : IsSend shelf.the_row
+unfolding types.Keyed.entry denote.Memory.part_of
+shelf_send = search (sendable, crosses, book_send) depth 40 fits 100000
+
+pub pass_send : IsSend pass.the_row
+pass_send = search (sendable, crosses, seat.the_send, shelf_send) depth 40 fits 100000

@@ -1,0 +1,206 @@
+//! A line behind its lock.
+
+ghost use Rattle.std.specs.Prelude.{◌≡◌, ◌≢◌, ◌+◌, ◌<◌, ◌^◌, [], ◌∷◌, true, None, IfOk, IfErr, IfNone, IfSome, MatchResult, length, if◌then◌else◌};
+ghost use Rattle.dp_responder.specs.declared.rule.Rule.TheVariants.{Halted};
+ghost use Rattle.dp_line.specs.declared.event.Event.TheVariants.{Request, Operator};
+ghost use Rattle.dp_line.specs.declared.event.Outcome.TheVariants.{Refused, Silence};
+ghost use Rattle.dp_line.specs.declared.fault.OperatorFault.{OperatorFault};
+ghost use Rattle.dp_line.specs.World.{description_of, opening_fault};
+ghost use Rattle.dp_shared.specs.Content.{taken_under};
+ghost use Rattle.dp_shared.specs.LineLock.{IsOf, is_of, left_with};
+ghost use Rattle.dp_shared.specs.Locks.{HasContent};
+ghost use Rattle.dp_shared.specs.Passes.{IsAbove, IsSent, IsTurnedAway, line_of, may_open, new_pass, pass_in, table_of, with_receipt};
+ghost use Rattle.dp_shared.specs.declared.line_view.PassView.{PassView};
+
+use crate::line_fault::PassFault;
+use crate::line_lock::LineSeat;
+use crate::line_steps::LineLock;
+use crate::line_view::LineView;
+use crate::one_slot::OneSlot;
+use crate::pass::Pass;
+use crate::shelf::Shelf;
+use dp_audit::Receipt;
+use dp_line::{Event, LineSpec, Op, OpenFault};
+use dp_telegram::{GLOBAL_ADDRESS, Octets};
+use std::alloc::Global;
+use std::marker::Brand;
+use std::sync::Wait;
+
+/// The most passes that are out at one time.
+const MOST_PASSES: u32 = 64;
+
+/// A line that threads share: a journal behind a lock of its own. Nothing but [`Line::open`] takes
+/// memory.
+pub type Line = OneSlot<Option<Shelf>, LineView, LineSpec, LineLock>;
+
+impl Line {
+    /// The line at its start, and no pass; room for all places of its journal is reserved.
+    ///
+    /// It refuses what [`dp_line::LineState::open`] refuses, `OutOfMemory` last, also where the lock's
+    /// table is refused (own).
+    pub fn open(alloc: Global, line: &LineSpec) -> Result<Line, OpenFault>
+        ensures refused { IfSome (opening_fault (description_of line.now)) (λ fault. result ≡ Err fault) }
+        ensures opened { opening_fault (description_of line.now) ≡ None
+            → MatchResult result (λ opened. line_of opened ≡ line.now) (λ fault. fault ≡ OpenFault.OutOfMemory) }
+    {
+        Line::locked(alloc, line)
+    }
+
+    /// The line's number in the rack. It waits until it has the journal, which stays as it is, and takes no
+    /// memory.
+    pub fn number<R: Wait>(&self, rt: &R) -> u8
+        ensures { result ≡ (line_of self.now).number }
+    {
+        let (mut seat, shelf) = self.sit_and_take(rt);
+        let number = shelf.book().number();
+        give_same(self, &mut seat, shelf);
+        number
+    }
+
+    /// A pass of this address, without receipts or looks: a master's, or for 127 an operator's.
+    ///
+    /// `UnknownMaster` exactly where the address is neither a master's nor 127; else `TooMany` where
+    /// 64 passes are out or 2^32 - 1 were opened (own). It waits until it has the journal.
+    pub fn open_pass<R: Wait>(&self, rt: &R, address: u8) -> Result<Pass, PassFault>
+        ensures ok { IfOk result (λ pass. (may_open (line_of self.now) address ≡ true)
+            × (pass.table ≡ table_of self.now) × (pass.view ≡ new_pass pass.view.number address)) }
+        ensures err { IfErr result (λ fault. fault ≡ (if may_open (line_of self.now) address then PassFault.TooMany else PassFault.UnknownMaster)) }
+    {
+        let (mut seat, mut shelf) = self.sit_and_take(rt);
+        if let Some(fault) = self.refusal(&shelf, address) {
+            give_same(self, &mut seat, shelf);
+            return Err(fault);
+        }
+        let number = shelf.number_pass();
+        give_new(self, &mut seat, shelf, address);
+        Ok(Pass {
+            seat,
+            number,
+            address,
+            made: 0,
+        })
+    }
+
+    /// One request of a master's pass: these octets under the pass's address. It waits until it has the
+    /// journal, and takes no memory.
+    ///
+    /// A receipt with a place is the pass's next one. Without one the answer is that the line is halted,
+    /// and nothing but the halt was recorded.
+    pub fn exchange<R: Wait>(&self, rt: &R, pass: &mut Pass, octets: &Octets) -> Receipt
+        requires ours { pass.old.table ≡ table_of self.now }
+        requires master { pass.old.view.address ≢ 127 }
+        ensures ours { pass.new.table ≡ pass.old.table }
+        ensures address { pass.new.view.address ≡ pass.old.view.address }
+        ensures event { result.event ≡ Request pass.old.view.address octets.now }
+        ensures pass { pass.new.view ≡ with_receipt pass.old.view result result.place }
+        ensures halted { IfNone result.place ((result.facts ≡ None) × (result.outcome ≡ Silence Halted)) }
+        ensures above { IfSome result.place (λ place. IsAbove pass.old.view place) }
+    {
+        let event = Event::Request {
+            master: pass.address,
+            octets: octets.clone().unwrap(),
+        };
+        self.send(rt, pass, event)
+    }
+
+    /// What the operator does, by an operator's pass. It waits until it has the journal, and takes no
+    /// memory.
+    ///
+    /// A receipt with a place is the pass's next one. Without one the answer is the refusal.
+    pub fn operate<R: Wait>(&self, rt: &R, pass: &mut Pass, op: Op) -> Receipt
+        requires ours { pass.old.table ≡ table_of self.now }
+        requires operator { pass.old.view.address ≡ 127 }
+        ensures ours { pass.new.table ≡ pass.old.table }
+        ensures address { pass.new.view.address ≡ pass.old.view.address }
+        ensures event { result.event ≡ Operator op }
+        ensures pass { pass.new.view ≡ with_receipt pass.old.view result result.place }
+        ensures refused { IfNone result.place ((result.facts ≡ None) × (fault : OperatorFault) × (result.outcome ≡ Refused fault)) }
+        ensures above { IfSome result.place (λ place. IsAbove pass.old.view place) }
+    {
+        self.send(rt, pass, Event::Operator(op))
+    }
+
+    /// The pass is out no more. It waits until it has the journal, which stays as it is.
+    pub fn hand_back<R: Wait>(&self, rt: &R, pass: Pass)
+        requires { pass.table ≡ table_of self.now }
+    {
+        let Pass { mut seat, .. } = pass;
+        let mut shelf = self.take(rt, &mut seat);
+        shelf.put_back();
+        give_same(self, &mut seat, shelf);
+    }
+
+    /// Why a pass of this address isn't opened; None where it is.
+    fn refusal(&self, shelf: &Shelf, address: u8) -> Option<PassFault>
+        requires { IsOf (line_of self.now) shelf.now.book }
+        ensures none { IfNone result ((may_open (line_of self.now) address ≡ true) × (shelf.now.last + 1 < 2 ^ 32) × (shelf.now.out + 1 < 2 ^ 32)) }
+        ensures some { IfSome result (λ fault. fault ≡ (if may_open (line_of self.now) address then PassFault.TooMany else PassFault.UnknownMaster)) }
+    {
+        shelf.is_legal();
+        if address != GLOBAL_ADDRESS && !shelf.state().is_master(address) {
+            return Some(PassFault::UnknownMaster);
+        }
+        if shelf.out() >= MOST_PASSES || shelf.last() == u32::MAX {
+            return Some(PassFault::TooMany);
+        }
+        None
+    }
+
+    /// One event of a pass.
+    fn send<R: Wait>(&self, rt: &R, pass: &mut Pass, event: Event) -> Receipt
+        requires ours { pass.old.table ≡ table_of self.now }
+        requires sent { is_of pass.old.view.address event ≡ true }
+        ensures ours { pass.new.table ≡ pass.old.table }
+        ensures address { pass.new.view.address ≡ pass.old.view.address }
+        ensures event { result.event ≡ event }
+        ensures pass { pass.new.view ≡ with_receipt pass.old.view result result.place }
+        ensures unplaced { IfNone result.place (IsTurnedAway result) }
+        ensures above { IfSome result.place (λ place. IsAbove pass.old.view place) }
+    {
+        let mut shelf = self.take(rt, &mut pass.seat);
+        shelf.is_legal();
+        let receipt = shelf.take(pass.number, event);
+        shelf.is_legal();
+        let count = shelf.count();
+        if receipt.place.is_some() {
+            pass.made += 1;
+        }
+        give_receipt(self, &mut pass.seat, shelf, &receipt);
+        receipt
+    }
+}
+
+/// The content goes home as it was, but for the count of passes out.
+pub(crate) fn give_same(line: &Line, seat: &mut LineSeat, shelf: Shelf)
+    requires ours { seat.old.table_id ≡ table_of line.now }
+    requires same { HasContent seat.old.me (λ content. shelf ≡ record content { out = shelf.out }) }
+    ensures ours { seat.new.table_id ≡ seat.old.table_id }
+    ensures given { seat.new.me ≡ (left_with seat.old.me.0 seat.old.me.0.passes, []) }
+{
+    shelf.is_legal();
+    line.give::<Brand, ()>(seat, shelf, &());
+}
+
+/// The content goes home with one pass more, which is this seat's.
+fn give_new(line: &Line, seat: &mut LineSeat, shelf: Shelf, address: u8)
+    requires ours { seat.old.table_id ≡ table_of line.now }
+    requires more { HasContent seat.old.me (λ content. (seat.old.me.0.passes ≡ [])
+        × (shelf ≡ record content { last = content.last + 1; out = content.out + 1 })) }
+    ensures ours { seat.new.table_id ≡ seat.old.table_id }
+    ensures given { seat.new.me ≡ (left_with seat.old.me.0 (new_pass shelf.last address ∷ []), []) }
+{
+    shelf.is_legal();
+    line.give::<Brand, u8>(seat, shelf, &address);
+}
+
+/// The content goes home after one event of this seat's pass.
+fn give_receipt(line: &Line, seat: &mut LineSeat, shelf: Shelf, receipt: &Receipt)
+    requires ours { seat.old.table_id ≡ table_of line.now }
+    requires taken { HasContent seat.old.me (λ content. (pass : PassView) × (seat.old.me.0.passes ≡ pass ∷ [])
+        × IsSent content pass receipt.now × (shelf ≡ taken_under content pass.number receipt.now.event)) }
+    ensures ours { seat.new.table_id ≡ seat.old.table_id }
+    ensures given { seat.new.me ≡ (left_with seat.old.me.0 (with_receipt (pass_in seat.old.me.0.passes) receipt.now receipt.now.place ∷ []), []) }
+{
+    shelf.is_legal();
+    line.give::<Brand, Receipt>(seat, shelf, receipt);
+}

@@ -1,0 +1,126 @@
+//! Looks at a line behind its lock.
+
+ghost use Rattle.std.specs.Prelude.{◌≡◌, [], ◌∷◌, length, option_map};
+ghost use Rattle.dp_slave.specs.View.{view_of};
+ghost use Rattle.dp_line.specs.World.{slave_at};
+ghost use Rattle.dp_line.specs.Owned.{owned};
+ghost use Rattle.dp_shared.specs.Content.{world_now};
+ghost use Rattle.dp_shared.specs.LineLock.{answer_in, left_with};
+ghost use Rattle.dp_shared.specs.Locks.{HasContent};
+ghost use Rattle.dp_shared.specs.Passes.{IsNoEarlier, look_by, pass_in, table_of, with_look};
+
+use crate::line::Line;
+use crate::line_lock::LineSeat;
+use crate::line_view::{Answer, Question};
+use crate::pass::Pass;
+use crate::shelf::Shelf;
+use arrayvec::ArrayVec;
+use dp_line::{MOST_SLAVES, SlaveView};
+use std::marker::Brand;
+use std::sync::Wait;
+
+/// What a look saw.
+#[derive(Drop)]
+pub struct Seen<T> {
+    /// How many entries the journal had then.
+    pub count: u32,
+    /// What was seen after them.
+    pub value: T,
+}
+
+impl Line {
+    /// What is shown of the slave that has the address; None where no slave has it. Any pass may look. It
+    /// waits until it has the journal, which stays as it is, and takes no memory.
+    pub fn snapshot<R: Wait>(&self, rt: &R, pass: &mut Pass, address: u8) -> Seen<Option<SlaveView>>
+        requires { pass.old.table ≡ table_of self.now }
+        ensures ours { pass.new.table ≡ pass.old.table }
+        ensures look { pass.new.view ≡ with_look pass.old.view (look_by pass.old.view (Question.View address) result.count (Answer.View result.value)) }
+        ensures later { IsNoEarlier pass.old.view result.count }
+    {
+        let shelf = self.take(rt, &mut pass.seat);
+        shelf.is_legal();
+        let seen = Seen {
+            count: shelf.count(),
+            value: shelf.state().view(address),
+        };
+        give_view(self, &mut pass.seat, shelf, address, &seen);
+        seen
+    }
+
+    /// The addresses of the slaves that a master holds, oldest lock first; none for an address that is no
+    /// master's. Any pass may look. It waits until it has the journal, which stays as it is, and takes no
+    /// memory.
+    pub fn owned<R: Wait>(
+        &self,
+        rt: &R,
+        pass: &mut Pass,
+        master: u8,
+    ) -> Seen<ArrayVec<u8, MOST_SLAVES>>
+        requires { pass.old.table ≡ table_of self.now }
+        ensures ours { pass.new.table ≡ pass.old.table }
+        ensures look { pass.new.view ≡ with_look pass.old.view (look_by pass.old.view (Question.Owned master) result.count (Answer.Owned result.value)) }
+        ensures later { IsNoEarlier pass.old.view result.count }
+    {
+        let shelf = self.take(rt, &mut pass.seat);
+        shelf.is_legal();
+        let seen = Seen {
+            count: shelf.count(),
+            value: shelf.state().owned_by(master),
+        };
+        give_owned(self, &mut pass.seat, shelf, master, &seen);
+        seen
+    }
+}
+
+/// A look's question with what was seen, for the proof that picks the pass after it.
+#[derive(Drop)]
+struct Asked<'a, T> {
+    address: u8,
+    seen: &'a Seen<T>,
+}
+
+/// The content goes home as it was, after a look at a slave.
+fn give_view(
+    line: &Line,
+    seat: &mut LineSeat,
+    shelf: Shelf,
+    address: u8,
+    seen: &Seen<Option<SlaveView>>,
+)
+    requires ours { seat.old.table_id ≡ table_of line.now }
+    requires same { HasContent seat.old.me (λ content. (shelf ≡ content) × (seat.old.me.0.passes ≡ pass_in seat.old.me.0.passes ∷ [])
+        × (seen.now.count ≡ length content.book.entries) × (seen.now.value ≡ option_map view_of (slave_at (world_now content) address))) }
+    ensures ours { seat.new.table_id ≡ seat.old.table_id }
+    ensures given { seat.new.me ≡ (
+      left_with seat.old.me.0 (with_look (pass_in seat.old.me.0.passes)
+          (look_by (pass_in seat.old.me.0.passes) (Question.View address) seen.now.count (Answer.View seen.now.value)) ∷ []),
+      [],
+    ) }
+{
+    shelf.is_legal();
+    let about = Asked { address, seen };
+    line.give::<Brand, Asked<Option<SlaveView>>>(seat, shelf, &about);
+}
+
+/// The content goes home as it was, after a look at a master's list.
+fn give_owned(
+    line: &Line,
+    seat: &mut LineSeat,
+    shelf: Shelf,
+    address: u8,
+    seen: &Seen<ArrayVec<u8, MOST_SLAVES>>,
+)
+    requires ours { seat.old.table_id ≡ table_of line.now }
+    requires same { HasContent seat.old.me (λ content. (shelf ≡ content) × (seat.old.me.0.passes ≡ pass_in seat.old.me.0.passes ∷ [])
+        × (seen.now.count ≡ length content.book.entries) × (seen.now.value.items ≡ owned (world_now content) address)) }
+    ensures ours { seat.new.table_id ≡ seat.old.table_id }
+    ensures given { seat.new.me ≡ (
+      left_with seat.old.me.0 (with_look (pass_in seat.old.me.0.passes)
+          (look_by (pass_in seat.old.me.0.passes) (Question.Owned address) seen.now.count (Answer.Owned seen.now.value)) ∷ []),
+      [],
+    ) }
+{
+    shelf.is_legal();
+    let about = Asked { address, seen };
+    line.give::<Brand, Asked<ArrayVec<u8, MOST_SLAVES>>>(seat, shelf, &about);
+}
