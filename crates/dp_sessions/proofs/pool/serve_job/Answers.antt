@@ -1,0 +1,18 @@
+use Rattle.std.proofs.Common.{rules, arith}
+use Rattle.std.proofs.lemmas.Slice.Zip.{AllZip-long}
+use Rattle.dp_sessions.proofs.Seating.{paired_at, paired_again}
+use Rattle.dp_sessions.proofs.pool.serve_job.Goals as goal
+
+pub bounds-seats-index : goal.bounds-seats-index
+bounds-seats-index g c =
+    omega (arith, AllZip-long g.P.Serve.ours c.args.ports.now c.args.seats.now c.requires.ours, c.in-Some.ensures.lookup.3.0)
+
+pub serve-requires : goal.serve-requires
+serve-requires g c =
+    paired_at g.P.Serve.ours c.args.ports.now c.args.seats.now c.from-index.result c.in-Some.port.now c.index-seats-index.result c.requires.ours c.in-Some.ensures.lookup.3.0 c.in-Some.ensures.lookup.1
+
+pub returns : goal.returns
+returns g c = record {
+  ours = paired_again g.P.Serve.ours c.args.ports.now c.args.seats.now c.from-index.result c.in-Some.port.now c.serve.new.seat c.requires.ours c.in-Some.ensures.lookup.3.0 c.in-Some.ensures.lookup.1 c.serve.ensures;
+  served = search rules;
+}

@@ -1,0 +1,9 @@
+pub mod Codes
+pub mod Devices
+pub mod DeviceExamples
+pub mod DrivenSlaves
+pub mod Pools
+pub mod Serving
+pub mod Sessions
+pub mod Operators
+pub mod Operating

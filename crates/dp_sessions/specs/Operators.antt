@@ -1,0 +1,171 @@
+-- What a session of an operator reads, does and writes (own).
+use Rattle.std.specs.Prelude.{codes, ◌≡◌, ◌⊎◌, ℕ, ◌+◌, ◌≤◌, nat_lt, if◌then◌else◌, Bool, true, false, not, ◌==◌, List, [], ◌∷◌, ◌++◌, map, length, Option, Some, None, is_some, ok_or, Result, Ok, Err}
+use Rattle.std.specs.List.{AllByRecursion, concat, list_all}
+use Rattle.std.specs.Str.{is_utf8}
+use Rattle.std.specs.Io.KnownBytes.{Appends, Consumes, IsAtEnd, Keeps}
+use Rattle.arrayvec.specs.ArrayVec.{ArrayVec}
+use Rattle.dp_slave.specs.declared.view.SlaveView.{SlaveView}
+use Rattle.dp_line.specs.declared.event.Event.{Event}
+use Rattle.dp_line.specs.declared.event.Event.TheVariants.{Operator}
+use Rattle.dp_audit.specs.declared.entry.Receipt.{Receipt}
+use Rattle.dp_shared.specs.declared.line_view.PassView.{PassView}
+use Rattle.dp_shared.specs.declared.line_view.Question.{Question}
+use Rattle.dp_shared.specs.declared.line_view.Answer.{Answer}
+use Rattle.dp_shared.specs.Passes.{look_by, new_pass, with_look, with_receipt}
+use Rattle.dp_text.specs.declared.op_line.OpLine.{OpLine}
+use Rattle.dp_text.specs.declared.op_line.OpLine.TheVariants as asked
+use Rattle.dp_text.specs.OpLines.{op_line_of}
+use Rattle.dp_text.specs.Texts.{outcome_line, owned_text, show_text, stepped_text}
+use Rattle.dp_sessions.specs.declared.driven.Driven.{Driven}
+use Rattle.dp_sessions.specs.declared.line_fault.LineFault.{LineFault}
+use Rattle.dp_sessions.specs.declared.line_fault.LineFault.TheVariants as faults
+use Rattle.dp_sessions.specs.declared.session_end.SessionEnd.{SessionEnd}
+use Rattle.dp_sessions.specs.declared.session_end.SessionEnd.TheVariants as ends
+use Rattle.dp_sessions.specs.DrivenSlaves.{next_input}
+use Rattle.dp_sessions.specs.Sessions.{IsCutOff, Streams}
+
+-- ---- lines
+
+abbrev pub line_feed : ℕ
+line_feed = 10
+
+-- the octets of a line, of which none ends a line
+abbrev pub IsUnended : List ℕ → Type 0
+IsUnended line = list_all (λ octet. not (octet == line_feed)) line ≡ true
+
+-- a line as it is sent: its LF is behind it
+abbrev pub ended : List ℕ → List ℕ
+ended line = line ++ line_feed ∷ []
+
+-- a stream begins with these lines, and other octets are behind them
+pub record BeginsWith (stream : List ℕ) (lines : List (List ℕ)) (others : List ℕ) : Type 0 where
+  pub whole : stream ≡ concat (map ended lines) ++ others
+  pub unended : AllByRecursion IsUnended lines
+
+-- a stream falls into these lines, and what is behind the last LF
+pub record FallsInto (stream : List ℕ) (lines : List (List ℕ)) (rest : List ℕ) : Type 0 where
+  pub begins : BeginsWith stream lines rest
+  pub unended : IsUnended rest
+
+-- the most octets of a line that may be a command
+abbrev pub longest_line : ℕ
+longest_line = 1024
+
+-- ---- what a line asks for
+
+abbrev pub line_fault_name : LineFault → List ℕ
+line_fault_name faults.TooLong = codes "TooLong"
+line_fault_name faults.NotACommand = codes "NotACommand"
+
+-- a text asks for what it says; other octets ask for nothing
+abbrev pub asked_in : Bool → List ℕ → Option OpLine
+asked_in true line = op_line_of line
+asked_in false line = None
+
+-- a line that is too long is no command, whatever it holds
+abbrev pub command_in : List ℕ → Result OpLine LineFault
+command_in line = if nat_lt longest_line (length line) then Err faults.TooLong else ok_or (asked_in (is_utf8 line) line) faults.NotACommand
+
+-- the line that answers a line that can't be done: `fault FAULT`
+abbrev pub fault_text : LineFault → List ℕ
+fault_text fault = codes "fault " ++ line_fault_name fault ++ codes "\n"
+
+-- ---- what a line does
+
+-- one event: its receipt is the pass's, and says the outcome
+pub record IsTaken (event : Event) (before after : PassView) (receipt : Receipt) : Type 0 where
+  pub event_is : receipt.event ≡ event
+  pub gained : after ≡ with_receipt before receipt receipt.place
+
+-- one look, after so many entries
+abbrev pub IsLook : Question → Answer → PassView → PassView → Type 0
+IsLook question answer before after = (count : ℕ) × (after ≡ with_look before (look_by before question count answer))
+
+-- what is seen of a slave is fed to it by its device, and the Input counts where it has a place; nothing is fed where no slave is seen
+abbrev pub IsFedAsSeen : Driven → Option SlaveView → PassView → PassView → ℕ → Type 0
+IsFedAsSeen driven None before after recorded = (after ≡ before) × (recorded ≡ 0)
+IsFedAsSeen driven (Some slave) before after recorded =
+    (receipt : Receipt) × IsTaken (Operator (next_input driven slave)) before after receipt × (recorded ≡ (if is_some receipt.place then 1 else 0))
+
+-- a look at a slave, and then its device feeds it
+pub record IsFed (driven : Driven) (before after : PassView) (recorded : ℕ) : Type 0 where
+  pub seen : Option SlaveView
+  pub looked : PassView
+  pub look : IsLook (Question.View driven.address) (Answer.View seen) before looked
+  pub fed : IsFedAsSeen driven seen looked after recorded
+
+-- one slave after another, and so many Inputs were recorded
+abbrev pub AreFed : List Driven → PassView → PassView → ℕ → Type 0
+AreFed [] before after recorded = (after ≡ before) × (recorded ≡ 0)
+AreFed (driven ∷ others) before after recorded =
+    (between : PassView) × (first rest : ℕ) × IsFed driven before between first × AreFed others between after rest × (recorded ≡ first + rest)
+
+-- what is asked for is done by the pass, and this is the answer; these are the slaves that devices drive
+abbrev pub IsOperated : List Driven → OpLine → PassView → PassView → List ℕ → Type 0
+IsOperated driven (asked.Event op) before after text = (receipt : Receipt) × IsTaken (Operator op) before after receipt × (text ≡ outcome_line receipt.outcome)
+IsOperated driven (asked.Owned master) before after text = (addresses : ArrayVec ℕ) × IsLook (Question.Owned master) (Answer.Owned addresses) before after × (text ≡ owned_text addresses.items)
+IsOperated driven (asked.Show address) before after text = (seen : Option SlaveView) × IsLook (Question.View address) (Answer.View seen) before after × (text ≡ show_text seen)
+IsOperated driven asked.Step before after text = (recorded : ℕ) × AreFed driven before after recorded × (text ≡ stepped_text recorded)
+IsOperated driven asked.Nothing before after text = (after ≡ before) × (text ≡ [])
+
+-- a line that can't be done is told why
+abbrev pub IsDone : List Driven → Result OpLine LineFault → PassView → PassView → List ℕ → Type 0
+IsDone driven (Ok op_line) before after text = IsOperated driven op_line before after text
+IsDone driven (Err fault) before after text = (after ≡ before) × (text ≡ fault_text fault)
+
+abbrev pub IsAnswered : List Driven → List ℕ → PassView → PassView → List ℕ → Type 0
+IsAnswered driven line before after text = IsDone driven (command_in line) before after text
+
+-- lines are answered one after another, each with one text
+abbrev pub AreAnswered : List Driven → List (List ℕ) → PassView → PassView → List (List ℕ) → Type 0
+AreAnswered driven [] before after texts = (after ≡ before) × (texts ≡ [])
+AreAnswered driven (line ∷ lines) before after texts =
+    (between : PassView) × (text : List ℕ) × (others : List (List ℕ)) × (texts ≡ text ∷ others)
+    × IsAnswered driven line before between text × AreAnswered driven lines between after others
+
+-- ---- a session
+
+-- all lines of the stream were answered, and every answer is written; what is behind the last LF is dropped
+pub record AreServed (driven : List Driven) (stream : List ℕ) (before after : PassView) (old new : Option (List ℕ)) : Type 0 where
+  pub lines : List (List ℕ)
+  pub rest : List ℕ
+  pub parted : FallsInto stream lines rest
+  pub texts : List (List ℕ)
+  pub answered : AreAnswered driven lines before after texts
+  pub written : Appends old new (concat texts)
+
+-- the first lines of the stream were answered, and a write failed in the answer to the last of these
+pub record AreBrokenOff (driven : List Driven) (stream : List ℕ) (before after : PassView) (old new : Option (List ℕ)) : Type 0 where
+  pub lines : List (List ℕ)
+  pub others : List ℕ
+  pub begins : BeginsWith stream lines others
+  pub texts : List (List ℕ)
+  pub answered : AreAnswered driven lines before after texts
+  pub written : IsCutOff old new texts
+
+-- a stream was read, with as many reads as this at most, and its lines were answered: how it ended says how far, and what is left to read
+abbrev pub Operates : SessionEnd → List Driven → ℕ → List ℕ → PassView → PassView → Option (List ℕ) → Option (List ℕ) → Option (List ℕ) → Type 0
+Operates ends.EndOfInput driven turns stream before after left old new = AreServed driven stream before after old new × IsAtEnd left
+Operates ends.ReadFault driven turns stream before after left old new = AreServed driven stream before after old new
+-- each read gave an octet at least
+Operates ends.TurnLimit driven turns stream before after left old new = AreServed driven stream before after old new × (turns ≤ length stream)
+Operates ends.WriteFault driven turns stream before after left old new = AreBrokenOff driven stream before after old new
+Operates other driven turns stream before after left old new = ⊥
+
+-- no pass, and nothing is read or written
+pub record HasNoPass (streams : Streams) (end : SessionEnd) : Type 0 where
+  pub ended_so : end ≡ ends.NoPass
+  pub unread : Keeps streams.left streams.left_after
+  pub unwritten : Keeps streams.written streams.written_after
+
+-- a new pass of an operator answers the stream
+pub record HasOperated (driven : List Driven) (turns : ℕ) (streams : Streams) (end : SessionEnd) : Type 0 where
+  pub number : ℕ
+  pub pass : PassView
+  pub stream : List ℕ
+  pub read : Consumes streams.left streams.left_after stream
+  pub operated : Operates end driven turns stream (new_pass number 127) pass streams.left_after streams.written streams.written_after
+
+-- a session of an operator, of as many reads as this at most, with a line of which devices drive these slaves
+abbrev pub IsOperatorSession : List Driven → ℕ → Streams → SessionEnd → Type 0
+IsOperatorSession driven turns streams end = HasNoPass streams end ⊎ HasOperated driven turns streams end

@@ -1,0 +1,148 @@
+//! What one line of an operator does.
+
+ghost use Rattle.std.specs.Prelude.{◌≡◌, ◌≤◌, length, OnErr, OnOk, IfOk, MatchOption};
+ghost use Rattle.std.specs.Io.KnownBytes.{Appends};
+ghost use Rattle.dp_shared.specs.Passes.{table_of};
+ghost use Rattle.dp_sessions.specs.declared.driven.TheConstants.{MOST_DRIVEN};
+ghost use Rattle.dp_sessions.specs.Operators.{AreFed, IsAnswered, IsFed, IsFedAsSeen, IsOperated, command_in as command_of, fault_text};
+
+use crate::driven::Driven;
+use crate::line_fault::LineFault;
+use dp_line::{Op, SlaveView};
+use dp_shared::{Line, Pass};
+use dp_text::{OpLine, Text, read_op};
+use std::sync::Wait;
+
+/// The most octets of a line that may be a command.
+pub(crate) const LONGEST_LINE: usize = 1_024;
+
+/// Does what a line asks for, by an operator's pass, and makes the text the answer to it: none for an
+/// empty line or a comment. These are the slaves of the line that devices drive.
+pub(crate) fn answer_line<T: Wait>(
+    rt: &T,
+    line: &Line,
+    driven: &[Driven],
+    pass: &mut Pass,
+    octets: &[u8],
+    text: &mut Text,
+)
+    requires ours { pass.old.table ≡ table_of line.now }
+    requires operator { pass.old.view.address ≡ 127 }
+    requires few { length driven.now ≤ MOST_DRIVEN }
+    ensures ours { pass.new.table ≡ pass.old.table }
+    ensures address { pass.new.view.address ≡ pass.old.view.address }
+    ensures answered { IsAnswered driven.now octets.now pass.old.view pass.new.view text.new }
+{
+    match command_in(octets) {
+        Ok(op_line) => operate(rt, line, driven, pass, op_line, text),
+        Err(fault) => set_fault(text, fault),
+    }
+}
+
+/// What a line asks for; or why it isn't done.
+fn command_in(octets: &[u8]) -> Result<OpLine, LineFault>
+    ensures { result ≡ command_of octets.now }
+{
+    if octets.len() > LONGEST_LINE {
+        return Err(LineFault::TooLong);
+    }
+    let Ok(line) = std::str::from_utf8(octets) else {
+        return Err(LineFault::NotACommand);
+    };
+    match read_op(line) {
+        Ok(op_line) => Ok(op_line),
+        Err(_) => Err(LineFault::NotACommand),
+    }
+}
+
+/// Makes the text the line `fault FAULT`.
+fn set_fault(text: &mut Text, fault: LineFault)
+    ensures { text.new ≡ fault_text fault }
+{
+    text.clear();
+    text.push_str("fault ");
+    text.push_str(fault.name());
+    text.push_str("\n");
+}
+
+/// Does what is asked for, and makes the text its answer.
+fn operate<T: Wait>(
+    rt: &T,
+    line: &Line,
+    driven: &[Driven],
+    pass: &mut Pass,
+    op_line: OpLine,
+    text: &mut Text,
+)
+    requires ours { pass.old.table ≡ table_of line.now }
+    requires operator { pass.old.view.address ≡ 127 }
+    requires few { length driven.now ≤ MOST_DRIVEN }
+    ensures ours { pass.new.table ≡ pass.old.table }
+    ensures address { pass.new.view.address ≡ pass.old.view.address }
+    ensures operated { IsOperated driven.now op_line pass.old.view pass.new.view text.new }
+{
+    match op_line {
+        OpLine::Event(op) => text.set_outcome(&line.operate(rt, pass, op).outcome),
+        OpLine::Owned(master) => text.set_owned(line.owned(rt, pass, master).value.as_slice()),
+        OpLine::Show(address) => text.set_show(&line.snapshot(rt, pass, address).value),
+        OpLine::Step => text.set_stepped(feed_each(rt, line, driven, pass)),
+        OpLine::Nothing => text.clear(),
+    }
+}
+
+/// The devices feed these slaves, one after another; how many inputs were recorded.
+fn feed_each<T: Wait>(rt: &T, line: &Line, driven: &[Driven], pass: &mut Pass) -> u8
+    requires ours { pass.old.table ≡ table_of line.now }
+    requires operator { pass.old.view.address ≡ 127 }
+    requires few { length driven.now ≤ MOST_DRIVEN }
+    ensures ours { pass.new.table ≡ pass.old.table }
+    ensures address { pass.new.view.address ≡ pass.old.view.address }
+    ensures fed { AreFed driven.now pass.old.view pass.new.view result }
+{
+    let mut recorded = 0;
+    let mut left = driven;
+    while let Some((slave, rest)) = left.split_first() {
+        recorded += feed(rt, line, *slave, pass);
+        left = rest;
+    }
+    recorded
+}
+
+/// The device of a slave feeds it, by its inputs and outputs as they are then; how many inputs were
+/// recorded, 0 or 1.
+fn feed<T: Wait>(rt: &T, line: &Line, driven: Driven, pass: &mut Pass) -> u8
+    requires ours { pass.old.table ≡ table_of line.now }
+    requires operator { pass.old.view.address ≡ 127 }
+    ensures ours { pass.new.table ≡ pass.old.table }
+    ensures address { pass.new.view.address ≡ pass.old.view.address }
+    ensures most { result ≤ 1 }
+    ensures fed { IsFed driven pass.old.view pass.new.view result }
+{
+    let seen = line.snapshot(rt, pass, driven.address).value;
+    feed_as_seen(rt, line, driven, &seen, pass)
+}
+
+/// What is seen of a slave is fed to it by its device; how many inputs were recorded, 0 or 1.
+fn feed_as_seen<T: Wait>(
+    rt: &T,
+    line: &Line,
+    driven: Driven,
+    seen: &Option<SlaveView>,
+    pass: &mut Pass,
+) -> u8
+    requires ours { pass.old.table ≡ table_of line.now }
+    requires operator { pass.old.view.address ≡ 127 }
+    ensures ours { pass.new.table ≡ pass.old.table }
+    ensures address { pass.new.view.address ≡ pass.old.view.address }
+    ensures most { result ≤ 1 }
+    ensures fed { IsFedAsSeen driven seen.now pass.old.view pass.new.view result }
+{
+    let Some(slave) = seen else {
+        return 0;
+    };
+    let receipt = line.operate(rt, pass, driven.next_input(slave));
+    match receipt.place {
+        Some(_) => 1,
+        None => 0,
+    }
+}
