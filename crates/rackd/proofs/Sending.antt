@@ -7,7 +7,8 @@ use Rattle.std.proofs.lemmas.Option.{slice_get_read}
 use Rattle.dp_audit.specs.Journal.{Journal}
 use Rattle.rackd.specs.declared.stop.Stop.{Stop}
 use Rattle.rackd.specs.declared.stop.Stop.TheVariants as stops
-use Rattle.dp_line.specs.declared.event.Op.{Op}
+use Rattle.dp_text.specs.declared.op_line.OpLine.{OpLine}
+use Rattle.dp_sessions.specs.declared.driven.Driven.{Driven}
 use Rattle.rackd.specs.Commands.{send, operate}
 use Rattle.rackd.specs.LinesInUse.{LineInUse, Sent, Stream, passed, sent_at, sent, operated}
 use Rattle.rackd.specs.ScriptText.{RackInUse, Obeyed, obeyed, obeyed_by_line}
@@ -42,21 +43,21 @@ found streams master index stream is read =
       stream_is = slice_get_read streams (length streams) index stream refl within read;
     }
 
-pub sends : (journal next : Journal) (streams : List Stream) (master index : ℕ) (octets : List ℕ) (stream following : Stream) (old new : Option (List ℕ)) (r : Result (Unit {0}) Stop)
+pub sends : (journal next : Journal) (streams : List Stream) (driven : List Driven) (master index : ℕ) (octets : List ℕ) (stream following : Stream) (old new : Option (List ℕ)) (r : Result (Unit {0}) Stop)
     → IsFound streams master index stream
     → OnOk r (next ≡ (passed journal stream octets).journal) → OnOk r (following ≡ (passed journal stream octets).stream) → OnOk r (Appends old new (passed journal stream octets).text)
     → OnErr r (WritesPrefix old new (passed journal stream octets).text) → IfErr r (λ stop. stop ≡ stops.WriteFault)
-    → Sends (sent (record { journal = journal; streams = streams }) master octets) (record { journal = next; streams = set streams index following }) old new r
-sends journal next streams master index octets stream following old new r at journal_is stream_is ok err fault =
-    let line_in_use : LineInUse = record { journal = journal; streams = streams } in
+    → Sends (sent (record { journal = journal; streams = streams; driven = driven }) master octets) (record { journal = next; streams = set streams index following; driven = driven }) old new r
+sends journal next streams driven master index octets stream following old new r at journal_is stream_is ok err fault =
+    let line_in_use : LineInUse = record { journal = journal; streams = streams; driven = driven } in
     let sending = sent_at line_in_use octets index stream in
     let is : sent line_in_use master octets ≡ Some sending =
     ap (option_and_then (λ index. option_map (sent_at line_in_use octets index) (slice_get streams index))) at.place_is ∙ ap (option_map (sent_at line_in_use octets index)) at.stream_is in
     let leaves = on_both r (λ (w : next ≡ (passed journal stream octets).journal) (s : following ≡ (passed journal stream octets).stream).
-    ap (λ v. record { journal = v; streams = set streams index following }) w
-    ∙ ap (λ f. record { journal = (passed journal stream octets).journal; streams = set streams index f }) s) journal_is stream_is in
-    subst (λ (o : Option Sent). Sends o (record { journal = next; streams = set streams index following }) old new r) (sym is)
-    (ends sending (record { journal = next; streams = set streams index following }) old new r leaves ok err fault)
+    ap (λ v. record { journal = v; streams = set streams index following; driven = driven }) w
+    ∙ ap (λ f. record { journal = (passed journal stream octets).journal; streams = set streams index f; driven = driven }) s) journal_is stream_is in
+    subst (λ (o : Option Sent). Sends o (record { journal = next; streams = set streams index following; driven = driven }) old new r) (sym is)
+    (ends sending (record { journal = next; streams = set streams index following; driven = driven }) old new r leaves ok err fault)
 
 -- ---- a rack
 
@@ -88,15 +89,15 @@ wrote lines chosen following text sending old new r is ok err fault =
     by_line lines chosen following old new r (Some sending)
     (subst (λ s. Sends (Some s) following old new r) is (ends (record { line_in_use = following; text = text }) following old new r (on_ok r refl) ok err fault))
 
--- what an operator does to the chosen line, as words say
-pub obeys_op : (lines : List LineInUse) (chosen : ℕ) (line following : LineInUse) (said : Option Op) (op : Op) (text : List ℕ) (old new : Option (List ℕ)) (r : Result (Unit {0}) Stop)
+-- what a line of the operator asks of the chosen line
+pub obeys_op : (lines : List LineInUse) (chosen : ℕ) (line following : LineInUse) (said : Option OpLine) (op : OpLine) (text : List ℕ) (old new : Option (List ℕ)) (r : Result (Unit {0}) Stop)
     → slice_get lines chosen ≡ Some line → said ≡ Some op → record { line_in_use = following; text = text } ≡ operated line op
     → OnOk r (Appends old new text) → OnErr r (WritesPrefix old new text) → IfErr r (λ stop. stop ≡ stops.WriteFault)
     → Obeys (option_and_then (obeyed (record { lines = lines; chosen = chosen })) (option_map operate said)) (record { lines = set lines chosen following; chosen = chosen }) old new r
 obeys_op lines chosen line following said op text old new r is says done ok err fault =
     let rack_in_use : RackInUse = record { lines = lines; chosen = chosen } in
     let here : option_and_then (obeyed rack_in_use) (option_map operate said) ≡ Some (obeyed_by_line rack_in_use (operated line op)) =
-    ap (λ (o : Option Op). option_and_then (obeyed rack_in_use) (option_map operate o)) says
+    ap (λ (o : Option OpLine). option_and_then (obeyed rack_in_use) (option_map operate o)) says
     ∙ ap (option_map (λ l. obeyed_by_line rack_in_use (operated l op))) is in
     subst (λ (o : Option Obeyed). Obeys o (record { lines = set lines chosen following; chosen = chosen }) old new r) (sym here)
     (wrote lines chosen following text (operated line op) old new r done ok err fault)

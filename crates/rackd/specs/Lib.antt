@@ -1,6 +1,7 @@
 pub mod Codes
 pub mod Commands
 pub mod CommandView
+pub mod DeviceSteps
 pub mod LinesInUse
 pub mod LineInUseExamples
 pub mod ScriptText

@@ -2,6 +2,8 @@
 use Rattle.std.specs.Prelude.{◌≡◌, ⊤, ℕ, List, [], ◌∷◌, codes, Some, None, option_map, refl}
 use Rattle.std.specs.Fmt.{digits}
 use Rattle.hex.proofs.OnLiterals.{hex_on_literals}
+use Rattle.dp_slave.specs.declared.description.Device.{Device}
+use Rattle.dp_slave.specs.declared.description.Device.TheVariants.{Counter, Mirror}
 use Rattle.dp_slave.specs.SlaveRecord.{released}
 use Rattle.dp_slave.specs.Fields.{acted}
 use Rattle.dp_line.specs.Hearing.{heard}
@@ -13,7 +15,7 @@ use Rattle.dp_line.specs.declared.event.Op.{Op}
 use Rattle.dp_line.specs.declared.event.Op.TheVariants.{Input, Tick, Halt}
 use Rattle.dp_line.specs.LineExamples.{fresh}
 use Rattle.dp_audit.specs.Journal.{Journal, added, taken}
-use Rattle.rackd.specs.LinesInUse.{Stream, LineInUse, Sent, sent, operated, owned_line, show_line}
+use Rattle.rackd.specs.LinesInUse.{Stream, LineInUse, Sent, sent, took, stepped, owned_line, show_line}
 
 -- what computes a text
 unfoldable text_on_literals : ⊤
@@ -25,7 +27,7 @@ abbrev journal_1 : Journal
 journal_1 = record { number = 1; opening = fresh; entries = []; state = record { world = fresh; last_walk = 0 } }
 
 abbrev line_1 : LineInUse
-line_1 = record { journal = journal_1; streams = record { master = 1; held = [] } ∷ record { master = 2; held = [] } ∷ [] }
+line_1 = record { journal = journal_1; streams = record { master = 1; held = [] } ∷ record { master = 2; held = [] } ∷ []; driven = [] }
 
 abbrev text_of_sent : Sent → List ℕ
 text_of_sent sending = sending.text
@@ -85,13 +87,13 @@ pub no_slave_there : show_line line_1 6 ≡ codes "refused NoStation\n"
 no_slave_there = refl
 
 abbrev pub after_op : Op → LineInUse
-after_op op = (operated line_1 op).line_in_use
+after_op op = (took line_1 op).line_in_use
 
 -- the device sets the inputs, which are shown then
 abbrev pub in_5_aa55 : Op
 in_5_aa55 = Input 5 (record { items = 0xAA ∷ 0x55 ∷ [] })
 
-pub inputs_set : text_of_sent (operated line_1 in_5_aa55) ≡ codes "done\n"
+pub inputs_set : text_of_sent (took line_1 in_5_aa55) ≡ codes "done\n"
 unfolding text_on_literals
 inputs_set = refl
 
@@ -100,20 +102,45 @@ unfolding text_on_literals
 inputs_shown = refl
 
 -- one octet where the slave has two
-pub too_few_inputs : text_of_sent (operated line_1 (Input 5 (record { items = 0xAA ∷ [] }))) ≡ codes "refused WrongLength\n"
+pub too_few_inputs : text_of_sent (took line_1 (Input 5 (record { items = 0xAA ∷ [] }))) ≡ codes "refused WrongLength\n"
 unfolding text_on_literals
 too_few_inputs = refl
 
 -- time passes, and no watchdog runs
-pub time_passes_on_a_fresh_line : text_of_sent (operated line_1 (Tick 10)) ≡ codes "released\n"
+pub time_passes_on_a_fresh_line : text_of_sent (took line_1 (Tick 10)) ≡ codes "released\n"
 unfolding text_on_literals
 time_passes_on_a_fresh_line = refl
 
 -- the halt, and after it nothing is taken any more
-pub halted_once : text_of_sent (operated line_1 Halt) ≡ codes "released\n"
+pub halted_once : text_of_sent (took line_1 Halt) ≡ codes "released\n"
 unfolding text_on_literals
 halted_once = refl
 
-pub halted_twice : text_of_sent (operated (after_op Halt) Halt) ≡ codes "refused Halted\n"
+pub halted_twice : text_of_sent (took (after_op Halt) Halt) ≡ codes "refused Halted\n"
 unfolding text_on_literals
 halted_twice = refl
+
+-- a device feeds slave 5
+abbrev fed_line : Device → LineInUse
+fed_line device = record line_1 { driven = (record { address = 5; device = device }) ∷ [] }
+
+pub nothing_to_feed : text_of_sent (stepped line_1) ≡ codes "stepped 0\n"
+unfolding text_on_literals
+nothing_to_feed = refl
+
+pub a_counter_steps : text_of_sent (stepped (fed_line Counter)) ≡ codes "stepped 1\n"
+unfolding text_on_literals
+a_counter_steps = refl
+
+pub a_count_is_shown : show_line (stepped (fed_line Counter)).line_in_use 5 ≡ codes "show 5 WaitPrm none in 0001 out 0000 wd off\n"
+unfolding text_on_literals
+a_count_is_shown = refl
+
+-- the outputs of a slave that nobody holds are zero
+pub a_mirror_shows_outputs : show_line (stepped (record (after_op in_5_aa55) { driven = (record { address = 5; device = Mirror }) ∷ [] })).line_in_use 5 ≡ codes "show 5 WaitPrm none in 0000 out 0000 wd off\n"
+unfolding text_on_literals
+a_mirror_shows_outputs = refl
+
+pub no_step_after_the_halt : text_of_sent (stepped (took (fed_line Counter) Halt).line_in_use) ≡ codes "stepped 0\n"
+unfolding text_on_literals
+no_step_after_the_halt = refl

@@ -3,7 +3,7 @@ use Rattle.std.specs.Prelude.{ℕ, ◌==◌, List, [], ◌∷◌, ◌++◌, map,
 use Rattle.dp_telegram.specs.declared.cutter.Cut.{Cut}
 use Rattle.dp_telegram.specs.declared.cutter.Cut.TheVariants as pieces
 use Rattle.dp_telegram.specs.Stream.{CutStream, cuts_of}
-use Rattle.dp_line.specs.declared.event.Event.{Event}
+use Rattle.dp_line.specs.declared.event.Event.{Event as LineEvent}
 use Rattle.dp_line.specs.declared.event.Event.TheVariants.{Request, Operator}
 use Rattle.dp_line.specs.declared.event.Outcome.{Outcome}
 use Rattle.dp_line.specs.declared.event.Op.{Op}
@@ -13,17 +13,23 @@ use Rattle.dp_line.specs.Owned.{owned}
 use Rattle.dp_line.specs.Steps.{step}
 use Rattle.dp_audit.specs.Journal.{Journal, opened, taken}
 use Rattle.dp_audit.specs.AuditText.{audit_text}
-use Rattle.dp_text.specs.Texts.{outcome_line, answer_text, dropped_text, owned_text, show_text}
+use Rattle.dp_text.specs.declared.op_line.OpLine.{OpLine}
+use Rattle.dp_text.specs.declared.op_line.OpLine.TheVariants.{Event, Owned, Show, Step, Nothing}
+use Rattle.dp_text.specs.Texts.{outcome_line, answer_text, dropped_text, owned_text, show_text, stepped_text}
+use Rattle.dp_sessions.specs.declared.driven.Driven.{Driven}
+use Rattle.dp_sessions.specs.DrivenSlaves.{driven_slaves}
+use Rattle.rackd.specs.DeviceSteps.{fed_each}
 
 -- a master's stream: of the octets that came, those that can't be judged yet
 pub record Stream : Type 0 where
   pub master : ℕ
   pub held : List ℕ
 
--- a line in use: its journal, and a stream for each of its masters
+-- a line in use: its journal, a stream for each of its masters, and the slaves that devices drive
 pub record LineInUse : Type 0 where
   pub journal : Journal
   pub streams : List Stream
+  pub driven : List Driven
 
 -- the stream of a master before anything came
 abbrev pub empty_stream : ℕ → Stream
@@ -31,10 +37,10 @@ empty_stream master = record { master = master; held = [] }
 
 -- the line at its start
 abbrev pub line_at_start : Description → LineInUse
-line_at_start line = record { journal = opened line; streams = map empty_stream line.masters }
+line_at_start line = record { journal = opened line; streams = map empty_stream line.masters; driven = driven_slaves line.slaves }
 
 -- what a line answers to an event
-abbrev pub told_of : Journal → Event → Outcome
+abbrev pub told_of : Journal → LineEvent → Outcome
 told_of journal event = (step journal.state.world event).answer.outcome
 
 -- what pieces of a stream leave and write
@@ -99,14 +105,6 @@ sent line_in_use master octets =
     (λ index. option_map (sent_at line_in_use octets index) (slice_get line_in_use.streams index))
     (position (λ stream. stream.master == master) line_in_use.streams)
 
--- the operator does something, which is one event; the streams stay
-abbrev pub operated : LineInUse → Op → Sent
-operated line_in_use op =
-    record {
-      line_in_use = record line_in_use { journal = taken line_in_use.journal (Operator op) };
-      text = outcome_line (told_of line_in_use.journal (Operator op));
-    }
-
 -- which slaves a master holds; none for an address that is no master's
 abbrev pub owned_line : LineInUse → ℕ → List ℕ
 owned_line line_in_use master = owned_text (owned line_in_use.journal.state.world master)
@@ -114,6 +112,32 @@ owned_line line_in_use master = owned_text (owned line_in_use.journal.state.worl
 -- the slave at an address, if one has it
 abbrev pub show_line : LineInUse → ℕ → List ℕ
 show_line line_in_use address = show_text (option_map view_of (slave_at line_in_use.journal.state.world address))
+
+-- the operator does something, which is one event; the streams stay
+abbrev pub took : LineInUse → Op → Sent
+took line_in_use op =
+    record {
+      line_in_use = record line_in_use { journal = taken line_in_use.journal (Operator op) };
+      text = outcome_line (told_of line_in_use.journal (Operator op));
+    }
+
+-- the devices of the line feed their slaves, in ascending order of address, and how many Inputs were recorded is told
+abbrev pub stepped : LineInUse → Sent
+stepped line_in_use =
+    let fed = fed_each line_in_use.journal line_in_use.driven in
+    record { line_in_use = record line_in_use { journal = fed.journal }; text = stepped_text fed.recorded }
+
+-- what is asked leaves the line as it is
+abbrev pub told : LineInUse → List ℕ → Sent
+told line_in_use text = record { line_in_use = line_in_use; text = text }
+
+-- what a line of the operator leaves and writes
+abbrev pub operated : LineInUse → OpLine → Sent
+operated line_in_use (Event op) = took line_in_use op
+operated line_in_use (Owned master) = told line_in_use (owned_line line_in_use master)
+operated line_in_use (Show address) = told line_in_use (show_line line_in_use address)
+operated line_in_use Step = stepped line_in_use
+operated line_in_use Nothing = told line_in_use []
 
 -- the audit text of its journal
 abbrev pub journal_text : LineInUse → List ℕ

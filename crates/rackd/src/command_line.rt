@@ -28,8 +28,9 @@ Standard input is a rack file (TOML: lines with their masters and slaves), a lin
 exactly %%, and a script: 'm M HEX' is what master M sends, 'owned M' lists the slaves that it
 holds, 'show A' shows the slave at address A, 'journal' prints the audit text of the line: what
 came, and what was answered. The operator does 'in A HEX', 'diag A FLAGS HEX', 'busy A POINT on'
-(or off), 'tick N' and 'halt'. For each telegram a line goes to standard output: the reply, no
-reply and the reason, or that it was done; and one for what the operator does.
+(or off), 'tick N' and 'halt'; 'step' has the devices of the rack feed their slaves once. For each
+telegram a line goes to standard output: the reply, no reply and the reason, or that it was done;
+and one for what the operator does.
 
 'run' does the same with a rack file and a script in two files. 'check' reads a rack file and an
 audit text, and tells whether its line would have answered so: 'legal N' with the number of

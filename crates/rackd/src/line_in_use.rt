@@ -1,4 +1,4 @@
-//! A line in use: its journal, and the streams of its masters.
+//! A line in use: its journal, the streams of its masters, and the slaves that devices drive.
 
 ghost use Rattle.std.specs.Prelude.{◌≡◌, ◌≤◌, ◌==◌, length, None, map, position, IfOk, OnOk, OnErr, IfErr};
 ghost use Rattle.std.specs.Io.KnownBytes.{Appends};
@@ -7,18 +7,20 @@ ghost use Rattle.dp_telegram.specs.Stream.{cut_lent, cut_length};
 ghost use Rattle.dp_telegram.specs.FrameText.{frame_at};
 ghost use Rattle.dp_line.specs.declared.event.Event.TheVariants.{Request};
 ghost use Rattle.dp_line.specs.World.{description_of, opening_fault};
-ghost use Rattle.rackd.specs.LinesInUse.{line_at_start, empty_stream, piece_answered, passed, sent, operated, owned_line, show_line, journal_text};
+ghost use Rattle.rackd.specs.LinesInUse.{line_at_start, empty_stream, piece_answered, passed, sent, operated, took, stepped, owned_line, show_line, journal_text};
 ghost use Rattle.dp_text.specs.Writes.{WritesPrefix};
 ghost use Rattle.rackd.specs.Runs.{Sends};
 
+use crate::device_steps::feed_each;
 use crate::output::write_whole;
 use crate::stop::Stop;
 use crate::stream_laws::pieces_of_a_stream_do_not_matter;
 use arrayvec::ArrayVec;
 use dp_audit::Book;
 use dp_line::{Event, LineSpec, Op, Step};
+use dp_sessions::{Driven, MOST_DRIVEN, driven_slaves};
 use dp_telegram::{Cutter, Piece};
-use dp_text::{HexWords, Text};
+use dp_text::{HexWords, OpLine, Text};
 use std::alloc::{AllocError, Global};
 use std::io::Write;
 use std::marker::Model;
@@ -49,6 +51,7 @@ impl Model for Stream {
 pub(crate) struct LineInUse {
     book: Book,
     streams: Vec<Stream>,
+    driven: ArrayVec<Driven, MOST_DRIVEN>,
 }
 
 impl Model for LineInUse {
@@ -56,7 +59,7 @@ impl Model for LineInUse {
 
     ghost Value = { View };
 
-    ghost view = { λ s. record { journal = s.book; streams = s.streams.items } };
+    ghost view = { λ s. record { journal = s.book; streams = s.streams.items; driven = s.driven.items } };
 }
 
 impl LineInUse {
@@ -68,6 +71,7 @@ impl LineInUse {
         Ok(LineInUse {
             book: Book::open(alloc, line).map_err(|_| AllocError)?,
             streams: empty_streams(alloc, &line.masters)?,
+            driven: driven_slaves(line),
         })
     }
 
@@ -94,24 +98,46 @@ impl LineInUse {
         self.streams[index].pass_words(&mut self.book, octets, text, writer)
     }
 
+    /// Does what a line of the operator asks for, and makes the text its answer: none for an empty line or
+    /// a comment.
+    pub(crate) fn operate(&mut self, op_line: OpLine, text: &mut Text)
+        ensures { record { line_in_use = self.new; text = text.new } ≡ operated self.old op_line }
+    {
+        match op_line {
+            OpLine::Event(op) => self.take(op, text),
+            OpLine::Owned(master) => self.list_owned(master, text),
+            OpLine::Show(address) => self.show_slave(address, text),
+            OpLine::Step => self.step(text),
+            OpLine::Nothing => text.clear(),
+        }
+    }
+
     /// The operator does something, and the text becomes the answer.
-    pub(crate) fn operate(&mut self, op: Op, text: &mut Text)
-        ensures { record { line_in_use = self.new; text = text.new } ≡ operated self.old op }
+    fn take(&mut self, op: Op, text: &mut Text)
+        ensures { record { line_in_use = self.new; text = text.new } ≡ took self.old op }
     {
         let mut step = Step::blank();
         self.book.take_to(&Event::Operator(op), &mut step);
         text.set_outcome(&step.outcome);
     }
 
+    /// The devices feed their slaves, and the text tells how many inputs were recorded.
+    fn step(&mut self, text: &mut Text)
+        ensures { record { line_in_use = self.new; text = text.new } ≡ stepped self.old }
+    {
+        let recorded = feed_each(&mut self.book, self.driven.as_slice());
+        text.set_stepped(recorded);
+    }
+
     /// Makes the text the list of the slaves that a master holds, oldest lock first.
-    pub(crate) fn list_owned(&self, master: u8, text: &mut Text)
+    fn list_owned(&self, master: u8, text: &mut Text)
         ensures { text.new ≡ owned_line self.now master }
     {
         text.set_owned(self.book.state().owned_by(master).as_slice());
     }
 
     /// Makes the text what is shown of the slave at an address, which none may have.
-    pub(crate) fn show_slave(&self, address: u8, text: &mut Text)
+    fn show_slave(&self, address: u8, text: &mut Text)
         ensures { text.new ≡ show_line self.now address }
     {
         text.set_show(&self.book.state().view(address));

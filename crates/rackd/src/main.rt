@@ -12,6 +12,7 @@ mod broadcast_tests;
 mod check;
 mod command;
 mod command_line;
+mod device_steps;
 mod ending;
 #[cfg(test)]
 mod fixtures;
@@ -30,6 +31,8 @@ mod run_fault;
 #[cfg(test)]
 mod run_tests;
 mod script;
+#[cfg(test)]
+mod step_tests;
 mod stop;
 mod stream_laws;
 #[cfg(test)]

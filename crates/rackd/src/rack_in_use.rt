@@ -1,7 +1,7 @@
 //! A rack in use: its lines, and the one that commands speak to.
 
-ghost use Rattle.std.specs.Prelude.{◌≡◌, ◌<◌, ◌==◌, ℕ, List, ◌∷◌, Option, None, option_and_then, All, map, position, length, IfOk, IfSome};
-ghost use Rattle.rackd.specs.Commands.{choose_line, send as send_octets, list_owned as owned_asked, show_slave as slave_asked, write_journal as journal_asked, operation_of};
+ghost use Rattle.std.specs.Prelude.{◌≡◌, ◌<◌, ◌==◌, ℕ, List, Option, None, option_and_then, All, map, position, length, IfOk, IfSome};
+ghost use Rattle.rackd.specs.Commands.{choose_line, send as send_octets, write_journal as journal_asked, operation_of};
 ghost use Rattle.dp_line.specs.World.{description_of, opening_fault};
 ghost use Rattle.rack_file.specs.Rack.{rack_described};
 ghost use Rattle.rackd.specs.CommandView.{command_view};
@@ -13,7 +13,7 @@ use crate::command::Command;
 use crate::line_in_use::LineInUse;
 use crate::output::write_whole;
 use crate::stop::Stop;
-use dp_text::{HexCase, HexWords, Text, Words, op_in};
+use dp_text::{HexWords, Text, op_line_in};
 use rack_file::{Rack, RackLine};
 use std::alloc::{AllocError, Global};
 use std::io::Write;
@@ -60,13 +60,10 @@ impl RackInUse {
         ensures { Obeys (option_and_then (obeyed self.old) (command_view command.entry)) self.new (W.contents writer.old) (W.contents writer.new) result }
     {
         match command {
-            Command::Nothing => Ok(()),
             Command::ChooseLine(number) => self.choose(number),
             Command::Send { master, octets } => self.send(master, octets, text, writer),
-            Command::ListOwned(master) => self.list_owned(master, text, writer),
-            Command::ShowSlave(address) => self.show_slave(address, text, writer),
             Command::WriteJournal => self.write_journal(writer),
-            Command::Operate { kind, words } => self.operate(kind, words, text, writer),
+            Command::Operate(line) => self.operate(line, text, writer),
         }
     }
 
@@ -96,22 +93,6 @@ impl RackInUse {
         self.lines[self.chosen].send(master, octets, text, writer)
     }
 
-    /// Writes which slaves of the chosen line a master holds.
-    fn list_owned<W: Write>(&self, master: u8, text: &mut Text, writer: &mut W) -> Result<(), Stop>
-        ensures { Obeys (obeyed self.now (owned_asked master)) self.now (W.contents writer.old) (W.contents writer.new) result }
-    {
-        self.lines[self.chosen].list_owned(master, text);
-        write_whole(writer, text.as_bytes())
-    }
-
-    /// Writes what is shown of a slave of the chosen line.
-    fn show_slave<W: Write>(&self, address: u8, text: &mut Text, writer: &mut W) -> Result<(), Stop>
-        ensures { Obeys (obeyed self.now (slave_asked address)) self.now (W.contents writer.old) (W.contents writer.new) result }
-    {
-        self.lines[self.chosen].show_slave(address, text);
-        write_whole(writer, text.as_bytes())
-    }
-
     /// Writes the audit text of the chosen line.
     fn write_journal<W: Write>(&self, writer: &mut W) -> Result<(), Stop>
         ensures { Obeys (obeyed self.now journal_asked) self.now (W.contents writer.old) (W.contents writer.new) result }
@@ -119,20 +100,19 @@ impl RackInUse {
         self.lines[self.chosen].write_journal(writer)
     }
 
-    /// The operator of the chosen line does what the words say, if they say that; its answer is written.
+    /// The chosen line does what a line of its operator asks for, if it is one; its answer is written.
     fn operate<W: Write>(
         &mut self,
-        kind: &[u8],
-        mut words: Words<'_>,
+        line: &[u8],
         text: &mut Text,
         writer: &mut W,
     ) -> Result<(), Stop>
-        ensures { Obeys (option_and_then (obeyed self.old) (operation_of (kind.now ∷ words.entry))) self.new (W.contents writer.old) (W.contents writer.new) result }
+        ensures { Obeys (option_and_then (obeyed self.old) (operation_of line.now)) self.new (W.contents writer.old) (W.contents writer.new) result }
     {
-        let Some(op) = op_in(HexCase::Either, kind, &mut words) else {
+        let Some(op_line) = op_line_in(line) else {
             return Err(Stop::NoCommand);
         };
-        self.lines[self.chosen].operate(op, text);
+        self.lines[self.chosen].operate(op_line, text);
         write_whole(writer, text.as_bytes())
     }
 }

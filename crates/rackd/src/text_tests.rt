@@ -1,7 +1,10 @@
 use arrayvec::ArrayVec;
 use dp_line::{Event, LineState, Op, OpenFault, Outcome, Rule};
 use dp_telegram::{FrameFault, Octets};
-use dp_text::{HexWords, Lines, Text, Words, event_in, is_text, number_in, octet_in, octets_in};
+use dp_text::{
+    HexWords, Lines, OpLine, Text, TextFault, Words, event_in, is_text, number_in, octet_in,
+    octets_in, read_op,
+};
 use rack_file::{RackFault, read_rack};
 use std::test::Fail;
 
@@ -182,5 +185,52 @@ fn faults_are_shown_by_their_names(rt: HostRuntime) -> Result<(), Fail> {
     assert_eq!(rt; refused.as_str(), "BadKey, line 2 Limit");
     assert_eq!(rt; RackFault::Open(2, OpenFault::Limit).name(), "Open");
     assert_eq!(rt; Rule::NotSelected.name(), "NotSelected");
+    Ok(())
+}
+
+#[test]
+fn reads_lines_of_an_operator(rt: HostRuntime) -> Result<(), Fail> {
+    let mut octets = ArrayVec::new();
+    octets.push(0xAA);
+    octets.push(0x55);
+    let input = Op::Input { address: 5, octets };
+    assert_eq!(rt; read_op("in 5 Aa55"), Ok(OpLine::Event(input)));
+    assert_eq!(rt;
+        read_op("tick 4294967295"),
+        Ok(OpLine::Event(Op::Tick(4_294_967_295)))
+    );
+    assert_eq!(rt; read_op("owned 255"), Ok(OpLine::Owned(255)));
+    assert_eq!(rt; read_op("show 0"), Ok(OpLine::Show(0)));
+    assert_eq!(rt; read_op("step"), Ok(OpLine::Step));
+    assert_eq!(rt; read_op(""), Ok(OpLine::Nothing));
+    assert_eq!(rt; read_op("# step"), Ok(OpLine::Nothing));
+    Ok(())
+}
+
+#[test]
+fn refuses_what_is_no_line_of_an_operator(rt: HostRuntime) -> Result<(), Fail> {
+    // the words of a script alone among them
+    let lines = [
+        " ",
+        "step ",
+        "nonsense",
+        "owned 256",
+        "show 05",
+        "in 5 aa5",
+        "halt\r",
+        "req 1 e5",
+        "m 1 e5",
+        "journal",
+        "line 1",
+    ];
+    for line in lines {
+        assert_eq!(rt; read_op(line), Err(TextFault::NotACommand));
+    }
+    assert_eq!(rt; TextFault::NotACommand.code(), 1);
+    let shown = format!(in rt.alloc(); "{}", TextFault::NotACommand)?;
+    assert!(rt; shown.as_str() == "NotACommand");
+    let mut text = Text::new();
+    text.set_stepped(64);
+    assert_eq!(rt; text.as_bytes(), b"stepped 64\n".as_slice());
     Ok(())
 }
