@@ -5,6 +5,8 @@ ghost use Rattle.std.specs.Prelude.{◌<◌};
 
 mod cutter;
 mod line;
+mod lock;
+mod lock_times;
 
 use cutter::Tally;
 use std::time::Instant;
@@ -21,9 +23,13 @@ fn main(rt: HostRuntime) -> io::Result<()> {
     match words.get(1).map(|word| word.as_str()) {
         Some("line") => ask_line(&rt),
         Some("cutter") => cut_streams(&rt),
+        Some("lock") => lock_times::measure(&rt, rt.alloc()),
         _ => {
             rt.println("bench line: the time of a request on lines of 1 and of 64 slaves")?;
-            rt.println("bench cutter: the time of an octet of four streams, fed in pieces")
+            rt.println("bench cutter: the time of an octet of four streams, fed in pieces")?;
+            rt.println(
+                "bench lock: the time of a request of a journal and behind its lock, from 1 to 16 threads",
+            )
         }
     }
 }

@@ -1,0 +1,162 @@
+//! A line behind its lock, beside its journal alone: masters that ask for the diagnosis of one slave.
+
+ghost use Rattle.std.specs.Prelude.{◌≡◌};
+ghost use Rattle.dp_shared.specs.Passes.{table_of};
+
+use arrayvec::ArrayVec;
+use dp_audit::{Book, Receipt};
+use dp_line::{Device, Event, LineSpec, OpenFault, Outcome, SlaveSpec};
+use dp_shared::{Line, Pass};
+use dp_telegram::{GLOBAL_ADDRESS, Octets};
+use std::alloc::Global;
+use std::sync::Wait;
+use std::sync::atomic::AtomicU32;
+use std::sync::atomic::Ordering::SeqCst;
+use std::thread;
+use std::thread::Threads;
+
+/// The slave that is asked.
+const SLAVE: u8 = 100;
+
+/// A line of masters 1 to 16 and one slave, with places for so many requests.
+pub(crate) fn described(alloc: Global, requests: u32) -> Result<LineSpec, OpenFault> {
+    let mut masters = ArrayVec::new();
+    for master in 1..=16 {
+        let _ = masters.try_push(master);
+    }
+    let mut slaves = Vec::new(alloc);
+    let slave = SlaveSpec {
+        address: SLAVE,
+        ident: 0x80A1,
+        cfg: ArrayVec::new(),
+        sync: false,
+        freeze: false,
+        user_max: 237,
+        device: Device::Still,
+    };
+    slaves.push(slave).map_err(|_| OpenFault::OutOfMemory)?;
+    Ok(LineSpec {
+        number: 1,
+        capacity: requests.saturating_add(2),
+        masters,
+        slaves,
+    })
+}
+
+/// Lets master 1 ask so many times, of the journal itself; how many replies there were.
+pub(crate) fn ask_book(book: &mut Book, requests: u32) -> u32 {
+    let octets = request(1);
+    let mut replies = 0u32;
+    for _ in 0..requests {
+        let event = Event::Request {
+            master: 1,
+            octets: octets.clone().unwrap(),
+        };
+        replies = replies.saturating_add(replied(&book.take(event)));
+    }
+    replies
+}
+
+/// What masters ask. It is a type parameter where threads are started, since the check finds there that it
+/// may be shared by the bound alone.
+pub(crate) trait Asked {
+    /// A master's session: its pass, so many requests, and the pass back; how many replies there were.
+    fn ask<R: Wait>(&self, rt: &R, master: u8, requests: u32) -> u32;
+}
+
+impl Asked for Line {
+    fn ask<R: Wait>(&self, rt: &R, master: u8, requests: u32) -> u32 {
+        let Ok(mut pass) = self.open_pass(rt, master) else {
+            return 0;
+        };
+        let octets = request(master);
+        let replies = ask_each(rt, self, &mut pass, &octets, requests);
+        self.hand_back(rt, pass);
+        replies
+    }
+}
+
+/// Lets masters ask, each so many times in a thread of its own, of one line; how many replies there were.
+/// None where a thread wasn't started.
+pub(crate) fn ask_one<L: Asked + Sync, R: Threads + Wait + Sync>(
+    rt: &R,
+    line: &L,
+    masters: u8,
+    requests: u32,
+) -> Option<u32> {
+    let replies = AtomicU32::new(0);
+    let count = &replies;
+    let started = thread::scope(thread::scope_env(), rt, |scope| {
+        for index in 0..masters {
+            let master = index.saturating_add(1);
+            let worker = move || count_replies(rt, line, master, requests, count);
+            if scope.spawn(worker).is_err() {
+                return false;
+            }
+        }
+        true
+    });
+    started.then(|| replies.load(SeqCst))
+}
+
+/// The same, where each asks a line of its own.
+pub(crate) fn ask_own<L: Asked + Sync, R: Threads + Wait + Sync>(
+    rt: &R,
+    lines: &[L],
+    requests: u32,
+) -> Option<u32> {
+    let replies = AtomicU32::new(0);
+    let count = &replies;
+    let started = thread::scope(thread::scope_env(), rt, |scope| {
+        for line in lines {
+            let worker = move || count_replies(rt, line, 1, requests, count);
+            if scope.spawn(worker).is_err() {
+                return false;
+            }
+        }
+        true
+    });
+    started.then(|| replies.load(SeqCst))
+}
+
+/// One master's session; adds how many replies there were.
+fn count_replies<L: Asked, R: Wait>(
+    rt: &R,
+    line: &L,
+    master: u8,
+    requests: u32,
+    replies: &AtomicU32,
+) {
+    replies.fetch_add(line.ask(rt, master, requests), SeqCst);
+}
+
+/// So many requests of a master's pass; how many replies there were. None of an operator's.
+fn ask_each<R: Wait>(rt: &R, line: &Line, pass: &mut Pass, octets: &Octets, requests: u32) -> u32
+    requires { pass.old.table ≡ table_of line.now }
+    ensures { pass.new.table ≡ pass.old.table }
+{
+    let mut replies = 0u32;
+    if pass.address() == GLOBAL_ADDRESS {
+        return replies;
+    }
+    for _ in 0..requests {
+        replies = replies.saturating_add(replied(&line.exchange(rt, pass, octets)));
+    }
+    replies
+}
+
+/// A master's request for the slave's diagnosis.
+fn request(master: u8) -> Octets {
+    let telegram = dp_telegram::request(SLAVE, master.min(126), 0x6D, Some(60), Some(62), &[]);
+    dp_telegram::encode(&telegram)
+}
+
+/// 1 for a receipt with a place and a whole reply.
+fn replied(receipt: &Receipt) -> u32 {
+    match &receipt.outcome {
+        Outcome::Reply { octets, .. } => {
+            u32::from(receipt.place.is_some() && octets.last() == Some(&0x16))
+        }
+        _ => 0,
+    }
+}
