@@ -1,10 +1,16 @@
--- A shelf and a pass may go to another thread.
+-- A journal, a shelf and a pass may go to another thread.
 use denote.Param.Send.{IsSend, sendable}
 use Rattle.std.proofs.Crossing.{crosses}
 use Rattle.atomic_table.proofs.shared.Seat.TheSendSync as seat
-use Rattle.dp_audit.proofs.Sharing.{book_send}
+use Rattle.dp_line.proofs.line_state.LineState.TheSendSync as line
+use Rattle.dp_audit.proofs.records.Records.TheSendSync as records
+use Rattle.dp_audit.specs.contracts.book.Book as book
 use Rattle.dp_shared.specs.contracts.shelf.Shelf as shelf
 use Rattle.dp_shared.specs.contracts.pass.Pass as pass
+
+book_send : IsSend book.the_row
+unfolding types.Keyed.entry denote.Memory.part_of
+book_send = search (sendable, crosses, line.the_send, records.the_send) depth 40 fits 100000
 
 pub shelf_send : IsSend shelf.the_row
 unfolding types.Keyed.entry denote.Memory.part_of

@@ -20,7 +20,7 @@ use crate::one_slot::OneSlot;
 use crate::pass::Pass;
 use crate::shelf::Shelf;
 use dp_audit::Receipt;
-use dp_line::{Event, LineSpec, Op, OpenFault};
+use dp_line::{Event, LineSpec, Op, OpenFault, Step};
 use dp_telegram::{GLOBAL_ADDRESS, Octets};
 use std::alloc::Global;
 use std::marker::Brand;
@@ -159,12 +159,19 @@ impl Line {
     {
         let mut shelf = self.take(rt, &mut pass.seat);
         shelf.is_legal();
-        let receipt = shelf.take(pass.number, event);
+        let mut answer = Step::blank();
+        shelf.take_to(pass.number, &event, &mut answer);
         shelf.is_legal();
         let count = shelf.count();
-        if receipt.place.is_some() {
+        if answer.place.is_some() {
             pass.made += 1;
         }
+        let receipt = Receipt {
+            place: answer.place,
+            event,
+            facts: answer.facts,
+            outcome: answer.outcome,
+        };
         give_receipt(self, &mut pass.seat, shelf, &receipt);
         receipt
     }

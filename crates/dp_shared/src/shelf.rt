@@ -3,11 +3,11 @@
 ghost use Rattle.std.specs.Prelude.{◌≡◌, ◌+◌, ◌-◌, ◌<◌, ◌≤◌, ◌^◌, ◌++◌, [], length, vec_capacity, None, IfSome, MatchResult};
 ghost use Rattle.dp_line.specs.World.{description_of, opening_fault};
 ghost use Rattle.dp_line.specs.Steps.{step};
-ghost use Rattle.dp_audit.specs.Journal.{opened, receipt_of, taken};
+ghost use Rattle.dp_audit.specs.Journal.{opened, taken};
 ghost use Rattle.dp_shared.specs.Content.{IsHistory, numbers_added, taken_under, world_now};
 
-use dp_audit::{Book, Receipt};
-use dp_line::{Event, LineSpec, LineState, OpenFault};
+use dp_audit::Book;
+use dp_line::{Event, LineSpec, LineState, OpenFault, Step};
 use std::alloc::Global;
 use std::boxed::Box;
 use std::marker::Model;
@@ -65,12 +65,13 @@ impl Shelf {
         self.book.is_legal();
     }
 
-    /// One event of the pass that has the number. It takes no memory.
-    pub(crate) fn take(&mut self, number: u32, event: Event) -> Receipt
-        ensures receipt { result ≡ receipt_of event (step (world_now self.old) event).answer }
-        ensures content { self.new ≡ taken_under self.old number event }
+    /// One event of the pass that has the number; the answer is written where one lies. It takes no
+    /// memory.
+    pub(crate) fn take_to(&mut self, number: u32, event: &Event, answer: &mut Step)
+        ensures answer { answer.new ≡ (step (world_now self.old) event.now).answer }
+        ensures content { self.new ≡ taken_under self.old number event.now }
     {
-        take_numbered(&mut self.book, &mut self.numbers, number, event)
+        take_numbered(&mut self.book, &mut self.numbers, number, event, answer);
     }
 
     /// The line now.
@@ -129,20 +130,19 @@ impl Shelf {
 }
 
 /// Takes an event, and numbers what that adds to the journal.
-fn take_numbered(book: &mut Book, numbers: &mut Vec<u32>, number: u32, event: Event) -> Receipt
+fn take_numbered(book: &mut Book, numbers: &mut Vec<u32>, number: u32, event: &Event, answer: &mut Step)
     requires long { length numbers.old.items ≡ length book.old.entries }
     requires room { book.old.opening.places ≤ vec_capacity numbers.old }
-    ensures receipt { result ≡ receipt_of event (step book.old.state.world event).answer }
-    ensures book { book.new ≡ taken book.old event }
-    ensures numbers { numbers.new.items ≡ numbers.old.items ++ numbers_added book.old.state.world event number }
+    ensures answer { answer.new ≡ (step book.old.state.world event.now).answer }
+    ensures book { book.new ≡ taken book.old event.now }
+    ensures numbers { numbers.new.items ≡ numbers.old.items ++ numbers_added book.old.state.world event.now number }
     ensures capacity { vec_capacity numbers.new ≡ vec_capacity numbers.old }
 {
     let before = book.count();
-    let receipt = book.take(event);
+    book.take_to(event, answer);
     book.is_legal();
     if book.count() > before {
-        let number = if receipt.place.is_some() { number } else { 0 };
+        let number = if answer.place.is_some() { number } else { 0 };
         numbers.push_reserved(number);
     }
-    receipt
 }
