@@ -130,7 +130,13 @@ impl Shelf {
 }
 
 /// Takes an event, and numbers what that adds to the journal.
-fn take_numbered(book: &mut Book, numbers: &mut Vec<u32>, number: u32, event: &Event, answer: &mut Step)
+fn take_numbered(
+    book: &mut Book,
+    numbers: &mut Vec<u32>,
+    number: u32,
+    event: &Event,
+    answer: &mut Step,
+)
     requires long { length numbers.old.items ≡ length book.old.entries }
     requires room { book.old.opening.places ≤ vec_capacity numbers.old }
     ensures answer { answer.new ≡ (step book.old.state.world event.now).answer }
