@@ -33,6 +33,8 @@ pub use sessions::serve;
 #[cfg(test)]
 mod device_tests;
 #[cfg(test)]
+mod fixtures;
+#[cfg(test)]
 mod operator_tests;
 #[cfg(test)]
 mod pool_tests;

@@ -1,82 +1,17 @@
-ghost use Rattle.std.specs.Prelude.{◌≡◌, None, IfOk};
-ghost use Rattle.dp_line.specs.World.{description_of, opening_fault};
+ghost use Rattle.std.specs.Prelude.{◌≡◌};
 ghost use Rattle.dp_shared.specs.Passes.{line_of};
 
 use super::*;
+use crate::fixtures::{Breaking, Narrow, line_spec};
 use arrayvec::ArrayVec;
-use dp_line::{Device, LineSpec, SlaveSpec};
+use dp_line::{Device, LineSpec};
 use dp_shared::{Claims, Line, Pass};
 use std::alloc::{AllocError, Global};
-use std::io::{ErrorKind, Read, Write};
+use std::io::{Read, Write};
 use std::sync::Wait;
 use std::test::Fail;
 
-/// Gives the octets that it has, and then fails.
-#[derive(Drop)]
-struct Breaking<'a>(&'a [u8]);
-
-impl Read for Breaking<'_> {
-    fn read(&mut self, buf: &mut [u8]) -> std::io::Result<usize> {
-        if self.0.is_empty() {
-            return Err(ErrorKind::ConnectionReset.into());
-        }
-        self.0.read(buf)
-    }
-}
-
-/// Takes as many octets as it has room for, and then fails.
-#[derive(Drop)]
-struct Narrow {
-    room: usize,
-    taken: Vec<u8>,
-}
-
-impl Write for Narrow {
-    fn write(&mut self, buf: &[u8]) -> std::io::Result<usize> {
-        let count = buf.len().min(self.room);
-        if count == 0 {
-            return Err(ErrorKind::StorageFull.into());
-        }
-        self.taken.extend_from_slice(&buf[..count])?;
-        self.room -= count;
-        Ok(count)
-    }
-
-    fn flush(&mut self) -> std::io::Result<()> {
-        Ok(())
-    }
-}
-
-/// Line 1 with masters 1 and 2 and a slave of two octets of inputs and of outputs at address 5, which has
-/// this device.
-fn line(alloc: Global, device: Device) -> Result<LineSpec, AllocError>
-    ensures { IfOk result (λ line. opening_fault (description_of line) ≡ None) }
-{
-    let mut masters = ArrayVec::new();
-    masters.push(1);
-    masters.push(2);
-    let mut cfg = ArrayVec::new();
-    cfg.push(0x21);
-    cfg.push(0x11);
-    let mut slaves = Vec::new(alloc);
-    slaves.push(SlaveSpec {
-        address: 5,
-        ident: 0x80A1,
-        cfg,
-        sync: true,
-        freeze: true,
-        user_max: 237,
-        device,
-    })?;
-    Ok(LineSpec {
-        number: 1,
-        capacity: 1000,
-        masters,
-        slaves,
-    })
-}
-
-/// A port of a [`line`], and its description.
+/// A port of a [`line_spec`], and its description.
 #[derive(Drop)]
 struct Place {
     port: Port,
@@ -85,7 +20,7 @@ struct Place {
 }
 
 fn fresh_place(alloc: Global, device: Device) -> Result<Place, Fail> {
-    let spec = line(alloc, device)?;
+    let spec = line_spec(alloc, 1, device)?;
     let (claims, _) = Claims::open(alloc, &spec, 1)?;
     let line = Line::open(alloc, &spec)?;
     Ok(Place {

@@ -1,6 +1,6 @@
 //! A pool of workers, which serve sessions at the ports of a rack.
 
-ghost use Rattle.std.specs.Prelude.{◌≡◌, ◌≤◌, All, length, nat_lt};
+ghost use Rattle.std.specs.Prelude.{◌≡◌, ◌≤◌, All, IfErr, length, nat_lt};
 ghost use Rattle.std.specs.List.{AllZip};
 ghost use Rattle.dp_shared.specs.Claims.{Seated};
 ghost use Rattle.dp_sessions.specs.Pools.{HasSeats};
@@ -89,6 +89,7 @@ pub fn run_pool<
 ) -> Result<u32, PoolFault>
     requires workers { (1 ≤ length seats.items) × (length seats.items ≤ 32) }
     requires seats { All (λ own. HasSeats ports.now own.items) seats.items }
+    ensures { IfErr result (λ fault. fault ≡ PoolFault.NoThread) }
 {
     let served = Mutex::new(0);
     if start_all(rt, ports, seats, &jobs, gate, turns, &served) {

@@ -1,11 +1,10 @@
-ghost use Rattle.std.specs.Prelude.{◌≡◌, ◌⊎◌, ◌∷◌, [], None, IfOk};
-ghost use Rattle.dp_line.specs.World.{description_of, opening_fault};
+ghost use Rattle.std.specs.Prelude.{◌≡◌, ◌⊎◌, ◌∷◌, [], IfOk};
 ghost use Rattle.dp_sessions.specs.Pools.{IsSeatAt};
 
 use super::*;
-use arrayvec::ArrayVec;
+use crate::fixtures::{ANSWERED_1, ASKS_1, line_spec};
 use crossbeam_channel::unbounded;
-use dp_line::{Device, LineSpec, SlaveSpec};
+use dp_line::Device;
 use dp_shared::{Claims, Line, WorkerSeat};
 use std::alloc::{AllocError, Global};
 use std::io::{ErrorKind, Read, Write};
@@ -15,24 +14,13 @@ use std::sync::atomic::{AtomicU64, Ordering};
 use std::test::Fail;
 use std::thread::{Threads, yield_now};
 
-/// Master 1, and its request for the diagnosis of slave 5.
-const BY_1: [u8; 12] = [
-    0x01, 0x68, 0x05, 0x05, 0x68, 0x85, 0x81, 0x6D, 0x3C, 0x3E, 0xED, 0x16,
-];
-
 /// Master 2, and its request for the diagnosis of slave 5.
-const BY_2: [u8; 12] = [
+const ASKS_2: [u8; 12] = [
     0x02, 0x68, 0x05, 0x05, 0x68, 0x85, 0x82, 0x6D, 0x3C, 0x3E, 0xEE, 0x16,
 ];
 
-/// The acceptance, and the diagnosis of a fresh slave for master 1.
-const TO_1: [u8; 18] = [
-    0xE5, 0x68, 0x0B, 0x0B, 0x68, 0x81, 0x85, 0x08, 0x3E, 0x3C, 0x02, 0x05, 0x00, 0xFF, 0x80, 0xA1,
-    0xAF, 0x16,
-];
-
 /// The acceptance, and the diagnosis of a fresh slave for master 2.
-const TO_2: [u8; 18] = [
+const ANSWERED_2: [u8; 18] = [
     0xE5, 0x68, 0x0B, 0x0B, 0x68, 0x82, 0x85, 0x08, 0x3E, 0x3C, 0x02, 0x05, 0x00, 0xFF, 0x80, 0xA1,
     0xB0, 0x16,
 ];
@@ -87,35 +75,6 @@ impl Gate for Until<'_> {
     }
 }
 
-/// A line of this number with masters 1 and 2 and a slave of two octets of inputs and of outputs at address 5.
-fn line(alloc: Global, number: u8) -> Result<LineSpec, AllocError>
-    requires { number ≡ 1 ⊎ number ≡ 2 }
-    ensures { IfOk result (λ line. opening_fault (description_of line) ≡ None) }
-{
-    let mut masters = ArrayVec::new();
-    masters.push(1);
-    masters.push(2);
-    let mut cfg = ArrayVec::new();
-    cfg.push(0x21);
-    cfg.push(0x11);
-    let mut slaves = Vec::new(alloc);
-    slaves.push(SlaveSpec {
-        address: 5,
-        ident: 0x80A1,
-        cfg,
-        sync: true,
-        freeze: true,
-        user_max: 237,
-        device: Device::Still,
-    })?;
-    Ok(LineSpec {
-        number,
-        capacity: 1000,
-        masters,
-        slaves,
-    })
-}
-
 /// A port, and the seats of two workers at it.
 #[derive(Drop)]
 struct Place {
@@ -128,7 +87,7 @@ struct Place {
 fn fresh_place(alloc: Global, number: u8) -> Result<Place, Fail>
     requires { number ≡ 1 ⊎ number ≡ 2 }
 {
-    let spec = line(alloc, number)?;
+    let spec = line_spec(alloc, number, Device::Still)?;
     let (claims, mut seats) = Claims::open(alloc, &spec, 2)?;
     let first = seats.pop().unwrap();
     let second = seats.pop().unwrap();
@@ -188,9 +147,9 @@ fn overlaps<H: Threads + Wait + Sync>(
     let late = AtomicU64::new(0);
     let first = Job {
         port: 0,
-        reader: BY_1.as_slice(),
+        reader: ASKS_1.as_slice(),
         writer: Expecting {
-            expected: TO_1.as_slice(),
+            expected: ANSWERED_1.as_slice(),
             taken: &held,
         },
     };
@@ -214,8 +173,8 @@ fn overlaps<H: Threads + Wait + Sync>(
 
 #[test]
 fn pool_overlaps(rt: HostRuntime) -> Result<(), Fail> {
-    assert!(rt; overlaps(&rt, rt.alloc(), 0, &BY_2, &TO_2)?);
-    assert!(rt; overlaps(&rt, rt.alloc(), 1, &BY_1, &TO_1)?);
+    assert!(rt; overlaps(&rt, rt.alloc(), 0, &ASKS_2, &ANSWERED_2)?);
+    assert!(rt; overlaps(&rt, rt.alloc(), 1, &ASKS_1, &ANSWERED_1)?);
     Ok(())
 }
 
@@ -225,7 +184,7 @@ fn jobs_of_no_port_are_dropped(rt: HostRuntime) -> Result<(), Fail> {
     for port in [2, 0, 255, 1] {
         jobs.push(Job {
             port,
-            reader: BY_2.as_slice(),
+            reader: ASKS_2.as_slice(),
             writer: Vec::new(rt.alloc()),
         })?;
     }
@@ -237,7 +196,7 @@ fn jobs_of_no_port_are_dropped(rt: HostRuntime) -> Result<(), Fail> {
 fn tcp_session(rt: HostRuntime) -> Result<(), Fail> {
     let listener = TcpListener::bind(&rt, "127.0.0.1:0")?;
     let mut client = TcpStream::connect(&rt, listener.local_addr()?)?;
-    client.write_all(&BY_1)?;
+    client.write_all(&ASKS_1)?;
     client.shutdown(Shutdown::Write)?;
     let (stream, _) = listener.accept()?;
     let mut jobs = Vec::new(rt.alloc());
@@ -249,7 +208,7 @@ fn tcp_session(rt: HostRuntime) -> Result<(), Fail> {
     assert_eq!(rt; served(&rt, rt.alloc(), jobs, &OpenGate)?, 1);
     let mut answer = [0; 18];
     client.read_exact(&mut answer)?;
-    assert_eq!(rt; answer, TO_1);
+    assert_eq!(rt; answer, ANSWERED_1);
     assert_eq!(rt; client.read(&mut answer)?, 0);
     Ok(())
 }

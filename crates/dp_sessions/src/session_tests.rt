@@ -1,91 +1,15 @@
-ghost use Rattle.std.specs.Prelude.{◌≡◌, None, IfOk};
-ghost use Rattle.dp_line.specs.World.{description_of, opening_fault};
+ghost use Rattle.std.specs.Prelude.{◌≡◌, None};
 
 use super::*;
-use arrayvec::ArrayVec;
-use dp_line::{Device, LineSpec, SlaveSpec};
+use crate::fixtures::{ANSWERED_1, ASKS_1, Breaking, Narrow, line_spec};
+use dp_line::Device;
 use dp_shared::{Claims, Line, Pass, WorkerSeat};
-use std::alloc::{AllocError, Global};
-use std::io::{ErrorKind, Read, Write};
-use std::sync::Wait;
+use std::alloc::Global;
+use std::io::{Read, Write};
+use std::sync::{Mutex, Wait};
 use std::test::Fail;
 
-/// Master 1, and its request for the diagnosis of slave 5.
-const ASKS: [u8; 12] = [
-    0x01, 0x68, 0x05, 0x05, 0x68, 0x85, 0x81, 0x6D, 0x3C, 0x3E, 0xED, 0x16,
-];
-
-/// The acceptance, and the diagnosis of a fresh slave.
-const ANSWERED: [u8; 18] = [
-    0xE5, 0x68, 0x0B, 0x0B, 0x68, 0x81, 0x85, 0x08, 0x3E, 0x3C, 0x02, 0x05, 0x00, 0xFF, 0x80, 0xA1,
-    0xAF, 0x16,
-];
-
-/// Gives the octets that it has, and then fails.
-#[derive(Drop)]
-struct Breaking<'a>(&'a [u8]);
-
-impl Read for Breaking<'_> {
-    fn read(&mut self, buf: &mut [u8]) -> std::io::Result<usize> {
-        if self.0.is_empty() {
-            return Err(ErrorKind::ConnectionReset.into());
-        }
-        self.0.read(buf)
-    }
-}
-
-/// Takes as many octets as it has room for, and then fails.
-#[derive(Drop)]
-struct Narrow {
-    room: usize,
-    taken: Vec<u8>,
-}
-
-impl Write for Narrow {
-    fn write(&mut self, buf: &[u8]) -> std::io::Result<usize> {
-        let count = buf.len().min(self.room);
-        if count == 0 {
-            return Err(ErrorKind::StorageFull.into());
-        }
-        self.taken.extend_from_slice(&buf[..count])?;
-        self.room -= count;
-        Ok(count)
-    }
-
-    fn flush(&mut self) -> std::io::Result<()> {
-        Ok(())
-    }
-}
-
-/// Line 1 with masters 1 and 2 and a slave of two octets of inputs and of outputs at address 5.
-fn line(alloc: Global) -> Result<LineSpec, AllocError>
-    ensures { IfOk result (λ line. opening_fault (description_of line) ≡ None) }
-{
-    let mut masters = ArrayVec::new();
-    masters.push(1);
-    masters.push(2);
-    let mut cfg = ArrayVec::new();
-    cfg.push(0x21);
-    cfg.push(0x11);
-    let mut slaves = Vec::new(alloc);
-    slaves.push(SlaveSpec {
-        address: 5,
-        ident: 0x80A1,
-        cfg,
-        sync: true,
-        freeze: true,
-        user_max: 237,
-        device: Device::Still,
-    })?;
-    Ok(LineSpec {
-        number: 1,
-        capacity: 1000,
-        masters,
-        slaves,
-    })
-}
-
-/// A port of [`line`], and a worker's seat at it.
+/// A port of a [`line_spec`], and a worker's seat at it.
 #[derive(Drop)]
 struct Place {
     port: Port,
@@ -95,7 +19,7 @@ struct Place {
 }
 
 fn fresh_place(alloc: Global) -> Result<Place, Fail> {
-    let spec = line(alloc)?;
+    let spec = line_spec(alloc, 1, Device::Still)?;
     let (claims, mut seats) = Claims::open(alloc, &spec, 1)?;
     let seat = seats.pop().unwrap();
     let line = Line::open(alloc, &spec)?;
@@ -158,6 +82,92 @@ impl Place {
     }
 }
 
+/// Another worker's seat at a port, how two sessions ended there, of which the first names master 1 and the
+/// second master 7, and what was written to them.
+#[derive(Drop)]
+struct Visitor<'a> {
+    port: &'a Port,
+    seat: WorkerSeat,
+    ends: Option<(SessionEnd, SessionEnd)>,
+    written: Vec<u8>,
+    ghost ours: { seat.table ≡ port.now.claims.table },
+    ghost free: { seat.view.held ≡ None },
+}
+
+impl Visitor<'_> {
+    /// How a session ends that sends this octet alone.
+    fn serve<T: Wait>(&mut self, rt: &T, master: u8) -> SessionEnd {
+        let octets = [master];
+        let mut reader = octets.as_slice();
+        serve(
+            rt,
+            &mut reader,
+            &mut self.written,
+            self.port,
+            &mut self.seat,
+            &OpenGate,
+            100,
+        )
+    }
+}
+
+/// Has the visitor's sessions come while a session is held up.
+#[derive(Drop)]
+struct Beside<'a>(Mutex<Visitor<'a>>);
+
+impl Beside<'_> {
+    /// How the visitor's sessions ended; None where none came, or something was written to them.
+    fn ends(self) -> Option<(SessionEnd, SessionEnd)> {
+        let Beside(visitor) = self;
+        let Visitor { ends, written, .. } = visitor.into_inner();
+        ends.filter(|_| written.is_empty())
+    }
+}
+
+impl Gate for Beside<'_> {
+    fn enter<W: Wait>(&self, rt: &W, _line: u8, _master: u8) {
+        let mut visitor = self.0.lock(rt);
+        let first = visitor.serve(rt, 1);
+        let second = visitor.serve(rt, 7);
+        visitor.ends = Some((first, second));
+    }
+}
+
+impl Place {
+    /// How the visitor's sessions end, which come while the first request of master 1 is held up; None where
+    /// that isn't answered then, or something is written to them.
+    fn ends_beside<T: Wait>(
+        &mut self,
+        rt: &T,
+        alloc: Global,
+        other: WorkerSeat,
+    ) -> Option<(SessionEnd, SessionEnd)>
+        requires ours { other.table ≡ self.old.port.claims.table }
+        requires free { other.view.held ≡ None }
+    {
+        let gate = Beside(Mutex::new(Visitor {
+            port: &self.port,
+            seat: other,
+            ends: None,
+            written: Vec::new(alloc),
+        }));
+        let mut reader: &[u8] = &ASKS_1;
+        let mut written: Vec<u8> = Vec::new(alloc);
+        let ended = serve(
+            rt,
+            &mut reader,
+            &mut written,
+            &self.port,
+            &mut self.seat,
+            &gate,
+            100,
+        );
+        let is_answered = ended == SessionEnd::EndOfInput
+            && written.as_slice() == ANSWERED_1.as_slice();
+        gate.ends().filter(|_| is_answered)
+    }
+}
+
 #[test]
 fn session_ends_have_numbers(rt: HostRuntime) -> Result<(), Fail> {
     let ends = [
@@ -178,7 +188,15 @@ fn session_ends_have_numbers(rt: HostRuntime) -> Result<(), Fail> {
 #[test]
 fn serve_answers(rt: HostRuntime) -> Result<(), Fail> {
     let mut place = fresh_place(rt.alloc())?;
-    assert!(rt; place.serves(&rt, rt.alloc(), &ASKS, &ANSWERED, SessionEnd::EndOfInput));
+    assert!(rt;
+        place.serves(
+            &rt,
+            rt.alloc(),
+            &ASKS_1,
+            &ANSWERED_1,
+            SessionEnd::EndOfInput
+        )
+    );
     assert!(rt; place.serves(&rt, rt.alloc(), &[0x07], &[], SessionEnd::UnknownMaster));
     // a dropped octet, a silence and a status, in one read
     let stream = [
@@ -218,19 +236,21 @@ fn turns(rt: HostRuntime) -> Result<(), Fail> {
 
 #[test]
 fn held_address(rt: HostRuntime) -> Result<(), Fail> {
-    let spec = line(rt.alloc())?;
+    let spec = line_spec(rt.alloc(), 1, Device::Still)?;
     let (claims, mut seats) = Claims::open(rt.alloc(), &spec, 2)?;
     let seat = seats.pop().unwrap();
-    let mut other = seats.pop().unwrap();
+    let other = seats.pop().unwrap();
     let line = Line::open(rt.alloc(), &spec)?;
-    assert_eq!(rt; claims.claim(&mut other, 1), Ok(()));
     let mut place = Place {
         port: Port { line, claims },
         seat,
     };
-    assert!(rt; place.serves(&rt, rt.alloc(), &ASKS, &[], SessionEnd::AddressHeld));
-    place.port.claims.release(&mut other);
-    assert!(rt; place.is_left(&rt, rt.alloc(), 0));
+    let ends = place.ends_beside(&rt, rt.alloc(), other);
+    assert_eq!(rt;
+        ends,
+        Some((SessionEnd::AddressHeld, SessionEnd::UnknownMaster))
+    );
+    assert!(rt; place.is_left(&rt, rt.alloc(), 1));
     Ok(())
 }
 
@@ -251,7 +271,7 @@ fn no_pass(rt: HostRuntime) -> Result<(), Fail> {
 fn read_fails(rt: HostRuntime) -> Result<(), Fail> {
     let mut place = fresh_place(rt.alloc())?;
     let mut written: Vec<u8> = Vec::new(rt.alloc());
-    let ended = place.serve(&rt, &mut Breaking(&ASKS[..6]), &mut written, 100);
+    let ended = place.serve(&rt, &mut Breaking(&ASKS_1[..6]), &mut written, 100);
     assert_eq!(rt; ended, SessionEnd::ReadFault);
     assert!(rt; written.as_slice() == [0xE5].as_slice());
     assert!(rt; place.is_left(&rt, rt.alloc(), 0));
@@ -265,7 +285,7 @@ fn write_fails_in_a_reply(rt: HostRuntime) -> Result<(), Fail> {
         room: 4,
         taken: Vec::new(rt.alloc()),
     };
-    let mut reader: &[u8] = &ASKS;
+    let mut reader: &[u8] = &ASKS_1;
     let ended = place.serve(&rt, &mut reader, &mut narrow, 100);
     assert_eq!(rt; ended, SessionEnd::WriteFault);
     assert!(rt; narrow.taken.as_slice() == [0xE5, 0x68, 0x0B, 0x0B].as_slice());
@@ -280,7 +300,7 @@ fn write_fails_at_once(rt: HostRuntime) -> Result<(), Fail> {
         room: 0,
         taken: Vec::new(rt.alloc()),
     };
-    let mut reader: &[u8] = &ASKS;
+    let mut reader: &[u8] = &ASKS_1;
     let ended = place.serve(&rt, &mut reader, &mut narrow, 100);
     assert_eq!(rt; ended, SessionEnd::WriteFault);
     assert!(rt; narrow.taken.is_empty());
@@ -291,7 +311,15 @@ fn write_fails_at_once(rt: HostRuntime) -> Result<(), Fail> {
 #[test]
 fn input_ends_in_a_frame(rt: HostRuntime) -> Result<(), Fail> {
     let mut place = fresh_place(rt.alloc())?;
-    assert!(rt; place.serves(&rt, rt.alloc(), &ASKS[..6], &[0xE5], SessionEnd::EndOfInput));
+    assert!(rt;
+        place.serves(
+            &rt,
+            rt.alloc(),
+            &ASKS_1[..6],
+            &[0xE5],
+            SessionEnd::EndOfInput
+        )
+    );
     assert!(rt; place.is_left(&rt, rt.alloc(), 0));
     Ok(())
 }
