@@ -260,6 +260,15 @@ fn places_and_looks(rt: HostRuntime) -> Result<(), Fail> {
     assert_eq!(rt; (held.count, held.value.as_slice()), (3, [5].as_slice()));
     assert!(rt; line.snapshot(&rt, &mut operator, 9).value.is_none());
     assert!(rt; line.owned(&rt, &mut operator, 9).value.is_empty());
+    let absent = Op::Input {
+        address: 9,
+        octets: ArrayVec::new(),
+    };
+    let absent = line.operate(&rt, &mut operator, absent);
+    assert_eq!(rt;
+        (absent.place, absent.outcome),
+        (None, Outcome::Refused(OperatorFault::NoStation))
+    );
     Ok(())
 }
 
