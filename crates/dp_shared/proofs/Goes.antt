@@ -1,6 +1,5 @@
 -- What each call does to the content and to its pass is a change that the rule allows.
-use Rattle.std.specs.Prelude.{◌||◌, ◌==◌, if◌then◌else◌}
-use Rattle.std.specs.List.{AllByRecursion}
+use Rattle.std.specs.Prelude.{◌||◌, ◌==◌}
 use Rattle.std.proofs.Common.{◌≡◌, ℕ, zero, suc, ◌+◌, ◌<◌, ◌≤◌, ◌⊎◌, inl, inr, ⊎_elim, Bool, true, false, cond, List, [], ◌∷◌, ◌++◌, map, length, sym, refl, ap, ◌∙◌, subst, arith, eq-eqb, ne_eqb, Option, Some, None}
 use Rattle.std.proofs.lemmas.List.{map-append, length-append, append-nil}
 use Rattle.std.proofs.lemmas.Bool.Decides.{nat_tests}
@@ -19,17 +18,16 @@ use Rattle.dp_line.specs.declared.event.Op.TheVariants.{Input, Diag, Busy, Tick,
 use Rattle.dp_line.specs.declared.event.Outcome.TheVariants.{Refused}
 use Rattle.dp_line.specs.declared.fault.OperatorFault.{OperatorFault}
 use Rattle.dp_slave.specs.SlaveRecord.{SlaveRecord}
-use Rattle.dp_line.specs.Events.{misfit_at, misfit_where}
+use Rattle.dp_line.specs.Events.{misfit_where}
 use Rattle.dp_line.specs.World.{slave_among}
 use Rattle.dp_sap.specs.AccessTable.{is_in_table}
 use Rattle.dp_slave.specs.SlaveRecord.{input_length}
 use Rattle.dp_audit.specs.declared.entry.Entry.{Entry}
 use Rattle.dp_audit.specs.declared.entry.Receipt.{Receipt}
 use Rattle.dp_audit.specs.Journal.{added, entry_of, receipt_of, taken}
-use Rattle.dp_audit.specs.Legal.{Follows, after_entries}
 use Rattle.dp_audit.specs.Ways.{Way, meets_halt, is_refused, brings_halt, is_recorded}
 use Rattle.dp_audit.proofs.Histories.{way}
-use Rattle.dp_shared.specs.Content.{Content, IsHistory, numbers_added, taken_under, world_now}
+use Rattle.dp_shared.specs.Content.{Content, IsHistory, taken_under, world_now}
 use Rattle.dp_shared.specs.Numbers.{under, times, once}
 use Rattle.dp_shared.specs.declared.line_view.PassView.{PassView}
 use Rattle.dp_shared.specs.declared.line_view.Look.{Look}

@@ -1,5 +1,4 @@
 -- AllByRecursion kind of step keeps the rule of the line's lock.
-use Rattle.std.specs.Prelude.{sum_by}
 use Rattle.std.specs.List.{AllByRecursion}
 use Rattle.std.proofs.lemmas.List.Sums.{sum_by_push}
 use Rattle.std.proofs.Common.{◌≡◌, ◌≢◌, ℕ, zero, suc, ◌+◌, ◌<◌, ◌≤◌, ◌⊎◌, inl, inr, ⊎_elim, true, eqb, List, [], ◌∷◌, ◌++◌, map, take, get_or, set, length, sym, refl, ap, ◌∙◌, subst, arith, length-set, get_or-set_same, eq-eqb, ne_eqb, Option, Some, None}
@@ -10,7 +9,7 @@ use mathlib.Core.Logic.{dite}
 use native.Mathlib.Decide.{ℕ_discrete}
 use lib.ListN.{get_elem?}
 use prog.Atomic.{either}
-use Rattle.atomic_table.specs.Table.{State, Me, step, keeps, takes as takes_slot, gives as gives_back, stepped, opening, Allows, Enters, Joins}
+use Rattle.atomic_table.specs.Table.{step, keeps, takes as takes_slot, gives as gives_back, stepped, opening, Allows, Enters, Joins}
 use Rattle.atomic_table.proofs.Lists.{at_set, set_else, set_again, at_longer, at_snoc}
 use Rattle.dp_line.specs.World.{World, description_of}
 use Rattle.dp_line.specs.declared.description.LineSpec.{LineSpec}
@@ -22,7 +21,7 @@ use Rattle.dp_shared.specs.Numbers.{under, times, once}
 use Rattle.dp_shared.specs.declared.line_view.PassView.{PassView}
 use Rattle.dp_shared.specs.declared.line_view.LineView.{LineView}
 use Rattle.dp_shared.specs.declared.line_view.Look.{Look}
-use Rattle.dp_shared.specs.LineLock.{FitsLook, FitsPass, Goes, IsAtHome, IsNumbered, IsOf, IsTaken, LineRule, Slotted, Seated, answer_in, blank, gives, learns, left_with, noted, numbers_of, receipt_for, sits, spent_view, takes, world_after}
+use Rattle.dp_shared.specs.LineLock.{FitsLook, FitsPass, Goes, IsAtHome, IsNumbered, IsOf, IsTaken, LineRule, Slotted, answer_in, blank, gives, learns, left_with, noted, numbers_of, receipt_for, sits, spent_view, takes, world_after}
 use Rattle.dp_shared.proofs.Sums.{set_at, one_view, sum_set, sum_at, sum_two, each_two, each_map, each_append, under_other, times_append, times_none, once_small, once_zero, once_outside, once_not_zero, times_first, times_rest}
 
 abbrev number_of : PassView → ℕ

@@ -1,6 +1,6 @@
 -- What an event adds to the journal and to the numbers beside it.
 use Rattle.std.specs.Option.{is_some}
-use Rattle.std.proofs.Common.{◌≡◌, ℕ, suc, ◌+◌, ◌<◌, ◌≤◌, ◌⊎◌, inl, inr, true, false, cond, List, [], ◌∷◌, ◌++◌, map, length, sym, refl, ap, ◌∙◌, arith, Option, Some, None}
+use Rattle.std.proofs.Common.{◌≡◌, ℕ, suc, ◌+◌, ◌<◌, ◌≤◌, ◌⊎◌, inl, inr, true, cond, List, [], ◌∷◌, ◌++◌, map, length, sym, refl, ap, ◌∙◌, arith, Option}
 use Rattle.std.proofs.lemmas.List.{append-nil, length-append}
 use Rattle.dp_line.specs.World.{World, is_last_place}
 use Rattle.dp_line.specs.Effects.{Stepped, effect}

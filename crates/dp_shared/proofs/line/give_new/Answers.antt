@@ -1,4 +1,4 @@
-use Rattle.std.proofs.Common.{sym, ap, ◌∙◌, subst, List, [], ◌∷◌}
+use Rattle.std.proofs.Common.{sym, subst, List, [], ◌∷◌}
 use Rattle.dp_shared.specs.Content.{Content, IsHistory}
 use Rattle.dp_shared.specs.declared.line_view.PassView.{PassView}
 use Rattle.dp_shared.specs.LineLock.{Goes}

@@ -1,5 +1,4 @@
 use Rattle.std.proofs.Common.{ap, ◌∙◌}
-use Rattle.dp_shared.specs.Content.{Content}
 use Rattle.dp_shared.proofs.Goes.{goes_same}
 use Rattle.dp_shared.proofs.line.give_same.Goals as goal
 

@@ -1,5 +1,5 @@
 use Rattle.std.specs.Option.{is_some}
-use Rattle.std.proofs.Common.{◌≡◌, ◌<◌, ◌≤◌, ℕ, ◌++◌, ◌∷◌, [], cond, length, sym, ap, ◌∙◌, arith}
+use Rattle.std.proofs.Common.{◌≡◌, ◌<◌, ◌++◌, ◌∷◌, [], cond, length, sym, ap, ◌∙◌, arith}
 use Rattle.dp_audit.specs.Journal.{taken}
 use Rattle.dp_shared.proofs.Taken.{numbered_more, numbered_none, opening_kept}
 use Rattle.dp_shared.proofs.shelf.take_numbered.Goals as goal

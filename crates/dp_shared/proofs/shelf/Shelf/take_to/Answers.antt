@@ -1,4 +1,4 @@
-use Rattle.std.proofs.Common.{ℕ, length, sym, ap, ◌∙◌, arith}
+use Rattle.std.proofs.Common.{length, sym, ap, ◌∙◌, arith}
 use Rattle.dp_shared.proofs.Taken.{numbers_long, opening_kept}
 use Rattle.dp_shared.proofs.shelf.Shelf.take_to.Goals as goal
 
