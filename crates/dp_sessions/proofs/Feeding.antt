@@ -1,5 +1,5 @@
 -- Slaves that devices feed, one after another.
-use Rattle.std.proofs.Common.{◌≡◌, ℕ, ◌+◌, List, [], ◌∷◌, refl, ap, subst, ◌∙◌, arith, length}
+use Rattle.std.proofs.Common.{◌≡◌, ℕ, ◌+◌, List, [], ◌∷◌, refl, subst, arith, length}
 use Rattle.std.proofs.lemmas.List.{nil_from_length}
 use Rattle.dp_shared.specs.declared.line_view.PassView.{PassView}
 use Rattle.dp_sessions.specs.declared.driven.Driven.{Driven}

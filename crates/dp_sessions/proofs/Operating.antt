@@ -1,7 +1,7 @@
 -- A session of an operator on its way: octets come, lines are answered one after another, and a write fails.
-use Rattle.std.proofs.Common.{◌≡◌, ◌≢◌, ℕ, zero, suc, ◌+◌, ◌≤◌, ◌<◌, Bool, true, false, not, ◌&&◌, ◌==◌, eqb, nat_lt, List, [], ◌∷◌, ◌++◌, map, length, take, min, Option, Result, Ok, Err, OnOk, OnErr, ok_or, if◌then◌else◌, inl, inr, refl, sym, ap, subst, ◌∙◌, arith, append_assoc, length-append}
+use Rattle.std.proofs.Common.{◌≡◌, ◌≢◌, ℕ, zero, suc, ◌≤◌, ◌<◌, Bool, true, false, not, ◌&&◌, ◌==◌, List, [], ◌∷◌, ◌++◌, map, length, take, Option, Result, Ok, Err, OnOk, OnErr, ok_or, if◌then◌else◌, inl, inr, refl, sym, ap, subst, ◌∙◌, arith, append_assoc, length-append}
 use Rattle.std.specs.List.{AllByRecursion, concat, list_all}
-use Rattle.std.specs.Io.KnownBytes.{Appends, Consumes, IsAtEnd, Keeps}
+use Rattle.std.specs.Io.KnownBytes.{Appends}
 use Rattle.std.specs.Str.{is_utf8}
 use Rattle.std.proofs.lemmas.Grind.{common_steps}
 use Rattle.std.proofs.lemmas.Bool.{cases_lt, lt-ltb}
@@ -12,7 +12,6 @@ use Rattle.dp_sessions.specs.declared.driven.Driven.{Driven}
 use Rattle.dp_sessions.specs.declared.line_fault.LineFault.TheVariants as faults
 use Rattle.dp_sessions.specs.Operators.{AreAnswered, AreBrokenOff, AreServed, BeginsWith, FallsInto, IsAnswered, IsDone, IsUnended, asked_in, command_in, ended, line_feed}
 use Rattle.dp_sessions.specs.Operating.{AreServedTo, BreaksOff, GoesOn, kept}
-use Rattle.dp_sessions.specs.Sessions.{IsCutOff}
 use Rattle.dp_sessions.proofs.Exchanging.{appends_more, appends_none, concat_append, cut_off_then}
 
 -- ---- lines
