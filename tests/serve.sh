@@ -62,12 +62,12 @@ slave() { printf '[[line.slave]]\naddress = %s\nident = 0x80A1\ncfg = "%s"\ndevi
 # ---- the program that serves
 
 # serve NAME RACK [SESSIONS]: starts the program on a rack, and waits until it is ready; with SESSIONS it ends when each
-# port has had so many connections
+# port has had so many connections. Its standard error goes to $errors where that is set.
 serve() {
   rack=$2 sessions=${3:-} used=()
   rm -f "$work/output"
   mkfifo "$work/output"
-  "$program" serve "$rack" ${sessions:+--sessions "$sessions"} </dev/null >"$work/output" 2>"$work/told" &
+  "$program" serve "$rack" ${sessions:+--sessions "$sessions"} </dev/null >"$work/output" 2>"${errors:-$work/told}" &
   server=$!
   alive[$server]=1
   exec {output}<"$work/output"
@@ -105,6 +105,7 @@ finish() {
   status=$?
   unset "alive[$server]"
   expect "$name: status" 0 "$status"
+  [ ! "${errors:-}" ] || return
   notes=$(grep -c . "$work/told")
   expect "$name: one note" 1 "$notes"
   expect "$name: the note counts the sessions of masters" "$(($# / 2 * sessions))" "$(grep -ow "$(($# / 2 * sessions))" "$work/told" | head -n 1)"
@@ -445,7 +446,26 @@ audits 'devices' 1 9
 { cat "$work/steps"; echo journal; } >"$work/journal"
 expect 'and the journals are the same' "$("$program" run "$work/devices" "$work/journal" | sed -n '/^rack-audit /,$p')" "$(cat "$work/audit-1")"
 
+# ---- a journal that is full, and a standard error that takes no note
+
+{ line 1 "$masters" "$operators" 1 2; slave 5; } >"$work/full"
+errors=/dev/full serve 'a full journal' "$work/full" 1
+master 'a master' "$masters" 1; one=$fd
+connect "$operators"; operator=$fd
+asks 'the first place is for a request' "$one" "$diag_1" "$fresh_1"
+send "$one" "$diag_1"
+quiet 'the last one is not' "$one"
+orders 'the line is halted' "$operator" 'tick 1' 'refused Halted'
+orders 'it still shows its slaves' "$operator" 'show 5' 'show 5 WaitPrm none in 0000 out 0000 wd off'
+hang_up "$one"; hang_up "$operator"
+errors=/dev/full finish 'a full journal' "$masters" "$operators"
+audits 'a full journal' 1 2
+expect 'its last entry is the halt' '2 halt | none | released' "$(tail -n 1 "$work/audit")"
+
 # ---- a program that serves for good
+
+serve 'a million sessions' "$work/rack" 1000000
+stop
 
 serve 'for good' "$work/rack"
 for _ in 1 2 3; do
