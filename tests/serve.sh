@@ -462,6 +462,15 @@ errors=/dev/full finish 'a full journal' "$masters" "$operators"
 audits 'a full journal' 1 2
 expect 'its last entry is the halt' '2 halt | none | released' "$(tail -n 1 "$work/audit")"
 
+# ---- the rack of the examples
+
+sed "s/7101/$masters/; s/7201/$operators/; s/7102/$masters_2/; s/7202/$operators_2/" "$top/examples/serve/rack.toml" >"$work/example"
+serve 'the example' "$work/example"
+master 'a master of the example' "$masters" 3
+asks 'its diagnosis' "$fd" "$diag_3" "$fresh_3"
+hang_up "$fd"
+stop
+
 # ---- a program that serves for good
 
 serve 'a million sessions' "$work/rack" 1000000
