@@ -17,7 +17,7 @@ use std::thread::Threads;
 use std::time::{Clock, Instant};
 
 /// Requests of one measurement, over all sessions.
-const REQUESTS: u32 = 16_000;
+const REQUESTS: u32 = 48_000;
 
 /// Prints how many requests a second are answered, bare and by sessions with lines of their own.
 pub(crate) fn measure<

@@ -28,7 +28,9 @@ const DIAGNOSIS: [u8; 17] = [
 /// A client's end of a connection, and what answers at the other end.
 #[derive(Drop)]
 pub(crate) struct Connection<A> {
+    /// The client's end.
     pub(crate) client: TcpStream,
+    /// What answers.
     pub(crate) answers: A,
 }
 
@@ -42,6 +44,7 @@ pub(crate) trait Answers {
 /// What answers with the same octets, whatever it was asked.
 #[derive(Drop)]
 pub(crate) struct Bare {
+    /// Its end of the connection.
     pub(crate) stream: TcpStream,
 }
 
@@ -52,11 +55,14 @@ impl Answers for Bare {
     }
 }
 
-/// A session with a line, and the seat that serves it.
+/// A session with a line of its own.
 #[derive(Drop)]
 pub(crate) struct Served {
+    /// Its end of the connection.
     pub(crate) stream: TcpStream,
+    /// The line.
     pub(crate) port: Port,
+    /// The seat that serves it.
     pub(crate) seat: WorkerSeat,
     ghost ours: { IsSeatAt port.claims seat },
 }
@@ -118,18 +124,25 @@ pub(crate) fn ask_all<A: Answers + Send + Drop, R: Threads + Wait + Sync>(
 
 /// A client; adds how many replies there were.
 fn count_replies(mut client: TcpStream, requests: u32, replies: &AtomicU32) {
-    if is_accepted(&mut client).is_err() {
-        return;
-    }
-    for _ in 0..requests {
-        if !is_replied(&mut client).unwrap_or(false) {
-            return;
-        }
-        replies.fetch_add(1, SeqCst);
-    }
+    replies.fetch_add(ask(&mut client, requests), SeqCst);
 }
 
-/// Sends the master's address, and reads one octet.
+/// So many requests, once the master is accepted; how many replies there were.
+fn ask(client: &mut TcpStream, requests: u32) -> u32 {
+    let mut replies = 0u32;
+    if !is_accepted(client).unwrap_or(false) {
+        return replies;
+    }
+    for _ in 0..requests {
+        if !is_replied(client).unwrap_or(false) {
+            return replies;
+        }
+        replies = replies.saturating_add(1);
+    }
+    replies
+}
+
+/// Sends the master's address; whether it is accepted.
 fn is_accepted(client: &mut TcpStream) -> io::Result<bool> {
     let mut first = [0; 1];
     client.write_all(&MASTER)?;
@@ -137,7 +150,7 @@ fn is_accepted(client: &mut TcpStream) -> io::Result<bool> {
     Ok(first == ACCEPTANCE)
 }
 
-/// Asks once; whether the whole reply came.
+/// Asks once; whether the right reply came.
 fn is_replied(client: &mut TcpStream) -> io::Result<bool> {
     let mut reply = [0; 17];
     client.write_all(&SLAVE_DIAG)?;
