@@ -7,6 +7,8 @@ mod cutter;
 mod line;
 mod lock;
 mod lock_times;
+mod serve_times;
+mod sockets;
 
 use cutter::Tally;
 use std::time::Instant;
@@ -24,11 +26,15 @@ fn main(rt: HostRuntime) -> io::Result<()> {
         Some("line") => ask_line(&rt),
         Some("cutter") => cut_streams(&rt),
         Some("lock") => lock_times::measure(&rt, rt.alloc()),
+        Some("serve") => serve_times::measure(&rt, rt.alloc()),
         _ => {
             rt.println("bench line: the time of a request on lines of 1 and of 64 slaves")?;
             rt.println("bench cutter: the time of an octet of four streams, fed in pieces")?;
             rt.println(
                 "bench lock: the time of a request of a journal and behind its lock, from 1 to 16 threads",
+            )?;
+            rt.println(
+                "bench serve: requests a second over sockets, with and without a line, from 1 to 16 sessions",
             )
         }
     }

@@ -1,0 +1,143 @@
+//! What a session over a socket costs, beside a bare exchange of the same octets.
+
+ghost use Rattle.std.specs.Prelude.{◌≡◌};
+
+use crate::ROUNDS;
+use crate::sockets::{Bare, Connection, Served, ask_all, connect};
+use arrayvec::ArrayVec;
+use dp_line::{Device, LineSpec, OpenFault, SlaveSpec};
+use dp_sessions::Port;
+use dp_shared::{Claims, Line, WorkerSeat};
+use std::alloc::Global;
+use std::fmt;
+use std::io::{self, Print};
+use std::net::{Net, TcpListener, TcpStream};
+use std::sync::Wait;
+use std::thread::Threads;
+use std::time::{Clock, Instant};
+
+/// Requests of one measurement, over all sessions.
+const REQUESTS: u32 = 48_000;
+
+/// Prints how many requests a second are answered, bare and by sessions with lines of their own.
+pub(crate) fn measure<
+    R: Threads + Wait + Clock + Print + Net<Listener = TcpListener, Stream = TcpStream> + Sync,
+>(rt: &R, alloc: Global) -> io::Result<()> {
+    println!(rt; "| Sessions | bare, requests a second | sessions, requests a second | ratio |")?;
+    println!(rt; "|---|---|---|---|")?;
+    for sessions in [1, 2, 4, 8, 16] {
+        let mut bare = u64::MAX;
+        let mut served = u64::MAX;
+        for _ in 0..ROUNDS {
+            bare = bare.min(bare_round(rt, alloc, sessions)?);
+            served = served.min(served_round(rt, alloc, sessions)?);
+        }
+        let ratio = Hundredths(bare.saturating_mul(100) / served.max(1));
+        let (bare, served) = (rate(bare), rate(served));
+        println!(rt; "| {sessions} | {bare} | {served} | {ratio} |")?;
+    }
+    Ok(())
+}
+
+/// Hundredths of one.
+#[derive(Clone, Copy)]
+struct Hundredths(u64);
+
+impl fmt::Display for Hundredths {
+    fn fmt<W: fmt::Write>(&self, f: &mut fmt::Formatter<W>) -> fmt::Result {
+        write!(f, "{}.{}{}", self.0 / 100, self.0 / 10 % 10, self.0 % 10)
+    }
+}
+
+/// Requests a second, where all of a measurement took so many nanoseconds.
+fn rate(nanoseconds: u64) -> u64 {
+    u64::from(REQUESTS) * 1_000_000_000 / nanoseconds.max(1)
+}
+
+/// Nanoseconds for all requests, of what answers without a line.
+fn bare_round<R: Threads + Wait + Clock + Net<Listener = TcpListener, Stream = TcpStream> + Sync>(
+    rt: &R,
+    alloc: Global,
+    sessions: u8,
+) -> io::Result<u64> {
+    let mut connections = Vec::new(alloc);
+    for _ in 0..sessions {
+        let (client, stream) = connect(rt)?;
+        let answers = Bare { stream };
+        connections.push(Connection { client, answers })?;
+    }
+    let start = Instant::now(rt)?;
+    let replies = ask_all(rt, connections, share(sessions));
+    let spent = start.elapsed(rt)?.as_nanos();
+    whole(replies.unwrap_or(0), spent)
+}
+
+/// The same, of sessions with lines of their own.
+fn served_round<R: Threads + Wait + Clock + Net<Listener = TcpListener, Stream = TcpStream> + Sync>(
+    rt: &R,
+    alloc: Global,
+    sessions: u8,
+) -> io::Result<u64> {
+    let line = described(alloc, share(sessions))?;
+    let mut connections = Vec::new(alloc);
+    for _ in 0..sessions {
+        let (client, stream) = connect(rt)?;
+        let answers = opened(alloc, &line, stream)?;
+        connections.push(Connection { client, answers })?;
+    }
+    let start = Instant::now(rt)?;
+    let replies = ask_all(rt, connections, share(sessions));
+    let spent = start.elapsed(rt)?.as_nanos();
+    whole(replies.unwrap_or(0), spent)
+}
+
+/// A line of master 1 and slave 5, with places for so many requests.
+fn described(alloc: Global, requests: u32) -> io::Result<LineSpec> {
+    let mut masters = ArrayVec::new();
+    masters.push(1);
+    let mut slaves = Vec::new(alloc);
+    slaves.push(SlaveSpec {
+        address: 5,
+        ident: 0x80A1,
+        cfg: ArrayVec::new(),
+        sync: false,
+        freeze: false,
+        user_max: 237,
+        device: Device::Still,
+    })?;
+    Ok(LineSpec {
+        number: 1,
+        capacity: requests.saturating_add(2),
+        masters,
+        slaves,
+    })
+}
+
+/// A session to come, with a line that is opened by this description.
+fn opened(alloc: Global, line: &LineSpec, stream: TcpStream) -> io::Result<Served> {
+    let Ok(opened) = Line::open(alloc, line) else {
+        return Err(io::ErrorKind::OutOfMemory.into());
+    };
+    let Ok((claims, mut seats)) = Claims::open(alloc, line, 1) else {
+        return Err(io::ErrorKind::OutOfMemory.into());
+    };
+    let seat = seats.pop().unwrap();
+    let port = Port {
+        line: opened,
+        claims,
+    };
+    Ok(Served { stream, port, seat })
+}
+
+/// The requests of each of so many sessions.
+fn share(sessions: u8) -> u32 {
+    REQUESTS / u32::from(sessions.max(1))
+}
+
+/// The time, where all requests were replied to.
+fn whole(replies: u32, spent: u128) -> io::Result<u64> {
+    if replies != REQUESTS {
+        return Err(io::ErrorKind::InvalidData.into());
+    }
+    Ok(u64::try_from(spent).unwrap_or(u64::MAX))
+}

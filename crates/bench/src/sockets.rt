@@ -1,0 +1,172 @@
+//! Clients that ask over sockets: of a session with a line, and of what answers alike without one.
+
+ghost use Rattle.dp_sessions.specs.Pools.{IsSeatAt};
+
+use crate::cutter::SLAVE_DIAG;
+use dp_sessions::{OpenGate, Port, serve};
+use dp_shared::WorkerSeat;
+use std::io::{self, Read, Write};
+use std::net::{Net, TcpListener, TcpStream};
+use std::sync::Wait;
+use std::sync::atomic::AtomicU32;
+use std::sync::atomic::Ordering::SeqCst;
+use std::thread;
+use std::thread::Threads;
+
+/// The address of the master that asks.
+const MASTER: [u8; 1] = [1];
+
+/// What accepts it.
+const ACCEPTANCE: [u8; 1] = [0xE5];
+
+/// The reply to Slave_Diag, of a slave that nobody holds.
+const DIAGNOSIS: [u8; 17] = [
+    0x68, 0x0B, 0x0B, 0x68, 0x81, 0x85, 0x08, 0x3E, 0x3C, 0x02, 0x05, 0x00, 0xFF, 0x80, 0xA1, 0xAF,
+    0x16,
+];
+
+/// A client's end of a connection, and what answers at the other end.
+#[derive(Drop)]
+pub(crate) struct Connection<A> {
+    /// The client's end.
+    pub(crate) client: TcpStream,
+    /// What answers.
+    pub(crate) answers: A,
+}
+
+/// What answers a client. It is a type parameter where threads are started, since the check finds there that
+/// it may go to one by the bound alone.
+pub(crate) trait Answers {
+    /// Answers until the client is gone.
+    fn answer<R: Wait>(self, rt: &R);
+}
+
+/// What answers with the same octets, whatever it was asked.
+#[derive(Drop)]
+pub(crate) struct Bare {
+    /// Its end of the connection.
+    pub(crate) stream: TcpStream,
+}
+
+impl Answers for Bare {
+    fn answer<R: Wait>(mut self, rt: &R) {
+        let _ = rt;
+        let _ = repeat(&mut self.stream);
+    }
+}
+
+/// A session with a line of its own.
+#[derive(Drop)]
+pub(crate) struct Served {
+    /// Its end of the connection.
+    pub(crate) stream: TcpStream,
+    /// The line.
+    pub(crate) port: Port,
+    /// The seat that serves it.
+    pub(crate) seat: WorkerSeat,
+    ghost ours: { IsSeatAt port.claims seat },
+}
+
+impl Answers for Served {
+    fn answer<R: Wait>(self, rt: &R) {
+        let Served {
+            stream,
+            port,
+            mut seat,
+        } = self;
+        serve(
+            rt,
+            &mut &stream,
+            &mut &stream,
+            &port,
+            &mut seat,
+            &OpenGate,
+            u32::MAX,
+        );
+    }
+}
+
+/// Both ends of a new connection, a client's first. No octet waits for another.
+pub(crate) fn connect<N: Net<Listener = TcpListener, Stream = TcpStream>>(
+    rt: &N,
+) -> io::Result<(TcpStream, TcpStream)> {
+    let listener = TcpListener::bind(rt, "127.0.0.1:0")?;
+    let client = TcpStream::connect(rt, listener.local_addr()?)?;
+    let (server, _) = listener.accept()?;
+    client.set_nodelay(true)?;
+    server.set_nodelay(true)?;
+    Ok((client, server))
+}
+
+/// Lets each client ask so many times, while its other end answers, each end in a thread of its own; how many
+/// replies there were. None where a thread wasn't started.
+pub(crate) fn ask_all<A: Answers + Send + Drop, R: Threads + Wait + Sync>(
+    rt: &R,
+    connections: Vec<Connection<A>>,
+    requests: u32,
+) -> Option<u32> {
+    let replies = AtomicU32::new(0);
+    let count = &replies;
+    let started = thread::scope(thread::scope_env(), rt, |scope| {
+        for Connection { client, answers } in connections {
+            if scope.spawn(move || answers.answer(rt)).is_err() {
+                return false;
+            }
+            let asker = move || count_replies(client, requests, count);
+            if scope.spawn(asker).is_err() {
+                return false;
+            }
+        }
+        true
+    });
+    started.then(|| replies.load(SeqCst))
+}
+
+/// A client; adds how many replies there were.
+fn count_replies(mut client: TcpStream, requests: u32, replies: &AtomicU32) {
+    replies.fetch_add(ask(&mut client, requests), SeqCst);
+}
+
+/// So many requests, once the master is accepted; how many replies there were.
+fn ask(client: &mut TcpStream, requests: u32) -> u32 {
+    let mut replies = 0u32;
+    if !is_accepted(client).unwrap_or(false) {
+        return replies;
+    }
+    for _ in 0..requests {
+        if !is_replied(client).unwrap_or(false) {
+            return replies;
+        }
+        replies = replies.saturating_add(1);
+    }
+    replies
+}
+
+/// Sends the master's address; whether it is accepted.
+fn is_accepted(client: &mut TcpStream) -> io::Result<bool> {
+    let mut first = [0; 1];
+    client.write_all(&MASTER)?;
+    client.read_exact(&mut first)?;
+    Ok(first == ACCEPTANCE)
+}
+
+/// Asks once; whether the right reply came.
+fn is_replied(client: &mut TcpStream) -> io::Result<bool> {
+    let mut reply = [0; 17];
+    client.write_all(&SLAVE_DIAG)?;
+    client.read_exact(&mut reply)?;
+    Ok(reply == DIAGNOSIS)
+}
+
+/// Accepts, and then replies to each request, until the client is gone.
+fn repeat(stream: &mut TcpStream) -> io::Result<()> {
+    let mut address = [0; 1];
+    let mut request = [0; 11];
+    stream.read_exact(&mut address)?;
+    stream.write_all(&ACCEPTANCE)?;
+    for _ in 0..u64::MAX {
+        stream.read_exact(&mut request)?;
+        stream.write_all(&DIAGNOSIS)?;
+    }
+    Ok(())
+}
