@@ -119,7 +119,7 @@ run "${rack%'\n'}"; expect 'a rack without its last LF' 0 '' ''
 # ---- words
 
 run '' --help
-hold 'help' eval '[ "$status" = 0 ] && [ ! -s "$work/err" ] && [[ $(cat "$work/out") == *"rackd run RACK SCRIPT"*"rackd check RACK AUDIT"*"exactly %%"*"'journal'"*"Exit statuses"*"  1  a check that is not legal"* ]]'
+hold 'help' eval '[ "$status" = 0 ] && [ ! -s "$work/err" ] && [[ $(cat "$work/out") == *"rackd run RACK SCRIPT"*"rackd check RACK AUDIT"*"rackd serve RACK [--sessions N]"*"exactly %%"*"'journal'"*"Exit statuses"*"  1  a check that is not legal"* ]]'
 cp "$work/out" "$work/help"
 help=$(cat "$work/help")
 example='[[line]]'${help#*'[[line]]'}
@@ -128,7 +128,10 @@ status=$?
 hold 'the example of the help' eval '[ "$status" = 0 ] && [ -s "$work/out" ] && says "$help" "$(cat "$work/out")"'
 run '' --version; expect 'version' 0 'rackd 0.1.0' ''
 for words in word -h -V --hel --help=1 --version=1 '' '--line 1' help 'play rack script' run 'run rack' 'run rack script word' \
-  'run --help' 'run --line rack script' check 'check rack' 'check rack audit word' 'check rack audit --version'; do
+  'run --help' 'run --line rack script' check 'check rack' 'check rack audit word' 'check rack audit --version' \
+  serve 'serve rack word' 'serve --help' 'serve --sessions 1' 'serve rack --sessions' 'serve rack --sessions 0' \
+  'serve rack --sessions 1000001' 'serve rack --sessions x' 'serve rack --sessions -1' \
+  'serve rack --sessions 1 --sessions 1' 'serve rack --session 1'; do
   if [ "$words" ]; then read -ra list <<<"$words"; else list=(''); fi
   run "$rack%%%%\n$slave_diag\n" "${list[@]}"
   hold "wrong words: $words" eval '[ "$status" = 2 ] && [ ! -s "$work/out" ] && [ -s "$work/err" ]'
@@ -186,6 +189,34 @@ cd "$work" || exit 1
 run '' run - script; expect 'a file whose name is -' 0 "$reply" ''
 cd "$OLDPWD" || exit 1
 
+# ---- serve: what ends before it serves
+
+# ports LISTEN OPERATOR: the two keys of a line
+ports() { printf 'masters = [1, 2]\\nlisten = %s\\noperator = %s' "$1" "$2"; }
+line_2=${rack/number = 1/number = 2}
+run '' serve "$work/none"; expect 'serve: no rack file' 2 '' "rackd: cannot read $work/none"
+run '' serve "$work/none" --sessions 1000000; expect 'serve: a million sessions, and no rack file' 2 '' "rackd: cannot read $work/none"
+run '' serve "$work/latin"; expect 'serve: a rack that is not UTF-8' 2 '' "rackd: cannot read $work/latin"
+run '' serve "$work"; expect 'serve: a folder' 2 '' "rackd: cannot read $work"
+run '' serve "$work/script"; expect 'serve: a file that is no rack' 2 '' 'rackd: rack NotToml'
+run '' serve "$work/rack"; expect 'serve: a line without ports' 2 '' 'rackd: rack BadKey'
+printf "${rack/masters/listen = 47601\\nmasters}" >"$work/half"
+run '' serve "$work/half"; expect 'serve: a line without a port for its operator' 2 '' 'rackd: rack BadKey'
+printf "${rack/masters/operator = 47601\\nmasters}" >"$work/half"
+run '' serve "$work/half"; expect 'serve: a line without a port for masters' 2 '' 'rackd: rack BadKey'
+printf "${rack/"masters = [1, 2]"/$(ports 47601 47602)}$line_2" >"$work/half"
+run '' serve "$work/half"; expect 'serve: a second line without ports' 2 '' 'rackd: rack BadKey'
+printf "${rack/"masters = [1, 2]"/$(ports 47601 65536)}" >"$work/half"
+run '' serve "$work/half"; expect 'serve: port 65536' 2 '' 'rackd: rack BadKey'
+printf "$rack$rack" >"$work/half"
+run '' serve "$work/half"; expect 'serve: the rack comes before its ports' 2 '' 'rackd: rack TwiceLine'
+printf "${rack/"masters = [1, 2]"/$(ports 47601 47601)}" >"$work/same"
+run '' serve "$work/same"; expect 'serve: one port twice' 2 '' 'rackd: cannot listen on 47601'
+printf "${line_2/"masters = [1, 2]"/$(ports 47601 47602)}${rack/"masters = [1, 2]"/$(ports 47603 47601)}" >"$work/same"
+run '' serve "$work/same"; expect 'serve: the port of two lines' 2 '' 'rackd: cannot listen on 47601'
+printf "${line_2/"masters = [1, 2]"/$(ports 47601 47601)}${rack/"masters = [1, 2]"/$(ports 47602 47602)}" >"$work/same"
+run '' serve "$work/same"; expect 'serve: ports in the order of line numbers' 2 '' 'rackd: cannot listen on 47602'
+
 # ---- standard error closed or full: no status changes
 # silent NAME STATUS INPUT WORD..
 silent() {
@@ -218,6 +249,8 @@ closed=4 silent 'a script in a file' 0 '' run "$work/rack" "$work/script"
 closed=4 silent 'a legal audit text' 0 '' check "$work/rack" "$work/audit"
 closed=4 silent 'a check that is not legal' 1 '' check "$work/rack" "$work/empty"
 silent 'a file that is missing' 2 '' check "$work/rack" "$work/none"
+silent 'a line without ports' 2 '' serve "$work/rack"
+silent 'one port twice' 2 '' serve "$work/same"
 closed=4 silent 'a reply and no command' 2 "$rack%%%%\n$slave_diag\nx\n"
 
 for closing in '<&-' '<&- 2>&-' '<&- >&-'; do

@@ -1,6 +1,10 @@
 mod Writing
 mod Readings
 mod RacksInUse
+mod Serving
+mod Opening
+mod RacksServed
+mod Workers
 mod Parting
 mod Passing
 mod Played

@@ -10,10 +10,11 @@ use Rattle.rackd.specs.declared.run_fault.RunFault.TheVariants as runs
 use Rattle.rackd.specs.declared.ending.Fault.{Fault}
 use Rattle.rackd.specs.declared.ending.Fault.TheVariants as faults
 
--- 2 for words, files and input that can't be used, 3 for want of memory, 4 for a fault of standard output
+-- 2 for words, files, input and ports that can't be used, 3 for want of memory, 4 for a fault of standard output
 abbrev pub status_of : Fault → ℕ
 status_of faults.BadWord = 2
 status_of (faults.CannotRead path) = 2
+status_of (faults.CannotListen port) = 2
 status_of (faults.Run (runs.Rack racks.OutOfMemory)) = 3
 status_of (faults.Run (runs.Rack other)) = 2
 status_of (faults.Run (runs.Script line)) = 2
@@ -35,4 +36,5 @@ run_fault_text runs.WriteFault = codes "cannot write"
 abbrev pub fault_text : Fault → List ℕ
 fault_text faults.BadWord = codes "rackd: a word is not UTF-8"
 fault_text (faults.CannotRead path) = codes "rackd: cannot read " ++ path.now
+fault_text (faults.CannotListen port) = codes "rackd: cannot listen on " ++ decimal port
 fault_text (faults.Run fault) = codes "rackd: " ++ run_fault_text fault

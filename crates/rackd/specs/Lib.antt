@@ -11,3 +11,5 @@ pub mod CheckExamples
 pub mod Input
 pub mod InputExamples
 pub mod Ending
+pub mod ServedLines
+pub mod Serving

@@ -2,6 +2,7 @@
 
 use crate::ending::Fault;
 use crate::run_fault::RunFault;
+use clap::builder::ValueParser;
 use clap::{Arg, ArgAction, ArgMatches, Command};
 use std::alloc::{AllocError, Global};
 use std::io::ErrorKind;
@@ -13,6 +14,11 @@ const SCRIPT: &str = "SCRIPT";
 
 const AUDIT: &str = "AUDIT";
 
+/// The option of `serve`, and the most sessions that it may name.
+const SESSIONS: &str = "sessions";
+
+const MOST_SESSIONS: u64 = 1_000_000;
+
 /// What `--version` answers, behind the program's name.
 const VERSION: &str = "0.1.0";
 
@@ -23,6 +29,7 @@ rackd simulates a rack of PROFIBUS DP slaves.
 Usage: rackd < INPUT
        rackd run RACK SCRIPT
        rackd check RACK AUDIT
+       rackd serve RACK [--sessions N]
 
 Standard input is a rack file (TOML: lines with their masters and slaves), a line that is
 exactly %%, and a script: 'm M HEX' is what master M sends, 'owned M' lists the slaves that it
@@ -35,6 +42,13 @@ and one for what the operator does.
 'run' does the same with a rack file and a script in two files. 'check' reads a rack file and an
 audit text, and tells whether its line would have answered so: 'legal N' with the number of
 entries, or the first line of the text that is wrong, 'bad line N' or 'not the policy N'.
+
+'serve' listens on 127.0.0.1 at the two ports of each line, 'listen' for masters and 'operator' for
+its operator, and writes 'ready'. A master sends its address as one octet and gets E5; then it sends
+telegrams and gets the replies. An operator sends the lines of a script that aren't 'm', 'line' or
+'journal', and gets a line for each. Time passes only by the operator's 'tick'. With --sessions N
+(1 to 1000000) each port accepts N connections; when all have ended, the audit text of each line is
+written, in the order of their numbers. Without it the program doesn't end by itself.
 
 For example, the input
 
@@ -60,7 +74,7 @@ Options:
 Exit statuses:
   0  done
   1  a check that is not legal
-  2  wrong words, or a file, input, a rack or a script that is not accepted
+  2  wrong words, a file, input, a rack or a script that is not accepted, or a port that is taken
   3  out of memory
   4  standard output cannot be written
 ";
@@ -83,6 +97,13 @@ pub enum Asked<'a> {
         rack: &'a str,
         /// The path of the audit text.
         audit: &'a str,
+    },
+    /// `serve RACK`: the rack of a file is served at sockets.
+    Serve {
+        /// The path of the rack.
+        rack: &'a str,
+        /// How many connections each port accepts, 1 to 1,000,000; None where there's no end of them.
+        sessions: Option<u32>,
     },
     /// `clap` answers: help, the version, or what is wrong with the words.
     Answer(clap::Error),
@@ -117,9 +138,13 @@ fn asked_by<'a>(matches: &ArgMatches<'a>) -> Asked<'a> {
             rack: path_in(files, RACK),
             script: path_in(files, SCRIPT),
         },
-        Some((_, files)) => Asked::Check {
+        Some(("check", files)) => Asked::Check {
             rack: path_in(files, RACK),
             audit: path_in(files, AUDIT),
+        },
+        Some((_, files)) => Asked::Serve {
+            rack: path_in(files, RACK),
+            sessions: files.get_one(SESSIONS),
         },
         None => Asked::Input,
     }
@@ -130,7 +155,7 @@ fn path_in<'a>(files: &ArgMatches<'a>, name: &str) -> &'a str {
     files.get_str(name).unwrap_or("")
 }
 
-/// The words that are known: `run` and `check` with their files, `--help` and `--version`.
+/// The words that are known: `run`, `check` and `serve` with their files, `--help` and `--version`.
 fn command<'a>(alloc: Global) -> Result<Command<'a>, AllocError> {
     let help = Arg::new(alloc, "help").long("help").action(ArgAction::Help);
     let version = Arg::new(alloc, "version")
@@ -145,7 +170,8 @@ fn command<'a>(alloc: Global) -> Result<Command<'a>, AllocError> {
         .arg(help)?
         .arg(version)?
         .subcommand(with_files(alloc, "run", SCRIPT)?)?
-        .subcommand(with_files(alloc, "check", AUDIT)?)
+        .subcommand(with_files(alloc, "check", AUDIT)?)?
+        .subcommand(serving(alloc)?)
 }
 
 /// A word behind which two files stand, a rack and another.
@@ -157,4 +183,17 @@ fn with_files<'a>(alloc: Global, name: &'a str, other: &'a str) -> Result<Comman
         .disable_version_flag(true)
         .arg(rack)?
         .arg(other)
+}
+
+/// The word `serve`: a rack, and how many sessions each port may have.
+fn serving<'a>(alloc: Global) -> Result<Command<'a>, AllocError> {
+    let rack = Arg::new(alloc, RACK).required(true);
+    let sessions = Arg::new(alloc, SESSIONS)
+        .long(SESSIONS)
+        .value_parser(ValueParser::unsigned(1, MOST_SESSIONS));
+    Command::new(alloc, "serve")
+        .disable_help_flag(true)
+        .disable_version_flag(true)
+        .arg(rack)?
+        .arg(sessions)
 }

@@ -15,6 +15,8 @@ pub enum Fault<'a> {
     BadWord,
     /// The file at this path, or standard input for `-`, can't be read, or isn't UTF-8.
     CannotRead(&'a str),
+    /// This port can't be listened at.
+    CannotListen(u16),
     /// The run ended early.
     Run(RunFault),
 }
@@ -25,15 +27,15 @@ impl<'a> From<RunFault> for Fault<'a> {
     }
 }
 
-/// The exit status: 2 for words, files and input that can't be used, 3 for want of memory, 4 for a fault
-/// of standard output.
+/// The exit status: 2 for words, files, input and ports that can't be used, 3 for want of memory, 4 for a
+/// fault of standard output.
 pub fn status(fault: Fault<'_>) -> u8
     ensures { result ≡ status_of fault.entry }
 {
     match fault {
         Fault::Run(RunFault::OutOfMemory | RunFault::Rack(RackFault::OutOfMemory)) => 3,
         Fault::Run(RunFault::WriteFault) => 4,
-        Fault::BadWord | Fault::CannotRead(_) => 2,
+        Fault::BadWord | Fault::CannotRead(_) | Fault::CannotListen(_) => 2,
         Fault::Run(RunFault::Rack(_) | RunFault::Script(_)) => 2,
     }
 }
@@ -45,6 +47,7 @@ impl<'a> fmt::Display for Fault<'a> {
         match self {
             Fault::BadWord => f.write_str("rackd: a word is not UTF-8"),
             Fault::CannotRead(path) => write!(f, "rackd: cannot read {path}"),
+            Fault::CannotListen(port) => write!(f, "rackd: cannot listen on {port}"),
             Fault::Run(fault) => write!(f, "rackd: {fault}"),
         }
     }

@@ -2,11 +2,13 @@
 //!
 //! Without words it reads a rack text, a line `%%` and a script from standard input, and writes the
 //! answers of the script. `run` reads rack and script from two files, `check` a rack and an audit text,
-//! which it checks. `--help` and `--version` are answered on standard output.
+//! which it checks, and `serve` a rack, whose lines it serves at sockets. `--help` and `--version` are answered on standard output.
 #![tactic(auto)]
 
+mod acceptors;
 #[cfg(test)]
 mod audit_tests;
+mod audits;
 #[cfg(test)]
 mod broadcast_tests;
 mod check;
@@ -20,6 +22,8 @@ mod input;
 mod line_in_use;
 #[cfg(test)]
 mod line_tests;
+mod listening;
+mod opened_lines;
 #[cfg(test)]
 mod operator_tests;
 mod output;
@@ -31,6 +35,10 @@ mod run_fault;
 #[cfg(test)]
 mod run_tests;
 mod script;
+mod serve;
+#[cfg(test)]
+mod serve_tests;
+mod served_line;
 #[cfg(test)]
 mod step_tests;
 mod stop;
@@ -39,17 +47,24 @@ mod stream_laws;
 mod stream_tests;
 #[cfg(test)]
 mod text_tests;
+mod threads;
 
 use check::run_check;
 use clap::error::ErrorKind as Answer;
 use command_line::{Asked, read_words, words_of};
 use ending::{Fault, status};
+use log::{Log, info};
 pub use rack_file::{Rack, RackFault, RackLine, read_rack};
 use run::run_text;
 use run_fault::RunFault;
+use serve::{Served, serve_text};
 use std::fs;
 use std::io::{self, BufWriter, ErrorKind, Write};
+use std::net::{Net, TcpListener, TcpStream};
 use std::process::ExitCode;
+use std::rt::Runtime;
+use std::sync::Wait;
+use std::thread::Threads;
 
 fn main(rt: HostRuntime) -> ExitCode {
     match words_of(&rt) {
@@ -62,25 +77,35 @@ fn main(rt: HostRuntime) -> ExitCode {
 }
 
 /// Reports a fault on standard error, and answers its exit status.
-fn report(rt: &HostRuntime, fault: Fault<'_>) -> ExitCode {
+fn report(rt: &impl Eprint, fault: Fault<'_>) -> ExitCode {
     // A closed or full standard error changes no status.
     let _ = rt.eprintln(fault);
     ExitCode::from(status(fault))
 }
 
 /// Does what the words ask for.
-fn obey<'a>(rt: &HostRuntime, words: &'a [String]) -> Result<ExitCode, Fault<'a>> {
+fn obey<
+    'a,
+    H: Runtime
+        + AllocGlobal
+        + Log
+        + Net<Listener = TcpListener, Stream = TcpStream>
+        + Threads
+        + Wait
+        + Sync,
+>(rt: &H, words: &'a [String]) -> Result<ExitCode, Fault<'a>> {
     match read_words(rt.alloc(), words)? {
         Asked::Input => run_input(rt),
         Asked::Run { rack, script } => run_files(rt, rack, script),
         Asked::Check { rack, audit } => check_files(rt, rack, audit),
+        Asked::Serve { rack, sessions } => serve_file(rt, rack, sessions),
         Asked::Answer(answer) => Ok(tell(rt, &answer)?),
     }
 }
 
 /// Tells what `clap` answers: help and the version on standard output, what is wrong with the words on
 /// standard error.
-fn tell(rt: &HostRuntime, answer: &clap::Error) -> Result<ExitCode, RunFault> {
+fn tell(rt: &(impl Print + Eprint), answer: &clap::Error) -> Result<ExitCode, RunFault> {
     match answer.kind() {
         Answer::OutOfMemory => Err(RunFault::OutOfMemory),
         Answer::DisplayHelp | Answer::DisplayVersion => match answer.print(rt) {
@@ -95,7 +120,7 @@ fn tell(rt: &HostRuntime, answer: &clap::Error) -> Result<ExitCode, RunFault> {
 }
 
 /// Runs the script of standard input on its rack.
-fn run_input<'a>(rt: &HostRuntime) -> Result<ExitCode, Fault<'a>> {
+fn run_input<'a>(rt: &(impl Runtime + AllocGlobal)) -> Result<ExitCode, Fault<'a>> {
     let text = io::read_to_string(rt.alloc(), rt.reader()).map_err(|error| read_fault(
         error.kind(),
         "-",
@@ -105,21 +130,53 @@ fn run_input<'a>(rt: &HostRuntime) -> Result<ExitCode, Fault<'a>> {
 }
 
 /// Runs the script of a file on the rack of another.
-fn run_files<'a>(rt: &HostRuntime, rack: &'a str, script: &'a str) -> Result<ExitCode, Fault<'a>> {
+fn run_files<'a>(
+    rt: &(impl Runtime + AllocGlobal),
+    rack: &'a str,
+    script: &'a str,
+) -> Result<ExitCode, Fault<'a>> {
     let rack = read_file(rt, rack)?;
     let script = read_file(rt, script)?;
     Ok(run_out(rt, rack.as_str(), script.as_str())?)
 }
 
 /// Checks the audit text of a file on the rack of another.
-fn check_files<'a>(rt: &HostRuntime, rack: &'a str, audit: &'a str) -> Result<ExitCode, Fault<'a>> {
+fn check_files<'a>(
+    rt: &(impl Runtime + AllocGlobal),
+    rack: &'a str,
+    audit: &'a str,
+) -> Result<ExitCode, Fault<'a>> {
     let rack = read_file(rt, rack)?;
     let audit = read_file(rt, audit)?;
     Ok(check_out(rt, rack.as_str(), audit.as_str())?)
 }
 
+/// Serves the rack of a file, and notes how many sessions were served.
+fn serve_file<
+    'a,
+    H: Runtime
+        + AllocGlobal
+        + Log
+        + Net<Listener = TcpListener, Stream = TcpStream>
+        + Threads
+        + Wait
+        + Sync,
+>(rt: &H, rack: &'a str, sessions: Option<u32>) -> Result<ExitCode, Fault<'a>> {
+    let rack = read_file(rt, rack)?;
+    let Ok(mut output) = BufWriter::new(rt.alloc(), io::writer(rt)) else {
+        return Err(Fault::Run(RunFault::OutOfMemory));
+    };
+    let served = serve_text(rt, rt.alloc(), rack.as_str(), sessions, &mut output);
+    if output.flush().is_err() {
+        return Err(Fault::Run(RunFault::WriteFault));
+    }
+    let Served { masters, operators } = served?;
+    info!(rt; "served {masters} sessions of masters and {operators} of operators");
+    Ok(ExitCode::SUCCESS)
+}
+
 /// All of a file.
-fn read_file<'a>(rt: &HostRuntime, path: &'a str) -> Result<String, Fault<'a>> {
+fn read_file<'a>(rt: &(impl Runtime + AllocGlobal), path: &'a str) -> Result<String, Fault<'a>> {
     fs::read_to_string(rt, path).map_err(|error| read_fault(error.kind(), path))
 }
 
@@ -132,7 +189,11 @@ fn read_fault(reason: ErrorKind, path: &str) -> Fault<'_> {
 }
 
 /// Runs a script on a rack, and writes the answers on standard output.
-fn run_out(rt: &HostRuntime, rack: &str, script: &str) -> Result<ExitCode, RunFault> {
+fn run_out(
+    rt: &(impl Runtime + AllocGlobal),
+    rack: &str,
+    script: &str,
+) -> Result<ExitCode, RunFault> {
     let Ok(mut output) = BufWriter::new(rt.alloc(), io::writer(rt)) else {
         return Err(RunFault::OutOfMemory);
     };
@@ -144,7 +205,11 @@ fn run_out(rt: &HostRuntime, rack: &str, script: &str) -> Result<ExitCode, RunFa
 }
 
 /// Checks an audit text on a rack, and writes what it is found to be on standard output.
-fn check_out(rt: &HostRuntime, rack: &str, audit: &str) -> Result<ExitCode, RunFault> {
+fn check_out(
+    rt: &(impl Runtime + AllocGlobal),
+    rack: &str,
+    audit: &str,
+) -> Result<ExitCode, RunFault> {
     let Ok(mut output) = BufWriter::new(rt.alloc(), io::writer(rt)) else {
         return Err(RunFault::OutOfMemory);
     };

@@ -1,0 +1,196 @@
+//! Threads that accept connections.
+
+ghost use Rattle.std.specs.Prelude.{◌≡◌};
+ghost use Rattle.dp_shared.specs.Passes.{line_of};
+ghost use Rattle.rackd.specs.Serving.{AreOpened};
+
+use crate::listening::Listening;
+use crate::served_line::ServedLine;
+use crossbeam_channel::Sender;
+use dp_line::LineSpec;
+use dp_sessions::{Job, Port, serve_operator};
+use std::alloc::{AllocError, Global};
+use std::net::{TcpListener, TcpStream};
+use std::sync::atomic::AtomicU32;
+use std::sync::atomic::Ordering::SeqCst;
+use std::sync::{Mutex, MutexGuard, Wait};
+use std::time::{Clock, Duration};
+use std::{io, thread};
+
+/// The most reads of a session.
+pub(crate) const TURNS: u32 = u32::MAX;
+
+/// How long a thread rests after a failed accept, in milliseconds.
+const REST: u64 = 10;
+
+/// A session of a master, at a socket.
+pub(crate) type MasterJob = Job<TcpStream, TcpStream>;
+
+/// Whether connections are accepted: not before every thread has started, and not where one couldn't.
+#[derive(Drop)]
+pub(crate) struct Doors {
+    open: Mutex<bool>,
+}
+
+impl Doors {
+    /// They aren't open yet.
+    pub(crate) fn closed() -> Doors {
+        Doors {
+            open: Mutex::new(false),
+        }
+    }
+
+    /// They are closed until this is made true and let go.
+    pub(crate) fn hold<H: Wait>(&self, rt: &H) -> MutexGuard<'_, bool> {
+        self.open.lock(rt)
+    }
+
+    /// Whether they are open. It waits while threads are being started.
+    fn are_open<H: Wait>(&self, rt: &H) -> bool {
+        *self.open.lock(rt)
+    }
+}
+
+/// What accepts connections. It stands for a type of acceptor where threads start, since the check finds there
+/// that it may go to a thread by that bound alone.
+pub(crate) trait Accept {
+    /// Accepts so many connections, while the doors are open.
+    fn accept_all<H: Wait + Clock>(self, rt: &H, doors: &Doors, sessions: u64);
+}
+
+/// Accepts the masters of a line, and hands their sessions to the workers.
+#[derive(Drop)]
+pub(crate) struct MasterAcceptor {
+    /// Where the line listens for them.
+    pub(crate) listener: TcpListener,
+    /// The place of its port among those of the pool.
+    pub(crate) port: u8,
+    /// The workers.
+    pub(crate) jobs: Sender<MasterJob>,
+}
+
+impl Accept for MasterAcceptor {
+    fn accept_all<H: Wait + Clock>(self, rt: &H, doors: &Doors, sessions: u64) {
+        if !doors.are_open(rt) {
+            return;
+        }
+        for _ in 0..sessions {
+            let stream = next_connection(rt, &self.listener);
+            if !doors.are_open(rt) {
+                return;
+            }
+            if let Ok(job) = job_of(self.port, stream) {
+                if self.jobs.send(rt, job).is_err() {
+                    return;
+                }
+            }
+        }
+    }
+}
+
+/// Accepts the operators of a line, and serves one after another.
+#[derive(Drop)]
+pub(crate) struct OperatorAcceptor<'a> {
+    /// Where the line listens for them.
+    pub(crate) listener: TcpListener,
+    /// The line.
+    pub(crate) port: &'a Port,
+    /// Its description.
+    pub(crate) line: &'a LineSpec,
+    /// How many sessions of operators were served, over all lines.
+    pub(crate) served: &'a AtomicU32,
+    ghost described: { line_of port.now.line ≡ line.now },
+}
+
+impl Accept for OperatorAcceptor<'_> {
+    fn accept_all<H: Wait + Clock>(self, rt: &H, doors: &Doors, sessions: u64) {
+        if !doors.are_open(rt) {
+            return;
+        }
+        for _ in 0..sessions {
+            let stream = next_connection(rt, &self.listener);
+            if !doors.are_open(rt) {
+                return;
+            }
+            self.serve(rt, &stream);
+        }
+    }
+}
+
+impl OperatorAcceptor<'_> {
+    /// Serves the operator of a connection.
+    fn serve<H: Wait>(&self, rt: &H, stream: &TcpStream) {
+        if stream.set_nodelay(true).is_err() {
+            return;
+        }
+        let (mut reader, mut writer) = (stream, stream);
+        serve_operator(rt, &mut reader, &mut writer, self.port, self.line, TURNS);
+        self.served.fetch_add(1, SeqCst);
+    }
+}
+
+/// The next connection. A failed accept is none, and is tried again after a rest.
+fn next_connection<H: Wait + Clock>(rt: &H, listener: &TcpListener) -> TcpStream {
+    for _ in rt.forever() {
+        if let Ok((stream, _)) = listener.accept() {
+            return stream;
+        }
+        thread::sleep(rt, Duration::from_millis(REST));
+    }
+    unreachable!()
+}
+
+/// The session of a master at a connection, whose replies leave at once.
+fn job_of(port: u8, stream: TcpStream) -> io::Result<MasterJob> {
+    stream.set_nodelay(true)?;
+    Ok(Job {
+        port,
+        reader: stream.try_clone()?,
+        writer: stream,
+    })
+}
+
+/// What accepts the connections of a rack.
+#[derive(Drop)]
+pub(crate) struct Acceptors<'a> {
+    /// Of masters, one for each line.
+    pub(crate) masters: Vec<MasterAcceptor>,
+    /// Of operators, one for each line.
+    pub(crate) operators: Vec<OperatorAcceptor<'a>>,
+}
+
+impl<'a> Acceptors<'a> {
+    /// Those of these lines, which are listened at; or memory was refused. The sender of jobs is gone with the
+    /// last of those of masters.
+    pub(crate) fn of(
+        alloc: Global,
+        listening: Vec<Listening<TcpListener>>,
+        lines: &'a [ServedLine],
+        ports: &'a [Port],
+        jobs: Sender<MasterJob>,
+        served: &'a AtomicU32,
+    ) -> Result<Acceptors<'a>, AllocError>
+        requires { AreOpened lines.now ports.now }
+    {
+        let mut masters = Vec::new(alloc);
+        let mut operators = Vec::new(alloc);
+        for (place, here) in (0..u8::MAX).zip(listening) {
+            let index = usize::from(place);
+            let (Some(port), Some(line)) = (ports.get(index), lines.get(index)) else {
+                return Err(AllocError);
+            };
+            masters.push(MasterAcceptor {
+                listener: here.masters,
+                port: place,
+                jobs: jobs.clone()?,
+            })?;
+            operators.push(OperatorAcceptor {
+                listener: here.operators,
+                port,
+                line: &line.spec,
+                served,
+            })?;
+        }
+        Ok(Acceptors { masters, operators })
+    }
+}

@@ -1,0 +1,161 @@
+//! A rack, served at sockets.
+
+ghost use Rattle.std.specs.Prelude.{◌≡◌, ◌≤◌, All, IfErr, None, OnErr, OnOk, length};
+ghost use Rattle.std.specs.Io.KnownBytes.{Appends};
+ghost use Rattle.dp_text.specs.Writes.{WritesPrefix};
+ghost use Rattle.dp_sessions.specs.Pools.{HasSeats};
+ghost use Rattle.dp_line.specs.World.{opening_fault};
+ghost use Rattle.rack_file.specs.Rack.{rack_described};
+ghost use Rattle.rack_file.specs.RackFile.{rack_in};
+ghost use Rattle.rackd.specs.Serving.{AreOpened, Serves, ServesLines, ServesRack, ready};
+
+use crate::acceptors::Acceptors;
+use crate::audits::write_audits;
+use crate::ending::Fault;
+use crate::listening::{Listening, listen_at_lines};
+use crate::opened_lines::{OpenedLines, open_lines};
+use crate::run_fault::RunFault;
+use crate::served_line::{ServedLine, lines_to_serve};
+use crate::threads::{accept_and_serve, can_start};
+use crossbeam_channel::bounded;
+use dp_text::write_whole;
+use rack_file::laws::accepted_lines_can_be_opened;
+use rack_file::{Rack, RackFault, read_rack};
+use std::alloc::Global;
+use std::io::Write;
+use std::net::{Net, TcpListener, TcpStream};
+use std::sync::Wait;
+use std::sync::atomic::AtomicU32;
+use std::thread::Threads;
+use std::time::Clock;
+
+/// How many sessions of masters wait for a worker at most; more connections wait to be accepted.
+const WAITING: usize = 64;
+
+/// What is written once every port is listened at.
+const READY: &[u8] = b"ready\n";
+
+/// How many sessions were served.
+#[derive(Clone, Copy, Debug, PartialEq, Eq)]
+pub(crate) struct Served {
+    /// Those of masters.
+    pub(crate) masters: u32,
+    /// Those of operators.
+    pub(crate) operators: u32,
+}
+
+/// Serves the rack that a text describes on this machine, at the ports of its lines: so many connections at
+/// each port, or without end. It writes `ready`, and when all sessions have ended the audit text of each line,
+/// in ascending order of their numbers.
+///
+/// `Rack` where the rack isn't accepted or a line has no port, `CannotListen` where a port can't be had, and
+/// then nothing is written; `WriteFault`; `OutOfMemory` also where a thread is refused.
+pub(crate) fn serve_text<
+    'a,
+    H: Net<Listener = TcpListener, Stream = TcpStream> + Threads + Wait + Clock + Sync,
+    W: Write,
+>(
+    rt: &H,
+    alloc: Global,
+    rack: &str,
+    sessions: Option<u32>,
+    writer: &mut W,
+) -> Result<Served, Fault<'a>>
+    ensures { Serves (rack_in rack.now) (W.contents writer.old) (W.contents writer.new) result }
+{
+    accepted_lines_can_be_opened();
+    match read_rack(alloc, rack) {
+        Ok(rack) => serve_rack(rt, alloc, rack, sessions, writer),
+        Err(RackFault::OutOfMemory) => Err(Fault::Run(RunFault::OutOfMemory)),
+        Err(fault) => Err(Fault::Run(RunFault::Rack(fault))),
+    }
+}
+
+/// Serves a rack that is accepted.
+fn serve_rack<
+    'a,
+    H: Net<Listener = TcpListener, Stream = TcpStream> + Threads + Wait + Clock + Sync,
+    W: Write,
+>(
+    rt: &H,
+    alloc: Global,
+    rack: Rack,
+    sessions: Option<u32>,
+    writer: &mut W,
+) -> Result<Served, Fault<'a>>
+    requires workers { (1 ≤ rack.workers) × (rack.workers ≤ 32) }
+    requires fit { All (λ line. opening_fault line.line ≡ None) (rack_described rack).lines }
+    ensures { ServesRack (rack_described rack) (W.contents writer.old) (W.contents writer.new) result }
+{
+    let Rack { workers, lines } = rack;
+    let lines = match lines_to_serve(alloc, lines) {
+        Ok(lines) => lines,
+        Err(fault) => return Err(Fault::Run(fault)),
+    };
+    let listening = match listen_at_lines(rt, alloc, &lines) {
+        Ok(listening) => listening,
+        Err(fault) => return Err(fault),
+    };
+    let Ok(opened) = open_lines(alloc, &lines, workers) else {
+        return Err(Fault::Run(RunFault::OutOfMemory));
+    };
+    let sessions = sessions.map_or(u64::MAX, |count| u64::from(count));
+    match serve_lines(rt, alloc, &lines, listening, opened, sessions, writer) {
+        Ok(served) => Ok(served),
+        Err(fault) => Err(Fault::Run(fault)),
+    }
+}
+
+/// Serves the lines that are listened at.
+pub(crate) fn serve_lines<H: Threads + Wait + Clock + Sync, W: Write>(
+    rt: &H,
+    alloc: Global,
+    lines: &[ServedLine],
+    listening: Vec<Listening<TcpListener>>,
+    opened: OpenedLines,
+    sessions: u64,
+    writer: &mut W,
+) -> Result<Served, RunFault>
+    requires opened { AreOpened lines.now opened.ports.items }
+    requires workers { (1 ≤ length opened.seats.items) × (length opened.seats.items ≤ 32) }
+    requires seats { All (λ own. HasSeats opened.ports.items own.items) opened.seats.items }
+    ensures { ServesLines lines.now (W.contents writer.old) (W.contents writer.new) result }
+{
+    let OpenedLines { ports, seats } = opened;
+    let operators = AtomicU32::new(0);
+    let Ok((sender, jobs)) = bounded(alloc, WAITING) else {
+        return Err(RunFault::OutOfMemory);
+    };
+    let Ok(acceptors) = Acceptors::of(alloc, listening, lines, &ports, sender, &operators) else {
+        return Err(RunFault::OutOfMemory);
+    };
+    if !can_start(rt, seats.len() + 2 * lines.len()) {
+        return Err(RunFault::OutOfMemory);
+    }
+    let Ok(()) = write_ready(writer) else {
+        return Err(RunFault::WriteFault);
+    };
+    let served = accept_and_serve(rt, acceptors, &ports, seats, jobs, sessions);
+    let Ok(masters) = served else {
+        return Err(RunFault::OutOfMemory);
+    };
+    match write_audits(alloc, ports, writer) {
+        Ok(()) => Ok(Served {
+            masters,
+            operators: operators.into_inner(),
+        }),
+        Err(fault) => Err(fault),
+    }
+}
+
+/// Writes `ready`, and has it leave.
+fn write_ready<W: Write>(writer: &mut W) -> Result<(), RunFault>
+    ensures ok { OnOk result (Appends (W.contents writer.old) (W.contents writer.new) ready) }
+    ensures err { OnErr result (WritesPrefix (W.contents writer.old) (W.contents writer.new) ready) }
+    ensures fault { IfErr result (λ fault. fault ≡ RunFault.WriteFault) }
+{
+    if write_whole(writer, READY).is_err() || writer.flush().is_err() {
+        return Err(RunFault::WriteFault);
+    }
+    Ok(())
+}
