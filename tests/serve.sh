@@ -15,6 +15,11 @@ failed=0
 work=$(mktemp -d)
 declare -A alive used
 trap 'kill -9 "${!alive[@]}" 2>/dev/null; rm -rf "$work"' EXIT
+if [ ! -x "$program" ]; then
+  echo "there is no program $program"
+  echo '0 passed, 1 failed'
+  exit 1
+fi
 
 # ---- cases
 
@@ -57,7 +62,10 @@ line() {
 }
 
 # slave ADDRESS [DEVICE [CFG]]: a slave of the line above, of two octets of outputs and two of inputs
-slave() { printf '[[line.slave]]\naddress = %s\nident = 0x80A1\ncfg = "%s"\ndevice = "%s"\n' "$1" "${3:-2111}" "${2:-still}"; }
+slave() {
+  printf '[[line.slave]]\naddress = %s\nident = 0x80A1\n' "$1"
+  printf 'cfg = "%s"\ndevice = "%s"\n' "${3:-2111}" "${2:-still}"
+}
 
 # ---- the program that serves
 
@@ -91,8 +99,9 @@ reap() {
 # finish NAME PORT..: uses up the connections that are left at each of these ports; the program ends, with one note,
 # and what it printed behind 'ready' is left in $work/audit
 finish() {
-  local name=$1 port notes
+  local name=$1 port count
   shift
+  count=$(($# / 2 * sessions))
   for port; do
     while [ "${used[$port]:-0}" -lt "$sessions" ]; do
       connect "$port"
@@ -106,9 +115,8 @@ finish() {
   unset "alive[$server]"
   expect "$name: status" 0 "$status"
   [ ! "${errors:-}" ] || return
-  notes=$(grep -c . "$work/told")
-  expect "$name: one note" 1 "$notes"
-  expect "$name: the note counts the sessions of masters" "$(($# / 2 * sessions))" "$(grep -ow "$(($# / 2 * sessions))" "$work/told" | head -n 1)"
+  expect "$name: one note" 1 "$(grep -c . "$work/told")"
+  expect "$name: the note counts the sessions of masters" "$count" "$(grep -ow "$count" "$work/told" | head -n 1)"
 }
 
 # audits NAME NUMBER COUNT..: what was printed at the end is an audit text of each of these lines, in this order, and
@@ -192,14 +200,20 @@ master_again() {
   expect "$1" e5 "$answer"
 }
 
-# order FD TEXT [LINES]: an operator's line, and so many lines of answer, 1 where it isn't said
+# say FD TEXT: sends an operator's line
+say() { (printf '%s\n' "$2" >&"$1"); }
+
+# heard FD: a line that an operator is answered
+heard() {
+  local answer
+  read -r -t "$limit" -u "$1" answer || answer=late
+  printf '%s\n' "$answer"
+}
+
+# order FD TEXT: an operator's line, and the line that answers it
 order() {
-  local answer count
-  printf '%s\n' "$2" >&"$1"
-  for ((count = ${3:-1}; count > 0; count--)); do
-    read -r -t "$limit" -u "$1" answer || answer=late
-    printf '%s\n' "$answer"
-  done
+  say "$1" "$2"
+  heard "$1"
 }
 
 # orders NAME FD TEXT WANTED: an operator's line is answered so
@@ -230,7 +244,8 @@ diag_1_again=6805056885815d3c3edd16 held_by_2=680b0b688185083e3c020c000280a1b916
 ports masters operators masters_2 operators_2
 { line 1 "$masters" "$operators"; slave 5; } >"$work/rack"
 for words in '' "$work/rack $work/rack" '--sessions 1' "$work/rack --sessions" "$work/rack --sessions 0" \
-  "$work/rack --sessions 1000001" "$work/rack --sessions x" "$work/rack --sessions -1" "$work/rack --sessions 1 --sessions 1" \
+  "$work/rack --sessions 1000001" "$work/rack --sessions x" "$work/rack --sessions -1" \
+  "$work/rack --sessions 1 --sessions 1" \
   "$work/rack --session 1" "$work/rack 1" "--help" "$work/none --sessions 0"; do
   read -ra list <<<"$words"
   run serve "${list[@]}"
@@ -317,12 +332,11 @@ orders 'not UTF-8' "$operator" $'\xff' 'fault NotACommand'
 orders 'a line that is too long' "$operator" "$(printf 'x%.0s' {1..1025})" 'fault TooLong'
 orders 'comments and empty lines write nothing' "$operator" $'# a comment\n\nowned 3' owned
 connect "$operators"; second=$fd
-printf 'owned 2\n' >&"$second"
+say "$second" 'owned 2'
 quiet 'a second operator waits' "$second"
 orders 'while the first is served' "$operator" 'owned 2' 'owned 5'
 hang_up "$operator"
-read -r -t "$limit" -u "$second" answer || answer=late
-expect 'and is served after it' 'owned 5' "$answer"
+expect 'and is served after it' 'owned 5' "$(heard "$second")"
 orders 'the halt' "$second" halt 'released 5'
 orders 'nothing comes after it' "$second" 'tick 1' 'refused Halted'
 for fd in "$second" "$one" "$two" "$three"; do hang_up "$fd"; done
@@ -389,14 +403,17 @@ crowd() {
   for port in "${@:5}"; do used[$port]=$sessions; done
 }
 
-# own FILE MASTER: how many entries of an audit text are of this master
-own() { grep -c " req $2 " "$1"; }
+# own FILE MASTER..: how many entries of an audit text are of each of these masters
+own() {
+  local master
+  for master in "${@:2}"; do printf '%s ' "$(grep -c " req $master " "$1")"; done
+}
 
 { printf 'workers = 16\n'; line 1 "$masters" "$operators" "$(seq -s ', ' 11 26)"; slave 5; } >"$work/crowd"
 crowd 'sixteen masters of a line' "$work/crowd" 11 26 "$masters"
 finish 'sixteen masters of a line' "$masters" "$operators"
 audits 'sixteen masters of a line' 1 800
-expect 'each has its entries' "$(printf '50%.0s ' {11..26})" "$(for master in {11..26}; do printf '%s ' "$(own "$work/audit-1" "$master")"; done)"
+expect 'each has its entries' "$(printf '50%.0s ' {11..26})" "$(own "$work/audit-1" {11..26})"
 
 ports masters_3 operators_3 masters_4 operators_4
 {
@@ -444,7 +461,8 @@ hang_up "$one"; hang_up "$operator"
 finish 'devices' "$masters" "$operators"
 audits 'devices' 1 9
 { cat "$work/steps"; echo journal; } >"$work/journal"
-expect 'and the journals are the same' "$("$program" run "$work/devices" "$work/journal" | sed -n '/^rack-audit /,$p')" "$(cat "$work/audit-1")"
+"$program" run "$work/devices" "$work/journal" | sed -n '/^rack-audit /,$p' >"$work/script-audit"
+expect 'and the journals are the same' "$(cat "$work/script-audit")" "$(cat "$work/audit-1")"
 
 # ---- a journal that is full, and a standard error that takes no note
 
@@ -464,7 +482,8 @@ expect 'its last entry is the halt' '2 halt | none | released' "$(tail -n 1 "$wo
 
 # ---- the rack of the examples
 
-sed "s/7101/$masters/; s/7201/$operators/; s/7102/$masters_2/; s/7202/$operators_2/" "$top/examples/serve/rack.toml" >"$work/example"
+sed "s/7101/$masters/; s/7201/$operators/; s/7102/$masters_2/; s/7202/$operators_2/" \
+  "$top/examples/serve/rack.toml" >"$work/example"
 serve 'the example' "$work/example"
 master 'a master of the example' "$masters" 3
 asks 'its diagnosis' "$fd" "$diag_3" "$fresh_3"
