@@ -26,7 +26,8 @@ const REST: u64 = 10;
 /// A session of a master, at a socket.
 pub(crate) type MasterJob = Job<TcpStream, TcpStream>;
 
-/// Whether connections are accepted: not before every thread has started, and not where one couldn't.
+/// Whether connections are accepted: not before the threads that accept them have all started, and not where
+/// a thread is refused.
 #[derive(Drop)]
 pub(crate) struct Doors {
     open: Mutex<bool>,
@@ -43,6 +44,11 @@ impl Doors {
     /// They are closed until this is made true and let go.
     pub(crate) fn hold<H: Wait>(&self, rt: &H) -> MutexGuard<'_, bool> {
         self.open.lock(rt)
+    }
+
+    /// They are closed for good.
+    pub(crate) fn close<H: Wait>(&self, rt: &H) {
+        *self.open.lock(rt) = false;
     }
 
     /// Whether they are open. It waits while threads are being started.

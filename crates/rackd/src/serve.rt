@@ -107,7 +107,7 @@ fn serve_rack<
 }
 
 /// Serves the lines that are listened at.
-pub(crate) fn serve_lines<H: Threads + Wait + Clock + Sync, W: Write>(
+pub(crate) fn serve_lines<H: Net + Threads + Wait + Clock + Sync, W: Write>(
     rt: &H,
     alloc: Global,
     lines: &[ServedLine],
@@ -135,7 +135,7 @@ pub(crate) fn serve_lines<H: Threads + Wait + Clock + Sync, W: Write>(
     let Ok(()) = write_ready(writer) else {
         return Err(RunFault::WriteFault);
     };
-    let served = accept_and_serve(rt, acceptors, &ports, seats, jobs, sessions);
+    let served = accept_and_serve(rt, acceptors, lines, &ports, seats, jobs, sessions);
     let Ok(masters) = served else {
         return Err(RunFault::OutOfMemory);
     };

@@ -4,9 +4,11 @@ ghost use Rattle.std.specs.Prelude.{◌≡◌, ◌≤◌, All, length};
 ghost use Rattle.dp_sessions.specs.Pools.{HasSeats};
 
 use crate::acceptors::{Accept, Acceptors, Doors, MasterJob, TURNS};
+use crate::served_line::ServedLine;
 use crossbeam_channel::Receiver;
 use dp_sessions::{OpenGate, PoolFault, Port, run_pool};
 use dp_shared::WorkerSeat;
+use std::net::{Ipv4Addr, Net, TcpStream};
 use std::sync::{Mutex, Wait};
 use std::thread;
 use std::thread::Threads;
@@ -32,10 +34,12 @@ pub(crate) fn can_start<H: Threads + Wait + Sync>(rt: &H, count: usize) -> bool 
 /// seats, until the last acceptor has accepted so many connections and these have ended: how many sessions of
 /// masters were served.
 ///
-/// Where the thread of an acceptor is refused no connection is accepted.
-pub(crate) fn accept_and_serve<H: Threads + Wait + Clock + Sync>(
+/// Where the thread of an acceptor is refused no connection is accepted, and where that of a worker is, none
+/// any more.
+pub(crate) fn accept_and_serve<H: Net + Threads + Wait + Clock + Sync>(
     rt: &H,
     acceptors: Acceptors<'_>,
+    lines: &[ServedLine],
     ports: &[Port],
     seats: Vec<Vec<WorkerSeat>>,
     jobs: Receiver<MasterJob>,
@@ -46,14 +50,21 @@ pub(crate) fn accept_and_serve<H: Threads + Wait + Clock + Sync>(
 {
     let Acceptors { masters, operators } = acceptors;
     let doors = Doors::closed();
-    accept_each(rt, masters, operators, ports, seats, jobs, &doors, sessions)
+    accept_each(
+        rt, masters, operators, lines, ports, seats, jobs, &doors, sessions,
+    )
 }
 
 /// The same of acceptors of any type.
-fn accept_each<M: Accept + Send + Drop, O: Accept + Send + Drop, H: Threads + Wait + Clock + Sync>(
+fn accept_each<
+    M: Accept + Send + Drop,
+    O: Accept + Send + Drop,
+    H: Net + Threads + Wait + Clock + Sync,
+>(
     rt: &H,
     masters: Vec<M>,
     operators: Vec<O>,
+    lines: &[ServedLine],
     ports: &[Port],
     seats: Vec<Vec<WorkerSeat>>,
     jobs: Receiver<MasterJob>,
@@ -85,7 +96,21 @@ fn accept_each<M: Accept + Send + Drop, O: Accept + Send + Drop, H: Threads + Wa
             }
             *open = true;
             drop(open);
-            run_pool(rt, ports, seats, jobs, &OpenGate, TURNS)
+            let served = run_pool(rt, ports, seats, jobs, &OpenGate, TURNS);
+            if served.is_err() {
+                doors.close(rt);
+                knock(rt, lines);
+            }
+            served
         },
     )
+}
+
+/// Connects to each port of these lines once, so that who waits for a connection there sees that the doors are
+/// closed. A port that is listened at no more is left.
+fn knock<N: Net>(net: &N, lines: &[ServedLine]) {
+    for line in lines {
+        let _ = TcpStream::connect(net, (Ipv4Addr::LOCALHOST, line.listen));
+        let _ = TcpStream::connect(net, (Ipv4Addr::LOCALHOST, line.operator));
+    }
 }
