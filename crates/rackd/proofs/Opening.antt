@@ -1,9 +1,8 @@
 -- Lines that are opened, and the seats of workers at them.
-use Rattle.std.proofs.Common.{◌≡◌, ℕ, ◌+◌, ◌<◌, take, get_or, length, map, refl, List, [], ◌∷◌, ◌++◌, None, All, sym, ap, subst}
+use Rattle.std.proofs.Common.{◌≡◌, ℕ, ◌+◌, ◌<◌, take, get_or, length, map, refl, List, [], ◌∷◌, ◌++◌, All, sym, ap, subst}
 use Rattle.std.proofs.lemmas.List.{take_more}
 use Rattle.std.proofs.lemmas.List.Elements.{All-weaker}
 use Rattle.std.proofs.lemmas.Slice.Zip.{all_zipped_more}
-use Rattle.atomic_table.specs.Seated.{TableId}
 use Rattle.dp_line.specs.declared.description.LineSpec.{LineSpec}
 use Rattle.dp_shared.specs.Passes.{line_of}
 use Rattle.dp_shared.specs.declared.one_slot.OneSlot.{OneSlot}

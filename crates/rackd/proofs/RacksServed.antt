@@ -1,12 +1,11 @@
 -- A rack that is served: its lines by its description, and how that ends.
-use Rattle.std.proofs.Common.{◌≡◌, ◌⊎◌, ℕ, Bool, true, false, ◌&&◌, List, [], ◌∷◌, map, Option, Some, None, is_some, option_and_then, option_map, Result, Ok, Err, All, IsPermutation, inl, inr, refl, sym, ap, subst, ◌∙◌}
+use Rattle.std.proofs.Common.{◌≡◌, ℕ, Bool, false, ◌&&◌, List, [], ◌∷◌, map, Option, Some, None, is_some, option_and_then, option_map, Err, All, IsPermutation, inl, inr, refl, sym, ap, subst, ◌∙◌}
 use Rattle.std.specs.List.{AllByRecursion, list_all}
-use Rattle.std.specs.Io.KnownBytes.{Keeps}
 use Rattle.std.proofs.lemmas.List.Elements.{All-from_recursion, recursion_from_All}
 use Rattle.std.proofs.lemmas.List.Sorted.{All-permutation, IsPermutation-map}
 use Rattle.dp_line.specs.World.{description_of, opening_fault}
 use Rattle.dp_line.specs.declared.description.LineSpec.{LineSpec}
-use Rattle.rack_file.specs.Rack.{LineDescription, RackDescription, line_described}
+use Rattle.rack_file.specs.Rack.{RackDescription, line_described}
 use Rattle.rack_file.specs.declared.fault.RackFault.TheVariants as racks
 use Rattle.rack_file.specs.declared.rack.RackLine.{RackLine}
 use Rattle.rackd.specs.declared.ending.Fault.{Fault}
@@ -16,7 +15,7 @@ use Rattle.rackd.specs.declared.run_fault.RunFault.TheVariants as runs
 use Rattle.rackd.specs.declared.served_line.ServedLine.{ServedLine}
 use Rattle.rackd.specs.ServedLines.{AreInOrder, ArePutInOrder, all_served, served_line, with_both}
 use Rattle.rackd.specs.Serving.{AreLinesOf, IsListeningFault, ServesLines, ServesRack, described, has_ports}
-use Rattle.rackd.proofs.Serving.{listed, same_list, some_parts}
+use Rattle.rackd.proofs.Serving.{same_list, some_parts}
 use Rattle.rackd.proofs.Writing.{keeps_same}
 
 -- ---- lines by their descriptions

@@ -1,13 +1,12 @@
 -- The lines of a rack that is served, and what is written of them.
-use Rattle.std.proofs.Common.{◌≡◌, ◌⊎◌, ℕ, zero, suc, ◌+◌, ◌<◌, List, [], ◌∷◌, ◌++◌, map, length, slice_index_or, get_or, Option, Some, None, option_and_then, option_map, Result, Ok, Err, All, Contains, inl, inr, refl, sym, ap, subst, ◌∙◌, append_assoc, arith}
+use Rattle.std.proofs.Common.{◌≡◌, ℕ, zero, suc, ◌<◌, List, [], ◌∷◌, ◌++◌, map, length, slice_index_or, get_or, Option, Some, None, option_and_then, option_map, Ok, Err, Contains, inr, refl, sym, ap, subst, ◌∙◌, append_assoc, arith}
 use Rattle.std.specs.List.{AllZip, flat_map}
-use Rattle.std.specs.Io.KnownBytes.{Appends, Keeps}
+use Rattle.std.specs.Io.KnownBytes.{Appends}
 use Rattle.std.proofs.lemmas.List.{append-nil, map-append}
 use Rattle.std.proofs.lemmas.List.Concat.{flat_map-append}
 use Rattle.std.proofs.lemmas.List.Elements.{Contains-append_right}
 use Rattle.std.proofs.lemmas.Slice.Zip.{all_zipped_more}
 use Rattle.dp_line.specs.declared.description.LineSpec.{LineSpec}
-use Rattle.dp_text.specs.Writes.{WritesPrefix}
 use Rattle.dp_shared.specs.Content.{Content}
 use Rattle.rack_file.specs.declared.rack.RackLine.{RackLine}
 use Rattle.rackd.specs.declared.run_fault.RunFault.{RunFault}

@@ -1,4 +1,4 @@
-use Rattle.std.proofs.Common.{rules, ◌≡◌, sym}
+use Rattle.std.proofs.Common.{sym}
 use Rattle.rackd.proofs.Serving.{ports_at}
 use Rattle.rackd.proofs.listening.listen_at_lines.Goals as goal
 

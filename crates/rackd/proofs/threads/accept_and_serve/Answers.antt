@@ -1,4 +1,4 @@
-use denote.Param.Send.{IsSend, sendable, param_send}
+use denote.Param.Send.{sendable}
 use Rattle.std.proofs.Crossing.{crosses}
 use Rattle.dp_shared.proofs.claims.Claims.TheSendSync as claims
 use Rattle.dp_shared.proofs.one_slot.OneSlot.TheSendSync as slot

@@ -1,4 +1,4 @@
-use Rattle.std.proofs.Common.{rules, ◌≡◌, sym, subst}
+use Rattle.std.proofs.Common.{◌≡◌}
 use Rattle.dp_shared.specs.Passes.{line_of}
 use Rattle.rackd.proofs.Serving.{pair_at}
 use Rattle.rackd.proofs.acceptors.Acceptors.of.Goals as goal
