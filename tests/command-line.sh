@@ -308,41 +308,77 @@ cd "$top" || exit 1
 status=$?
 hold 'words go to the program as they are' eval '[ "$status" = 2 ] && [[ $(cat "$work/err") == *"two words"* ]]'
 
-touch -r "$program" "$work/built"
+touch -r "$program" "$work/before"
 touch "$top/crates/rackd/src/input.rt" "$top/crates/dp_line/src/lib.rt"
 started 'a source that was touched' "$rackd"
-hold 'a source that was touched builds nothing' [ ! "$program" -nt "$work/built" ]
+hold 'a source that was touched builds nothing' [ ! "$program" -nt "$work/before" ]
 
 # a tree of its own, with what stands in for rt and for the program
-mkdir -p "$work/bin" "$work/tree/crates/rackd/src" "$work/tree/crates/rackd/out"
-for tool in bash readlink env; do ln -s "$(command -v "$tool")" "$work/bin/$tool"; done
+mkdir -p "$work/bin" "$work/rt" "$work/tree/crates/rackd/src" "$work/tree/crates/rackd/out"
+for tool in bash readlink env sha256sum mv chmod; do ln -s "$(command -v "$tool")" "$work/bin/$tool"; done
 cp "$rackd" "$work/tree/rackd"
-# tree WORD..: runs the script of that tree, where there is no other rt
+cat >"$work/rt/rt" <<'FAKE'
+#!/usr/bin/env bash
+echo an output of no use
+echo "$FAKE_SAYS" >&2
+if [ "$FAKE_CHANGES" ]; then echo "$FAKE_CHANGES" >src/main.rt; fi
+if [ "$FAKE_STATUS" = 0 ]; then
+  printf '#!/usr/bin/env bash\necho "runs $*"\nexit 5\n' >out/rackd
+  chmod +x out/rackd
+fi
+exit "$FAKE_STATUS"
+FAKE
+chmod +x "$work/rt/rt"
+export FAKE_SAYS='fn low::f: proved' FAKE_CHANGES='' FAKE_STATUS=0
+# tree WORD..: runs the script of that tree, where there is no rt
 tree() {
   PATH=$work/bin "$work/tree/rackd" "$@" >"$work/out" 2>"$work/err"
   status=$?
 }
+# tree_rt WORD..: the same, where there is what stands in for rt
+tree_rt() {
+  PATH=$work/bin:$work/rt "$work/tree/rackd" "$@" >"$work/out" 2>"$work/err"
+  status=$?
+}
 
 no_program='rackd: there is no program that is built from these sources, and no rt on the PATH to build it'
-tree word; expect 'no rt and no program' 70 '' "$no_program"
-echo '//! old' >"$work/tree/crates/rackd/src/main.rt"
-touch -d 2001-01-01 "$work/tree/crates/rackd/src/main.rt"
-printf '#!/usr/bin/env bash\necho "runs $*"\nexit 5\n' >"$work/tree/crates/rackd/out/rackd"
-chmod +x "$work/tree/crates/rackd/out/rackd"
-tree one 'two  three'; expect 'no rt and a program' 5 'runs one two  three' ''
-touch -d 2101-01-01 "$work/tree/crates/rackd/src/main.rt"
-tree word; expect 'no rt and an old program' 70 '' "$no_program"
+first='rackd: proving and building the program; from nothing that takes minutes'
+again='rackd: proving and building what has changed'
+wrong=$'src/lib.rt:1:1: error: wrong\nrackd: the program could not be built'
+built=$work/tree/crates/rackd/out/rackd
+source=$work/tree/crates/rackd/src/main.rt
 
-printf '#!/usr/bin/env bash\necho an output of no use\necho "rt: chose --jobs 4 for low" >&2\necho "so far: 1 of 2 functions checked" >&2\n' >"$work/bin/rt"
-printf 'echo "fn low::f: proved" >&2\necho "src/lib.rt:1:1: error: wrong" >&2\nexit "$FAKE_STATUS"\n' >>"$work/bin/rt"
-chmod +x "$work/bin/rt"
-FAKE_STATUS=0 tree word; expect 'how far rt is' 5 'runs word' 'rackd: proving low: 1 of 2 functions'
-FAKE_STATUS=1 tree word
-expect 'rt fails' 70 '' $'rackd: proving low: 1 of 2 functions\nsrc/lib.rt:1:1: error: wrong\nrackd: the program could not be built'
-hold 'and the program is still there' [ -x "$work/tree/crates/rackd/out/rackd" ]
-rm "$work/tree/crates/rackd/out/rackd"
-FAKE_STATUS=1 tree word
-hold 'rt fails, and there is no program' eval '[ "$status" = 70 ] && [[ $(head -n 1 "$work/err") == *"from nothing"* ]]'
+echo '//! old' >"$source"
+tree word; expect 'no rt and no program' 70 '' "$no_program"
+FAKE_SAYS=$'rt: chose --jobs 4 for low\nso far: 1 of 2 functions checked\nfn low::f: proved' tree_rt word
+expect 'how far rt is' 5 'runs word' "$first"$'\nrackd: proving low: 1 of 2 functions'
+tree one 'two  three'; expect 'a program of these sources, and no rt' 5 'runs one two  three' ''
+FAKE_STATUS=1 tree_rt word; expect 'a program of these sources asks no rt' 5 'runs word' ''
+touch -d 2101-01-01 "$source"
+tree word; expect 'a source that was touched' 5 'runs word' ''
+echo '//! new' >"$source"
+touch -d 2001-01-01 "$source"
+tree word; expect 'a source that has changed' 70 '' "$no_program"
+echo '//! old' >"$source"
+tree word; expect 'the source as it was' 5 'runs word' ''
+mv "$source" "$source.antt"
+tree word; expect 'a source of another name' 70 '' "$no_program"
+mv "$source.antt" "$source"
+echo ':' >>"$built"
+tree word; expect 'another program' 70 '' "$no_program"
+
+FAKE_SAYS='src/lib.rt:1:1: error: wrong' FAKE_STATUS=1 tree_rt word
+expect 'rt fails' 70 '' "$again"$'\n'"$wrong"
+hold 'and the program is still there' [ -x "$built" ]
+rm "$built"
+FAKE_SAYS='src/lib.rt:1:1: error: wrong' FAKE_STATUS=1 tree_rt word
+expect 'rt fails, and there is no program' 70 '' "$first"$'\n'"$wrong"
+tree_rt word; expect 'after that it is asked again' 5 'runs word' "$first"
+
+echo '//! new' >"$source"
+FAKE_CHANGES='//! newer' tree_rt word; expect 'a source that changes while rt builds' 5 'runs word' "$again"
+tree_rt word; expect 'is asked for again' 5 'runs word' "$again"
+tree word; expect 'and then known' 5 'runs word' ''
 
 echo "$passed passed, $failed failed"
 [ "$failed" = 0 ]
