@@ -1,22 +1,23 @@
 -- What holds of an accepted rack.
-use Rattle.std.proofs.Common.{◌≡◌, ℕ, ◌+◌, ◌≤◌, Bool, true, false, ◌&&◌, cond, leb, List, [], ◌∷◌, length, Option, Some, None, Result, Ok, Err, refl, sym, ap, subst, suc, codes, ◌∙◌, arith}
+use Rattle.std.proofs.Common.{◌≡◌, ℕ, ℤ, pos, negsuc, ◌+◌, ◌≤◌, Bool, true, false, ◌&&◌, cond, leb, List, [], ◌∷◌, length, Option, Some, None, Result, Ok, Err, refl, sym, ap, subst, suc, codes, ◌∙◌, arith}
 use Rattle.std.proofs.lemmas.Bool.Decides.{nat_tests}
 use Rattle.std.specs.List.{AllByRecursion}
-use Rattle.toml.specs.Data.{Data, Members}
+use Rattle.std.specs.Option.{ok_or, option_map_or}
+use Rattle.toml.specs.Data.{Data, Members, as_integer, get_member}
 use Rattle.dp_line.specs.declared.fault.OpenFault.{OpenFault}
 use Rattle.dp_line.specs.World.{opening_fault, has_twice}
 use Rattle.rack_file.specs.declared.fault.RackFault.{RackFault}
 use Rattle.rack_file.specs.declared.fault.RackFault.TheVariants.{BadKey, TwiceLine}
 use Rattle.rack_file.specs.Rack.{LineDescription, RackDescription}
-use Rattle.rack_file.specs.TomlKeys.{◌>>=◌, only, at_key, required, optional, array_of, each_of}
+use Rattle.rack_file.specs.TomlKeys.{◌>>=◌, number_to, only, at_key, required, optional, array_of, each_of}
 use Rattle.rack_file.specs.RackFile.{line_of, workers_of, lines_of, numbers, numbers_differ, opened, all_open, rack_keys, rack_of, rack_of_document}
 use Rattle.rack_file.proofs.Each.{done_parts, ok_parts}
 
-pub record IsAccepted (lines : List LineDescription) : Type 0 where
-  pub least : 1 ≤ length lines
-  pub most : length lines ≤ 8
-  pub differ : has_twice (numbers lines) ≡ false
-  pub open_all : AllByRecursion (λ line. opening_fault line.line ≡ None) lines
+pub record IsAccepted (rack : RackDescription) : Type 0 where
+  pub workers : (1 ≤ rack.workers) × (rack.workers ≤ 32)
+  pub lines : (1 ≤ length rack.lines) × (length rack.lines ≤ 8)
+  pub differ : has_twice (numbers rack.lines) ≡ false
+  pub open_all : AllByRecursion (λ line. opening_fault line.line ≡ None) rack.lines
 
 length-each_of : {A : Type 0} (read : Data → Result A RackFault) (values : List Data) (done : List A) → each_of read values ≡ Ok done → length done ≡ length values
 unfolding each_of
@@ -44,6 +45,33 @@ required_few key file lines e =
     let (value, here, more) = done_parts (at_key key file) lines_of lines e in
     few value lines more
 
+abbrev IsWorkers : ℕ → Type 0
+IsWorkers workers = (1 ≤ workers) × (workers ≤ 32)
+
+at_most : (most : ℕ) (read : Result ℤ RackFault) (n : ℕ)
+    → (read >>= λ number. elim number [ pos m ↦ cond (leb m most) (Ok m) (Err BadKey) | negsuc m ↦ Err BadKey ]) ≡ Ok n → n ≤ most
+at_most most (Ok (pos m)) n e =
+    let (within, here) = guarded (leb m most) BadKey (Ok m) n e in
+    subst (λ k. k ≤ most) (ok_parts m n here) (grind (arith, nat_tests))
+at_most most (Ok (negsuc m)) n e = absurd cc
+at_most most (Err fault) n e = absurd cc
+
+number_at_most : (most : ℕ) (value : Data) (n : ℕ) → number_to most value ≡ Ok n → n ≤ most
+unfolding number_to
+number_at_most most value n e = at_most most (ok_or (as_integer value) BadKey) n e
+
+workers_told : (value : Data) (workers : ℕ) → workers_of value ≡ Ok workers → IsWorkers workers
+unfolding workers_of
+workers_told value workers e =
+    let (n, here, more) = done_parts (number_to 32 value) (λ n. cond (leb 1 n) (Ok n) (Err BadKey)) workers e in
+    let (least, is) = guarded (leb 1 n) BadKey (Ok n) workers more in
+    let most = number_at_most 32 value n here in
+    subst IsWorkers (ok_parts n workers is) (grind (arith, nat_tests), most)
+
+workers_or_4 : (value : Option Data) (workers : ℕ) → option_map_or workers_of value (Ok 4) ≡ Ok workers → IsWorkers workers
+workers_or_4 None workers e = subst IsWorkers (ok_parts 4 workers e) (omega arith, omega arith)
+workers_or_4 (Some value) workers e = workers_told value workers e
+
 opened_none : (position : ℕ) (fault : Option OpenFault) → opened position fault ≡ Ok tt → fault ≡ None
 opened_none position None e = refl
 opened_none position (Some fault) e = absurd cc
@@ -62,8 +90,8 @@ differing : (twice : Bool) (unit : Unit {0}) → told twice ≡ Ok unit → twic
 differing true unit e = absurd cc
 differing false unit e = refl
 
-of_file : (file : Members) (rack : RackDescription) → rack_of file ≡ Ok rack → IsAccepted rack.lines
-unfolding rack_of
+of_file : (file : Members) (rack : RackDescription) → rack_of file ≡ Ok rack → IsAccepted rack
+unfolding rack_of optional
 of_file file rack e =
     let last : ℕ → List LineDescription → Unit {0} → Result RackDescription RackFault = λ workers lines _. Ok (record { workers = workers; lines = lines }) in
     let (one, keys, after_keys) = done_parts (only rack_keys file) (λ _. optional 4 workers_of (codes "workers") file >>= λ workers. required lines_of (codes "line") file >>= λ lines. numbers_differ lines >>= λ _. all_open 1 lines >>= last workers lines) rack e in
@@ -71,10 +99,13 @@ of_file file rack e =
     let (lines, read, after_read) = done_parts (required lines_of (codes "line") file) (λ lines. numbers_differ lines >>= λ _. all_open 1 lines >>= last workers lines) rack after_workers in
     let (two, differ, after_differ) = done_parts (numbers_differ lines) (λ _. all_open 1 lines >>= last workers lines) rack after_read in
     let (three, open_all, after_open) = done_parts (all_open 1 lines) (last workers lines) rack after_differ in
-    let (least, most) = required_few (codes "line") file lines read in
-    let is : lines ≡ rack.lines = ap (λ (r : RackDescription). r.lines) (ok_parts (record { workers = workers; lines = lines }) rack after_open) in
-    subst IsAccepted is (record { least = least; most = most; differ = differing (has_twice (numbers lines)) two differ; open_all = all_opened 1 lines open_all })
+    subst IsAccepted (ok_parts (record { workers = workers; lines = lines }) rack after_open) (record {
+      workers = workers_or_4 (get_member (codes "workers") file) workers told_workers;
+      lines = required_few (codes "line") file lines read;
+      differ = differing (has_twice (numbers lines)) two differ;
+      open_all = all_opened 1 lines open_all;
+    })
 
-pub of_document : (document : Option Members) (rack : RackDescription) → rack_of_document document ≡ Ok rack → IsAccepted rack.lines
+pub of_document : (document : Option Members) (rack : RackDescription) → rack_of_document document ≡ Ok rack → IsAccepted rack
 of_document None rack e = absurd cc
 of_document (Some file) rack e = of_file file rack e

@@ -11,6 +11,12 @@ pub fn accepted_racks_have_1_to_8_lines()
     ensures most { (text : List ℕ) (rack : RackDescription) → rack_in text ≡ Ok rack → length rack.lines ≤ 8 }
 {}
 
+/// An accepted rack has 1 to 32 workers.
+pub fn accepted_racks_have_1_to_32_workers()
+    ensures least { (text : List ℕ) (rack : RackDescription) → rack_in text ≡ Ok rack → 1 ≤ rack.workers }
+    ensures most { (text : List ℕ) (rack : RackDescription) → rack_in text ≡ Ok rack → rack.workers ≤ 32 }
+{}
+
 /// No two lines of an accepted rack have one number.
 pub fn accepted_lines_differ_in_number()
     ensures { (text : List ℕ) (rack : RackDescription) → rack_in text ≡ Ok rack → has_twice (numbers rack.lines) ≡ false }

@@ -4,7 +4,6 @@ mod RacksInUse
 mod Serving
 mod Opening
 mod RacksServed
-mod Workers
 mod Parting
 mod Passing
 mod Played

@@ -19,7 +19,7 @@ use crate::served_line::{ServedLine, lines_to_serve};
 use crate::threads::{accept_and_serve, can_start};
 use crossbeam_channel::bounded;
 use dp_text::write_whole;
-use rack_file::laws::accepted_lines_can_be_opened;
+use rack_file::laws::{accepted_lines_can_be_opened, accepted_racks_have_1_to_32_workers};
 use rack_file::{Rack, RackFault, read_rack};
 use std::alloc::Global;
 use std::io::Write;
@@ -63,6 +63,7 @@ pub(crate) fn serve_text<
 ) -> Result<Served, Fault<'a>>
     ensures { Serves (rack_in rack.now) (W.contents writer.old) (W.contents writer.new) result }
 {
+    accepted_racks_have_1_to_32_workers();
     accepted_lines_can_be_opened();
     match read_rack(alloc, rack) {
         Ok(rack) => serve_rack(rt, alloc, rack, sessions, writer),
