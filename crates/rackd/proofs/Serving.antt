@@ -162,6 +162,22 @@ ready_alone lines a b said = inr (
 pub served_whole : (lines : List ServedLine) (specs : List LineSpec) (a b c : Option (List ℕ)) → specs ≡ specs_of lines → Appends a b ready → AreWritten specs b c → AreServed lines a c
 served_whole lines specs a b c same said w = (b, said, subst (λ ls. AreWritten ls b c) same w)
 
+-- and so it is where the program can't say how many were served
+pub served_uncounted : (lines : List ServedLine) (specs : List LineSpec) (a b c : Option (List ℕ)) → specs ≡ specs_of lines → Appends a b ready → AreWritten specs b c
+    → AreServedInPart lines a c
+served_uncounted lines specs a b c same said w = inr (
+  b,
+  said,
+  subst (λ ls. AreBrokenOff ls b c) same (record {
+    first = specs;
+    later = [];
+    lines_are = sym (append-nil specs);
+    left = w.left;
+    each = w.each;
+    written = (flat_map text_of w.left, [], sym (append-nil (flat_map text_of w.left)), w.written);
+  }),
+)
+
 -- or a part of it
 pub served_in_part : (lines : List ServedLine) (specs : List LineSpec) (a b c : Option (List ℕ)) (fault : RunFault) → specs ≡ specs_of lines → Appends a b ready
     → EndsLines specs b c (Err fault) → ServesLines lines a c (Err fault)

@@ -49,7 +49,8 @@ pub(crate) struct Served {
 /// in ascending order of their numbers.
 ///
 /// `Rack` where the rack isn't accepted or a line has no port, `CannotListen` where a port can't be had, and
-/// then nothing is written; `WriteFault`; `OutOfMemory` also where a thread is refused.
+/// then nothing is written; `WriteFault`; `OutOfMemory` also where a thread is refused. Where that is so only
+/// behind `ready`, the audit texts are written before the end all the same.
 pub(crate) fn serve_text<
     'a,
     H: Net<Listener = TcpListener, Stream = TcpStream> + Threads + Wait + Clock + Sync,
@@ -137,16 +138,17 @@ pub(crate) fn serve_lines<H: Net + Threads + Wait + Clock + Sync, W: Write>(
         return Err(RunFault::WriteFault);
     };
     let served = accept_and_serve(rt, acceptors, lines, &ports, seats, jobs, sessions);
+    match write_audits(alloc, ports, writer) {
+        Ok(()) => {}
+        Err(fault) => return Err(fault),
+    }
     let Ok(masters) = served else {
         return Err(RunFault::OutOfMemory);
     };
-    match write_audits(alloc, ports, writer) {
-        Ok(()) => Ok(Served {
-            masters,
-            operators: operators.into_inner(),
-        }),
-        Err(fault) => Err(fault),
-    }
+    Ok(Served {
+        masters,
+        operators: operators.into_inner(),
+    })
 }
 
 /// Writes `ready`, and has it leave.
