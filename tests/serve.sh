@@ -7,6 +7,7 @@ set -u
 top=$(cd "$(dirname "$0")/.." && pwd)
 program=${RACKD:-$top/crates/rackd/out/rackd}
 client=$top/tests/serve_client.py
+refuse=$top/tests/refuse_threads.py
 # Seconds that anything is waited for, and that nothing has to come.
 limit=5
 moment=0.3
@@ -70,12 +71,13 @@ slave() {
 # ---- the program that serves
 
 # serve NAME RACK [SESSIONS]: starts the program on a rack, and waits until it is ready; with SESSIONS it ends when each
-# port has had so many connections. Its standard error goes to $errors where that is set.
+# port has had so many connections. Its standard error goes to $errors where that is set, and it gets no more than $threads
+# threads where that is.
 serve() {
   rack=$2 sessions=${3:-} used=()
   rm -f "$work/output"
   mkfifo "$work/output"
-  "$program" serve "$rack" ${sessions:+--sessions "$sessions"} </dev/null >"$work/output" 2>"${errors:-$work/told}" &
+  ${threads:+"$refuse" "$threads"} "$program" serve "$rack" ${sessions:+--sessions "$sessions"} </dev/null >"$work/output" 2>"${errors:-$work/told}" &
   server=$!
   alive[$server]=1
   exec {output}<"$work/output"
@@ -96,8 +98,17 @@ reap() {
   unset "alive[$1]"
 }
 
-# finish NAME PORT..: uses up the connections that are left at each of these ports; the program ends, with one note,
-# and what it printed behind 'ready' is left in $work/audit
+# ended NAME STATUS: the program ends with this status, and what it printed behind 'ready' is left in $work/audit
+ended() {
+  timeout "$limit" cat <&"$output" >"$work/audit" || { echo "$1 doesn't end"; kill -9 "$server"; }
+  exec {output}<&-
+  wait "$server" 2>/dev/null
+  status=$?
+  unset "alive[$server]"
+  expect "$1: status" "$2" "$status"
+}
+
+# finish NAME PORT..: uses up the connections that are left at each of these ports; the program ends, with one note
 finish() {
   local name=$1 port count
   shift
@@ -108,12 +119,7 @@ finish() {
       hang_up "$fd"
     done
   done
-  timeout "$limit" cat <&"$output" >"$work/audit" || { echo "$name doesn't end"; kill -9 "$server"; }
-  exec {output}<&-
-  wait "$server" 2>/dev/null
-  status=$?
-  unset "alive[$server]"
-  expect "$name: status" 0 "$status"
+  ended "$name" 0
   [ ! "${errors:-}" ] || return
   expect "$name: one note" 1 "$(grep -c . "$work/told")"
   expect "$name: the note counts the sessions of masters" "$count" "$(grep -ow "$count" "$work/told" | head -n 1)"
@@ -479,6 +485,37 @@ hang_up "$one"; hang_up "$operator"
 errors=/dev/full finish 'a full journal' "$masters" "$operators"
 audits 'a full journal' 1 2
 expect 'its last entry is the halt' '2 halt | none | released' "$(tail -n 1 "$work/audit")"
+
+# ---- threads that are refused: a line with two workers needs four, which are tried before they are started
+
+{ echo 'workers = 2'; line 1 "$masters" "$operators"; slave 5; } >"$work/rack-2"
+for threads in 0 1 2 3; do
+  timeout "$limit" "$refuse" "$threads" "$program" serve "$work/rack-2" </dev/null >"$work/said" 2>"$work/told"
+  status=$?
+  ends "$threads threads at the trial" 3 'rackd: out of memory'
+done
+
+# starved NAME COUNT: the program ends with status 3; before that it writes the audit text of its line, of so many entries
+starved() {
+  ended "$1" 3
+  expect "$1: what it says" 'rackd: out of memory' "$(cat "$work/told")"
+  audits "$1" 1 "$2"
+}
+for threads in 4 5 6; do
+  serve "$threads threads" "$work/rack-2"
+  starved "$threads threads" 0
+done
+threads=7 serve 'one worker is refused' "$work/rack-2" 2
+threads=
+master 'a master of the other' "$masters" 1; one=$fd
+connect "$operators"; operator=$fd
+asks 'a diagnosis' "$one" "$diag_1" "$fresh_1"
+orders 'inputs beside it' "$operator" 'in 5 aa55' done
+hang_up "$one"; hang_up "$operator"
+master 'one master more' "$masters" 2; two=$fd
+connect "$operators"
+hang_up "$two"; hang_up "$fd"
+starved 'one worker is refused' 2
 
 # ---- the rack of the examples
 
