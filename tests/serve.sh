@@ -488,34 +488,45 @@ expect 'its last entry is the halt' '2 halt | none | released' "$(tail -n 1 "$wo
 
 # ---- threads that are refused: a line with two workers needs four, which are tried before they are started
 
-{ echo 'workers = 2'; line 1 "$masters" "$operators"; slave 5; } >"$work/rack-2"
-for threads in 0 1 2 3; do
-  timeout "$limit" "$refuse" "$threads" "$program" serve "$work/rack-2" </dev/null >"$work/said" 2>"$work/told"
-  status=$?
-  ends "$threads threads at the trial" 3 'rackd: out of memory'
-done
-
 # starved NAME COUNT: the program ends with status 3; before that it writes the audit text of its line, of so many entries
 starved() {
   ended "$1" 3
   expect "$1: what it says" 'rackd: out of memory' "$(cat "$work/told")"
   audits "$1" 1 "$2"
 }
-for threads in 4 5 6; do
-  serve "$threads threads" "$work/rack-2"
-  starved "$threads threads" 0
-done
-threads=7 serve 'one worker is refused' "$work/rack-2" 2
-threads=
-master 'a master of the other' "$masters" 1; one=$fd
-connect "$operators"; operator=$fd
-asks 'a diagnosis' "$one" "$diag_1" "$fresh_1"
-orders 'inputs beside it' "$operator" 'in 5 aa55' done
-hang_up "$one"; hang_up "$operator"
-master 'one master more' "$masters" 2; two=$fd
-connect "$operators"
-hang_up "$two"; hang_up "$fd"
-starved 'one worker is refused' 2
+
+# refused_threads: the program gets no more than so many
+refused_threads() {
+  local threads one two operator
+  for threads in 0 1 2 3; do
+    timeout "$limit" "$refuse" "$threads" "$program" serve "$work/rack-2" </dev/null >"$work/said" 2>"$work/told"
+    status=$?
+    ends "$threads threads at the trial" 3 'rackd: out of memory'
+  done
+  for threads in 4 5 6; do
+    serve "$threads threads" "$work/rack-2"
+    starved "$threads threads" 0
+  done
+  threads=7
+  serve 'one worker is refused' "$work/rack-2" 2
+  master 'a master of the other' "$masters" 1; one=$fd
+  connect "$operators"; operator=$fd
+  asks 'a diagnosis' "$one" "$diag_1" "$fresh_1"
+  orders 'inputs beside it' "$operator" 'in 5 aa55' done
+  hang_up "$one"; hang_up "$operator"
+  master 'one master more' "$masters" 2; two=$fd
+  connect "$operators"
+  hang_up "$two"; hang_up "$fd"
+  starved 'one worker is refused' 2
+}
+
+{ echo 'workers = 2'; line 1 "$masters" "$operators"; slave 5; } >"$work/rack-2"
+"$refuse" 0 "$BASH" -c :
+if [ $? = 98 ]; then
+  echo 'threads cannot be refused here'
+else
+  refused_threads
+fi
 
 # ---- the rack of the examples
 
