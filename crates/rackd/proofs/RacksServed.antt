@@ -1,8 +1,9 @@
 -- A rack that is served: its lines by its description, and how that ends.
-use Rattle.std.proofs.Common.{◌≡◌, ℕ, Bool, false, ◌&&◌, List, [], ◌∷◌, map, Option, Some, None, is_some, option_and_then, option_map, Err, All, IsPermutation, inl, inr, refl, sym, ap, subst, ◌∙◌}
+use Rattle.std.proofs.Common.{◌≡◌, ℕ, Bool, false, ◌&&◌, List, [], ◌∷◌, length, map, Option, Some, None, is_some, option_and_then, option_map, Err, All, IsPermutation, inl, inr, refl, sym, ap, subst, ◌∙◌}
 use Rattle.std.specs.List.{AllByRecursion, list_all}
+use Rattle.std.proofs.lemmas.List.{length-map}
 use Rattle.std.proofs.lemmas.List.Elements.{All-from_recursion, recursion_from_All}
-use Rattle.std.proofs.lemmas.List.Sorted.{All-permutation, IsPermutation-map}
+use Rattle.std.proofs.lemmas.List.Sorted.{All-permutation, IsPermutation-map, length_permutation}
 use Rattle.dp_line.specs.World.{description_of, opening_fault}
 use Rattle.dp_line.specs.declared.description.LineSpec.{LineSpec}
 use Rattle.rack_file.specs.Rack.{RackDescription, line_described}
@@ -46,6 +47,10 @@ lines_of_rack workers lines all served e order = record {
   same = subst (λ ls. IsPermutation ls (map described served)) (described_all lines all e) (IsPermutation-map described all served order.same);
   ascend = order.ascend;
 }
+
+-- each line of the rack is served once
+pub as_many_lines : (rack : RackDescription) (served : List ServedLine) → AreLinesOf rack served → length served ≡ length rack.lines
+as_many_lines rack served are = sym (length-map served described) ∙ length_permutation rack.lines (map described served) are.same
 
 open_by_recursion : (lines : List ServedLine) → AllByRecursion (λ line. opening_fault line.line ≡ None) (map described lines)
     → AllByRecursion (λ line. opening_fault (description_of line.spec) ≡ None) lines

@@ -1,10 +1,11 @@
 -- The lines of a rack that is served, and what is written of them.
-use Rattle.std.proofs.Common.{◌≡◌, ℕ, zero, suc, ◌<◌, List, [], ◌∷◌, ◌++◌, map, length, slice_index_or, get_or, Option, Some, None, option_and_then, option_map, Ok, Err, Contains, inr, refl, sym, ap, subst, ◌∙◌, append_assoc, arith}
-use Rattle.std.specs.List.{AllZip, flat_map}
+use Rattle.std.proofs.Common.{◌≡◌, ℕ, zero, suc, ◌+◌, ◌<◌, List, [], ◌∷◌, ◌++◌, map, length, take, slice_index_or, get_or, Option, Some, None, option_and_then, option_map, Ok, Err, Contains, inr, refl, sym, ap, subst, ◌∙◌, append_assoc, arith}
+use Rattle.std.specs.List.{AllZip, flat_map, range_with_len}
 use Rattle.std.specs.Io.KnownBytes.{Appends}
-use Rattle.std.proofs.lemmas.List.{append-nil, map-append}
+use Rattle.std.proofs.lemmas.List.{append-nil, length_push, map-append, map-id, take_more}
 use Rattle.std.proofs.lemmas.List.Concat.{flat_map-append}
 use Rattle.std.proofs.lemmas.List.Elements.{Contains-append_right}
+use Rattle.std.proofs.lemmas.List.FromFn.{map-range_with_len_more}
 use Rattle.std.proofs.lemmas.Slice.Zip.{all_zipped_more}
 use Rattle.dp_line.specs.declared.description.LineSpec.{LineSpec}
 use Rattle.dp_shared.specs.Content.{Content}
@@ -84,6 +85,23 @@ pair_at R [] ys i x y paired within is-x is-y = let no : ⊥ = omega arith in ab
 pair_at R (v ∷ xs) [] i x y paired within is-x is-y = absurd paired
 pair_at R (v ∷ xs) (w ∷ ys) zero x y paired within is-x is-y = subst (λ u. R u y) (sym is-x) (subst (R v) (sym is-y) paired.0)
 pair_at R (v ∷ xs) (w ∷ ys) (suc i) x y paired within is-x is-y = pair_at R xs ys i x y paired.1 (omega arith) is-x is-y
+
+-- ---- acceptors
+
+range_more : (a n j : ℕ) → a + n ≡ j → range_with_len a (n + 1) ≡ range_with_len a n ++ j ∷ []
+range_more a n j is =
+    sym (map-id (range_with_len a (n + 1))) ∙ map-range_with_len_more (λ k. k) a n j is ∙ ap (λ ks. ks ++ j ∷ []) (map-id (range_with_len a n))
+
+-- an element more whose number is its place
+pub one_more_numbered : {A : Type 0} (f : A → ℕ) (xs : List A) (x : A) → map f xs ≡ range_with_len 0 (length xs) → f x ≡ length xs
+    → map f (xs ++ x ∷ []) ≡ range_with_len 0 (length (xs ++ x ∷ []))
+one_more_numbered f xs x so_far here = rw (map-append f xs (x ∷ []), so_far, here, length_push xs x) (sym (range_more 0 (length xs) (length xs) (omega arith)))
+
+-- an element more, of the next place of a list
+pub one_more_of : {A B : Type 0} (f : A → B) (xs : List A) (x : A) (ys : List B) → map f xs ≡ take (length xs) ys → length xs < length ys
+    → f x ≡ slice_index_or ys (length xs) (f x) → map f (xs ++ x ∷ []) ≡ take (length (xs ++ x ∷ [])) ys
+one_more_of f xs x ys so_far within here =
+    rw (map-append f xs (x ∷ []), so_far, length_push xs x) (ap (λ y. take (length xs) ys ++ y ∷ []) here ∙ sym (take_more ys (length xs) (f x) within))
 
 -- ---- what lines leave
 

@@ -1,6 +1,7 @@
 //! Threads that accept connections.
 
-ghost use Rattle.std.specs.Prelude.{◌≡◌};
+ghost use Rattle.std.specs.Prelude.{◌≡◌, ◌≤◌, IfOk, length, map};
+ghost use Rattle.std.specs.List.{range_with_len};
 ghost use Rattle.dp_shared.specs.Passes.{line_of};
 ghost use Rattle.rackd.specs.Serving.{AreOpened};
 
@@ -176,24 +177,25 @@ impl<'a> Acceptors<'a> {
         jobs: Sender<MasterJob>,
         served: &'a AtomicU32,
     ) -> Result<Acceptors<'a>, AllocError>
-        requires { AreOpened lines.now ports.now }
+        requires opened { AreOpened lines.now ports.now }
+        requires each { length listening.items ≡ length lines.now }
+        requires few { length lines.now ≤ 8 }
+        ensures masters { IfOk result (λ all. map (λ acceptor. acceptor.port) all.masters.items ≡ range_with_len 0 (length ports.now)) }
+        ensures operators { IfOk result (λ all. map (λ acceptor. acceptor.port.now) all.operators.items ≡ ports.now) }
     {
         let mut masters = Vec::new(alloc);
         let mut operators = Vec::new(alloc);
-        for (place, here) in (0..u8::MAX).zip(listening) {
-            let index = usize::from(place);
-            let (Some(port), Some(line)) = (ports.get(index), lines.get(index)) else {
-                return Err(AllocError);
-            };
+        for here in listening {
+            let place = masters.len();
             masters.push(MasterAcceptor {
                 listener: here.masters,
-                port: place,
+                port: place as u8,
                 jobs: jobs.clone()?,
             })?;
             operators.push(OperatorAcceptor {
                 listener: here.operators,
-                port,
-                line: &line.spec,
+                port: &ports[place],
+                line: &lines[place].spec,
                 served,
             })?;
         }

@@ -1,6 +1,6 @@
 //! Listening at the ports of lines.
 
-ghost use Rattle.std.specs.Prelude.{IfErr};
+ghost use Rattle.std.specs.Prelude.{◌≡◌, IfErr, IfOk, length};
 ghost use Rattle.rackd.specs.Serving.{IsListeningFault};
 
 use crate::ending::Fault;
@@ -27,7 +27,8 @@ pub(crate) fn listen_at_lines<'a, N: Net>(
     alloc: Global,
     lines: &[ServedLine],
 ) -> Result<Vec<Listening<N::Listener>>, Fault<'a>>
-    ensures { IfErr result (IsListeningFault lines.now) }
+    ensures each { IfOk result (λ all. length all.items ≡ length lines.now) }
+    ensures fault { IfErr result (IsListeningFault lines.now) }
 {
     let mut all = Vec::new(alloc);
     for line in lines {

@@ -63,9 +63,10 @@ impl OpenedLines {
         workers: u8,
     ) -> Result<OpenedLines, AllocError>
         requires accepted { opening_fault (description_of line.now) ≡ None }
+        requires workers { length self.seats.items ≡ workers }
         requires seats { All (λ own. HasSeats self.ports.items own.items) self.seats.items }
         ensures line { IfOk result (λ opened. IsOneMore line.now self.ports.items opened.ports.items) }
-        ensures workers { IfOk result (λ opened. length opened.seats.items ≡ length self.seats.items) }
+        ensures workers { IfOk result (λ opened. length opened.seats.items ≡ workers) }
         ensures seats { IfOk result (λ opened. All (λ own. HasSeats opened.ports.items own.items) opened.seats.items) }
     {
         let OpenedLines { mut ports, seats } = self;
@@ -79,7 +80,7 @@ impl OpenedLines {
         let mut more = Vec::new(alloc);
         for mut own in seats {
             let Some(seat) = fresh.pop() else {
-                return Err(AllocError);
+                unreachable!()
             };
             own.push(seat)?;
             more.push(own)?;

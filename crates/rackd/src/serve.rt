@@ -19,7 +19,10 @@ use crate::served_line::{ServedLine, lines_to_serve};
 use crate::threads::{accept_and_serve, can_start};
 use crossbeam_channel::bounded;
 use dp_text::write_whole;
-use rack_file::laws::{accepted_lines_can_be_opened, accepted_racks_have_1_to_32_workers};
+use rack_file::laws::{
+    accepted_lines_can_be_opened, accepted_racks_have_1_to_8_lines,
+    accepted_racks_have_1_to_32_workers,
+};
 use rack_file::{Rack, RackFault, read_rack};
 use std::alloc::Global;
 use std::io::Write;
@@ -64,6 +67,7 @@ pub(crate) fn serve_text<
 ) -> Result<Served, Fault<'a>>
     ensures { Serves (rack_in rack.now) (W.contents writer.old) (W.contents writer.new) result }
 {
+    accepted_racks_have_1_to_8_lines();
     accepted_racks_have_1_to_32_workers();
     accepted_lines_can_be_opened();
     match read_rack(alloc, rack) {
@@ -85,6 +89,7 @@ fn serve_rack<
     sessions: Option<u32>,
     writer: &mut W,
 ) -> Result<Served, Fault<'a>>
+    requires few { length (rack_described rack).lines ≤ 8 }
     requires workers { (1 ≤ rack.workers) × (rack.workers ≤ 32) }
     requires fit { All (λ line. opening_fault line.line ≡ None) (rack_described rack).lines }
     ensures { ServesRack (rack_described rack) (W.contents writer.old) (W.contents writer.new) result }
@@ -118,6 +123,8 @@ pub(crate) fn serve_lines<H: Net + Threads + Wait + Clock + Sync, W: Write>(
     sessions: u64,
     writer: &mut W,
 ) -> Result<Served, RunFault>
+    requires few { length lines.now ≤ 8 }
+    requires each { length listening.items ≡ length lines.now }
     requires opened { AreOpened lines.now opened.ports.items }
     requires workers { (1 ≤ length opened.seats.items) × (length opened.seats.items ≤ 32) }
     requires seats { All (λ own. HasSeats opened.ports.items own.items) opened.seats.items }

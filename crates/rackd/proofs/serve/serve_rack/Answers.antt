@@ -1,6 +1,7 @@
-use Rattle.std.proofs.Common.{rules, ◌≡◌, Err, subst}
+use Rattle.std.proofs.Common.{rules, ◌≡◌, ◌≤◌, length, map, Err, ap, subst, arith}
+use Rattle.rack_file.specs.Rack.{line_described}
 use Rattle.rackd.specs.Serving.{ServesLines}
-use Rattle.rackd.proofs.RacksServed.{lines_of_rack, refused_lines, refused_ports, served_open, stopped}
+use Rattle.rackd.proofs.RacksServed.{as_many_lines, lines_of_rack, refused_lines, refused_ports, served_open, stopped}
 use Rattle.rackd.proofs.serve.serve_rack.Goals as goal
 
 pub returns-in-Err : goal.returns-in-Err
@@ -17,6 +18,15 @@ open_lines-requires g c =
     let (all, is, order) = c.in-Ok.ensures in
     let same : c.deref-2.result.now ≡ c.in-Ok.lines.items = c.deref-2.ensures.value in
     rw same (served_open c.args.rack.lines.items all c.in-Ok.lines.items is order c.requires.fit)
+
+pub serve_lines-requires-clause-few : goal.serve_lines-requires-clause-few
+serve_lines-requires-clause-few g c =
+    let (all, is, order) = c.in-Ok.ensures in
+    let long : length c.in-Ok.lines.items ≡ length (map line_described c.args.rack.lines.items) = as_many_lines _ c.in-Ok.lines.items
+    (lines_of_rack c.args.rack.workers c.args.rack.lines.items all c.in-Ok.lines.items is order) in
+    let few : length (map line_described c.args.rack.lines.items) ≤ 8 = c.requires.few in
+    let same : c.deref-3.result.now ≡ c.in-Ok.lines.items = c.deref-3.ensures.value in
+    let n = ap length same in omega (arith, n, long, few)
 
 pub returns-in-Ok-serve_lines : goal.returns-in-Ok-serve_lines
 returns-in-Ok-serve_lines g c =

@@ -9,3 +9,6 @@ serve_rack-requires-clause-workers g c κs within = (
 
 pub serve_rack-requires-clause-fit : goal.serve_rack-requires-clause-fit
 serve_rack-requires-clause-fit g c κs within = c.accepted_lines_can_be_opened.ensures c.args.rack.now (rack_described c.in-Ok.rack) c.in-Ok.ensures.ok
+
+pub serve_rack-requires-clause-few : goal.serve_rack-requires-clause-few
+serve_rack-requires-clause-few g c κs within = c.accepted_racks_have_1_to_8_lines.ensures.most c.args.rack.now (rack_described c.in-Ok.rack) c.in-Ok.ensures.ok

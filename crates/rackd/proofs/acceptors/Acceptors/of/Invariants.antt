@@ -1,4 +1,11 @@
+use Rattle.std.proofs.Common.{◌≡◌, ◌+◌, length, map, take}
+use Rattle.std.specs.List.{range_with_len}
 use Rattle.rackd.proofs.acceptors.Acceptors.of.Given as goal
 
-abbrev pub invariant-loop-place : goal.invariant-loop-place
-invariant-loop-place l = (goal.iterator-loop-place).can_next l.place-iterator × (goal.iterator-loop-place).is_finite l.place-iterator
+abbrev pub invariant-loop-here : goal.invariant-loop-here
+invariant-loop-here l =
+    (goal.iterator-loop-here).can_next l.here-iterator × (goal.iterator-loop-here).is_finite l.here-iterator
+    × (length l.masters.items + length l.here-iterator.rest.items ≡ length l.fn.listening.items)
+    × (length l.operators.items ≡ length l.masters.items)
+    × (map (λ acceptor. acceptor.port) l.masters.items ≡ range_with_len 0 (length l.masters.items))
+    × (map (λ acceptor. acceptor.port.now) l.operators.items ≡ take (length l.operators.items) l.ports)

@@ -12,6 +12,7 @@ loop-own-init c = (
   search rules,
   search rules,
   search rules,
+  search rules,
   record {
     port = record { line = c.in-Ok-open.line; claims = c.in-Ok.claims };
     more = search rules;
@@ -21,7 +22,7 @@ loop-own-init c = (
 
 pub loop-own-preserved : goal.loop-own-preserved
 loop-own-preserved c =
-    let new = c.loop-own.invariant.5 in
+    let new = c.loop-own.invariant.6 in
     let rest : c.loop-own.own-iterator.rest.items ≡ c.in-Some.own ∷ c.next.new.self.rest.items = search rules in
     let more : c.push-in-loop-own-2.new.self.items ≡ c.loop-own.more.items ++ c.push-in-loop-own.new.self ∷ [] = search rules in
     let seats : c.push-in-loop-own.new.self.items ≡ c.in-Some.own.items ++ c.in-Some-pop.seat ∷ [] = search rules in
@@ -34,6 +35,7 @@ loop-own-preserved c =
       All-same (λ own. HasSeats c.push.new.self.items own.items) c.push-in-loop-own-2.new.self.items (c.loop-own.more.items ++ c.push-in-loop-own.new.self ∷ []) more
           (All-push (λ own. HasSeats c.push.new.self.items own.items) c.loop-own.more.items c.push-in-loop-own.new.self c.loop-own.invariant.4
           (subst (HasSeats c.push.new.self.items) (sym seats) (one_more_seat c.args.self.ports.items c.push.new.self.items c.loop-own.fresh.items c.in-Some.own.items c.in-Some-pop.seat new has here))),
+      (let fewer = ap length c.in-Some-pop.ensures.items in let n = length_push c.pop.new.self.items c.in-Some-pop.seat in let m = ap length rest in let all = c.loop-own.invariant.5 in omega (arith, fewer, n, m, all)),
       record { port = new.port; more = new.more; each = left },
     )
 

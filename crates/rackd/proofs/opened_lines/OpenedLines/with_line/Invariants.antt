@@ -9,4 +9,5 @@ invariant-loop-own l =
     × (length l.more.items + length l.own-iterator.rest.items ≡ length l.fn.self.seats.items)
     × All (λ own. HasSeats l.fn.self.ports.items own.items) l.own-iterator.rest.items
     × All (λ own. HasSeats l.ports.items own.items) l.more.items
+    × (length l.fresh.items ≡ length l.own-iterator.rest.items)
     × AreFresh l.fn.self.ports.items l.ports.items l.fresh.items
