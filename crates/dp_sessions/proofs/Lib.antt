@@ -1,5 +1,3 @@
-pub mod Counting
-pub mod Ascending
 pub mod Exchanging
 pub mod Reading
 pub mod Seating

@@ -1,7 +1,4 @@
 pub mod Codes
-pub mod Devices
-pub mod DeviceExamples
-pub mod DrivenSlaves
 pub mod Pools
 pub mod Serving
 pub mod Sessions

@@ -3,7 +3,7 @@ use Rattle.std.specs.Prelude.{◌≡◌, ℕ, List, ◌++◌, Option, take}
 use Rattle.std.specs.List.{concat}
 use Rattle.std.specs.Io.KnownBytes.{Appends}
 use Rattle.dp_shared.specs.declared.line_view.PassView.{PassView}
-use Rattle.dp_sessions.specs.declared.driven.Driven.{Driven}
+use Rattle.dp_devices.specs.declared.driven.Driven.{Driven}
 use Rattle.dp_sessions.specs.Operators.{AreAnswered, AreBrokenOff, FallsInto}
 
 -- what is kept of a line: as many octets as tell whether it is too long

@@ -16,12 +16,12 @@ use Rattle.dp_text.specs.declared.op_line.OpLine.{OpLine}
 use Rattle.dp_text.specs.declared.op_line.OpLine.TheVariants as asked
 use Rattle.dp_text.specs.OpLines.{op_line_of}
 use Rattle.dp_text.specs.Texts.{outcome_line, owned_text, show_text, stepped_text}
-use Rattle.dp_sessions.specs.declared.driven.Driven.{Driven}
+use Rattle.dp_devices.specs.declared.driven.Driven.{Driven}
 use Rattle.dp_sessions.specs.declared.line_fault.LineFault.{LineFault}
 use Rattle.dp_sessions.specs.declared.line_fault.LineFault.TheVariants as faults
 use Rattle.dp_sessions.specs.declared.session_end.SessionEnd.{SessionEnd}
 use Rattle.dp_sessions.specs.declared.session_end.SessionEnd.TheVariants as ends
-use Rattle.dp_sessions.specs.DrivenSlaves.{next_input}
+use Rattle.dp_devices.specs.DrivenSlaves.{next_input}
 use Rattle.dp_sessions.specs.Sessions.{IsCutOff, Streams}
 
 -- ---- lines

@@ -4,10 +4,7 @@
 //! A session comes to a [`Port`], by any reader and writer. Nothing here takes memory but what a thread takes.
 #![tactic(auto)]
 
-mod devices;
-mod driven;
 mod gate;
-pub mod laws;
 mod line_fault;
 mod operator;
 mod operator_line;
@@ -19,9 +16,8 @@ mod session_end;
 mod sessions;
 pub mod sharing;
 
-pub use devices::next_inputs;
+pub use dp_devices::next_inputs;
 pub use dp_text::{OpLine, TextFault, read_op};
-pub use driven::{Driven, MOST_DRIVEN, driven_slaves};
 pub use gate::{Gate, OpenGate};
 pub use operator::serve_operator;
 pub use pool::{Job, run_pool};
@@ -29,14 +25,3 @@ pub use pool_fault::PoolFault;
 pub use port::{LineAndClaims, Port};
 pub use session_end::SessionEnd;
 pub use sessions::serve;
-
-#[cfg(test)]
-mod device_tests;
-#[cfg(test)]
-mod fixtures;
-#[cfg(test)]
-mod operator_tests;
-#[cfg(test)]
-mod pool_tests;
-#[cfg(test)]
-mod session_tests;

@@ -4,16 +4,16 @@ ghost use Rattle.std.specs.Prelude.{◌≡◌, ℕ, List, [], ◌∷◌, ◌++�
 ghost use Rattle.std.specs.Io.KnownBytes.{Appends, Consumes};
 ghost use Rattle.dp_text.specs.Writes.{WritesPrefix};
 ghost use Rattle.dp_shared.specs.Passes.{line_of, table_of};
-ghost use Rattle.dp_sessions.specs.declared.driven.TheConstants.{MOST_DRIVEN};
-ghost use Rattle.dp_sessions.specs.DrivenSlaves.{driven_slaves as all_driven};
+ghost use Rattle.dp_devices.specs.declared.driven.TheConstants.{MOST_DRIVEN};
+ghost use Rattle.dp_devices.specs.DrivenSlaves.{driven_slaves as all_driven};
 ghost use Rattle.dp_sessions.specs.Operators.{IsAnswered, IsOperatorSession, Operates};
 ghost use Rattle.dp_sessions.specs.Operating.{BreaksOff, GoesOn, kept};
 
-use crate::driven::{Driven, MOST_DRIVEN, driven_slaves};
 use crate::operator_line::{LONGEST_LINE, answer_line};
 use crate::port::Port;
 use crate::session_end::SessionEnd;
 use arrayvec::ArrayVec;
+use dp_devices::{Driven, MOST_DRIVEN, driven_slaves};
 use dp_line::LineSpec;
 use dp_shared::{Line, Pass};
 use dp_telegram::GLOBAL_ADDRESS;

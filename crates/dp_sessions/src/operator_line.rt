@@ -3,11 +3,11 @@
 ghost use Rattle.std.specs.Prelude.{◌≡◌, ◌≤◌, length, OnErr, OnOk, IfOk, MatchOption};
 ghost use Rattle.std.specs.Io.KnownBytes.{Appends};
 ghost use Rattle.dp_shared.specs.Passes.{table_of};
-ghost use Rattle.dp_sessions.specs.declared.driven.TheConstants.{MOST_DRIVEN};
+ghost use Rattle.dp_devices.specs.declared.driven.TheConstants.{MOST_DRIVEN};
 ghost use Rattle.dp_sessions.specs.Operators.{AreFed, IsAnswered, IsFed, IsFedAsSeen, IsOperated, command_in as command_of, fault_text};
 
-use crate::driven::Driven;
 use crate::line_fault::LineFault;
+use dp_devices::Driven;
 use dp_line::{Op, SlaveView};
 use dp_shared::{Line, Pass};
 use dp_text::{OpLine, Text, read_op};

@@ -1,6 +1,6 @@
 use Rattle.std.proofs.Common.{rules, ◌≡◌, ℕ, ◌<◌, List, length, take, refl, ap, ◌∙◌, arith, length-take}
 use Rattle.arrayvec.specs.ArrayVec.{ArrayVec}
-use Rattle.dp_sessions.specs.declared.driven.Driven.{Driven}
+use Rattle.dp_devices.specs.declared.driven.Driven.{Driven}
 use Rattle.dp_sessions.proofs.Listening.{breaks_off_as, ends_of_input, ends_of_read, ends_of_turns, ends_of_write, goes_on_as, way_more, way_start}
 use Rattle.dp_sessions.proofs.operator.OperatorSession.run.Goals as goal
 

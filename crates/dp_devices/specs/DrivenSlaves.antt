@@ -1,0 +1,27 @@
+-- The slaves that devices drive (own).
+use Rattle.std.specs.Prelude.{ℕ, if◌then◌else◌, List, Option, Some, None, option_and_then}
+use Rattle.std.specs.List.{filter_map, range_with_len}
+use Rattle.dp_telegram.specs.Access.{global_address}
+use Rattle.dp_slave.specs.declared.description.SlaveSpec.{SlaveSpec}
+use Rattle.dp_slave.specs.declared.view.SlaveView.{SlaveView}
+use Rattle.dp_line.specs.declared.event.Op.{Op}
+use Rattle.dp_line.specs.declared.event.Op.TheVariants.{Input}
+use Rattle.dp_line.specs.World.{described_at}
+use Rattle.dp_devices.specs.declared.driven.Driven.{Driven}
+use Rattle.dp_devices.specs.Devices.{is_still, next_inputs}
+
+-- the slave of a description, where its device isn't still
+abbrev pub driven_by : ℕ → SlaveSpec → Option Driven
+driven_by address slave = if is_still slave.device then None else Some (record { address = address; device = slave.device })
+
+-- the slave that is described for the address, where its device isn't still
+abbrev pub driven_at : List SlaveSpec → ℕ → Option Driven
+driven_at slaves address = option_and_then (driven_by address) (described_at slaves address)
+
+-- those that devices drive, in ascending order of address: of each address in turn, the slave that has it, with inputs or without
+unfoldable pub driven_slaves : List SlaveSpec → List Driven
+driven_slaves slaves = filter_map (driven_at slaves) (range_with_len 0 global_address)
+
+-- what its device does next to a slave that is seen like this
+abbrev pub next_input : Driven → SlaveView → Op
+next_input driven slave = Input driven.address (record { items = next_inputs driven.device slave.inputs.items slave.outputs.items })

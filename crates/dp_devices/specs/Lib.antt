@@ -1,0 +1,3 @@
+pub mod Devices
+pub mod DeviceExamples
+pub mod DrivenSlaves

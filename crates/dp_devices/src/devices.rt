@@ -1,0 +1,64 @@
+//! The inputs that a device feeds next.
+
+ghost use Rattle.std.specs.Prelude.{◌≡◌, ◌≤◌, length};
+ghost use Rattle.dp_sap.specs.AccessTable.{most_data};
+ghost use Rattle.dp_devices.specs.Devices.{AreOctets, next_inputs as inputs_next, counted, cut_or_filled};
+
+use arrayvec::ArrayVec;
+use dp_line::Device;
+use dp_sap::MOST_DATA;
+
+/// The inputs that a device feeds next, as many octets as it has now, at most 244 (own).
+///
+/// A still device leaves them. A counter adds 1 to them as one number, high octet first; all ones become
+/// zero. A mirror feeds the outputs, cut to the inputs' length or filled with zeros.
+pub fn next_inputs(device: Device, inputs: &[u8], outputs: &[u8]) -> ArrayVec<u8, MOST_DATA>
+    requires { length inputs.now ≤ most_data }
+    ensures { result.items ≡ inputs_next device inputs.now outputs.now }
+{
+    match device {
+        Device::Still => ArrayVec::try_from(inputs).unwrap(),
+        Device::Counter => counted_up(inputs),
+        Device::Mirror => mirrored(inputs.len(), outputs),
+    }
+}
+
+/// The octets with 1 added to them as one number.
+fn counted_up(inputs: &[u8]) -> ArrayVec<u8, MOST_DATA>
+    requires { length inputs.now ≤ most_data }
+    ensures { result.items ≡ counted inputs.now }
+{
+    let mut octets = ArrayVec::try_from(inputs).unwrap();
+    count_up(octets.as_mut_slice());
+    octets
+}
+
+/// Adds 1 to the octets as one number, high octet first.
+fn count_up(octets: &mut [u8])
+    requires { AreOctets octets.old }
+    ensures { octets.new ≡ counted octets.old }
+{
+    let mut index = octets.len();
+    while index > 0 {
+        index -= 1;
+        if octets[index] < u8::MAX {
+            octets[index] += 1;
+            return;
+        }
+        octets[index] = 0;
+    }
+}
+
+/// The outputs, cut to so many octets or filled with zeros.
+fn mirrored(count: usize, outputs: &[u8]) -> ArrayVec<u8, MOST_DATA>
+    requires { count ≤ most_data }
+    ensures { result.items ≡ cut_or_filled count outputs.now }
+{
+    let zeros = [0; MOST_DATA];
+    let shared = count.min(outputs.len());
+    let mut octets = ArrayVec::try_from(&outputs[..shared]).unwrap();
+    octets
+        .try_extend_from_slice(&zeros[..count - shared])
+        .unwrap();
+    octets
+}

@@ -1,0 +1,12 @@
+//! Devices: the slaves of a line that they drive ([`driven_slaves`]), and the inputs that they feed next
+//! ([`next_inputs`]).
+//!
+//! Nothing here takes memory.
+#![tactic(auto)]
+
+mod devices;
+mod driven;
+pub mod laws;
+
+pub use devices::next_inputs;
+pub use driven::{Driven, MOST_DRIVEN, driven_slaves};
