@@ -1,11 +1,4 @@
 mod Writing
-mod Readings
-mod RacksInUse
 mod Serving
 mod Opening
 mod RacksServed
-mod Parting
-mod Passing
-mod Played
-mod Sending
-mod Checked

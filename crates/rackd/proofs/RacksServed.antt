@@ -11,8 +11,8 @@ use Rattle.rack_file.specs.declared.fault.RackFault.TheVariants as racks
 use Rattle.rack_file.specs.declared.rack.RackLine.{RackLine}
 use Rattle.rackd.specs.declared.ending.Fault.{Fault}
 use Rattle.rackd.specs.declared.ending.Fault.TheVariants as faults
-use Rattle.rackd.specs.declared.run_fault.RunFault.{RunFault}
-use Rattle.rackd.specs.declared.run_fault.RunFault.TheVariants as runs
+use Rattle.dp_script.specs.declared.run_fault.RunFault.{RunFault}
+use Rattle.dp_script.specs.declared.run_fault.RunFault.TheVariants as runs
 use Rattle.rackd.specs.declared.served_line.ServedLine.{ServedLine}
 use Rattle.rackd.specs.ServedLines.{AreInOrder, ArePutInOrder, all_served, served_line, with_both}
 use Rattle.rackd.specs.Serving.{AreLinesOf, IsListeningFault, ServesLines, ServesRack, described, has_ports}

@@ -10,8 +10,8 @@ use Rattle.std.proofs.lemmas.Slice.Zip.{all_zipped_more}
 use Rattle.dp_line.specs.declared.description.LineSpec.{LineSpec}
 use Rattle.dp_shared.specs.Content.{Content}
 use Rattle.rack_file.specs.declared.rack.RackLine.{RackLine}
-use Rattle.rackd.specs.declared.run_fault.RunFault.{RunFault}
-use Rattle.rackd.specs.declared.run_fault.RunFault.TheVariants as runs
+use Rattle.dp_script.specs.declared.run_fault.RunFault.{RunFault}
+use Rattle.dp_script.specs.declared.run_fault.RunFault.TheVariants as runs
 use Rattle.rackd.specs.declared.served_line.ServedLine.{ServedLine}
 use Rattle.rackd.specs.ServedLines.{all_served, served_line}
 use Rattle.rackd.specs.Serving.{AreBrokenOff, AreServed, AreServedInPart, AreWritten, EndsLines, IsLeftBy, ServesLines, WritesAudit, ports_of, ready, specs_of, text_of}

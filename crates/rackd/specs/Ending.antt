@@ -1,12 +1,9 @@
 -- How the program ends: its status, and the line on standard error (own).
 use Rattle.std.specs.Prelude.{codes, ℕ, List, ◌++◌}
 use Rattle.std.specs.Fmt.{decimal}
-use Rattle.dp_line.specs.Names.{open_fault_name}
-use Rattle.rack_file.specs.Names.{rack_fault_name}
-use Rattle.rack_file.specs.declared.fault.RackFault.{RackFault}
 use Rattle.rack_file.specs.declared.fault.RackFault.TheVariants as racks
-use Rattle.rackd.specs.declared.run_fault.RunFault.{RunFault}
-use Rattle.rackd.specs.declared.run_fault.RunFault.TheVariants as runs
+use Rattle.dp_script.specs.declared.run_fault.RunFault.TheVariants as runs
+use Rattle.dp_script.specs.FaultTexts.{run_fault_text}
 use Rattle.rackd.specs.declared.ending.Fault.{Fault}
 use Rattle.rackd.specs.declared.ending.Fault.TheVariants as faults
 
@@ -20,17 +17,6 @@ status_of (faults.Run (runs.Rack other)) = 2
 status_of (faults.Run (runs.Script line)) = 2
 status_of (faults.Run runs.OutOfMemory) = 3
 status_of (faults.Run runs.WriteFault) = 4
-
-abbrev pub rack_fault_text : RackFault → List ℕ
-rack_fault_text racks.OutOfMemory = codes "out of memory"
-rack_fault_text (racks.Open position fault) = codes "rack line " ++ decimal position ++ codes " " ++ open_fault_name fault
-rack_fault_text other = codes "rack " ++ rack_fault_name other
-
-abbrev pub run_fault_text : RunFault → List ℕ
-run_fault_text (runs.Rack fault) = rack_fault_text fault
-run_fault_text (runs.Script line) = codes "script line " ++ decimal line
-run_fault_text runs.OutOfMemory = codes "out of memory"
-run_fault_text runs.WriteFault = codes "cannot write"
 
 -- the line on standard error, without its LF
 abbrev pub fault_text : Fault → List ℕ

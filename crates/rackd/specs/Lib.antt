@@ -1,15 +1,3 @@
-pub mod Codes
-pub mod Commands
-pub mod CommandView
-pub mod DeviceSteps
-pub mod LinesInUse
-pub mod LineInUseExamples
-pub mod ScriptText
-pub mod Runs
-pub mod Checks
-pub mod CheckExamples
-pub mod Input
-pub mod InputExamples
 pub mod Ending
 pub mod ServedLines
 pub mod Serving

@@ -5,8 +5,8 @@ use Rattle.std.specs.declared.alloc.Global.{Global}
 use Rattle.dp_line.specs.declared.description.LineSpec.{LineSpec}
 use Rattle.rack_file.specs.declared.fault.RackFault.TheVariants as racks
 use Rattle.rack_file.specs.declared.rack.RackLine.{RackLine}
-use Rattle.rackd.specs.declared.run_fault.RunFault.{RunFault}
-use Rattle.rackd.specs.declared.run_fault.RunFault.TheVariants as runs
+use Rattle.dp_script.specs.declared.run_fault.RunFault.{RunFault}
+use Rattle.dp_script.specs.declared.run_fault.RunFault.TheVariants as runs
 use Rattle.rackd.specs.declared.served_line.ServedLine.{ServedLine}
 
 -- a line with its ports, if it has one for masters and one for its operator

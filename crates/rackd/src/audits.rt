@@ -4,7 +4,7 @@ ghost use Rattle.std.specs.Prelude.{map};
 ghost use Rattle.dp_shared.specs.Passes.{line_of};
 ghost use Rattle.rackd.specs.Serving.{EndsLines, WritesAudit, line_at};
 
-use crate::run_fault::RunFault;
+use dp_script::RunFault;
 use dp_sessions::{LineAndClaims, Port};
 use dp_shared::Line;
 use std::alloc::Global;

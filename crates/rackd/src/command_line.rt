@@ -1,9 +1,9 @@
 //! The words of the command line.
 
 use crate::ending::Fault;
-use crate::run_fault::RunFault;
 use clap::builder::ValueParser;
 use clap::{Arg, ArgAction, ArgMatches, Command};
+use dp_script::RunFault;
 use std::alloc::{AllocError, Global};
 use std::io::ErrorKind;
 

@@ -3,7 +3,7 @@
 ghost use Rattle.std.specs.Prelude.{◌≡◌, Some};
 ghost use Rattle.rackd.specs.Ending.{status_of, fault_text};
 
-use crate::run_fault::RunFault;
+use dp_script::RunFault;
 use rack_file::RackFault;
 use std::fmt;
 

@@ -4,8 +4,8 @@ ghost use Rattle.std.specs.Prelude.{◌≡◌, IfErr, IfOk, length};
 ghost use Rattle.rackd.specs.Serving.{IsListeningFault};
 
 use crate::ending::Fault;
-use crate::run_fault::RunFault;
 use crate::served_line::ServedLine;
+use dp_script::RunFault;
 use std::alloc::Global;
 use std::io;
 use std::net::{Ipv4Addr, Net, TcpListener};

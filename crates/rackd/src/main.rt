@@ -6,57 +6,22 @@
 #![tactic(auto)]
 
 mod acceptors;
-#[cfg(test)]
-mod audit_tests;
 mod audits;
-#[cfg(test)]
-mod broadcast_tests;
-mod check;
-mod command;
 mod command_line;
-mod device_steps;
 mod ending;
-#[cfg(test)]
-mod fixtures;
-mod input;
-mod line_in_use;
-#[cfg(test)]
-mod line_tests;
 mod listening;
 mod opened_lines;
-#[cfg(test)]
-mod operator_tests;
-mod output;
-mod rack_in_use;
-#[cfg(test)]
-mod rack_tests;
-mod run;
-mod run_fault;
-#[cfg(test)]
-mod run_tests;
-mod script;
 mod serve;
-#[cfg(test)]
-mod serve_tests;
 mod served_line;
-#[cfg(test)]
-mod step_tests;
-mod stop;
-mod stream_laws;
-#[cfg(test)]
-mod stream_tests;
-#[cfg(test)]
-mod text_tests;
 mod threads;
 
-use check::run_check;
 use clap::error::ErrorKind as Answer;
 use command_line::{Asked, read_words, words_of};
+use dp_script::split_input;
+pub use dp_script::{RunFault, run_check, run_text};
 use ending::{Fault, status};
 use log::{Log, info};
 pub use rack_file::{Rack, RackFault, RackLine, read_rack};
-use run::run_text;
-use run_fault::RunFault;
 use serve::{Served, serve_text};
 use std::fs;
 use std::io::{self, BufWriter, ErrorKind, Write};
@@ -125,7 +90,7 @@ fn run_input<'a>(rt: &(impl Runtime + AllocGlobal)) -> Result<ExitCode, Fault<'a
         error.kind(),
         "-",
     ))?;
-    let (rack, script) = input::split_input(text.as_str());
+    let (rack, script) = split_input(text.as_str());
     Ok(run_out(rt, rack, script)?)
 }
 

@@ -14,10 +14,10 @@ use crate::audits::write_audits;
 use crate::ending::Fault;
 use crate::listening::{Listening, listen_at_lines};
 use crate::opened_lines::{OpenedLines, open_lines};
-use crate::run_fault::RunFault;
 use crate::served_line::{ServedLine, lines_to_serve};
 use crate::threads::{accept_and_serve, can_start};
 use crossbeam_channel::bounded;
+use dp_script::RunFault;
 use dp_text::write_whole;
 use rack_file::laws::{
     accepted_lines_can_be_opened, accepted_racks_have_1_to_8_lines,

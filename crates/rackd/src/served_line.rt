@@ -3,8 +3,8 @@
 ghost use Rattle.std.specs.Prelude.{◌≡◌};
 ghost use Rattle.rackd.specs.ServedLines.{ArePutInOrder, all_served, served_line};
 
-use crate::run_fault::RunFault;
 use dp_line::LineSpec;
+use dp_script::RunFault;
 use rack_file::{RackFault, RackLine};
 use std::alloc::Global;
 

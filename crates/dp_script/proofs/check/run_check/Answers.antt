@@ -1,0 +1,8 @@
+use Rattle.rack_file.specs.Rack.{rack_described}
+use Rattle.dp_script.proofs.RacksInUse.{lines_open}
+use Rattle.dp_script.proofs.check.run_check.Goals as goal
+
+pub verdict_on-requires : goal.verdict_on-requires
+verdict_on-requires g c =
+    let rack = c.in-Ok.rack in
+    lines_open rack.lines.items (c.accepted_lines_can_be_opened.ensures c.args.rack.now (rack_described rack) c.in-Ok.ensures.ok)

@@ -1,0 +1,92 @@
+-- Audit texts on a rack of one line, and what is told of them.
+use Rattle.std.specs.Prelude.{◌≡◌, ⊤, [], ◌∷◌, codes, None, Ok, Err, refl}
+use Rattle.std.specs.Fmt.{digits}
+use Rattle.hex.proofs.OnLiterals.{hex_on_literals}
+use Rattle.dp_slave.specs.SlaveRecord.{released}
+use Rattle.dp_slave.specs.Fields.{acted}
+use Rattle.dp_line.specs.World.{ascending}
+use Rattle.dp_line.specs.Hearing.{heard}
+use Rattle.dp_line.specs.Verdict.{verdict_of, rule_at}
+use Rattle.dp_line.specs.ReplyText.{reply_text}
+use Rattle.dp_line.specs.Served.{served}
+use Rattle.dp_line.specs.Effects.{effect, slave_after, facts_of, outcome_of}
+use Rattle.dp_line.specs.LineExamples.{slave_5}
+use Rattle.rack_file.specs.Rack.{RackDescription}
+use Rattle.dp_audit.specs.declared.fault.AuditFault.TheVariants.{BadLine, NotThePolicy}
+use Rattle.dp_audit.specs.Check.{checked}
+use Rattle.dp_script.specs.Checks.{checked_on, verdict_text}
+
+-- what computes a verdict on a text without entries
+unfoldable check_on_literals : ⊤
+unfolding checked digits
+check_on_literals = tt
+
+-- and on one with entries
+unfoldable check_on_entries : ⊤
+unfolding check_on_literals hex_on_literals ascending effect slave_after facts_of outcome_of served heard verdict_of rule_at reply_text acted released
+check_on_entries = tt
+
+-- line 1 with masters 1 and 2 and slave 5
+abbrev rack_1 : RackDescription
+rack_1 = record {
+  workers = 4;
+  lines = record {
+    line = record { number = 1; places = 1000; masters = 1 ∷ 2 ∷ []; slaves = slave_5 ∷ [] };
+    listen = None;
+    operator = None;
+  } ∷ [];
+}
+
+pub nothing_at_all : checked_on rack_1 [] ≡ Err (BadLine 1)
+nothing_at_all = refl
+
+pub header_alone : checked_on rack_1 (codes "rack-audit 1 line 1\n") ≡ Ok 0
+unfolding check_on_literals
+header_alone = refl
+
+pub header_without_its_end : checked_on rack_1 (codes "rack-audit 1 line 1") ≡ Err (BadLine 1)
+unfolding check_on_literals
+header_without_its_end = refl
+
+pub header_of_another_line : checked_on rack_1 (codes "rack-audit 1 line 9\n") ≡ Err (BadLine 1)
+unfolding check_on_literals
+header_of_another_line = refl
+
+-- an empty line has no parts
+pub empty_line_behind_the_header : checked_on rack_1 (codes "rack-audit 1 line 1\n\n") ≡ Err (BadLine 2)
+unfolding check_on_literals
+empty_line_behind_the_header = refl
+
+-- the device sets inputs of a slave that nobody holds
+pub an_entry : checked_on rack_1 (codes "rack-audit 1 line 1\n1 in 5 aa55 | WaitPrm none | done\n") ≡ Ok 1
+unfolding check_on_entries
+an_entry = refl
+
+-- master 1 asks for the diagnosis, and one digit of the reply is another
+pub a_reply : checked_on rack_1 (codes "rack-audit 1 line 1\n1 req 1 6805056885816d3c3eed16 | WaitPrm none | reply 680b0b688185083e3c020500ff80a1af16 Done\n") ≡ Ok 1
+unfolding check_on_entries
+a_reply = refl
+
+pub another_reply : checked_on rack_1 (codes "rack-audit 1 line 1\n1 req 1 6805056885816d3c3eed16 | WaitPrm none | reply 680b0b688185083e3c020500ff80a0af16 Done\n") ≡ Err (NotThePolicy 2)
+unfolding check_on_entries
+another_reply = refl
+
+pub capital_letter : checked_on rack_1 (codes "rack-audit 1 line 1\n1 in 5 Aa55 | WaitPrm none | done\n") ≡ Err (BadLine 2)
+unfolding check_on_entries
+capital_letter = refl
+
+pub another_holder : checked_on rack_1 (codes "rack-audit 1 line 1\n1 in 5 aa55 | WaitPrm 1 | done\n") ≡ Err (NotThePolicy 2)
+unfolding check_on_entries
+another_holder = refl
+
+pub legal_told : verdict_text (Ok 5) ≡ codes "legal 5\n"
+unfolding check_on_literals
+legal_told = refl
+
+pub bad_line_told : verdict_text (Err (BadLine 65538)) ≡ codes "bad line 65538\n"
+unfolding check_on_literals
+bad_line_told = refl
+
+pub not_the_policy_told : verdict_text (Err (NotThePolicy 3)) ≡ codes "not the policy 3\n"
+unfolding check_on_literals
+not_the_policy_told = refl

@@ -1,0 +1,13 @@
+pub mod Codes
+pub mod Commands
+pub mod CommandView
+pub mod DeviceSteps
+pub mod LinesInUse
+pub mod LineInUseExamples
+pub mod ScriptText
+pub mod Runs
+pub mod FaultTexts
+pub mod Checks
+pub mod CheckExamples
+pub mod Input
+pub mod InputExamples

@@ -1,0 +1,63 @@
+-- What a run leaves on its writer, and how it ends (own).
+use Rattle.std.specs.Prelude.{◌≡◌, ℕ, List, Option, Some, None, Result, Ok, Err}
+use Rattle.std.specs.Io.KnownBytes.{Appends, Keeps}
+use Rattle.dp_text.specs.Writes.{WritesPrefix}
+use Rattle.rack_file.specs.declared.fault.RackFault.{RackFault}
+use Rattle.rack_file.specs.Rack.{RackDescription}
+use Rattle.dp_script.specs.declared.run_fault.RunFault.{RunFault}
+use Rattle.dp_script.specs.declared.run_fault.RunFault.TheVariants as runs
+use Rattle.dp_script.specs.declared.stop.Stop.{Stop}
+use Rattle.dp_script.specs.declared.stop.Stop.TheVariants as stops
+use Rattle.dp_script.specs.LinesInUse.{LineInUse, Sent}
+use Rattle.dp_script.specs.ScriptText.{RackInUse, Obeyed, Played, script_text}
+use Rattle.dp_audit.specs.declared.fault.AuditFault.{AuditFault}
+use Rattle.dp_script.specs.Checks.{checked_on, verdict_text, verdict_status}
+
+-- a command to a line: at the end the line is as it leaves it, and the writer has its whole text; a prefix where a write failed; and
+-- where it is none nothing is written
+abbrev pub Sends : Option Sent → LineInUse → Option (List ℕ) → Option (List ℕ) → Result (Unit {0}) Stop → Type 0
+Sends (Some sending) line_in_use old new (Ok done) = (line_in_use ≡ sending.line_in_use) × Appends old new sending.text
+Sends (Some sending) line_in_use old new (Err stops.WriteFault) = WritesPrefix old new sending.text
+Sends (Some sending) line_in_use old new (Err stops.NoCommand) = ⊥
+Sends None line_in_use old new (Err stops.NoCommand) = Keeps old new
+Sends None line_in_use old new other = ⊥
+
+-- the same of a command to a rack in use
+abbrev pub Obeys : Option Obeyed → RackInUse → Option (List ℕ) → Option (List ℕ) → Result (Unit {0}) Stop → Type 0
+Obeys (Some obeyed) rack_in_use old new (Ok done) = (rack_in_use ≡ obeyed.rack_in_use) × Appends old new obeyed.text
+Obeys (Some obeyed) rack_in_use old new (Err stops.WriteFault) = WritesPrefix old new obeyed.text
+Obeys (Some obeyed) rack_in_use old new (Err stops.NoCommand) = ⊥
+Obeys None rack_in_use old new (Err stops.NoCommand) = Keeps old new
+Obeys None rack_in_use old new other = ⊥
+
+-- at the end of a run the writer has the whole text; where a line is no command, the text of the lines before it; and else a prefix
+abbrev pub Plays : Played → Option (List ℕ) → Option (List ℕ) → Result (Unit {0}) RunFault → Type 0
+Plays played old new (Ok done) = (played.fault ≡ None) × Appends old new played.text
+Plays played old new (Err (runs.Script line)) = (played.fault ≡ Some line) × Appends old new played.text
+Plays played old new (Err runs.OutOfMemory) = WritesPrefix old new played.text
+Plays played old new (Err runs.WriteFault) = WritesPrefix old new played.text
+Plays played old new (Err (runs.Rack fault)) = ⊥
+
+-- a rack that isn't accepted is reported, or the want of memory, and nothing is written
+abbrev pub RefusesRack : {T : Type 0} → RackFault → Option (List ℕ) → Option (List ℕ) → Result T RunFault → Type 0
+RefusesRack fault old new (Err (runs.Rack told)) = (told ≡ fault) × Keeps old new
+RefusesRack fault old new (Err runs.OutOfMemory) = Keeps old new
+RefusesRack fault old new other = ⊥
+
+-- a run of a script on the rack that a text describes, or doesn't
+abbrev pub RunsText : Result RackDescription RackFault → List ℕ → Option (List ℕ) → Option (List ℕ) → Result (Unit {0}) RunFault → Type 0
+RunsText (Ok rack) script old new result = Plays (script_text rack script) old new result
+RunsText (Err fault) script old new result = RefusesRack fault old new result
+
+-- at the end of a check the writer has the whole verdict, a prefix of it where a write failed, and nothing where memory was refused
+abbrev pub Tells : Result ℕ AuditFault → Option (List ℕ) → Option (List ℕ) → Result ℕ RunFault → Type 0
+Tells verdict old new (Ok status) = (status ≡ verdict_status verdict) × Appends old new (verdict_text verdict)
+Tells verdict old new (Err runs.WriteFault) = WritesPrefix old new (verdict_text verdict)
+Tells verdict old new (Err runs.OutOfMemory) = Keeps old new
+Tells verdict old new (Err (runs.Script line)) = ⊥
+Tells verdict old new (Err (runs.Rack fault)) = ⊥
+
+-- a check of an audit text on the rack that a text describes, or doesn't
+abbrev pub RunsCheck : Result RackDescription RackFault → List ℕ → Option (List ℕ) → Option (List ℕ) → Result ℕ RunFault → Type 0
+RunsCheck (Ok rack) audit old new result = Tells (checked_on rack audit) old new result
+RunsCheck (Err fault) audit old new result = RefusesRack fault old new result

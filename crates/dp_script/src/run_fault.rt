@@ -1,0 +1,61 @@
+//! Why a run ended early.
+
+ghost use Rattle.std.specs.Prelude.{◌≡◌, Some};
+ghost use Rattle.dp_script.specs.Codes.{run_fault_code};
+ghost use Rattle.dp_script.specs.FaultTexts.{run_fault_text};
+
+use rack_file::RackFault;
+use std::error::Error;
+use std::fmt;
+
+/// Why a run ended early. What was written before stays written.
+#[derive(Clone, Copy, Debug, PartialEq, Eq)]
+pub enum RunFault {
+    /// Memory was refused.
+    OutOfMemory,
+    /// The rack isn't accepted.
+    Rack(RackFault),
+    /// The script's line of this number, from 1, is no command, or can't be obeyed: it chooses a line
+    /// that isn't in the rack, or names a master that isn't one of the line's.
+    Script(u64),
+    /// A write failed, or took no octet.
+    WriteFault,
+}
+
+impl RunFault {
+    /// The number of the fault, 1 to 4 (own).
+    pub const fn code(self) -> u8
+        ensures { result ≡ run_fault_code self }
+    {
+        match self {
+            RunFault::OutOfMemory => 1,
+            RunFault::Rack(_) => 2,
+            RunFault::Script(_) => 3,
+            RunFault::WriteFault => 4,
+        }
+    }
+}
+
+impl fmt::Display for RunFault {
+    ghost output = { λ fault. Some (run_fault_text fault) };
+
+    fn fmt<W: fmt::Write>(&self, f: &mut fmt::Formatter<W>) -> fmt::Result {
+        match self {
+            RunFault::OutOfMemory | RunFault::Rack(RackFault::OutOfMemory) => {
+                f.write_str("out of memory")
+            }
+            RunFault::Rack(RackFault::Open(position, fault)) => {
+                let name = fault.name();
+                write!(f, "rack line {position} {name}")
+            }
+            RunFault::Rack(fault) => {
+                let name = fault.name();
+                write!(f, "rack {name}")
+            }
+            RunFault::Script(line) => write!(f, "script line {line}"),
+            RunFault::WriteFault => f.write_str("cannot write"),
+        }
+    }
+}
+
+impl Error for RunFault {}

@@ -1,8 +1,0 @@
-use Rattle.rack_file.specs.Rack.{rack_described}
-use Rattle.rackd.proofs.RacksInUse.{lines_open}
-use Rattle.rackd.proofs.check.run_check.Goals as goal
-
-pub verdict_on-requires : goal.verdict_on-requires
-verdict_on-requires g c =
-    let rack = c.in-Ok.rack in
-    lines_open rack.lines.items (c.accepted_lines_can_be_opened.ensures c.args.rack.now (rack_described rack) c.in-Ok.ensures.ok)

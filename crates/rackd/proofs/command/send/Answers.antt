@@ -1,7 +1,0 @@
-use Rattle.rackd.proofs.Readings.{sends_words}
-use Rattle.rackd.proofs.command.send.Goals as goal
-
-pub returns : goal.returns
-returns c =
-    sends_words c.args.words.now c.next.new.self c.in_ok-next.field-0.now c.in_ok-rest.field-0.now c.in_ok-master.master c.in_ok-octets.octets
-    c.in_ok-next.ensures c.in_ok-rest.ensures c.in_ok-master.ensures c.in_ok-octets.ensures
