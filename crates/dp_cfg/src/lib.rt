@@ -14,6 +14,3 @@ mod sums;
 pub use fault::CfgFault;
 pub use ids::CfgIds;
 pub use sums::MOST_OCTETS;
-
-#[cfg(test)]
-mod tests;

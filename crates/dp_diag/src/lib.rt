@@ -12,6 +12,3 @@ pub mod laws;
 pub use diag::{Diag, MOST_EXTENDED};
 pub use dp_sap::State;
 pub use facts::{DiagFacts, octets, octets_to};
-
-#[cfg(test)]
-mod tests;

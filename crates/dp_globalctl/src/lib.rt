@@ -5,6 +5,3 @@
 mod command;
 
 pub use command::Command;
-
-#[cfg(test)]
-mod tests;

@@ -16,6 +16,3 @@ mod owners;
 pub use cursor::Cursor;
 pub use links::{Linked, Links};
 pub use owners::{MOST_MASTERS, MOST_RECORDS, Owners};
-
-#[cfg(test)]
-mod tests;

@@ -13,6 +13,3 @@ mod reading;
 pub use limits::Limits;
 pub use prm::{MOST_USER_PARAMETERS, Prm, PrmVerdict};
 pub use reading::{MOST_OCTETS, read};
-
-#[cfg(test)]
-mod tests;

@@ -15,6 +15,3 @@ mod rule;
 pub use judgement::{Judged, judge, judge_sdn};
 pub use memory::FrameMemory;
 pub use rule::Rule;
-
-#[cfg(test)]
-mod tests;

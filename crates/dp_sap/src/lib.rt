@@ -20,6 +20,3 @@ pub use point::{
 };
 pub use points::Points;
 pub use state::State;
-
-#[cfg(test)]
-mod tests;

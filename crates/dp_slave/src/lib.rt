@@ -17,6 +17,3 @@ pub use description::{Device, SlaveSpec};
 pub use fault::InputFault;
 pub use slave::Slave;
 pub use view::SlaveView;
-
-#[cfg(test)]
-mod tests;

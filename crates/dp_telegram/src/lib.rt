@@ -27,8 +27,3 @@ pub use encoding::{acknowledge_to, encode};
 pub use fault::FrameFault;
 pub use frame::{Frame, Octets, Telegram};
 pub use function_code::Function;
-
-#[cfg(test)]
-mod stream_tests;
-#[cfg(test)]
-mod tests;

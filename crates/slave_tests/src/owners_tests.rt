@@ -1,0 +1,309 @@
+//! Lists of cards: what a client proves of the calls, and what they give.
+
+ghost use Rattle.std.specs.Prelude.{◌≡◌, ℕ, ◌<◌, ◌≤◌, List, [], ◌∷◌, length, map, Some, None, IfOk};
+ghost use Rattle.dp_owners.specs.Chain.{HaveNoLinks};
+ghost use Rattle.dp_owners.specs.Threaded.{HasLists, IsThreaded};
+
+use crate::rows::{Answers, play};
+use crate::words::{Words, text};
+use arrayvec::ArrayVec;
+use dp_owners::{Cursor, Linked, Links, MOST_MASTERS, MOST_RECORDS, Owners, laws};
+use std::alloc::Global;
+use std::marker::Model;
+use std::test::Fail;
+
+/// A client's record: a card with a name of its own.
+#[derive(Clone, Copy, Debug, Drop, PartialEq, Eq)]
+struct Card {
+    name: u8,
+    links: Links,
+}
+
+impl Linked for Card {
+    ghost use Rattle.std.specs.Prelude.{None};
+
+    ghost links_of = { λ card. card.links };
+
+    ghost bare = { λ card. record card { links = record { prev = None; next = None } } };
+
+    fn links(&self) -> Links {
+        self.links
+    }
+
+    fn set_links(&mut self, links: Links) {
+        self.links = links;
+    }
+}
+
+/// A card that is in no hand.
+fn fresh_card(name: u8) -> Card
+    ensures { result ≡ record { name = name; links = record { prev = None; next = None } } }
+{
+    Card {
+        name,
+        links: Links {
+            prev: None,
+            next: None,
+        },
+    }
+}
+
+/// Six calls whose conditions and result follow from the contracts of those before.
+fn six_calls(cards: &mut [Card]) -> ArrayVec<u8, MOST_RECORDS>
+    requires four { length cards.old ≡ 4 }
+    requires fresh { HaveNoLinks (map (λ card. card.links) cards.old) }
+    ensures list { result.items ≡ 0 ∷ 3 ∷ [] }
+    ensures names { map (λ card. card.name) cards.new ≡ map (λ card. card.name) cards.old }
+{
+    laws::other_records_stay();
+    let mut owners = Owners::new();
+    owners.append(cards, 0, 2);
+    owners.append(cards, 0, 0);
+    owners.append(cards, 1, 1);
+    owners.unlink(cards, 0, 2);
+    owners.append(cards, 0, 3);
+    owners.list(cards, 0)
+}
+
+/// Three steps of a walk and its count. Along a list of one card they are the card and twice none.
+fn three_steps_along(hands: &Owners, cards: &[Card], player: usize) -> ([Option<u8>; 3], u32)
+    requires threaded { HasLists hands.now (map (λ card. card.links) cards.now) }
+    requires few { length cards.now ≤ MOST_RECORDS }
+    requires player { player < MOST_MASTERS }
+    ensures { (lists : ℕ → List ℕ) (at : ℕ)
+        → IsThreaded hands.now (map (λ card. card.links) cards.now) lists
+        → lists player ≡ at ∷ []
+        → (result.0 ≡ Some at ∷ None ∷ None ∷ []) × (result.1 ≡ 1) }
+{
+    let mut cursor = Cursor::over(hands, player);
+    let first = cursor.next(cards);
+    let second = cursor.next(cards);
+    let third = cursor.next(cards);
+    ([first, second, third], cursor.visits())
+}
+
+/// A table at which each of 16 players has a hand of the cards, in the order in which they came.
+#[derive(Drop)]
+struct Table {
+    cards: [Card; 4],
+    hands: Owners,
+}
+
+impl Model for Table {
+    ghost use Rattle.std.specs.Prelude.{List, ℕ, map};
+    ghost use Rattle.dp_owners.specs.Threaded.{HasLists};
+
+    ghost Value = { List ℕ };
+
+    ghost view = { λ table. map (λ card. card.name) table.cards };
+
+    ghost invariant = { λ table. HasLists table.hands (map (λ card. card.links) table.cards) };
+}
+
+impl Table {
+    fn new() -> Table {
+        Table {
+            cards: [
+                fresh_card(b'a'),
+                fresh_card(b'b'),
+                fresh_card(b'c'),
+                fresh_card(b'd'),
+            ],
+            hands: Owners::new(),
+        }
+    }
+
+    /// Gives a card to a player, where it is in no hand.
+    fn give(&mut self, player: usize, card: usize) -> bool
+        requires player { player < MOST_MASTERS }
+        requires card { card < 4 }
+    {
+        match self.hands.owner_of(&self.cards, card) {
+            Some(_) => false,
+            None => {
+                self.hands.append(&mut self.cards, player, card);
+                true
+            }
+        }
+    }
+
+    /// Takes a card from the player who has it.
+    fn take(&mut self, card: usize) -> Option<usize>
+        requires { card < 4 }
+    {
+        match self.hands.owner_of(&self.cards, card) {
+            Some(player) => {
+                self.hands.unlink(&mut self.cards, player, card);
+                Some(player)
+            }
+            None => None,
+        }
+    }
+
+    /// The first three steps of a walk along a player's hand, and how many cards it gave.
+    fn three_steps(&self, player: usize) -> ([Option<u8>; 3], u32)
+        requires { player < MOST_MASTERS }
+    {
+        three_steps_along(&self.hands, &self.cards, player)
+    }
+
+    /// A player's hand, in order and the other way round.
+    fn hand(&self, player: usize) -> (ArrayVec<u8, MOST_RECORDS>, ArrayVec<u8, MOST_RECORDS>)
+        requires { player < MOST_MASTERS }
+    {
+        (
+            self.hands.list(&self.cards, player),
+            self.hands.list_back(&self.cards, player),
+        )
+    }
+
+    /// The first and the last card of a player's hand.
+    fn ends(&self, player: usize) -> (Option<u8>, Option<u8>)
+        requires { player < MOST_MASTERS }
+    {
+        (self.hands.first(player), self.hands.last(player))
+    }
+}
+
+impl Answers for Table {
+    /// Commands are `give PLAYER CARD`, `take CARD`, `hand PLAYER`, `ends PLAYER`, `walk PLAYER`, `names` and
+    /// `six`, which has nothing to do with the table.
+    fn answer(&mut self, alloc: Global, command: &str) -> Result<String, Fail> {
+        let mut words = Words::of(command);
+        match words.word()? {
+            "give" => {
+                let player = player_in(&mut words)?;
+                let card = card_in(&mut words)?;
+                text(alloc, if self.give(player, card) { "yes" } else { "no" })
+            }
+            "take" => {
+                let card = card_in(&mut words)?;
+                Ok(format!(in alloc; "{:?}", self.take(card))?)
+            }
+            "hand" => hand_text(alloc, self, player_in(&mut words)?),
+            "ends" => ends_text(alloc, self, player_in(&mut words)?),
+            "walk" => walk_text(alloc, self, player_in(&mut words)?),
+            "names" => Ok(format!(in alloc; "{:?}", self.cards.map(|card| card.name))?),
+            "six" => six_text(alloc),
+            _ => Err("a command")?,
+        }
+    }
+}
+
+/// The next word, the number of a player.
+fn player_in(words: &mut Words<'_>) -> Result<usize, Fail>
+    ensures { IfOk result (λ player. player < MOST_MASTERS) }
+{
+    let player = usize::from(words.number()?);
+    if player < MOST_MASTERS {
+        Ok(player)
+    } else {
+        Err("a player")?
+    }
+}
+
+/// The next word, the number of a card.
+fn card_in(words: &mut Words<'_>) -> Result<usize, Fail>
+    ensures { IfOk result (λ card. card < 4) }
+{
+    let card = usize::from(words.number()?);
+    if card < 4 { Ok(card) } else { Err("a card")? }
+}
+
+/// A player's hand, and the same the other way round.
+fn hand_text(alloc: Global, table: &Table, player: usize) -> Result<String, Fail>
+    requires { player < MOST_MASTERS }
+{
+    let (list, back) = table.hand(player);
+    Ok(format!(in alloc; "{:?} {:?}", list.as_slice(), back.as_slice())?)
+}
+
+/// The first and the last card of a player's hand.
+fn ends_text(alloc: Global, table: &Table, player: usize) -> Result<String, Fail>
+    requires { player < MOST_MASTERS }
+{
+    let (first, last) = table.ends(player);
+    Ok(format!(in alloc; "{first:?} {last:?}")?)
+}
+
+/// Three steps along a player's hand, and how many cards they gave.
+fn walk_text(alloc: Global, table: &Table, player: usize) -> Result<String, Fail>
+    requires { player < MOST_MASTERS }
+{
+    let (steps, visits) = table.three_steps(player);
+    Ok(format!(in alloc; "{steps:?} {visits}")?)
+}
+
+/// What six calls leave of four cards.
+fn six_text(alloc: Global) -> Result<String, Fail> {
+    let mut cards = [
+        fresh_card(b'a'),
+        fresh_card(b'b'),
+        fresh_card(b'c'),
+        fresh_card(b'd'),
+    ];
+    Ok(format!(in alloc; "{:?}", six_calls(&mut cards).as_slice())?)
+}
+
+#[test]
+fn one_of_four_is_taken(rt: HostRuntime) -> Result<(), Fail> {
+    play(
+        rt.alloc(),
+        &mut Table::new(),
+        "\
+give 0 0 => yes
+give 0 1 => yes
+give 0 2 => yes
+give 0 3 => yes
+take 1 => Some(0)
+hand 0 => [0, 2, 3] [3, 2, 0]
+ends 0 => Some(0) Some(3)
+ends 1 => None None
+",
+    )
+}
+
+#[test]
+fn both_ends_are_taken(rt: HostRuntime) -> Result<(), Fail> {
+    play(
+        rt.alloc(),
+        &mut Table::new(),
+        "\
+give 0 0 => yes
+give 0 1 => yes
+give 0 2 => yes
+give 0 3 => yes
+take 1 => Some(0)
+take 3 => Some(0)
+take 0 => Some(0)
+hand 0 => [2] [2]
+ends 0 => Some(2) Some(2)
+walk 0 => [Some(2), None, None] 1
+",
+    )
+}
+
+#[test]
+fn a_card_is_in_one_hand(rt: HostRuntime) -> Result<(), Fail> {
+    play(
+        rt.alloc(),
+        &mut Table::new(),
+        "\
+give 0 0 => yes
+give 0 1 => yes
+give 0 2 => yes
+give 0 3 => yes
+take 1 => Some(0)
+give 1 2 => no
+take 1 => None
+take 2 => Some(0)
+give 1 2 => yes
+names => [97, 98, 99, 100]
+",
+    )
+}
+
+#[test]
+fn six_calls_in_a_row(rt: HostRuntime) -> Result<(), Fail> {
+    play(rt.alloc(), &mut Table::new(), "six => [0, 3]")
+}

@@ -1,0 +1,255 @@
+//! What comes of a request, before it is served.
+
+use crate::rows::{Answers, play};
+use crate::sap_tests::marked_text;
+use crate::words::{Words, hex_text, repeated, text};
+use arrayvec::ArrayVec;
+use dp_responder::{FrameMemory, Judged, Rule, judge, judge_sdn};
+use dp_sap::{Points, State};
+use dp_telegram::{Function, Parts};
+use std::alloc::Global;
+use std::test::Fail;
+
+/// A slave with two octets of outputs that master 1 exchanges data with, on a line with master 2 too.
+#[derive(Drop)]
+struct Exchanging {
+    points: Points,
+    memory: FrameMemory,
+}
+
+fn in_exchange() -> Exchanging {
+    let mut masters = ArrayVec::new();
+    masters.push(1);
+    masters.push(2);
+    Exchanging {
+        points: Points::at_state(State::DataExch, Some(1), 2),
+        memory: FrameMemory::new(&masters),
+    }
+}
+
+impl Answers for Exchanging {
+    /// Commands are `judge SENDER FC POINT HEX`, `sdn` with the same, `remember SENDER FC HEX` and
+    /// `busy POINT on` or `off`. FC is in hex, and a point a number or `none` for the default one.
+    fn answer(&mut self, alloc: Global, command: &str) -> Result<String, Fail> {
+        let mut words = Words::of(command);
+        match words.word()? {
+            "judge" => {
+                let (sender, fc) = (words.number()?, words.octet(alloc)?);
+                let parts = parts_of(alloc, &mut words)?;
+                judged_text(
+                    alloc,
+                    &judge(&self.points, &self.memory, sender, fc, &parts),
+                )
+            }
+            "sdn" => {
+                let (sender, fc) = (words.number()?, words.octet(alloc)?);
+                let parts = parts_of(alloc, &mut words)?;
+                sdn_text(alloc, &self.points, sender, fc, &parts)
+            }
+            "remember" => {
+                let (sender, fc) = (words.number()?, words.octet(alloc)?);
+                self.memory.remember(sender, fc, &words.array(alloc)?);
+                text(alloc, "done")
+            }
+            "busy" => {
+                let number = words.number_or_none()?;
+                marked_text(alloc, self.points.set_busy(number, words.is_on()?))
+            }
+            _ => Err("a command")?,
+        }
+    }
+}
+
+/// The parts of a request with SSAP 62, from a point and the payload.
+fn parts_of(alloc: Global, words: &mut Words<'_>) -> Result<Parts, Fail> {
+    Ok(Parts {
+        dsap: words.number_or_none()?,
+        ssap: Some(62),
+        payload: words.array(alloc)?,
+    })
+}
+
+/// `pass`, `repeat HEX`, `refuse FC RULE` with FC in hex, or `silent RULE`.
+pub(crate) fn judged_text(alloc: Global, judged: &Judged) -> Result<String, Fail> {
+    match judged {
+        Judged::Pass => text(alloc, "pass"),
+        Judged::Repeat(octets) => {
+            let octets = hex_text(alloc, octets)?;
+            Ok(format!(in alloc; "repeat {octets}")?)
+        }
+        Judged::Refuse(function, rule) => {
+            Ok(format!(in alloc; "refuse {function:02x} {}", rule.name())?)
+        }
+        Judged::Silent(rule) => Ok(format!(in alloc; "silent {}", rule.name())?),
+    }
+}
+
+/// `pass` or the rule.
+fn sdn_text(
+    alloc: Global,
+    points: &Points,
+    sender: u8,
+    fc: u8,
+    parts: &Parts,
+) -> Result<String, Fail> {
+    if !Function::of(fc).is_sdn() {
+        return Err("an SDN")?;
+    }
+    match judge_sdn(points, sender, fc, parts) {
+        None => text(alloc, "pass"),
+        Some(rule) => text(alloc, rule.name()),
+    }
+}
+
+#[test]
+fn stranger_is_not_holder(rt: HostRuntime) -> Result<(), Fail> {
+    play(
+        rt.alloc(),
+        &mut in_exchange(),
+        "\
+judge 2 6d 61 8802050b80a101 => refuse 03 NotHolder
+remember 2 6d 100205030a16 => done
+judge 2 7d 61 8802050b80a101 => repeat 100205030a16
+judge 1 7d 61 8802050b80a101 => pass
+judge 2 5d 60 - => pass
+",
+    )
+}
+
+#[test]
+fn busy_point(rt: HostRuntime) -> Result<(), Fail> {
+    play(
+        rt.alloc(),
+        &mut in_exchange(),
+        "\
+busy 61 on => done
+judge 1 7d 61 8802050b80a101 => refuse 02 Busy
+",
+    )
+}
+
+#[test]
+fn memory_emptied(rt: HostRuntime) -> Result<(), Fail> {
+    play(
+        rt.alloc(),
+        &mut in_exchange(),
+        "\
+judge 1 5d none 1234 => pass
+remember 1 5d 68050568010508aa550d16 => done
+judge 1 5d none 1234 => repeat 68050568010508aa550d16
+judge 1 4d none 5678 => pass
+remember 1 4d 68050568010508aa550d16 => done
+judge 1 5d none 1234 => pass
+",
+    )
+}
+
+#[test]
+fn longer_and_shorter_replies(rt: HostRuntime) -> Result<(), Fail> {
+    let longest = repeated(rt.alloc(), "00", 255)?;
+    let rows = format!(in rt.alloc();
+        "\
+remember 1 7d 100205030a16 => done
+judge 1 7d 60 - => repeat 100205030a16
+remember 1 7d {longest} => done
+judge 1 7d 60 - => repeat {longest}
+remember 1 7d e5 => done
+judge 1 7d 60 - => repeat e5
+"
+    )?;
+    play(rt.alloc(), &mut in_exchange(), &rows)
+}
+
+#[test]
+fn refusals(rt: HostRuntime) -> Result<(), Fail> {
+    play(
+        rt.alloc(),
+        &mut in_exchange(),
+        "\
+judge 1 7d none 123456 => refuse 01 Length
+judge 1 7d 58 2000 => refuse 03 NoService
+judge 1 46 58 2000 => pass
+judge 2 46 58 2000 => silent NotHolder
+judge 1 46 60 - => silent NoService
+judge 1 6d 55 - => refuse 03 NotActive
+judge 1 44 55 - => silent NotActive
+",
+    )
+}
+
+#[test]
+fn sdn_is_refused_in_silence(rt: HostRuntime) -> Result<(), Fail> {
+    play(
+        rt.alloc(),
+        &mut in_exchange(),
+        "\
+sdn 1 46 58 2000 => pass
+sdn 2 46 58 2000 => NotHolder
+",
+    )
+}
+
+/// Every rule.
+const EVERY_RULE: [Rule; 19] = [
+    Rule::Halted,
+    Rule::NoFrame,
+    Rule::NoMaster,
+    Rule::ForeignSender,
+    Rule::Token,
+    Rule::NotRequest,
+    Rule::BadFunction,
+    Rule::BadExtension,
+    Rule::BadBroadcast,
+    Rule::NoStation,
+    Rule::Status,
+    Rule::NoService,
+    Rule::Repeat,
+    Rule::NotActive,
+    Rule::NotHolder,
+    Rule::Busy,
+    Rule::Length,
+    Rule::NotSelected,
+    Rule::Done,
+];
+
+/// The rules in the order of their variants.
+#[derive(Drop)]
+struct Rules;
+
+impl Answers for Rules {
+    /// A command is a place in [`EVERY_RULE`], from 0; the answer is the rule, its number and its name.
+    fn answer(&mut self, alloc: Global, command: &str) -> Result<String, Fail> {
+        let place = Words::of(command).number()?;
+        let rule = EVERY_RULE.get(usize::from(place)).ok_or("a rule")?;
+        Ok(format!(in alloc; "{rule:?} {} {}", rule.code(), rule.name())?)
+    }
+}
+
+#[test]
+fn rules_have_numbers_and_names(rt: HostRuntime) -> Result<(), Fail> {
+    play(
+        rt.alloc(),
+        &mut Rules,
+        "\
+0 => Halted 1 Halted
+1 => NoFrame 2 NoFrame
+2 => NoMaster 3 NoMaster
+3 => ForeignSender 4 ForeignSender
+4 => Token 5 Token
+5 => NotRequest 6 NotRequest
+6 => BadFunction 7 BadFunction
+7 => BadExtension 8 BadExtension
+8 => BadBroadcast 9 BadBroadcast
+9 => NoStation 10 NoStation
+10 => Status 11 Status
+11 => NoService 12 NoService
+12 => Repeat 13 Repeat
+13 => NotActive 14 NotActive
+14 => NotHolder 15 NotHolder
+15 => Busy 16 Busy
+16 => Length 17 Length
+17 => NotSelected 18 NotSelected
+18 => Done 19 Done
+",
+    )
+}

@@ -1,0 +1,251 @@
+//! Streams of octets into frames.
+
+ghost use Rattle.std.specs.Prelude.{◌≡◌, ◌<◌, length, OnOk, OnSome};
+ghost use Rattle.dp_telegram.specs.Stream.{piece_of, left_of};
+
+use crate::rows::{Answers, play};
+use crate::telegram_tests::frame_text;
+use crate::words::{Words, hex_text, repeated, text};
+use dp_telegram::{Cut, Cutter, Piece};
+use std::alloc::{AllocError, Global};
+use std::test::Fail;
+
+/// How many frames and how many dropped pieces 100,000 pseudo-random octets have, as a program
+/// counted that was written from the printed rules and shares nothing with this crate.
+const FRAMES: usize = 686;
+
+const DROPPED: usize = 92_005;
+
+impl Answers for Cutter {
+    /// Commands are `feed HEX`, `next`, `front`, `pass` as [`pass_front`] does, and `two` as
+    /// [`first_two`] does.
+    fn answer(&mut self, alloc: Global, command: &str) -> Result<String, Fail> {
+        let mut words = Words::of(command);
+        match words.word()? {
+            "feed" => {
+                let octets = words.octets(alloc)?;
+                Ok(format!(in alloc; "{}", self.feed(&octets))?)
+            }
+            "next" => cut_text(alloc, &self.next()),
+            "front" => front_text(alloc, self),
+            "pass" => Ok(format!(in alloc; "{:?}", pass_front(self))?),
+            "two" => {
+                let (first, second) = first_two(self);
+                let (first, second) = (cut_text(alloc, &first)?, cut_text(alloc, &second)?);
+                Ok(format!(in alloc; "{first}, {second}")?)
+            }
+            _ => Err("a command")?,
+        }
+    }
+}
+
+/// `frame HEX FRAME`, `dropped FAULT COUNT` or `none`.
+fn cut_text(alloc: Global, cut: &Option<Cut>) -> Result<String, Fail> {
+    match cut {
+        None => text(alloc, "none"),
+        Some(Cut::Frame { frame, octets }) => {
+            let octets = hex_text(alloc, octets)?;
+            let frame = frame_text(alloc, frame)?;
+            Ok(format!(in alloc; "frame {octets} {frame}")?)
+        }
+        Some(Cut::Dropped { fault, count }) => {
+            Ok(format!(in alloc; "dropped {} {count}", fault.name())?)
+        }
+    }
+}
+
+/// The same of the first piece where it lies, without what the octets of a frame say.
+fn front_text(alloc: Global, cutter: &Cutter) -> Result<String, Fail> {
+    match cutter.front() {
+        None => text(alloc, "none"),
+        Some(Piece::Frame(octets)) => {
+            let octets = hex_text(alloc, octets)?;
+            Ok(format!(in alloc; "frame {octets}")?)
+        }
+        Some(Piece::Dropped { fault, count }) => {
+            Ok(format!(in alloc; "dropped {} {count}", fault.name())?)
+        }
+    }
+}
+
+#[test]
+fn octet_by_octet(rt: HostRuntime) -> Result<(), Fail> {
+    play(
+        rt.alloc(),
+        &mut Cutter::new(),
+        "\
+feed 68 => 1
+next => none
+feed 05 => 1
+next => none
+feed 05 => 1
+next => none
+feed 68 => 1
+next => none
+feed 85 => 1
+next => none
+feed 81 => 1
+next => none
+feed 6d => 1
+next => none
+feed 3c => 1
+next => none
+feed 3e => 1
+next => none
+feed ed => 1
+next => none
+feed 16 => 1
+next => frame 6805056885816d3c3eed16 telegram 85 81 6d 3c3e
+next => none
+",
+    )
+}
+
+#[test]
+fn frame_behind_a_bad_end(rt: HostRuntime) -> Result<(), Fail> {
+    play(
+        rt.alloc(),
+        &mut Cutter::new(),
+        "\
+feed 6805056805015d1234a816100501494f16 => 17
+next => dropped BadEnd 11
+next => frame 100501494f16 telegram 05 01 49 -
+next => none
+",
+    )
+}
+
+#[test]
+fn bad_head_drops_one_octet(rt: HostRuntime) -> Result<(), Fail> {
+    let zeros = repeated(rt.alloc(), "00", 255)?;
+    let rows = format!(in rt.alloc();
+        "\
+feed 68050468 => 4
+next => dropped BadHead 1
+next => dropped NoStart 1
+next => dropped NoStart 1
+next => none
+feed {zeros} => 254
+"
+    )?;
+    play(rt.alloc(), &mut Cutter::new(), &rows)
+}
+
+/// Two calls in a row: the first two pieces of the octets held.
+fn first_two(cutter: &mut Cutter) -> (Option<Cut>, Option<Cut>)
+    ensures first { result.0 ≡ piece_of cutter.old }
+    ensures second { result.1 ≡ piece_of (left_of cutter.old) }
+    ensures left { cutter.new ≡ left_of (left_of cutter.old) }
+{
+    let first = cutter.next();
+    (first, cutter.next())
+}
+
+/// Looks at the first piece where it lies and lets go of it, as `next` would: its size.
+fn pass_front(cutter: &mut Cutter) -> Option<usize>
+    ensures { OnSome result (cutter.new ≡ left_of cutter.old) }
+{
+    let size = cutter.front()?.size();
+    cutter.pass(size);
+    Some(size)
+}
+
+#[test]
+fn pieces_in_place(rt: HostRuntime) -> Result<(), Fail> {
+    play(
+        rt.alloc(),
+        &mut Cutter::new(),
+        "\
+front => none
+feed 68050468e5 => 5
+front => dropped BadHead 1
+pass => Some(1)
+two => dropped NoStart 1, dropped NoStart 1
+front => none
+feed 6805056885816d3c3eed16 => 11
+pass => Some(1)
+",
+    )
+}
+
+#[test]
+fn frame_in_place(rt: HostRuntime) -> Result<(), Fail> {
+    play(
+        rt.alloc(),
+        &mut Cutter::new(),
+        "\
+feed 6805056885816d3c3eed16 => 11
+feed e510 => 2
+front => frame 6805056885816d3c3eed16
+pass => Some(11)
+front => frame e5
+pass => Some(1)
+front => none
+",
+    )
+}
+
+/// Bits 16 to 23 of each state of a linear congruential generator.
+fn pseudo_random(alloc: Global, count: usize) -> Result<Vec<u8>, AllocError> {
+    let mut octets = Vec::new(alloc);
+    let mut state: u32 = 1;
+    for _ in 0..count {
+        octets.push((state >> 16 & 0xFF) as u8)?;
+        state = ((u64::from(state) * 1_103_515_245 + 12345) % 0x8000_0000) as u32;
+    }
+    Ok(octets)
+}
+
+/// Hands out all pieces that the octets held begin with.
+fn hand_out(cutter: &mut Cutter, cuts: &mut Vec<Cut>) -> Result<(), AllocError>
+    ensures { OnOk result (length cutter.new < 255) }
+{
+    while let Some(cut) = cutter.next() {
+        cuts.push(cut)?;
+    }
+    Ok(())
+}
+
+/// Feeds all octets, and hands out all pieces.
+fn pass(cutter: &mut Cutter, octets: &[u8], cuts: &mut Vec<Cut>) -> Result<(), AllocError>
+    requires { length cutter.old < 255 }
+    ensures { OnOk result (length cutter.new < 255) }
+{
+    let mut left = octets;
+    while !left.is_empty() {
+        let taken = cutter.feed(left);
+        left = &left[taken..];
+        hand_out(cutter, cuts)?;
+    }
+    Ok(())
+}
+
+/// The pieces of a stream that is fed in parts of this size.
+fn cuts(alloc: Global, stream: &[u8], size: usize) -> Result<Vec<Cut>, AllocError>
+    requires { 0 < size }
+{
+    let mut cutter = Cutter::new();
+    let mut cuts = Vec::new(alloc);
+    for part in stream.chunks(size) {
+        pass(&mut cutter, part, &mut cuts)?;
+    }
+    Ok(cuts)
+}
+
+/// How many of the pieces are frames.
+fn frame_count(cuts: &[Cut]) -> usize {
+    cuts.iter()
+        .filter(|cut| matches!(cut, Cut::Frame { .. }))
+        .count()
+}
+
+#[test]
+fn any_pieces_give_equal_cuts(rt: HostRuntime) -> Result<(), Fail> {
+    let stream = pseudo_random(rt.alloc(), 100_000)?;
+    let by_octet = cuts(rt.alloc(), &stream, 1)?;
+    assert_eq!(rt; frame_count(&by_octet), FRAMES);
+    assert_eq!(rt; by_octet.len(), FRAMES + DROPPED);
+    assert!(rt; cuts(rt.alloc(), &stream, 7)? == by_octet);
+    assert!(rt; cuts(rt.alloc(), &stream, 255)? == by_octet);
+    Ok(())
+}

@@ -1,0 +1,288 @@
+//! Octets into frames, frames into octets, and the parts of telegrams.
+
+use crate::rows::{Answers, play};
+use crate::words::{Words, flag, hex_text, repeated, text};
+use dp_telegram::{
+    Frame, GLOBAL_ADDRESS, LAST_STATION, Octets, Telegram, acknowledge_to, decode, encode,
+    is_station, request,
+};
+use std::alloc::Global;
+use std::test::Fail;
+
+/// The codec, and a text that lies where others are written.
+#[derive(Drop)]
+struct Codec {
+    text: Octets,
+}
+
+/// A codec at whose place a text of two octets lies.
+fn over_a_text() -> Codec {
+    let mut text = Octets::new();
+    text.push(0x12);
+    text.push(0x34);
+    Codec { text }
+}
+
+impl Answers for Codec {
+    /// Commands are `decode HEX`, `acknowledge`, `write TELEGRAM`, `request DA SA FC DSAP SSAP HEX`,
+    /// `parts TELEGRAM`, `addresses TELEGRAM`, `source FRAME`, `stations` and `code FC`. A telegram is
+    /// `DA SA FC DU` in hex, a frame `ack`, `token DA SA` or `telegram` and such.
+    fn answer(&mut self, alloc: Global, command: &str) -> Result<String, Fail> {
+        let mut words = Words::of(command);
+        match words.word()? {
+            "decode" => decoded(alloc, &words.octets(alloc)?),
+            "acknowledge" => {
+                acknowledge_to(&mut self.text);
+                hex_text(alloc, &self.text)
+            }
+            "write" => {
+                telegram_of(alloc, &mut words)?.encode_to(&mut self.text);
+                hex_text(alloc, &self.text)
+            }
+            "request" => requested(alloc, &mut words),
+            "parts" => parts_text(alloc, &telegram_of(alloc, &mut words)?),
+            "addresses" => addresses_text(alloc, &telegram_of(alloc, &mut words)?),
+            "source" => source_text(alloc, &frame_of(alloc, &mut words)?),
+            "stations" => stations_text(alloc),
+            "code" => code_text(alloc, words.octet(alloc)?),
+            _ => Err("a command")?,
+        }
+    }
+}
+
+/// The telegram of the next words.
+fn telegram_of(alloc: Global, words: &mut Words<'_>) -> Result<Telegram, Fail> {
+    Ok(Telegram {
+        da: words.octet(alloc)?,
+        sa: words.octet(alloc)?,
+        fc: words.octet(alloc)?,
+        du: words.array(alloc)?,
+    })
+}
+
+/// The frame of the next words.
+fn frame_of(alloc: Global, words: &mut Words<'_>) -> Result<Frame, Fail> {
+    match words.word()? {
+        "ack" => Ok(Frame::Ack),
+        "token" => Ok(Frame::Token {
+            da: words.octet(alloc)?,
+            sa: words.octet(alloc)?,
+        }),
+        _ => Ok(Frame::Telegram(telegram_of(alloc, words)?)),
+    }
+}
+
+/// The text of a frame.
+pub(crate) fn frame_text(alloc: Global, frame: &Frame) -> Result<String, Fail> {
+    match frame {
+        Frame::Ack => text(alloc, "ack"),
+        Frame::Token { da, sa } => Ok(format!(in alloc; "token {da:02x} {sa:02x}")?),
+        Frame::Telegram(telegram) => telegram_text(alloc, telegram),
+    }
+}
+
+fn telegram_text(alloc: Global, telegram: &Telegram) -> Result<String, Fail> {
+    let du = hex_text(alloc, &telegram.du)?;
+    Ok(format!(in alloc;
+        "telegram {:02x} {:02x} {:02x} {du}",
+        telegram.da, telegram.sa, telegram.fc
+    )?)
+}
+
+/// `FRAME | HEX` with the octets that the frame is written in, or `FAULT CODE`.
+fn decoded(alloc: Global, octets: &[u8]) -> Result<String, Fail> {
+    match decode(octets) {
+        Ok(frame) => {
+            let told = frame_text(alloc, &frame)?;
+            let written = hex_text(alloc, &encode(&frame))?;
+            Ok(format!(in alloc; "{told} | {written}")?)
+        }
+        Err(fault) => Ok(format!(in alloc; "{} {}", fault.name(), fault.code())?),
+    }
+}
+
+/// The request with the parts of the next words.
+fn requested(alloc: Global, words: &mut Words<'_>) -> Result<String, Fail> {
+    let (da, sa) = (words.number()?, words.number()?);
+    let fc = words.octet(alloc)?;
+    let (dsap, ssap) = (words.number_or_none()?, words.number_or_none()?);
+    let payload = words.octets(alloc)?;
+    if da > 127 || sa > 127 || payload.len() > 244 {
+        return Err("no request")?;
+    }
+    if dsap.is_some_and(|point| point > 63) || ssap.is_some_and(|point| point > 63) {
+        return Err("no request")?;
+    }
+    frame_text(alloc, &request(da, sa, fc, dsap, ssap, &payload))
+}
+
+/// `DSAP SSAP HEX`, or `none`.
+fn parts_text(alloc: Global, telegram: &Telegram) -> Result<String, Fail> {
+    let Some(parts) = telegram.parts() else {
+        return text(alloc, "none");
+    };
+    let payload = hex_text(alloc, &parts.payload)?;
+    Ok(format!(in alloc; "{:?} {:?} {payload}", parts.dsap, parts.ssap)?)
+}
+
+/// Destination and source.
+fn addresses_text(alloc: Global, telegram: &Telegram) -> Result<String, Fail> {
+    Ok(format!(in alloc; "{} {}", telegram.destination(), telegram.source())?)
+}
+
+fn source_text(alloc: Global, frame: &Frame) -> Result<String, Fail> {
+    Ok(format!(in alloc; "{:?}", frame.source())?)
+}
+
+/// The last station's address and the global one, each with whether it is a station's.
+fn stations_text(alloc: Global) -> Result<String, Fail> {
+    let (last, global) = (is_station(LAST_STATION), is_station(GLOBAL_ADDRESS));
+    Ok(format!(in alloc; "{LAST_STATION} {last} {GLOBAL_ADDRESS} {global}")?)
+}
+
+/// What a function code says.
+fn code_text(alloc: Global, fc: u8) -> Result<String, Fail> {
+    let telegram = Telegram {
+        da: 5,
+        sa: 1,
+        fc,
+        du: arrayvec::ArrayVec::new(),
+    };
+    let function = telegram.function();
+    let srd = flag(function.is_srd(), " srd");
+    let sdn = flag(function.is_sdn(), " sdn");
+    let request = flag(telegram.is_request(), " request");
+    let fcb = flag(telegram.fcb(), " fcb");
+    let fcv = flag(telegram.fcv(), " fcv");
+    Ok(format!(in alloc; "{function:?}{srd}{sdn}{request}{fcb}{fcv}")?)
+}
+
+#[test]
+fn refuses_what_is_no_frame(rt: HostRuntime) -> Result<(), Fail> {
+    play(
+        rt.alloc(),
+        &mut over_a_text(),
+        "\
+decode - => Short 4
+decode 680505 => Short 4
+decode 33 => NoStart 1
+decode 68050468 => BadHead 2
+decode 100501494e16 => BadEnd 3
+decode 100501494f1600 => Long 5
+decode e500 => Long 5
+",
+    )
+}
+
+#[test]
+fn reads_and_writes_frames(rt: HostRuntime) -> Result<(), Fail> {
+    play(
+        rt.alloc(),
+        &mut over_a_text(),
+        "\
+decode e5 => ack | e5
+decode dc0201 => token 02 01 | dc0201
+decode 100501494f16 => telegram 05 01 49 - | 100501494f16
+decode 6805056885816d3c3eed16 => telegram 85 81 6d 3c3e | 6805056885816d3c3eed16
+",
+    )
+}
+
+#[test]
+fn writes_where_a_text_lies(rt: HostRuntime) -> Result<(), Fail> {
+    play(
+        rt.alloc(),
+        &mut over_a_text(),
+        "\
+acknowledge => e5
+write 05 01 49 - => 100501494f16
+",
+    )
+}
+
+#[test]
+fn eight_octets_as_sd3_and_sd2(rt: HostRuntime) -> Result<(), Fail> {
+    play(
+        rt.alloc(),
+        &mut over_a_text(),
+        "\
+decode a205016d00000000000000007316 => telegram 05 01 6d 0000000000000000 | 680b0b6805016d00000000000000007316
+decode 680b0b6805016d00000000000000007316 => telegram 05 01 6d 0000000000000000 | 680b0b6805016d00000000000000007316
+",
+    )
+}
+
+#[test]
+fn longest_telegrams(rt: HostRuntime) -> Result<(), Fail> {
+    let zeros = repeated(rt.alloc(), "00", 245)?;
+    let octets = format!(in rt.alloc(); "68f9f96885016d3d{zeros}3016")?;
+    let row = format!(in rt.alloc(); "decode {octets} => telegram 85 01 6d 3d{zeros} | {octets}")?;
+    play(rt.alloc(), &mut over_a_text(), &row)
+}
+
+#[test]
+fn requests_have_their_parts(rt: HostRuntime) -> Result<(), Fail> {
+    play(
+        rt.alloc(),
+        &mut over_a_text(),
+        "\
+request 5 1 6d 60 62 - => telegram 85 81 6d 3c3e
+parts 85 81 6d 3c3e => Some(60) Some(62) -
+addresses 85 81 6d 3c3e => 5 1
+request 5 1 5d none none 1234 => telegram 05 01 5d 1234
+parts 85 81 6d 7c3e => none
+parts 85 01 6d - => none
+parts 85 81 6d 3c => none
+",
+    )
+}
+
+#[test]
+fn frames_have_a_source(rt: HostRuntime) -> Result<(), Fail> {
+    play(
+        rt.alloc(),
+        &mut over_a_text(),
+        "\
+source token 02 01 => Some(1)
+source ack => None
+source telegram 85 81 6d - => Some(1)
+stations => 126 true 127 false
+",
+    )
+}
+
+#[test]
+fn function_codes(rt: HostRuntime) -> Result<(), Fail> {
+    play(
+        rt.alloc(),
+        &mut over_a_text(),
+        "\
+code 43 => SdaLow request
+code 44 => SdnLow sdn request
+code 45 => SdaHigh request
+code 46 => SdnHigh sdn request
+code 49 => FdlStatus request
+code 4c => SrdLow srd request
+code 4d => SrdHigh srd request
+code 4e => Ident request
+code 4f => LsapStatus request
+code 42 => Reserved request
+code fd => SrdHigh srd request fcb fcv
+",
+    )
+}
+
+#[test]
+fn frame_count_bits(rt: HostRuntime) -> Result<(), Fail> {
+    play(
+        rt.alloc(),
+        &mut over_a_text(),
+        "\
+code 6d => SrdHigh srd request fcb
+code 5d => SrdHigh srd request fcv
+code 7d => SrdHigh srd request fcb fcv
+code 4d => SrdHigh srd request
+code 08 => Reserved
+",
+    )
+}
