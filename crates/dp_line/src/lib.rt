@@ -25,10 +25,3 @@ pub use event::{Event, Facts, Op, Outcome, Step};
 pub use fault::{OpenFault, OperatorFault};
 pub use limits::MOST_SLAVES;
 pub use line_state::LineState;
-
-#[cfg(test)]
-mod broadcast_tests;
-#[cfg(test)]
-mod operator_tests;
-#[cfg(test)]
-mod tests;

@@ -1,0 +1,61 @@
+//! A Global_Control to all stations. Both slaves have two octets of inputs and two of outputs.
+//!
+//! In these rows `68070768ff81463a3e20005e16` is Sync of master 1, the telegram that ends in `5f16` the
+//! same of master 2, and the one that ends in `6016` that of master 1 to the slaves of group 2;
+//! `8802050b80a101` are parameters that lock, `a000000b80a101` such that lock with Sync_Req and without a
+//! watchdog, and `40000000000000` such that unlock.
+
+use crate::rows::plays;
+use std::test::Fail;
+
+#[test]
+fn a_broadcast_visits_the_slaves_of_its_sender(rt: HostRuntime) -> Result<(), Fail> {
+    plays(
+        rt.alloc(),
+        "1000 2111 5 6",
+        "\
+walk => 0
+ask 1 6 4d 61 8802050b80a101 => 1 | WaitPrm none | reply e5 Done
+ask 1 5 4d 61 8802050b80a101 => 2 | WaitPrm none | reply e5 Done
+req 1 68070768ff81463a3e20005e16 => 3 | none | spread 6:NotActive 5:NotActive
+walk => 2
+",
+    )
+}
+
+#[test]
+fn only_a_broadcast_changes_the_count(rt: HostRuntime) -> Result<(), Fail> {
+    plays(
+        rt.alloc(),
+        "1000 2111 5 6",
+        "\
+ask 1 6 4d 61 8802050b80a101 => 1 | WaitPrm none | reply e5 Done
+ask 1 5 4d 61 8802050b80a101 => 2 | WaitPrm none | reply e5 Done
+req 1 68070768ff81463a3e20005e16 => 3 | none | spread 6:NotActive 5:NotActive
+ask 1 6 4d 61 40000000000000 => 4 | WaitCfg 1 | reply e5 Done
+tick 1 => 5 | none | released
+walk => 2
+req 1 68070768ff81463a3e20005e16 => 6 | none | spread 5:NotActive
+walk => 1
+req 2 68070768ff82463a3e20005f16 => 7 | none | spread
+walk => 0
+",
+    )
+}
+
+#[test]
+fn each_slave_judges_a_broadcast_by_itself(rt: HostRuntime) -> Result<(), Fail> {
+    plays(
+        rt.alloc(),
+        "1000 2111 5 6",
+        "\
+ask 1 5 4d 61 a000000b80a101 => 1 | WaitPrm none | reply e5 Done
+ask 1 6 4d 61 a000000b80a101 => 2 | WaitPrm none | reply e5 Done
+ask 1 6 4d 62 2111 => 3 | WaitCfg 1 | reply e5 Done
+req 1 68070768ff81463a3e20026016 => 4 | none | spread 5:NotActive 6:NotSelected
+seen 6 => since 2 []
+req 1 68070768ff81463a3e20005e16 => 5 | none | spread 5:NotActive 6:Done
+seen 6 => since 2 sync []
+",
+    )
+}

@@ -1,0 +1,15 @@
+//! Tests of a line, in rows of text: a command and, behind ` => `, what the line answers.
+#![tactic(auto)]
+
+#[cfg(test)]
+mod broadcast_tests;
+#[cfg(test)]
+mod commands;
+#[cfg(test)]
+mod lines;
+#[cfg(test)]
+mod operator_tests;
+#[cfg(test)]
+mod request_tests;
+#[cfg(test)]
+mod rows;

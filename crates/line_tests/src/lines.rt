@@ -1,0 +1,67 @@
+//! Lines from their texts.
+
+use arrayvec::ArrayVec;
+use dp_line::{Device, LineSpec, LineState, SlaveSpec};
+use dp_telegram::Octets;
+use dp_text::{Words, number_in, octet_in, octets_in};
+use std::alloc::Global;
+use std::test::Fail;
+
+/// The octets of a word of hex digits, `-` for none.
+pub(crate) fn octets_of(word: &[u8]) -> Result<Octets, Fail> {
+    match word {
+        b"-" => Ok(Octets::new()),
+        _ => Ok(octets_in(word).ok_or("octets")?),
+    }
+}
+
+/// A slave with Sync and Freeze, and this configuration.
+fn slave(address: u8, configuration: &[u8]) -> Result<SlaveSpec, Fail> {
+    let mut cfg = ArrayVec::new();
+    cfg.try_extend_from_slice(configuration)?;
+    Ok(SlaveSpec {
+        address,
+        ident: 0x80A1,
+        cfg,
+        sync: true,
+        freeze: true,
+        user_max: 237,
+        device: Device::Still,
+    })
+}
+
+/// The slaves at the addresses that are left, all with this configuration.
+fn slaves(
+    alloc: Global,
+    addresses: &mut Words<'_>,
+    configuration: &[u8],
+) -> Result<Vec<SlaveSpec>, Fail> {
+    let mut slaves = Vec::new(alloc);
+    while let Some(word) = addresses.next() {
+        let address = octet_in(word).ok_or("an address")?;
+        slaves.push(slave(address, configuration)?)?;
+    }
+    Ok(slaves)
+}
+
+/// A line with masters 1 and 2, as `CAPACITY CONFIGURATION ADDRESS ..` says: so many places, and slaves
+/// at these addresses, all with this configuration, `-` for none.
+pub(crate) fn described(alloc: Global, text: &str) -> Result<LineSpec, Fail> {
+    let mut words = Words::of(text.as_bytes());
+    let capacity = words.next().ok_or("a capacity")?;
+    let configuration = octets_of(words.next().ok_or("a configuration")?)?;
+    let mut masters = ArrayVec::new();
+    masters.push(1);
+    masters.push(2);
+    Ok(LineSpec {
+        number: 1,
+        capacity: number_in(capacity, u32::MAX).ok_or("a capacity")?,
+        masters,
+        slaves: slaves(alloc, &mut words, &configuration)?,
+    })
+}
+
+/// The line of this description, at its start.
+pub(crate) fn opened(alloc: Global, text: &str) -> Result<LineState, Fail> {
+    Ok(LineState::open(alloc, &described(alloc, text)?)?)
+}
