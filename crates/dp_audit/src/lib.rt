@@ -2,23 +2,15 @@
 #![tactic(auto)]
 
 mod book;
-#[cfg(test)]
-mod book_tests;
 mod checking;
 mod entry;
 mod fault;
-#[cfg(test)]
-mod fixtures;
 mod kinds;
 pub mod laws;
 mod packing;
 mod reading;
 mod records;
-#[cfg(test)]
-mod records_tests;
 pub mod text_laws;
-#[cfg(test)]
-mod text_tests;
 mod unpacking;
 mod writing;
 

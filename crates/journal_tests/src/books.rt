@@ -1,0 +1,273 @@
+//! Books: what events tell, and the entries that they leave, packed and not.
+
+use crate::described::{is_told, line};
+use dp_audit::{Book, Entry};
+use dp_line::{Event, Facts, LineSpec, Outcome, Step};
+use dp_text::{Text, event_in};
+use std::alloc::{AllocError, Global};
+use std::test::Fail;
+
+/// What parts an event from what it tells.
+const ARROW: &str = " -> ";
+
+/// `PLACE EVENT | FACTS | OUTCOME`, `-` for no place.
+fn row_of(
+    alloc: Global,
+    place: Option<u32>,
+    event: &Event,
+    facts: &Facts,
+    outcome: &Outcome,
+) -> Result<String, Fail> {
+    let mut text = Text::new();
+    match place {
+        Some(place) => text.push_number(place),
+        None => text.push_str("-"),
+    }
+    text.push_str(" ");
+    text.push_event(event);
+    text.push_str(" | ");
+    text.push_facts(facts);
+    text.push_str(" | ");
+    text.push_outcome(outcome);
+    let row = std::str::from_utf8(text.as_bytes())?;
+    Ok(format!(in alloc; "{row}")?)
+}
+
+/// Two books of one line: one answers by a receipt, and the other one where an answer lies.
+#[derive(Drop)]
+struct Desk {
+    book: Book,
+    other: Book,
+}
+
+impl Desk {
+    /// The event of a text comes to both books, which answer the same: the receipt, whom a halt in its stead
+    /// lets go, and how many entries there are then.
+    fn take(&mut self, alloc: Global, event: &str) -> Result<String, Fail> {
+        let Some(event) = event_in(event.as_bytes()) else {
+            return Err(Fail::new("no event"));
+        };
+        let mut answer = Step::blank();
+        self.other.take_to(&event, &mut answer);
+        let told = row_of(alloc, answer.place, &event, &answer.facts, &answer.outcome)?;
+        let receipt = self.book.take(event);
+        let same = row_of(
+            alloc,
+            receipt.place,
+            &receipt.event,
+            &receipt.facts,
+            &receipt.outcome,
+        )?;
+        if told != same {
+            return Err(Fail::new("two answers"));
+        }
+        let count = self.book.count();
+        match answer.halted {
+            None => Ok(format!(in alloc; "{told}, {count}")?),
+            Some(addresses) => {
+                let let_go = addresses.as_slice();
+                Ok(format!(in alloc; "{told}, halts {let_go:?}, {count}")?)
+            }
+        }
+    }
+
+    /// The event of each row that has an arrow comes, and is told with what came of it.
+    fn take_rows(&mut self, alloc: Global, rows: &str) -> Result<String, Fail> {
+        let mut told = String::new(alloc);
+        for row in rows.lines() {
+            if let Some((event, _)) = row.split_once(ARROW) {
+                let answer = self.take(alloc, event)?;
+                told.push_str(&format!(in alloc; "{event}{ARROW}{answer}\n")?)?;
+            }
+        }
+        Ok(told)
+    }
+}
+
+/// Two fresh books of a line.
+fn fresh_desk(alloc: Global, line: &LineSpec) -> Result<Desk, Fail> {
+    Ok(Desk {
+        book: Book::open(alloc, line)?,
+        other: Book::open(alloc, line)?,
+    })
+}
+
+/// The row of an entry, or `none`.
+fn entry_of(alloc: Global, entry: Option<Entry>) -> Result<String, Fail> {
+    match entry {
+        None => Ok(format!(in alloc; "none")?),
+        Some(entry) => row_of(
+            alloc,
+            Some(entry.place),
+            &entry.event,
+            &entry.facts,
+            &entry.outcome,
+        ),
+    }
+}
+
+/// The hex digits of a record, or `none`.
+fn record_of(alloc: Global, record: Option<&[u8]>) -> Result<String, AllocError> {
+    match record {
+        None => format!(in alloc; "none"),
+        Some(octets) => hex::encode(alloc, octets),
+    }
+}
+
+/// The entry at a place, and the record of it.
+fn place_of(alloc: Global, book: &Book, place: u32) -> Result<String, Fail> {
+    let entry = entry_of(alloc, book.entry(place))?;
+    let record = record_of(alloc, book.packed(place))?;
+    Ok(format!(in alloc; "at {place}: {entry} = {record}\n")?)
+}
+
+/// The book: number, entries, places and whether it is halted; then what is at each place from 0 to behind the
+/// last entry, and at the greatest number.
+fn book_of(alloc: Global, book: &Book) -> Result<String, Fail> {
+    let (number, count, places) = (book.number(), book.count(), book.places());
+    let halted = book.state().is_halted();
+    let mut told = format!(in alloc; "line {number}, {count} of {places}, halted {halted}\n")?;
+    for place in 0..count.saturating_add(2) {
+        told.push_str(&place_of(alloc, book, place)?)?;
+    }
+    told.push_str(&place_of(alloc, book, u32::MAX)?)?;
+    Ok(told)
+}
+
+/// The transcript of two fresh books of a line with masters 1 and 2: the events, and the book, which is the
+/// same of both.
+fn books_tell(alloc: Global, capacity: u32, slaves: &[u8], transcript: &str) -> Result<(), Fail> {
+    let mut desk = fresh_desk(alloc, &line(alloc, 1, capacity, &[1, 2], slaves)?)?;
+    let mut told = desk.take_rows(alloc, transcript)?;
+    let book = book_of(alloc, &desk.book)?;
+    if book != book_of(alloc, &desk.other)? {
+        return Err(Fail::new("two books"));
+    }
+    told.push_str(&book)?;
+    is_told(told, transcript)
+}
+
+/// What is refused takes no place, and the halt is recorded in the stead of the second request.
+#[test]
+fn halt_at_last_place(rt: HostRuntime) -> Result<(), Fail> {
+    books_tell(
+        rt.alloc(),
+        2,
+        &[5],
+        "\
+req 1 100501494f16 -> 1 req 1 100501494f16 | WaitPrm none | reply 100105000616 Status, 1
+in 9 aa -> - in 9 aa | none | refused NoStation, 1
+req 1 100501494f16 -> - req 1 100501494f16 | none | silence Halted, halts [], 2
+req 1 100501494f16 -> - req 1 100501494f16 | none | silence Halted, 2
+tick 1 -> - tick 1 | none | refused Halted, 2
+line 1, 2 of 2, halted true
+at 0: none = none
+at 1: 1 req 1 100501494f16 | WaitPrm none | reply 100105000616 Status = 0014000106100501494f1601ff0006100105000616\
+0b
+at 2: 2 halt | none | released = 00050500ff0300
+at 3: none = none
+at 4294967295: none = none
+",
+    )
+}
+
+#[test]
+fn no_entry(rt: HostRuntime) -> Result<(), Fail> {
+    books_tell(
+        rt.alloc(),
+        2,
+        &[5],
+        "\
+line 1, 0 of 2, halted false
+at 0: none = none
+at 1: none = none
+at 4294967295: none = none
+",
+    )
+}
+
+/// FDL status, first on a fresh line, and a tick of 10 units that lets nobody go.
+#[test]
+fn two_entries(rt: HostRuntime) -> Result<(), Fail> {
+    books_tell(
+        rt.alloc(),
+        1000,
+        &[5],
+        "\
+req 1 100501494f16 -> 1 req 1 100501494f16 | WaitPrm none | reply 100105000616 Status, 1
+tick 10 -> 2 tick 10 | none | released, 2
+line 1, 2 of 1000, halted false
+at 0: none = none
+at 1: 1 req 1 100501494f16 | WaitPrm none | reply 100105000616 Status = 0014000106100501494f1601ff0006100105000616\
+0b
+at 2: 2 tick 10 | none | released = 0009040000000a00ff0300
+at 3: none = none
+at 4294967295: none = none
+",
+    )
+}
+
+/// The record of a mark at a slave that exchanges data with master 1.
+#[test]
+fn packed_mark(rt: HostRuntime) -> Result<(), Fail> {
+    books_tell(
+        rt.alloc(),
+        1000,
+        &[5],
+        "\
+req 1 680c0c6885815d3d3e8802050b80a1019a16 -> 1 req 1 680c0c6885815d3d3e8802050b80a1019a16 | WaitPrm none | reply e5 Done, 1
+req 1 6807076885817d3e3e21113116 -> 2 req 1 6807076885817d3e3e21113116 | WaitCfg 1 | reply e5 Done, 2
+busy 5 default on -> 3 busy 5 default on | DataExch 1 | done, 3
+line 1, 3 of 1000, halted false
+at 0: none = none
+at 1: 1 req 1 680c0c6885815d3d3e8802050b80a1019a16 | WaitPrm none | reply e5 Done = \
+001b000112680c0c6885815d3d3e8802050b80a1019a1601ff0001e513
+at 2: 2 req 1 6807076885817d3e3e21113116 | WaitCfg 1 | reply e5 Done = 001600010d6807076885817d3e3e2111311602010001e513
+at 3: 3 busy 5 default on | DataExch 1 | done = 00070305ff01030104
+at 4: none = none
+at 4294967295: none = none
+",
+    )
+}
+
+/// The record of a Global_Control to all by master 1, who holds slaves 7 and 126: the first waits for its
+/// configuration.
+#[test]
+fn packed_spread(rt: HostRuntime) -> Result<(), Fail> {
+    books_tell(
+        rt.alloc(),
+        1000,
+        &[7, 126],
+        "\
+req 1 680c0c6887815d3d3e8802050b80a1019c16 -> 1 req 1 680c0c6887815d3d3e8802050b80a1019c16 | WaitPrm none | reply e5 Done, 1
+req 1 680c0c68fe815d3d3e8802050b80a1011316 -> 2 req 1 680c0c68fe815d3d3e8802050b80a1011316 | WaitPrm none | reply e5 Done, 2
+req 1 68070768fe817d3e3e2111aa16 -> 3 req 1 68070768fe817d3e3e2111aa16 | WaitCfg 1 | reply e5 Done, 3
+req 1 68070768ff81463a3e00003e16 -> 4 req 1 68070768ff81463a3e00003e16 | none | spread 7:NotActive 126:Done, 4
+line 1, 4 of 1000, halted false
+at 0: none = none
+at 1: 1 req 1 680c0c6887815d3d3e8802050b80a1019c16 | WaitPrm none | reply e5 Done = \
+001b000112680c0c6887815d3d3e8802050b80a1019c1601ff0001e513
+at 2: 2 req 1 680c0c68fe815d3d3e8802050b80a1011316 | WaitPrm none | reply e5 Done = \
+001b000112680c0c68fe815d3d3e8802050b80a101131601ff0001e513
+at 3: 3 req 1 68070768fe817d3e3e2111aa16 | WaitCfg 1 | reply e5 Done = 001600010d68070768fe817d3e3e2111aa1602010001e513
+at 4: 4 req 1 68070768ff81463a3e00003e16 | none | spread 7:NotActive 126:Done = \
+001800010d68070768ff81463a3e00003e1600ff0202070e7e13
+at 5: none = none
+at 4294967295: none = none
+",
+    )
+}
+
+/// Why a book of a line isn't opened.
+fn refused(alloc: Global, capacity: u32, masters: &[u8], expected: &str) -> Result<(), Fail> {
+    match Book::open(alloc, &line(alloc, 1, capacity, masters, &[5])?) {
+        Ok(_) => Err(Fail::new("opened")),
+        Err(fault) => is_told(format!(in alloc; "{fault:?}")?, expected),
+    }
+}
+
+#[test]
+fn lines_refused(rt: HostRuntime) -> Result<(), Fail> {
+    refused(rt.alloc(), 1, &[1, 2], "Limit")?;
+    refused(rt.alloc(), 2, &[1, 2, 5], "TwiceAddress")
+}

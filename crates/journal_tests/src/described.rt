@@ -1,0 +1,48 @@
+//! The lines of the tests, and how a test compares what it was told.
+
+use arrayvec::ArrayVec;
+use dp_line::{Device, LineSpec, SlaveSpec};
+use std::alloc::Global;
+use std::test::Fail;
+
+/// The text that was told is the expected one; where it isn't, the failure is that text.
+pub(crate) fn is_told(told: String, expected: &str) -> Result<(), Fail> {
+    if told.as_str() == expected {
+        Ok(())
+    } else {
+        Err(told)?
+    }
+}
+
+/// A line of this number, of so many places, with these masters, and with slaves of two octets of inputs and of
+/// outputs at these addresses.
+pub(crate) fn line(
+    alloc: Global,
+    number: u8,
+    capacity: u32,
+    masters: &[u8],
+    slaves: &[u8],
+) -> Result<LineSpec, Fail> {
+    let mut described = Vec::new(alloc);
+    for address in slaves {
+        described.push(slave(*address)?)?;
+    }
+    Ok(LineSpec {
+        number,
+        capacity,
+        masters: ArrayVec::try_from(masters)?,
+        slaves: described,
+    })
+}
+
+fn slave(address: u8) -> Result<SlaveSpec, Fail> {
+    Ok(SlaveSpec {
+        address,
+        ident: 0x80A1,
+        cfg: ArrayVec::try_from([0x21, 0x11].as_slice())?,
+        sync: true,
+        freeze: true,
+        user_max: 237,
+        device: Device::Still,
+    })
+}

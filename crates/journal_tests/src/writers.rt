@@ -1,0 +1,130 @@
+//! Audit texts that are written, whole or not.
+
+use crate::described::{is_told, line};
+use dp_audit::Book;
+use dp_text::event_in;
+use std::alloc::Global;
+use std::io::{self, ErrorKind, Write};
+use std::test::Fail;
+
+/// Takes 7 octets at a call, as long as there is room; then it fails, or takes none.
+#[derive(Drop)]
+struct Narrow {
+    room: usize,
+    fails: bool,
+    taken: Vec<u8>,
+}
+
+impl Write for Narrow {
+    fn write(&mut self, buf: &[u8]) -> io::Result<usize> {
+        let count = buf.len().min(self.room).min(7);
+        if count == 0 && self.fails {
+            return Err(ErrorKind::StorageFull.into());
+        }
+        self.taken.extend_from_slice(&buf[..count])?;
+        self.room -= count;
+        Ok(count)
+    }
+
+    fn flush(&mut self) -> io::Result<()> {
+        Ok(())
+    }
+}
+
+/// A book of a line of this number, of so many places, with masters 1 and 2 and slave 5, behind these events.
+fn book_behind(alloc: Global, number: u8, capacity: u32, events: &str) -> Result<Book, Fail> {
+    let mut book = Book::open(alloc, &line(alloc, number, capacity, &[1, 2], &[5])?)?;
+    for event in events.lines() {
+        let Some(event) = event_in(event.as_bytes()) else {
+            return Err(Fail::new("no event"));
+        };
+        book.take(event);
+    }
+    Ok(book)
+}
+
+/// The audit text of the book is this one.
+fn writes(
+    alloc: Global,
+    number: u8,
+    capacity: u32,
+    events: &str,
+    expected: &str,
+) -> Result<(), Fail> {
+    let book = book_behind(alloc, number, capacity, events)?;
+    let mut written: Vec<u8> = Vec::new(alloc);
+    book.write_text(&mut written)?;
+    is_told(String::from_utf8(written)?, expected)
+}
+
+/// What a writer with so much room took, and then how the writing ended, with the number of the fault.
+fn writes_into(
+    alloc: Global,
+    room: usize,
+    fails: bool,
+    events: &str,
+    expected: &str,
+) -> Result<(), Fail> {
+    let book = book_behind(alloc, 7, 1000, events)?;
+    let mut narrow = Narrow {
+        room,
+        fails,
+        taken: Vec::new(alloc),
+    };
+    let end = match book.write_text(&mut narrow) {
+        Ok(()) => format!(in alloc; "written")?,
+        Err(fault) => format!(in alloc; "{fault} {}", fault.code())?,
+    };
+    let taken = String::from_utf8(narrow.taken)?;
+    is_told(format!(in alloc; "{taken}|{end}")?, expected)
+}
+
+#[test]
+fn text_of_a_full_book(rt: HostRuntime) -> Result<(), Fail> {
+    writes(
+        rt.alloc(),
+        1,
+        2,
+        "req 1 100501494f16\nreq 1 100501494f16\n",
+        "\
+rack-audit 1 line 1
+1 req 1 100501494f16 | WaitPrm none | reply 100105000616 Status
+2 halt | none | released
+",
+    )
+}
+
+/// A tick, a slave that is locked, and the halt that lets it go.
+const HALTED: &str = "tick 10\nreq 1 680c0c6885815d3d3e8802050b80a1019a16\nhalt\n";
+
+#[test]
+fn journal_is_written(rt: HostRuntime) -> Result<(), Fail> {
+    writes(
+        rt.alloc(),
+        7,
+        1000,
+        HALTED,
+        "\
+rack-audit 1 line 7
+1 tick 10 | none | released
+2 req 1 680c0c6885815d3d3e8802050b80a1019a16 | WaitPrm none | reply e5 Done
+3 halt | none | released 5
+",
+    )
+}
+
+#[test]
+fn journal_is_cut_short(rt: HostRuntime) -> Result<(), Fail> {
+    writes_into(
+        rt.alloc(),
+        30,
+        false,
+        HALTED,
+        "rack-audit 1 line 7\n1 tick 10 |cannot write 1",
+    )
+}
+
+#[test]
+fn write_fails_in_the_header(rt: HostRuntime) -> Result<(), Fail> {
+    writes_into(rt.alloc(), 4, true, HALTED, "rack|cannot write 1")
+}
