@@ -11,24 +11,16 @@
 #![tactic(auto)]
 
 mod agreement;
-#[cfg(test)]
-mod agreement_tests;
 mod claim_fault;
 mod claim_steps;
-#[cfg(test)]
-mod claim_tests;
 mod claim_view;
 mod claims;
 mod closing;
-#[cfg(test)]
-mod fixtures;
 pub mod laws;
 mod line;
 mod line_fault;
 mod line_lock;
 mod line_steps;
-#[cfg(test)]
-mod line_tests;
 mod line_view;
 mod looks;
 mod one_slot;

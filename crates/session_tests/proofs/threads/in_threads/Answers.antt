@@ -4,8 +4,8 @@ use denote.Param.Send.{IsSend, arg_send, param_send, sendable}
 use Rattle.dp_audit.proofs.entry.Receipt.TheSendSync as receipt
 use Rattle.dp_shared.proofs.Sharing.{pass_send, shelf_send}
 use Rattle.dp_shared.proofs.one_slot.OneSlot.TheSendSync as slot
-use Rattle.dp_shared.specs.contracts.line_tests.Sender.{the_row}
-use Rattle.dp_shared.proofs.line_tests.in_threads.Goals as goal
+use Rattle.session_tests.specs.contracts.threads.Sender.{the_row}
+use Rattle.session_tests.proofs.threads.in_threads.Goals as goal
 
 sender_send : IsSend the_row
 sender_send = search (sendable, crosses, pass_send, receipt.the_send) depth 40 fits 100000

@@ -1,0 +1,27 @@
+//! Faults that no other test meets.
+
+use crate::rows::is_told;
+use dp_sessions::PoolFault;
+use dp_shared::ClaimsFault;
+use std::alloc::Global;
+use std::fmt::Display;
+use std::test::Fail;
+
+/// The fault has this text and this number.
+fn tells<F: Display + Drop>(alloc: Global, fault: F, code: u8, expected: &str) -> Result<(), Fail> {
+    is_told(format!(in alloc; "{fault} {code}")?, expected)
+}
+
+#[test]
+fn faults_of_pools(rt: HostRuntime) -> Result<(), Fail> {
+    let memory = PoolFault::OutOfMemory;
+    tells(rt.alloc(), memory, memory.code(), "out of memory 1")?;
+    let thread = PoolFault::NoThread;
+    tells(rt.alloc(), thread, thread.code(), "no thread 2")
+}
+
+#[test]
+fn faults_of_claims(rt: HostRuntime) -> Result<(), Fail> {
+    let fault = ClaimsFault::NoTable;
+    tells(rt.alloc(), fault, fault.code(), "NoTable 1")
+}

@@ -1,0 +1,130 @@
+//! How a session is served: readers and writers that end, fail or are narrow.
+
+use dp_sessions::SessionEnd;
+use std::alloc::{AllocError, Global};
+use std::io::{ErrorKind, Read, Write};
+use std::test::Fail;
+
+/// What limits a session.
+#[derive(Clone, Copy)]
+pub(crate) struct Limits {
+    /// How many reads it may make.
+    pub(crate) turns: u32,
+    /// How many octets come by one read.
+    most: usize,
+    /// For how many octets the writer has room; then it fails.
+    room: usize,
+    /// The reader fails behind its octets, and doesn't end.
+    fails: bool,
+}
+
+impl Limits {
+    /// `turns=N`, `by=N`, `room=N` and `fails`, parted by a space; what isn't named limits nothing.
+    pub(crate) fn of(text: &str) -> Result<Limits, Fail> {
+        let mut limits = Limits {
+            turns: 100,
+            most: 100_000,
+            room: 100_000,
+            fails: false,
+        };
+        for word in text.split_whitespace() {
+            limits.set(word)?;
+        }
+        Ok(limits)
+    }
+
+    /// Sets the limit that a word names.
+    fn set(&mut self, word: &str) -> Result<(), Fail> {
+        let Some((name, number)) = word.split_once('=') else {
+            self.fails = true;
+            return if word == "fails" {
+                Ok(())
+            } else {
+                Err(Fail::new("no limit"))
+            };
+        };
+        let number = number.parse::<u32>()?;
+        match name {
+            "turns" => self.turns = number,
+            "by" => self.most = number as usize,
+            "room" => self.room = number as usize,
+            _ => return Err(Fail::new("no limit")),
+        }
+        Ok(())
+    }
+
+    /// A reader of these octets.
+    pub(crate) fn reader<'a>(&self, octets: &'a [u8]) -> Coming<'a> {
+        Coming {
+            left: octets,
+            most: self.most,
+            fails: self.fails,
+        }
+    }
+
+    /// A writer to which nothing was written.
+    pub(crate) fn writer(&self, alloc: Global) -> Narrow {
+        Narrow {
+            room: self.room,
+            taken: Vec::new(alloc),
+        }
+    }
+}
+
+/// Gives its octets, so many at most by one read; then it ends, or fails.
+#[derive(Drop)]
+pub(crate) struct Coming<'a> {
+    left: &'a [u8],
+    most: usize,
+    fails: bool,
+}
+
+impl Read for Coming<'_> {
+    fn read(&mut self, buf: &mut [u8]) -> std::io::Result<usize> {
+        if self.left.is_empty() && self.fails {
+            return Err(ErrorKind::ConnectionReset.into());
+        }
+        let count = self.left.len().min(self.most).min(buf.len());
+        let (front, rest) = self.left.split_at(count);
+        buf[..count].copy_from_slice(front);
+        self.left = rest;
+        Ok(count)
+    }
+}
+
+/// Takes as many octets as it has room for, and then fails.
+#[derive(Drop)]
+pub(crate) struct Narrow {
+    room: usize,
+    pub(crate) taken: Vec<u8>,
+}
+
+impl Write for Narrow {
+    fn write(&mut self, buf: &[u8]) -> std::io::Result<usize> {
+        let count = buf.len().min(self.room);
+        if count == 0 {
+            return Err(ErrorKind::StorageFull.into());
+        }
+        self.taken.extend_from_slice(&buf[..count])?;
+        self.room -= count;
+        Ok(count)
+    }
+
+    fn flush(&mut self) -> std::io::Result<()> {
+        Ok(())
+    }
+}
+
+/// How a session ended, with its number, and `left N` where the reader has octets that weren't read.
+pub(crate) fn end_of(
+    alloc: Global,
+    end: SessionEnd,
+    reader: &Coming<'_>,
+) -> Result<String, AllocError> {
+    let code = end.code();
+    let left = reader.left.len();
+    if left == 0 {
+        return format!(in alloc; "{end:?} {code}");
+    }
+    format!(in alloc; "{end:?} {code} left {left}")
+}

@@ -1,0 +1,230 @@
+//! A line: events and looks by the passes of its masters and of an operator.
+
+ghost use Rattle.std.specs.Prelude.{◌≡◌, [], ◌∷◌, IfOk};
+ghost use Rattle.dp_shared.specs.Passes.{table_of};
+
+use crate::place::line_spec;
+use crate::rows::{ARROW, audit_of, is_told};
+use dp_audit::Receipt;
+use dp_line::{Device, Event};
+use dp_shared::{Closed, Line, Pass};
+use dp_text::{Text, event_in};
+use std::alloc::{AllocError, Global};
+use std::sync::Wait;
+use std::test::Fail;
+
+/// A line, passes of masters 1 and 2 and of an operator, and their receipts in the order of time.
+#[derive(Drop)]
+pub(crate) struct Desk {
+    line: Line,
+    first: Pass,
+    second: Pass,
+    operator: Pass,
+    receipts: Vec<Receipt>,
+    ghost ours: { (first.table ≡ table_of line) × (second.table ≡ table_of line) × (operator.table ≡ table_of line) },
+    ghost addresses: { (first.view.address ≡ 1) × (second.view.address ≡ 2) × (operator.view.address ≡ 127) },
+}
+
+/// A fresh line of so many places, 2 or more.
+pub(crate) fn fresh_desk<R: Wait>(rt: &R, alloc: Global, places: u16) -> Result<Desk, Fail> {
+    let spec = line_spec(alloc, 1, u32::from(places.max(2)), Device::Still)?;
+    let line = Line::open(alloc, &spec)?;
+    let first = line.open_pass(rt, 1)?;
+    let second = line.open_pass(rt, 2)?;
+    let operator = line.open_pass(rt, 127)?;
+    Ok(Desk {
+        line,
+        first,
+        second,
+        operator,
+        receipts: Vec::new(alloc),
+    })
+}
+
+/// These passes, in a list.
+pub(crate) fn listed(
+    alloc: Global,
+    first: Pass,
+    second: Pass,
+    third: Pass,
+) -> Result<Vec<Pass>, AllocError>
+    ensures { IfOk result (λ v. v.items ≡ first ∷ second ∷ third ∷ []) }
+{
+    let mut passes = Vec::with_capacity(alloc, 3)?;
+    passes.push_reserved(first);
+    passes.push_reserved(second);
+    passes.push_reserved(third);
+    Ok(passes)
+}
+
+/// How many receipts with a place these passes have.
+pub(crate) fn made_by(
+    alloc: Global,
+    first: &Pass,
+    second: &Pass,
+    third: &Pass,
+) -> Result<String, AllocError> {
+    let (one, two, three) = (first.made(), second.made(), third.made());
+    format!(in alloc; "made {one} {two} {three}")
+}
+
+impl Desk {
+    /// An event comes: a request of master 1 or 2, or what the operator does.
+    fn send<R: Wait>(&mut self, rt: &R, event: Event) -> Result<Receipt, Fail> {
+        match event {
+            Event::Request { master: 1, octets } => {
+                Ok(self.line.exchange(rt, &mut self.first, &octets))
+            }
+            Event::Request { master: 2, octets } => {
+                Ok(self.line.exchange(rt, &mut self.second, &octets))
+            }
+            Event::Request { .. } => Err(Fail::new("no such pass")),
+            Event::Operator(op) => Ok(self.line.operate(rt, &mut self.operator, op)),
+        }
+    }
+
+    /// The event of a text comes: its receipt, which is kept.
+    fn take<R: Wait>(&mut self, rt: &R, alloc: Global, event: &str) -> Result<String, Fail> {
+        let Some(event) = event_in(event.as_bytes()) else {
+            return Err(Fail::new("no event"));
+        };
+        let receipt = self.send(rt, event)?;
+        let told = receipt_of(alloc, &receipt)?;
+        self.receipts.push(receipt)?;
+        Ok(told)
+    }
+
+    /// The operator looks at a slave: how many entries there were, and what is shown.
+    fn show<R: Wait>(&mut self, rt: &R, alloc: Global, address: u8) -> Result<String, Fail> {
+        let seen = self.line.snapshot(rt, &mut self.operator, address);
+        let mut text = Text::new();
+        text.set_show(&seen.value);
+        seen_of(alloc, seen.count, &text)
+    }
+
+    /// The operator looks at a master's slaves: how many entries there were, and which it holds.
+    fn owned<R: Wait>(&mut self, rt: &R, alloc: Global, master: u8) -> Result<String, Fail> {
+        let seen = self.line.owned(rt, &mut self.operator, master);
+        let mut text = Text::new();
+        text.set_owned(seen.value.as_slice());
+        seen_of(alloc, seen.count, &text)
+    }
+
+    /// `show A`, `owned M` or an event, and what came of it.
+    fn play<R: Wait>(&mut self, rt: &R, alloc: Global, row: &str) -> Result<String, Fail> {
+        match row.split_once(' ') {
+            Some(("show", address)) => self.show(rt, alloc, address.parse::<u8>()?),
+            Some(("owned", master)) => self.owned(rt, alloc, master.parse::<u8>()?),
+            _ => self.take(rt, alloc, row),
+        }
+    }
+
+    /// Plays each row that has an arrow, and tells it with what came of it.
+    pub(crate) fn play_rows<R: Wait>(
+        &mut self,
+        rt: &R,
+        alloc: Global,
+        rows: &str,
+    ) -> Result<String, Fail> {
+        let mut told = String::new(alloc);
+        for row in rows.lines() {
+            if let Some((row, _)) = row.split_once(ARROW) {
+                let answer = self.play(rt, alloc, row)?;
+                told.push_str(&format!(in alloc; "{row}{ARROW}{answer}\n")?)?;
+            }
+        }
+        Ok(told)
+    }
+}
+
+/// A look at a line of so many entries, by the text that it gave.
+fn seen_of(alloc: Global, count: u32, text: &Text) -> Result<String, Fail> {
+    let seen = std::str::from_utf8(text.as_bytes())?.trim_end();
+    Ok(format!(in alloc; "after {count}: {seen}")?)
+}
+
+/// `PLACE EVENT | FACTS | OUTCOME` of a receipt, `-` for no place.
+fn receipt_of(alloc: Global, receipt: &Receipt) -> Result<String, Fail> {
+    let mut text = Text::new();
+    match receipt.place {
+        Some(place) => text.push_number(place),
+        None => text.push_str("-"),
+    }
+    text.push_str(" ");
+    text.push_event(&receipt.event);
+    text.push_str(" | ");
+    text.push_facts(&receipt.facts);
+    text.push_str(" | ");
+    text.push_outcome(&receipt.outcome);
+    let told = std::str::from_utf8(text.as_bytes())?;
+    Ok(format!(in alloc; "{told}")?)
+}
+
+/// The line of a desk, closed with its passes, and their receipts.
+pub(crate) fn closed_desk(alloc: Global, desk: Desk) -> Result<(Closed, Vec<Receipt>), Fail> {
+    let Desk {
+        line,
+        first,
+        second,
+        operator,
+        receipts,
+    } = desk;
+    match line.close(listed(alloc, first, second, operator)?) {
+        Ok(closed) => Ok((closed, receipts)),
+        Err(_) => Err(Fail::new("a pass is out")),
+    }
+}
+
+/// The transcript of a fresh line of so many places: events and looks, how many receipts with a place masters 1
+/// and 2 and the operator have, and the journal.
+fn lines_tell<R: Wait>(rt: &R, alloc: Global, places: u16, transcript: &str) -> Result<(), Fail> {
+    let mut desk = fresh_desk(rt, alloc, places)?;
+    let mut told = desk.play_rows(rt, alloc, transcript)?;
+    let made = made_by(alloc, &desk.first, &desk.second, &desk.operator)?;
+    told.push_str(&format!(in alloc; "{made}\n")?)?;
+    let (closed, _) = closed_desk(alloc, desk)?;
+    told.push_str(&audit_of(alloc, closed.book())?)?;
+    is_told(told, transcript)
+}
+
+#[test]
+fn places_and_looks(rt: HostRuntime) -> Result<(), Fail> {
+    lines_tell(
+        &rt,
+        rt.alloc(),
+        1000,
+        "\
+tick 1 -> 1 tick 1 | none | released
+in 5 aa55 -> 2 in 5 aa55 | WaitPrm none | done
+req 1 680c0c6885816d3d3e8802050b80a101aa16 -> 3 req 1 680c0c6885816d3d3e8802050b80a101aa16 | WaitPrm none | reply e5 Done
+show 5 -> after 3: show 5 WaitCfg 1 in aa55 out 0000 wd 10
+owned 1 -> after 3: owned 5
+show 9 -> after 3: refused NoStation
+owned 9 -> after 3: owned
+in 9 - -> - in 9 - | none | refused NoStation
+made 1 0 2
+rack-audit 1 line 1
+1 tick 1 | none | released
+2 in 5 aa55 | WaitPrm none | done
+3 req 1 680c0c6885816d3d3e8802050b80a101aa16 | WaitPrm none | reply e5 Done
+",
+    )
+}
+
+#[test]
+fn halt_at_the_last_place(rt: HostRuntime) -> Result<(), Fail> {
+    lines_tell(
+        &rt,
+        rt.alloc(),
+        2,
+        "\
+req 1 6805056885816d3c3eed16 -> 1 req 1 6805056885816d3c3eed16 | WaitPrm none | reply 680b0b688185083e3c020500ff80a1af16 Done
+req 1 6805056885816d3c3eed16 -> - req 1 6805056885816d3c3eed16 | none | silence Halted
+tick 1 -> - tick 1 | none | refused Halted
+made 1 0 0
+rack-audit 1 line 1
+1 req 1 6805056885816d3c3eed16 | WaitPrm none | reply 680b0b688185083e3c020500ff80a1af16 Done
+2 halt | none | released
+",
+    )
+}

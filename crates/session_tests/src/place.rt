@@ -1,0 +1,98 @@
+//! A port, and the seats of its workers.
+
+ghost use Rattle.std.specs.Prelude.{◌≡◌, ◌≤◌, IfOk, None};
+ghost use Rattle.dp_line.specs.World.{description_of, opening_fault};
+ghost use Rattle.dp_shared.specs.Passes.{line_of};
+ghost use Rattle.dp_sessions.specs.Pools.{IsSeatAt};
+
+use arrayvec::ArrayVec;
+use dp_line::{Device, LineSpec, SlaveSpec};
+use dp_sessions::Port;
+use dp_shared::{Claims, Line, WorkerSeat};
+use std::alloc::{AllocError, Global};
+use std::test::Fail;
+
+/// A port of a [`line_spec`], and the seats of three workers at it.
+#[derive(Drop)]
+pub(crate) struct Place {
+    pub(crate) port: Port,
+    pub(crate) first: WorkerSeat,
+    pub(crate) second: WorkerSeat,
+    pub(crate) third: WorkerSeat,
+    ghost first_is_ours: { IsSeatAt port.claims first },
+    ghost second_is_ours: { IsSeatAt port.claims second },
+    ghost third_is_ours: { IsSeatAt port.claims third },
+}
+
+/// A fresh place at the line of this description.
+pub(crate) fn fresh_place(alloc: Global, spec: &LineSpec) -> Result<Place, Fail>
+    requires { opening_fault (description_of spec.now) ≡ None }
+    ensures { IfOk result (λ place. line_of place.port.line ≡ spec.now) }
+{
+    let (claims, first, second, third) = three_seats(alloc, spec)?;
+    let line = Line::open(alloc, spec)?;
+    Ok(Place {
+        port: Port { line, claims },
+        first,
+        second,
+        third,
+    })
+}
+
+/// The claims of a line, and three seats.
+fn three_seats(
+    alloc: Global,
+    spec: &LineSpec,
+) -> Result<(Claims, WorkerSeat, WorkerSeat, WorkerSeat), Fail>
+    requires { opening_fault (description_of spec.now) ≡ None }
+    ensures { IfOk result (λ r. IsSeatAt r.0 r.1 × IsSeatAt r.0 r.2 × IsSeatAt r.0 r.3) }
+{
+    let (claims, mut seats) = Claims::open(alloc, spec, 3)?;
+    let first = seats.pop().unwrap();
+    let second = seats.pop().unwrap();
+    let third = seats.pop().unwrap();
+    Ok((claims, first, second, third))
+}
+
+/// The description of a fresh line of this number, with 1000 places.
+pub(crate) fn ample_line(alloc: Global, number: u8, device: Device) -> Result<LineSpec, AllocError>
+    ensures { IfOk result (λ line. opening_fault (description_of line) ≡ None) }
+{
+    line_spec(alloc, number, 1000, device)
+}
+
+/// A line with masters 1 and 2 and a slave of two octets of inputs and of outputs at address 5, which has this
+/// device.
+pub(crate) fn line_spec(
+    alloc: Global,
+    number: u8,
+    capacity: u32,
+    device: Device,
+) -> Result<LineSpec, AllocError>
+    requires least { 2 ≤ capacity }
+    requires most { capacity ≤ 65536 }
+    ensures { IfOk result (λ line. opening_fault (description_of line) ≡ None) }
+{
+    let mut masters = ArrayVec::new();
+    masters.push(1);
+    masters.push(2);
+    let mut cfg = ArrayVec::new();
+    cfg.push(0x21);
+    cfg.push(0x11);
+    let mut slaves = Vec::new(alloc);
+    slaves.push(SlaveSpec {
+        address: 5,
+        ident: 0x80A1,
+        cfg,
+        sync: true,
+        freeze: true,
+        user_max: 237,
+        device,
+    })?;
+    Ok(LineSpec {
+        number,
+        capacity,
+        masters,
+        slaves,
+    })
+}

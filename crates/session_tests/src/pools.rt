@@ -1,0 +1,306 @@
+//! Pools of workers.
+
+ghost use Rattle.std.specs.Prelude.{◌≡◌, ◌∷◌, [], IfOk};
+ghost use Rattle.dp_sessions.specs.Pools.{IsSeatAt};
+
+use crate::place::{ample_line, fresh_place};
+use crate::rows::{hex_of, is_told, octets_of};
+use crossbeam_channel::unbounded;
+use dp_line::Device;
+use dp_sessions::{Gate, Job, OpenGate, Port, run_pool};
+use dp_shared::WorkerSeat;
+use dp_telegram::Octets;
+use std::alloc::{AllocError, Global};
+use std::io::{ErrorKind, Read, Write};
+use std::net::{Net, Shutdown, TcpListener, TcpStream};
+use std::sync::Wait;
+use std::sync::atomic::AtomicU64;
+use std::sync::atomic::Ordering::SeqCst;
+use std::test::Fail;
+use std::thread::{Threads, yield_now};
+
+/// Master 1, and its request for the diagnosis of slave 5.
+const ASKS_1: &str = "016805056885816d3c3eed16";
+
+/// The acceptance, and the diagnosis of a fresh slave for master 1.
+const ANSWERED_1: &str = "e5680b0b688185083e3c020500ff80a1af16";
+
+/// The same of master 2.
+const ASKS_2: &str = "026805056885826d3c3eee16";
+
+const ANSWERED_2: &str = "e5680b0b688285083e3c020500ff80a1b016";
+
+/// Takes the octets that are expected, and no others; how many it took is told.
+#[derive(Drop)]
+struct Expecting<'a> {
+    expected: &'a [u8],
+    taken: &'a AtomicU64,
+}
+
+impl Write for Expecting<'_> {
+    fn write(&mut self, buf: &[u8]) -> std::io::Result<usize> {
+        let Some((front, rest)) = self.expected.split_at_checked(buf.len()) else {
+            return Err(ErrorKind::StorageFull.into());
+        };
+        if front != buf {
+            return Err(ErrorKind::InvalidData.into());
+        }
+        self.expected = rest;
+        self.taken.fetch_add(buf.len() as u64, SeqCst);
+        Ok(buf.len())
+    }
+
+    fn flush(&mut self) -> std::io::Result<()> {
+        Ok(())
+    }
+}
+
+/// A list of these two.
+fn both<T: Drop>(alloc: Global, first: T, second: T) -> Result<Vec<T>, AllocError>
+    ensures { IfOk result (λ v. v.items ≡ first ∷ second ∷ []) }
+{
+    let mut list = Vec::with_capacity(alloc, 2)?;
+    list.push_reserved(first);
+    list.push_reserved(second);
+    Ok(list)
+}
+
+/// Whether a seat that served no session has the addresses of both masters, one after another.
+fn are_free(port: &Port, seat: WorkerSeat) -> bool
+    requires { IsSeatAt port.now.claims seat }
+{
+    let mut seat = seat;
+    if port.claims.claim(&mut seat, 1).is_err() {
+        return false;
+    }
+    port.claims.release(&mut seat);
+    port.claims.claim(&mut seat, 2).is_ok()
+}
+
+/// What two workers at lines 1 and 2 tell: how many of these jobs they served, and whether the addresses of
+/// either line are free behind them.
+fn served<H: Threads + Wait + Sync, R: Read + Send + Drop, W: Write + Send + Drop, G: Gate + Sync>(
+    rt: &H,
+    alloc: Global,
+    jobs: Vec<Job<R, W>>,
+    gate: &G,
+) -> Result<String, Fail> {
+    let one = fresh_place(alloc, &ample_line(alloc, 1, Device::Still)?)?;
+    let two = fresh_place(alloc, &ample_line(alloc, 2, Device::Still)?)?;
+    let (sender, receiver) = unbounded(alloc)?;
+    for job in jobs {
+        if sender.send(rt, job).is_err() {
+            return Err(Fail::new("no receiver"));
+        }
+    }
+    drop(sender);
+    let seats = both(
+        alloc,
+        both(alloc, one.first, two.first)?,
+        both(alloc, one.second, two.second)?,
+    )?;
+    let ports = [one.port, two.port];
+    let count = run_pool(rt, &ports, seats, receiver, gate, 100)?;
+    let free = are_free(&ports[0], one.third) && are_free(&ports[1], two.third);
+    Ok(format!(in alloc; "{count} served, free {free}")?)
+}
+
+/// What came to the gate of [`overlaps`].
+#[derive(Drop)]
+struct Seen {
+    /// Master 1 of line 1, who is held up.
+    held: AtomicU64,
+    /// The same, who went on behind the whole of the other session.
+    went_on: AtomicU64,
+    /// The master of the other session.
+    other: AtomicU64,
+    /// Anybody else.
+    stranger: AtomicU64,
+}
+
+impl Seen {
+    fn nobody() -> Seen {
+        Seen {
+            held: AtomicU64::new(0),
+            went_on: AtomicU64::new(0),
+            other: AtomicU64::new(0),
+            stranger: AtomicU64::new(0),
+        }
+    }
+
+    /// How often who came.
+    fn told(&self, alloc: Global) -> Result<String, AllocError> {
+        let (held, went_on) = (self.held.load(SeqCst), self.went_on.load(SeqCst));
+        let (other, stranger) = (self.other.load(SeqCst), self.stranger.load(SeqCst));
+        format!(in alloc; "held {held}, went on {went_on}, other {other}, strangers {stranger}")
+    }
+}
+
+/// Holds master 1 of line 1 up until so many octets are taken, or a million turns have passed; the other
+/// session is of this line and master.
+#[derive(Drop)]
+struct Until<'a> {
+    octets: u64,
+    taken: &'a AtomicU64,
+    line: u8,
+    master: u8,
+    seen: &'a Seen,
+}
+
+impl Until<'_> {
+    /// Waits for the octets; false where they don't come.
+    fn come(&self) -> bool {
+        for _ in 0..1_000_000 {
+            if self.taken.load(SeqCst) == self.octets {
+                return true;
+            }
+            yield_now();
+        }
+        false
+    }
+}
+
+impl Gate for Until<'_> {
+    fn enter<W: Wait>(&self, rt: &W, line: u8, master: u8) {
+        let _ = rt;
+        if line == 1 && master == 1 {
+            self.seen.held.fetch_add(1, SeqCst);
+            if self.come() {
+                self.seen.went_on.fetch_add(1, SeqCst);
+            }
+        } else if line == self.line && master == self.master {
+            self.seen.other.fetch_add(1, SeqCst);
+        } else {
+            self.seen.stranger.fetch_add(1, SeqCst);
+        }
+    }
+}
+
+/// A job at the port of this place: a session that reads these octets, and to which these are written.
+fn job<'a>(
+    port: u8,
+    asks: &'a Octets,
+    answers: &'a Octets,
+    taken: &'a AtomicU64,
+) -> Job<&'a [u8], Expecting<'a>> {
+    Job {
+        port,
+        reader: asks.as_slice(),
+        writer: Expecting {
+            expected: answers.as_slice(),
+            taken,
+        },
+    }
+}
+
+/// What a pool tells of the session of master 1 at line 1, which is held up at its exchange until the whole of
+/// another one is written, of this line and master: the octets of both, and who came to the gate.
+fn overlapped<H: Threads + Wait + Sync>(
+    rt: &H,
+    alloc: Global,
+    line: u8,
+    master: u8,
+    asks: &str,
+    answers: &str,
+) -> Result<String, Fail> {
+    let (asks_1, answers_1) = (octets_of(ASKS_1)?, octets_of(ANSWERED_1)?);
+    let (asks, answers) = (octets_of(asks)?, octets_of(answers)?);
+    let (held, other) = (AtomicU64::new(0), AtomicU64::new(0));
+    let seen = Seen::nobody();
+    let gate = Until {
+        octets: 18,
+        taken: &other,
+        line,
+        master,
+        seen: &seen,
+    };
+    let jobs = both(
+        alloc,
+        job(0, &asks_1, &answers_1, &held),
+        job(line.wrapping_sub(1), &asks, &answers, &other),
+    )?;
+    let pool = served(rt, alloc, jobs, &gate)?;
+    let (held, other) = (held.load(SeqCst), other.load(SeqCst));
+    let came = seen.told(alloc)?;
+    Ok(format!(in alloc; "{pool}, octets {held} and {other}, {came}")?)
+}
+
+/// The two sessions overlap: master 1 of line 1 was at the gate once, and went on once behind the other's
+/// octets.
+fn overlaps<H: Threads + Wait + Sync>(
+    rt: &H,
+    alloc: Global,
+    line: u8,
+    master: u8,
+    asks: &str,
+    answers: &str,
+) -> Result<(), Fail> {
+    is_told(
+        overlapped(rt, alloc, line, master, asks, answers)?,
+        "2 served, free true, octets 18 and 18, held 1, went on 1, other 1, strangers 0",
+    )
+}
+
+#[test]
+fn pool_overlaps(rt: HostRuntime) -> Result<(), Fail> {
+    overlaps(&rt, rt.alloc(), 1, 2, ASKS_2, ANSWERED_2)?;
+    overlaps(&rt, rt.alloc(), 2, 1, ASKS_1, ANSWERED_1)
+}
+
+/// What a pool tells of jobs of master 2 at these ports, and how many octets were written.
+fn served_at<H: Threads + Wait + Sync>(
+    rt: &H,
+    alloc: Global,
+    ports: &[u8],
+) -> Result<String, Fail> {
+    let (asks, answers) = (octets_of(ASKS_2)?, octets_of(ANSWERED_2)?);
+    let taken = AtomicU64::new(0);
+    let mut jobs = Vec::new(alloc);
+    for port in ports {
+        jobs.push(job(*port, &asks, &answers, &taken))?;
+    }
+    let pool = served(rt, alloc, jobs, &OpenGate)?;
+    Ok(format!(in alloc; "{pool}, octets {}", taken.load(SeqCst))?)
+}
+
+#[test]
+fn jobs_of_no_port_are_dropped(rt: HostRuntime) -> Result<(), Fail> {
+    is_told(
+        served_at(&rt, rt.alloc(), &[2, 0, 255, 1])?,
+        "2 served, free true, octets 36",
+    )
+}
+
+/// What comes back over TCP, as hex digits, to a client that sends these octets and ends, where a pool serves
+/// the connection at line 1; how many octets come behind as many as are expected; and what the pool tells.
+fn served_over_tcp<H: Net<Listener = TcpListener, Stream = TcpStream> + Threads + Wait + Sync>(
+    rt: &H,
+    alloc: Global,
+    asks: &str,
+) -> Result<String, Fail> {
+    let listener = TcpListener::bind(rt, "127.0.0.1:0")?;
+    let mut client = TcpStream::connect(rt, listener.local_addr()?)?;
+    client.write_all(octets_of(asks)?.as_slice())?;
+    client.shutdown(Shutdown::Write)?;
+    let (stream, _) = listener.accept()?;
+    let mut jobs = Vec::new(alloc);
+    jobs.push(Job {
+        port: 0,
+        reader: stream.try_clone()?,
+        writer: stream,
+    })?;
+    let pool = served(rt, alloc, jobs, &OpenGate)?;
+    let mut answer = [0; 18];
+    client.read_exact(&mut answer)?;
+    let answered = hex_of(alloc, &answer)?;
+    let behind = client.read(&mut answer)?;
+    Ok(format!(in alloc; "{pool}, {answered}, {behind} behind")?)
+}
+
+#[test]
+fn tcp_session(rt: HostRuntime) -> Result<(), Fail> {
+    is_told(
+        served_over_tcp(&rt, rt.alloc(), ASKS_1)?,
+        "1 served, free true, e5680b0b688185083e3c020500ff80a1af16, 0 behind",
+    )
+}

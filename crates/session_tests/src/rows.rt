@@ -1,0 +1,67 @@
+//! What the rows of several tests stand on.
+
+ghost use Rattle.std.specs.Prelude.{◌≡◌, All, IfErr};
+ghost use Rattle.dp_shared.specs.Passes.{table_of};
+
+use dp_audit::Book;
+use dp_shared::{CloseFault, Closed, Line, Pass};
+use dp_telegram::Octets;
+use std::alloc::{AllocError, Global};
+use std::test::Fail;
+
+/// What parts a row from what it tells.
+pub(crate) const ARROW: &str = " -> ";
+
+/// The text that was told is the expected one; where it isn't, the failure is that text.
+pub(crate) fn is_told(told: String, expected: &str) -> Result<(), Fail> {
+    if told.as_str() == expected {
+        Ok(())
+    } else {
+        Err(told)?
+    }
+}
+
+/// The octets of a word of hex digits, `-` for none.
+pub(crate) fn octets_of(word: &str) -> Result<Octets, Fail> {
+    if word == "-" {
+        return Ok(Octets::new());
+    }
+    match dp_text::octets_in(word.as_bytes()) {
+        Some(octets) => Ok(octets),
+        None => Err(Fail::new("no octets")),
+    }
+}
+
+/// The hex digits of octets, `-` for none.
+pub(crate) fn hex_of(alloc: Global, octets: &[u8]) -> Result<String, AllocError> {
+    if octets.is_empty() {
+        return format!(in alloc; "-");
+    }
+    hex::encode(alloc, octets)
+}
+
+/// The audit text of a journal.
+pub(crate) fn audit_of(alloc: Global, book: &Book) -> Result<String, Fail> {
+    let mut written: Vec<u8> = Vec::new(alloc);
+    book.write_text(&mut written)?;
+    Ok(String::from_utf8(written)?)
+}
+
+/// Closes a line with these passes.
+#[tactic(auto, using(std::proofs::lemmas::List::Elements::recursion_from_All))]
+pub(crate) fn close(line: Line, passes: Vec<Pass>) -> Result<Closed, CloseFault>
+    requires { All (λ pass. pass.table ≡ table_of line) passes.items }
+    ensures { IfErr result (λ fault. (fault.line ≡ line) × (fault.passes ≡ passes)) }
+{
+    line.close(passes)
+}
+
+/// The audit text of a line that is closed with these passes; it fails where others are out.
+pub(crate) fn closed_with(alloc: Global, line: Line, passes: Vec<Pass>) -> Result<String, Fail>
+    requires { All (λ pass. pass.table ≡ table_of line) passes.items }
+{
+    match close(line, passes) {
+        Ok(closed) => audit_of(alloc, closed.book()),
+        Err(_) => Err(Fail::new("a pass is out")),
+    }
+}
