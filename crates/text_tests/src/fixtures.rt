@@ -1,0 +1,26 @@
+//! What tests of texts share: each compares, and the fault is what was found instead.
+
+use std::alloc::Global;
+use std::fmt::{Debug, Display};
+use std::test::Fail;
+
+/// A text is the one that is expected.
+pub(crate) fn is_same(alloc: Global, found: &str, expected: &str) -> Result<(), Fail> {
+    if found == expected {
+        Ok(())
+    } else {
+        Err(String::from_str(alloc, found)?)?
+    }
+}
+
+/// A value is shown by `Debug` as expected.
+pub(crate) fn is_shown<T: Debug>(alloc: Global, value: &T, expected: &str) -> Result<(), Fail> {
+    let found = format!(in alloc; "{value:?}")?;
+    is_same(alloc, &found, expected)
+}
+
+/// A value is shown by `Display` as expected.
+pub(crate) fn is_told<T: Display>(alloc: Global, value: &T, expected: &str) -> Result<(), Fail> {
+    let found = format!(in alloc; "{value}")?;
+    is_same(alloc, &found, expected)
+}

@@ -1,0 +1,12 @@
+//! Tests of the texts that are read and written, of rack files, and of scripts and checks over memory. There is
+//! nothing else here: a test is a call of a helper with constants, since a test costs the proof of its body.
+#![tactic(auto)]
+
+#[cfg(test)]
+mod fixtures;
+#[cfg(test)]
+mod rack_tests;
+#[cfg(test)]
+mod script_tests;
+#[cfg(test)]
+mod text_tests;
