@@ -4,7 +4,8 @@
 # allocation fail in turn. The last line is 'N passed, M failed'.
 set -u
 top=$(cd "$(dirname "$0")/.." && pwd)
-program=$top/crates/rackd/out/rackd
+. "$top/dist/built.sh"
+have_program
 passed=0
 failed=0
 work=$(mktemp -d)
@@ -71,9 +72,6 @@ sweep() {
     fail "$name: status $status (wanted 3 or $wanted) with $kib KiB, after $refused times out of memory: $(head -c 200 "$work/err")"
   fi
 }
-
-# what it says while it builds the program belongs to no case
-"$top/rackd" --version >/dev/null 2>&1
 
 rack() {
   local number slave

@@ -4,7 +4,8 @@
 set -u
 top=$(cd "$(dirname "$0")/.." && pwd)
 rackd=$top/rackd
-program=$top/crates/rackd/out/rackd
+. "$top/dist/built.sh"
+have_program
 passed=0
 failed=0
 work=$(mktemp -d)
@@ -45,9 +46,6 @@ hold() {
 rack='[[line]]\nnumber = 1\ncapacity = 1000\nmasters = [1, 2]\n[[line.slave]]\naddress = 5\nident = 0x80A1\ncfg = "2111"\nsync = true\nfreeze = true\n'
 slave_diag='m 1 68 05 05 68 85 81 6D 3C 3E ED 16'
 reply='1: reply 680b0b688185083e3c020500ff80a1af16 Done'
-
-# what it says while it builds the program belongs to no case
-"$rackd" </dev/null >"$work/out" 2>"$work/err"
 
 for example in slave-diag streams two-lines lock-and-exchange day-of-a-line sync-and-freeze; do
   "$rackd" <"$top/examples/$example.txt" >"$work/out" 2>"$work/err"
@@ -309,21 +307,25 @@ status=$?
 hold 'words go to the program as they are' eval '[ "$status" = 2 ] && [[ $(cat "$work/err") == *"two words"* ]]'
 
 touch -r "$program" "$work/before"
-touch "$top/crates/rackd/src/input.rt" "$top/crates/dp_line/src/lib.rt"
+touch "$top/crates/rackd/src/main.rt" "$top/crates/dp_line/src/lib.rt"
 started 'a source that was touched' "$rackd"
 hold 'a source that was touched builds nothing' [ ! "$program" -nt "$work/before" ]
 
-# a tree of its own, with what stands in for rt and for the program
-mkdir -p "$work/bin" "$work/rt" "$work/tree/crates/rackd/src" "$work/tree/crates/rackd/out"
-for tool in bash readlink env sha256sum mv chmod; do ln -s "$(command -v "$tool")" "$work/bin/$tool"; done
-cp "$rackd" "$work/tree/rackd"
+# a tree of its own, with what stands in for rt and for the programs
+tree=$work/tree
+mkdir -p "$work/bin" "$work/rt" "$tree"/crates/{rackd,low,aside}/src "$tree/crates/rackd/out" "$tree/dist/x86_64-linux"
+for tool in bash readlink env sha256sum mv chmod cp rm; do ln -s "$(command -v "$tool")" "$work/bin/$tool"; done
+cp "$rackd" "$tree/rackd"
+cp "$top"/dist/{built.sh,refresh} "$tree/dist"
+printf '# a crate of tests is not linked\nlow:\nrackd: low\naside: low\n' >"$tree/crates.txt"
 cat >"$work/rt/rt" <<'FAKE'
 #!/usr/bin/env bash
+if [ "$1" = version ]; then echo 'a kit'; exit; fi
 echo an output of no use
 echo "$FAKE_SAYS" >&2
 if [ "$FAKE_CHANGES" ]; then echo "$FAKE_CHANGES" >src/main.rt; fi
 if [ "$FAKE_STATUS" = 0 ]; then
-  printf '#!/usr/bin/env bash\necho "runs $*"\nexit 5\n' >out/rackd
+  printf '#!/usr/bin/env bash\necho "runs $*"\n[ "$1" = --version ] || exit 5\n' >out/rackd
   chmod +x out/rackd
 fi
 exit "$FAKE_STATUS"
@@ -332,12 +334,17 @@ chmod +x "$work/rt/rt"
 export FAKE_SAYS='fn low::f: proved' FAKE_CHANGES='' FAKE_STATUS=0
 # tree WORD..: runs the script of that tree, where there is no rt
 tree() {
-  PATH=$work/bin "$work/tree/rackd" "$@" >"$work/out" 2>"$work/err"
+  PATH=$work/bin "$tree/rackd" "$@" >"$work/out" 2>"$work/err"
   status=$?
 }
 # tree_rt WORD..: the same, where there is what stands in for rt
 tree_rt() {
-  PATH=$work/bin:$work/rt "$work/tree/rackd" "$@" >"$work/out" 2>"$work/err"
+  PATH=$work/bin:$work/rt "$tree/rackd" "$@" >"$work/out" 2>"$work/err"
+  status=$?
+}
+# refresh: has that tree carry a program
+refresh() {
+  PATH=$work/bin:$work/rt "$tree/dist/refresh" >"$work/out" 2>"$work/err"
   status=$?
 }
 
@@ -345,9 +352,11 @@ no_program='rackd: there is no program that is built from these sources, and no 
 first='rackd: proving and building the program; from nothing that takes minutes'
 again='rackd: proving and building what has changed'
 wrong=$'src/lib.rt:1:1: error: wrong\nrackd: the program could not be built'
-built=$work/tree/crates/rackd/out/rackd
-source=$work/tree/crates/rackd/src/main.rt
+built=$tree/crates/rackd/out/rackd
+carried=$tree/dist/x86_64-linux/rackd
+source=$tree/crates/rackd/src/main.rt
 
+echo '//! low' >"$tree/crates/low/src/lib.rt"
 echo '//! old' >"$source"
 tree word; expect 'no rt and no program' 70 '' "$no_program"
 FAKE_SAYS=$'rt: chose --jobs 4 for low\nso far: 1 of 2 functions checked\nfn low::f: proved' tree_rt word
@@ -364,6 +373,16 @@ tree word; expect 'the source as it was' 5 'runs word' ''
 mv "$source" "$source.antt"
 tree word; expect 'a source of another name' 70 '' "$no_program"
 mv "$source.antt" "$source"
+echo '//! lower' >"$tree/crates/low/src/lib.rt"
+tree word; expect 'a source of a linked crate that has changed' 70 '' "$no_program"
+echo '//! low' >"$tree/crates/low/src/lib.rt"
+sed -i 's/^low:/low: arrayvec/' "$tree/crates.txt"
+tree word; expect 'a linked crate that stands on another library' 70 '' "$no_program"
+sed -i 's/^low: arrayvec/low:/' "$tree/crates.txt"
+for file in main.rt~ '#main.rt#' .main.rt.swp main.rt.orig notes.txt; do echo 'a note' >"$tree/crates/rackd/src/$file"; done
+echo '//! tests' >"$tree/crates/aside/src/lib.rt"
+sed -i '$ d' "$tree/crates.txt"
+tree word; expect "an editor's files, and a crate that is not linked" 5 'runs word' ''
 echo ':' >>"$built"
 tree word; expect 'another program' 70 '' "$no_program"
 
@@ -379,6 +398,29 @@ echo '//! new' >"$source"
 FAKE_CHANGES='//! newer' tree_rt word; expect 'a source that changes while rt builds' 5 'runs word' "$again"
 tree_rt word; expect 'is asked for again' 5 'runs word' "$again"
 tree word; expect 'and then known' 5 'runs word' ''
+
+# ---- the program that the repository carries
+
+FAKE_SAYS='src/lib.rt:1:1: error: wrong' FAKE_STATUS=1 refresh
+hold 'a program of these sources is carried, and rt not asked' eval '[ "$status" = 0 ] && cmp -s "$built" "$carried" && cmp -s "$built.built" "$carried.built"'
+rm "$built" "$built.built"
+tree one 'two  three'; expect 'the carried program, and no rt' 5 'runs one two  three' ''
+FAKE_STATUS=1 tree_rt word; expect 'the carried program asks no rt' 5 'runs word' ''
+printf '#!/usr/bin/env bash\necho carried\n' >"$carried"
+tree word; expect 'another carried program' 70 '' "$no_program"
+tree_rt word; expect 'then rt builds one' 5 'runs word' "$first"
+tree word; expect 'which is run' 5 'runs word' ''
+refresh
+rm "$built" "$built.built"
+tree word; expect 'the carried program anew' 5 'runs word' ''
+echo '//! newest' >"$source"
+tree word; expect 'a carried program of other sources' 70 '' "$no_program"
+FAKE_STATUS=1 refresh; hold 'refresh where rt fails' [ "$status" = 70 ]
+FAKE_CHANGES='//! again' refresh; hold 'refresh while a source changes' [ "$status" = 1 ]
+tree word; expect 'nothing is carried then' 70 '' "$no_program"
+refresh; hold 'refresh has rt build it' cmp -s "$built" "$carried"
+rm "$carried.built" "$built" "$built.built"
+tree word; expect 'a carried program that nothing is known of' 70 '' "$no_program"
 
 echo "$passed passed, $failed failed"
 [ "$failed" = 0 ]

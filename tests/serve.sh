@@ -5,7 +5,9 @@
 # The last line is 'N passed, M failed'.
 set -u
 top=$(cd "$(dirname "$0")/.." && pwd)
-program=${RACKD:-$top/crates/rackd/out/rackd}
+. "$top/dist/built.sh"
+have_program
+program=${RACKD:-$program}
 client=$top/tests/serve_client.py
 refuse=$top/tests/refuse_threads.py
 # Seconds that anything is waited for, and that nothing has to come.

@@ -1,0 +1,72 @@
+# shellcheck shell=bash
+# What tells whether a program is built from the sources as they are. It is read by ./rackd, ./test and dist/refresh, which
+# set top to the folder of the repository before. Beside a program PROGRAM the file PROGRAM.built says what it was built from.
+
+# the program that the repository carries, and the one that is built here
+carried=$top/dist/x86_64-linux/rackd
+program=$top/crates/rackd/out/rackd
+
+# linked: the lines of crates.txt of the crates that the program is linked from, in the order of their names
+linked() (
+  declare -A line seen
+  while IFS=: read -r name below; do line[$name]=$below; done <"$top/crates.txt"
+  left=(rackd)
+  while [ ${#left[@]} -gt 0 ]; do
+    name=${left[-1]}
+    unset 'left[-1]'
+    if [ "${line[$name]+listed}" ] && [ ! "${seen[$name]:-}" ]; then
+      seen[$name]=yes
+      read -ra below <<<"${line[$name]}"
+      left+=("${below[@]}")
+    fi
+  done
+  for folder in "$top"/crates/*/; do
+    name=${folder%/}
+    name=${name##*/}
+    if [ "${seen[$name]:-}" ]; then echo "$name:${line[$name]}"; fi
+  done
+)
+
+# sources: the sum of the names and the texts of all that the program is built from
+sources() (
+  shopt -s globstar nullglob
+  LC_ALL=C
+  cd "$top" || exit
+  lines=$(linked)
+  files=()
+  while IFS=: read -r name _; do
+    for file in crates/"$name"/{src,specs,proofs}/**/*.{rt,antt}; do files+=("$file"); done
+  done <<<"$lines"
+  { echo "$lines"; sha256sum "${files[@]}"; } | hexadecimal
+)
+
+# hexadecimal: the sum of what is read
+hexadecimal() {
+  local line
+  line=$(sha256sum)
+  echo "${line%% *}"
+}
+
+# sum FILE: the sum of a file
+sum() { hexadecimal <"$1"; }
+
+# is_built PROGRAM SOURCES: whether the program is there, as it was when it was built from sources of this sum
+is_built() {
+  local built from
+  [ -x "$1" ] && [ -f "$1.built" ] || return 1
+  { read -r built && read -r from; } <"$1.built"
+  [ "$from" = "sources $2" ] && [ "$built" = "program $(sum "$1")" ]
+}
+
+# mark PROGRAM SOURCES: notes that the program was built from sources of this sum, by which toolchain
+mark() {
+  printf 'program %s\nsources %s\ntoolchain %s\n' "$(sum "$1")" "$2" "$(rt version)" >"$1.built.$$" && mv -f "$1.built.$$" "$1.built"
+}
+
+# have_program: sets program to one that is built from these sources, for tests; rt builds it where there is none
+have_program() {
+  local now
+  "$top/rackd" --version >/dev/null 2>&1
+  now=$(sources)
+  if ! is_built "$program" "$now"; then program=$carried; fi
+}
