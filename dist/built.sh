@@ -1,6 +1,7 @@
 # shellcheck shell=bash
-# What tells whether a program is built from the sources as they are. It is read by ./rackd, ./test and dist/refresh, which
-# set top to the folder of the repository before. Beside a program PROGRAM the file PROGRAM.built says what it was built from.
+# What tells whether a program is built from the sources as they are. It is read by ./rackd, ./test, dist/refresh and the
+# scripts of tests/, which set top to the folder of the repository before. Beside a program PROGRAM the file PROGRAM.built
+# says what it was built from.
 
 # the program that the repository carries, and the one that is built here
 carried=$top/dist/x86_64-linux/rackd
