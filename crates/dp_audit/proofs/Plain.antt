@@ -118,24 +118,7 @@ state_is_plain states.DataExch = refl
 
 rule_is_plain : (rule : Rule) → IsPlain (rule_name rule)
 rule_is_plain rules.Halted = refl
-rule_is_plain rules.NoFrame = refl
-rule_is_plain rules.NoMaster = refl
-rule_is_plain rules.ForeignSender = refl
-rule_is_plain rules.Token = refl
-rule_is_plain rules.NotRequest = refl
-rule_is_plain rules.BadFunction = refl
-rule_is_plain rules.BadExtension = refl
-rule_is_plain rules.BadBroadcast = refl
-rule_is_plain rules.NoStation = refl
-rule_is_plain rules.Status = refl
-rule_is_plain rules.NoService = refl
-rule_is_plain rules.Repeat = refl
-rule_is_plain rules.NotActive = refl
-rule_is_plain rules.NotHolder = refl
-rule_is_plain rules.Busy = refl
-rule_is_plain rules.Length = refl
-rule_is_plain rules.NotSelected = refl
-rule_is_plain rules.Done = refl
+rule_is_plain other = refl
 
 refusal_is_plain : (fault : OperatorFault) → IsPlain (operator_fault_name fault)
 refusal_is_plain refusals.NoStation = refl

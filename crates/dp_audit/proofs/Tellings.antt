@@ -105,24 +105,7 @@ told_holder world event law have stations = by_facts world event law have statio
 answered_told : (rule : Rule) (reply : Option (List ℕ)) → IsNoRefusal (answered rule reply)
 answered_told rule (Some octets) = tt
 answered_told rules.Done None = tt
-answered_told rules.Halted None = tt
-answered_told rules.NoFrame None = tt
-answered_told rules.NoMaster None = tt
-answered_told rules.ForeignSender None = tt
-answered_told rules.Token None = tt
-answered_told rules.NotRequest None = tt
-answered_told rules.BadFunction None = tt
-answered_told rules.BadExtension None = tt
-answered_told rules.BadBroadcast None = tt
-answered_told rules.NoStation None = tt
-answered_told rules.Status None = tt
-answered_told rules.NoService None = tt
-answered_told rules.Repeat None = tt
-answered_told rules.NotActive None = tt
-answered_told rules.NotHolder None = tt
-answered_told rules.Busy None = tt
-answered_told rules.Length None = tt
-answered_told rules.NotSelected None = tt
+answered_told other None = tt
 
 by_spread : (hearing : Hearing) (spread : Bool) → IsNoRefusal (cond spread (outcome_spread hearing) (outcome_of_one hearing))
 by_spread hearing true = tt

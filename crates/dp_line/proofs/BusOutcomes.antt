@@ -25,6 +25,7 @@ use Rattle.dp_line.specs.Effects.{effect, outcome_heard, outcome_of, outcome_of_
 use Rattle.dp_line.specs.Steps.{step}
 use Rattle.dp_line.proofs.BusSteps.{IsConcerned, step_way}
 use Rattle.dp_line.proofs.Runs.{over_verdict}
+use Rattle.dp_line.proofs.Hearings.{silent_answer, silent_reply}
 use Rattle.dp_line.proofs.BusVerdict.{IsHeard, heard_by_slaves, reached_rule, sdn_gets_none, srd_gets_one, to_all_controls}
 
 pub data IsEnding (hearing : Hearing) (outcome : Outcome) : Type 0 where
@@ -37,35 +38,10 @@ pub data IsEnding (hearing : Hearing) (outcome : Outcome) : Type 0 where
       → ((rule : Rule) → outcome ≡ Silence rule → verdict_of hearing ≡ rule) → IsEnding hearing outcome
 
 -- a rule of the line
-line_text : (slave : SlaveRecord) (sender : ℕ) (telegram : Telegram) (parts : Parts) (rule : Rule) → concerns_a_slave rule ≡ false → reply_text slave sender telegram parts rule ≡ None
-unfolding reply_text
-line_text slave sender telegram parts rules.Halted silent = refl
-line_text slave sender telegram parts rules.NoFrame silent = refl
-line_text slave sender telegram parts rules.NoMaster silent = refl
-line_text slave sender telegram parts rules.ForeignSender silent = refl
-line_text slave sender telegram parts rules.Token silent = refl
-line_text slave sender telegram parts rules.NotRequest silent = refl
-line_text slave sender telegram parts rules.BadFunction silent = refl
-line_text slave sender telegram parts rules.BadExtension silent = refl
-line_text slave sender telegram parts rules.BadBroadcast silent = refl
-line_text slave sender telegram parts rules.NoStation silent = refl
-line_text slave sender telegram parts other silent = absurd cc
-
-line_reply : (sender : ℕ) (rule : Rule) (telegram : Option Telegram) (parts : Option Parts) (slave : Option SlaveRecord) → concerns_a_slave rule ≡ false
-    → reply_where_known sender rule telegram parts slave ≡ None
-line_reply sender rule None parts slave silent = refl
-line_reply sender rule (Some telegram) None slave silent = refl
-line_reply sender rule (Some telegram) (Some parts) None silent = refl
-line_reply sender rule (Some telegram) (Some parts) (Some slave) silent = line_text slave sender telegram parts rule silent
-
-line_silence : (rule : Rule) → concerns_a_slave rule ≡ false → answered rule None ≡ Silence rule
-line_silence rules.Done silent = absurd cc
-line_silence other silent = refl
-
 kept_off : (hearing : Hearing) → concerns_a_slave (verdict_of hearing) ≡ false → IsEnding hearing (outcome_heard hearing)
 kept_off hearing silent =
-    let none = line_reply hearing.sender (verdict_of hearing) (option_and_then telegram_of_frame hearing.frame) hearing.parts hearing.slave silent in
-    keeps_off silent (rw (silent, none) (line_silence (verdict_of hearing) silent))
+    let none = silent_reply hearing.sender (verdict_of hearing) (option_and_then telegram_of_frame hearing.frame) hearing.parts hearing.slave silent in
+    keeps_off silent (rw (silent, none) (silent_answer (verdict_of hearing) silent))
 
 -- what no row of the line refuses has a telegram with parts
 record IsRead (hearing : Hearing) : Type 0 where

@@ -6,15 +6,17 @@ use Rattle.dp_telegram.specs.declared.frame.Telegram.{Telegram}
 use Rattle.dp_telegram.specs.declared.access.Parts.{Parts}
 use Rattle.dp_telegram.specs.FrameText.{sc_text}
 use Rattle.dp_telegram.specs.Access.{address_of}
-use Rattle.dp_telegram.specs.FunctionCode.{asks_sdn, data_high, data_low, function_of, is_request, no_resource, not_activated, ok, user_error}
+use Rattle.dp_telegram.specs.FunctionCode.{asks_sdn, data_high, data_low, function_of, is_request, ok}
 use Rattle.dp_sap.specs.AccessTable.{data_exchange, get_cfg, rd_inp, rd_outp, same_point, slave_diag}
 use Rattle.dp_diag.specs.Diagnosis.{is_due_high}
 use Rattle.dp_diag.specs.DiagnosisText.{diagnosis_text}
+use Rattle.dp_responder.specs.Judgement.{refusal_function}
 use Rattle.dp_responder.specs.Memory.{kept_reply, remembered_of}
 use Rattle.dp_responder.specs.declared.rule.Rule.{Rule}
 use Rattle.dp_responder.specs.declared.rule.Rule.TheVariants as rules
 use Rattle.dp_slave.specs.SlaveRecord.{SlaveRecord, diag_facts, shown_inputs}
 use Rattle.dp_slave.specs.Services.{ServiceAnswer, low, service_answer}
+use Rattle.dp_line.specs.Verdict.{concerns_a_slave}
 use Rattle.dp_line.specs.ReplyText.{data_reply, reply_text, short_reply}
 use Rattle.dp_line.specs.Bus.{IsReplyTo, acknowledges, responds}
 
@@ -98,34 +100,26 @@ unless_by sender station false text reply to is = let same : text ≡ reply = cc
 some_by : (sender station : ℕ) (text reply : List ℕ) → IsReplyTo sender station text → Some text ≡ Some reply → IsReplyTo sender station reply
 some_by sender station text reply to is = let same : text ≡ reply = cc in subst (IsReplyTo sender station) same to
 
+refusal_by : (sender station : ℕ) (concerns sdn : Bool) (text reply : List ℕ) → IsReplyTo sender station text → cond concerns (cond sdn None (Some text)) None ≡ Some reply
+    → IsReplyTo sender station reply
+refusal_by sender station true sdn text reply to is = unless_by sender station sdn text reply to is
+refusal_by sender station false sdn text reply to is = absurd cc
+
+refusal_responds : (rule : Rule) → is_request (refusal_function rule) ≡ false
+refusal_responds rules.Busy = refl
+refusal_responds rules.Length = refl
+refusal_responds other = refl
+
 pub reply_to : (slave : SlaveRecord) (sender station : ℕ) (telegram : Telegram) (parts : Parts) (rule : Rule) (reply : List ℕ) → IsAsking sender station telegram → IsShort slave
     → (rule ≡ rules.Repeat → IsReplyTo sender station (kept_reply (remembered_of slave.memory sender)))
     → reply_text slave sender telegram parts rule ≡ Some reply → IsReplyTo sender station reply
 unfolding reply_text
-reply_to slave sender station telegram parts rules.Halted reply asking short again is = absurd cc
-reply_to slave sender station telegram parts rules.NoFrame reply asking short again is = absurd cc
-reply_to slave sender station telegram parts rules.NoMaster reply asking short again is = absurd cc
-reply_to slave sender station telegram parts rules.ForeignSender reply asking short again is = absurd cc
-reply_to slave sender station telegram parts rules.Token reply asking short again is = absurd cc
-reply_to slave sender station telegram parts rules.NotRequest reply asking short again is = absurd cc
-reply_to slave sender station telegram parts rules.BadFunction reply asking short again is = absurd cc
-reply_to slave sender station telegram parts rules.BadExtension reply asking short again is = absurd cc
-reply_to slave sender station telegram parts rules.BadBroadcast reply asking short again is = absurd cc
-reply_to slave sender station telegram parts rules.NoStation reply asking short again is = absurd cc
 reply_to slave sender station telegram parts rules.NotSelected reply asking short again is = absurd cc
 reply_to slave sender station telegram parts rules.Status reply asking short again is = some_by sender station _ reply (short_to sender station ok telegram asking refl) is
-reply_to slave sender station telegram parts rules.NoService reply asking short again is =
-    unless_by sender station (asks_sdn (function_of telegram.fc)) _ reply (short_to sender station not_activated telegram asking refl) is
-reply_to slave sender station telegram parts rules.NotActive reply asking short again is =
-    unless_by sender station (asks_sdn (function_of telegram.fc)) _ reply (short_to sender station not_activated telegram asking refl) is
-reply_to slave sender station telegram parts rules.NotHolder reply asking short again is =
-    unless_by sender station (asks_sdn (function_of telegram.fc)) _ reply (short_to sender station not_activated telegram asking refl) is
-reply_to slave sender station telegram parts rules.Busy reply asking short again is =
-    unless_by sender station (asks_sdn (function_of telegram.fc)) _ reply (short_to sender station no_resource telegram asking refl) is
-reply_to slave sender station telegram parts rules.Length reply asking short again is =
-    unless_by sender station (asks_sdn (function_of telegram.fc)) _ reply (short_to sender station user_error telegram asking refl) is
 reply_to slave sender station telegram parts rules.Repeat reply asking short again is = some_by sender station _ reply (again refl) is
 reply_to slave sender station telegram parts rules.Done reply asking short again is =
     let answer = service_answer slave parts.dsap in
     unless_by sender station (asks_sdn (function_of telegram.fc)) _ reply
     (positive_by sender station telegram parts answer.octets (eqb (length answer.octets) 0) answer.high asking refl (answer_short slave parts.dsap short)) is
+reply_to slave sender station telegram parts other reply asking short again is =
+    refusal_by sender station (concerns_a_slave other) (asks_sdn (function_of telegram.fc)) _ reply (short_to sender station (refusal_function other) telegram asking (refusal_responds other)) is

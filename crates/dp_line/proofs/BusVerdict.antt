@@ -11,19 +11,19 @@ use Rattle.dp_telegram.specs.declared.access.Parts.{Parts}
 use Rattle.dp_telegram.specs.declared.function_code.Function.{Function}
 use Rattle.dp_telegram.specs.declared.function_code.Function.TheVariants.{FdlStatus, SdnLow, SdnHigh}
 use Rattle.dp_telegram.specs.Access.{address_of}
-use Rattle.dp_telegram.specs.FunctionCode.{asks_sdn, asks_srd, frame_count_bit, frame_count_is_valid, function_of}
+use Rattle.dp_telegram.specs.FunctionCode.{asks_fdl_status, asks_sdn, asks_srd, frame_count_bit, frame_count_is_valid, function_of}
 use Rattle.dp_sap.specs.declared.state.State.{State}
 use Rattle.dp_sap.specs.declared.state.State.TheVariants.{WaitPrm, WaitCfg, DataExch}
 use Rattle.dp_sap.specs.AccessTable.{BusyMarks, access_row, global_control, same_point}
-use Rattle.dp_responder.specs.Judgement.{admits, point_has, refusal_rows, rules_of, takes_length, uses}
+use Rattle.dp_responder.specs.Judgement.{admits, point_has, refusal_function, refusal_rows, takes_length, uses}
 use Rattle.dp_responder.specs.Memory.{Remembered, is_repeat, remembered_of, same_bit}
 use Rattle.dp_responder.specs.Rules.{first_row}
 use Rattle.dp_responder.specs.declared.rule.Rule.{Rule}
 use Rattle.dp_responder.specs.declared.rule.Rule.TheVariants as rules
 use Rattle.dp_slave.specs.SlaveRecord.{SlaveRecord, output_length, points_of}
 use Rattle.dp_line.specs.Hearing.{Hearing, is_to_all, telegram_of_frame}
-use Rattle.dp_line.specs.Verdict.{asks_fdl_status, concerns_a_slave, frame_has, has_foreign_sender, has_reserved_function, is_fdl_status, is_global_control, is_no_request, is_not_selected, is_token, is_unserved, request_has, rows_where_known, rule_at, slave_rows, telegram_has, verdict_of}
-use Rattle.dp_line.specs.ReplyText.{reply_text}
+use Rattle.dp_line.specs.Verdict.{concerns_a_slave, frame_has, has_foreign_sender, has_reserved_function, is_fdl_status, is_global_control, is_no_request, is_not_selected, is_token, is_unserved, request_has, rows_where_known, rule_at, slave_rows, telegram_has, verdict_of}
+use Rattle.dp_line.specs.ReplyText.{reply_text, short_reply}
 use Rattle.dp_line.proofs.BusSteps.{IsConcerned}
 
 -- the conditions that do not hold where a request is done
@@ -166,7 +166,7 @@ status_row sender telegram parts slave is =
 -- the rows of a slave behind the repeat
 abbrev refusals : ℕ → Telegram → Parts → SlaveRecord → List (Bool × Rule)
 refusals sender telegram parts slave =
-    rules_of (refusal_rows (access_row (points_of slave) parts.dsap) sender telegram.fc parts.payload.items) ++ (is_not_selected parts slave, rules.NotSelected) ∷ []
+    refusal_rows (access_row (points_of slave) parts.dsap) sender telegram.fc parts.payload.items ++ (is_not_selected parts slave, rules.NotSelected) ∷ []
 
 pub repeat_row : (sender : ℕ) (telegram : Telegram) (parts : Parts) (slave : SlaveRecord) → rule_at sender telegram parts slave ≡ rules.Repeat
     → is_repeat (remembered_of slave.memory sender) telegram.fc ≡ true
@@ -197,29 +197,20 @@ sdn_by : (sdn : Bool) (reply : List ℕ) → sdn ≡ true → cond sdn None (Som
 sdn_by true reply is = refl
 sdn_by false reply is = absurd cc
 
+refused_by : (concerns sdn : Bool) (reply : List ℕ) → sdn ≡ true → cond concerns (cond sdn None (Some reply)) None ≡ None
+refused_by true sdn reply is = sdn_by sdn reply is
+refused_by false sdn reply is = refl
+
 pub sdn_gets_none : (slave : SlaveRecord) (sender : ℕ) (telegram : Telegram) (parts : Parts) (rule : Rule) → asks_sdn (function_of telegram.fc) ≡ true
     → rule_at sender telegram parts slave ≡ rule → reply_text slave sender telegram parts rule ≡ None
 unfolding reply_text
 sdn_gets_none slave sender telegram parts rules.Status sdn is = absurd (no_status (function_of telegram.fc) sdn (status_row sender telegram parts slave is))
 sdn_gets_none slave sender telegram parts rules.Repeat sdn is =
     absurd (no_srd (function_of telegram.fc) sdn (repeat_is_srd (remembered_of slave.memory sender) telegram.fc (repeat_row sender telegram parts slave is)))
-sdn_gets_none slave sender telegram parts rules.NoService sdn is = sdn_by (asks_sdn (function_of telegram.fc)) _ sdn
-sdn_gets_none slave sender telegram parts rules.NotActive sdn is = sdn_by (asks_sdn (function_of telegram.fc)) _ sdn
-sdn_gets_none slave sender telegram parts rules.NotHolder sdn is = sdn_by (asks_sdn (function_of telegram.fc)) _ sdn
-sdn_gets_none slave sender telegram parts rules.Busy sdn is = sdn_by (asks_sdn (function_of telegram.fc)) _ sdn
-sdn_gets_none slave sender telegram parts rules.Length sdn is = sdn_by (asks_sdn (function_of telegram.fc)) _ sdn
-sdn_gets_none slave sender telegram parts rules.Done sdn is = sdn_by (asks_sdn (function_of telegram.fc)) _ sdn
-sdn_gets_none slave sender telegram parts rules.Halted sdn is = refl
-sdn_gets_none slave sender telegram parts rules.NoFrame sdn is = refl
-sdn_gets_none slave sender telegram parts rules.NoMaster sdn is = refl
-sdn_gets_none slave sender telegram parts rules.ForeignSender sdn is = refl
-sdn_gets_none slave sender telegram parts rules.Token sdn is = refl
-sdn_gets_none slave sender telegram parts rules.NotRequest sdn is = refl
-sdn_gets_none slave sender telegram parts rules.BadFunction sdn is = refl
-sdn_gets_none slave sender telegram parts rules.BadExtension sdn is = refl
-sdn_gets_none slave sender telegram parts rules.BadBroadcast sdn is = refl
-sdn_gets_none slave sender telegram parts rules.NoStation sdn is = refl
 sdn_gets_none slave sender telegram parts rules.NotSelected sdn is = refl
+sdn_gets_none slave sender telegram parts rules.Done sdn is = sdn_by (asks_sdn (function_of telegram.fc)) _ sdn
+sdn_gets_none slave sender telegram parts other sdn is =
+    refused_by (concerns_a_slave other) (asks_sdn (function_of telegram.fc)) (short_reply telegram (refusal_function other)) sdn
 
 -- a selection is judged of an SDN alone
 is_selection : Rule → Bool
@@ -266,16 +257,16 @@ text_by : (sdn : Bool) (reply : List ℕ) → sdn ≡ false → HasText (cond sd
 text_by true reply srd = absurd cc
 text_by false reply srd = record { text = reply; is = refl }
 
+refusal_text : (concerns sdn : Bool) (reply : List ℕ) → concerns ≡ true → sdn ≡ false → HasText (cond concerns (cond sdn None (Some reply)) None)
+refusal_text true sdn reply concerned srd = text_by sdn reply srd
+refusal_text false sdn reply concerned srd = absurd cc
+
 pub srd_gets_one : (slave : SlaveRecord) (sender : ℕ) (telegram : Telegram) (parts : Parts) (rule : Rule) → concerns_a_slave rule ≡ true → asks_sdn (function_of telegram.fc) ≡ false
     → rule_at sender telegram parts slave ≡ rule → HasText (reply_text slave sender telegram parts rule)
 unfolding reply_text
 srd_gets_one slave sender telegram parts rules.Status concerns srd is = record { text = _; is = refl }
 srd_gets_one slave sender telegram parts rules.Repeat concerns srd is = record { text = _; is = refl }
-srd_gets_one slave sender telegram parts rules.NoService concerns srd is = text_by (asks_sdn (function_of telegram.fc)) _ srd
-srd_gets_one slave sender telegram parts rules.NotActive concerns srd is = text_by (asks_sdn (function_of telegram.fc)) _ srd
-srd_gets_one slave sender telegram parts rules.NotHolder concerns srd is = text_by (asks_sdn (function_of telegram.fc)) _ srd
-srd_gets_one slave sender telegram parts rules.Busy concerns srd is = text_by (asks_sdn (function_of telegram.fc)) _ srd
-srd_gets_one slave sender telegram parts rules.Length concerns srd is = text_by (asks_sdn (function_of telegram.fc)) _ srd
 srd_gets_one slave sender telegram parts rules.Done concerns srd is = text_by (asks_sdn (function_of telegram.fc)) _ srd
 srd_gets_one slave sender telegram parts rules.NotSelected concerns srd is = absurd (both_ways (asks_sdn (function_of telegram.fc)) srd (selected_row sender telegram parts slave is))
-srd_gets_one slave sender telegram parts other concerns srd is = absurd cc
+srd_gets_one slave sender telegram parts other concerns srd is =
+    refusal_text (concerns_a_slave other) (asks_sdn (function_of telegram.fc)) (short_reply telegram (refusal_function other)) concerns srd

@@ -9,10 +9,11 @@ use Rattle.dp_sap.specs.AccessTable.{BusyMarks, access_row, global_control}
 use Rattle.dp_telegram.specs.declared.frame.Telegram.{Telegram}
 use Rattle.dp_telegram.specs.declared.access.Parts.{Parts}
 use Rattle.dp_telegram.specs.declared.function_code.Function.{Function}
-use Rattle.dp_telegram.specs.declared.function_code.Function.TheVariants.{SdaLow, SdnLow, SdaHigh, SdnHigh, FdlStatus, SrdLow, SrdHigh, Ident, LsapStatus, Reserved}
-use Rattle.dp_telegram.specs.FunctionCode.{function_of, asks_srd, asks_sdn, not_activated, frame_count_bit, frame_count_is_valid}
-use Rattle.dp_responder.specs.Memory.{Remembered, is_repeat, kept_reply, remembered_of, same_bit}
-use Rattle.dp_responder.specs.Judgement.{admits, first_judged, judgement, point_has, takes_length, uses}
+use Rattle.dp_telegram.specs.declared.function_code.Function.TheVariants.{SdnLow, SdnHigh}
+use Rattle.dp_telegram.specs.FunctionCode.{function_of, asks_fdl_status, asks_srd, asks_sdn, asks_unserved, not_activated, frame_count_bit, frame_count_is_valid}
+use Rattle.dp_responder.specs.Memory.{Remembered, is_repeat, remembered_of, same_bit}
+use Rattle.dp_responder.specs.Judgement.{admits, judged_by, judgement, point_has, takes_length, uses}
+use Rattle.dp_responder.specs.Rules.{first_row}
 use Rattle.dp_responder.specs.declared.judgement.Judged.{Judged}
 use Rattle.dp_responder.specs.declared.judgement.Judged.TheVariants as verdicts
 use Rattle.dp_responder.specs.declared.rule.Rule.{Rule}
@@ -20,7 +21,7 @@ use Rattle.dp_responder.specs.declared.rule.Rule.TheVariants as rules
 use Rattle.dp_slave.specs.SlaveRecord.{SlaveRecord, is_held_by, points_of}
 use Rattle.dp_slave.specs.Fields.{acted, holder_after, since_after}
 use Rattle.dp_slave.specs.Services.{service_act}
-use Rattle.dp_line.specs.Verdict.{asks_fdl_status, asks_unserved, is_fdl_status, is_global_control, is_unserved}
+use Rattle.dp_line.specs.Verdict.{is_fdl_status, is_global_control, is_unserved}
 use Rattle.dp_line.specs.Served.{executed, served}
 use Rattle.dp_line.proofs.Judging.{rows_by, says_so, silence_served}
 use Rattle.dp_line.proofs.Writes.{holders_equal}
@@ -38,14 +39,7 @@ control_is parts telegram control =
 sdn_asks : (function : Function) → asks_sdn function ≡ true → (asks_fdl_status function ≡ false) × (asks_unserved function ≡ false) × (asks_srd function ≡ false)
 sdn_asks SdnLow e = (refl, refl, refl)
 sdn_asks SdnHigh e = (refl, refl, refl)
-sdn_asks SdaLow e = absurd cc
-sdn_asks SdaHigh e = absurd cc
-sdn_asks FdlStatus e = absurd cc
-sdn_asks SrdLow e = absurd cc
-sdn_asks SrdHigh e = absurd cc
-sdn_asks Ident e = absurd cc
-sdn_asks LsapStatus e = absurd cc
-sdn_asks Reserved e = absurd cc
+sdn_asks other e = absurd cc
 
 pub control_asks : (parts : Parts) (telegram : Telegram) → is_global_control parts telegram ≡ true → (is_fdl_status telegram ≡ false) × (is_unserved telegram ≡ false)
 control_asks parts telegram control =
@@ -70,13 +64,13 @@ record IsSilenced (judged : Judged) : Type 0 where
   rule : Rule
   is : judged ≡ verdicts.Silent rule
 
-silenced_by : (fc : ℕ) (off stranger other busy long : Bool) (stored : List ℕ) → asks_sdn (function_of fc) ≡ true → (off || stranger) ≡ true
-    → IsSilenced (first_judged fc (rows_by false off stranger other busy long stored))
-silenced_by fc true stranger other busy long stored sdn closed =
+silenced_by : (last : Option Remembered) (fc : ℕ) (off stranger other busy long : Bool) → asks_sdn (function_of fc) ≡ true → (off || stranger) ≡ true
+    → IsSilenced (judged_by last fc (first_row (rows_by false off stranger other busy long)))
+silenced_by last fc true stranger other busy long sdn closed =
     record { rule = rules.NotActive; is = ap (λ b. cond b (verdicts.Silent rules.NotActive) (verdicts.Refuse not_activated rules.NotActive)) sdn }
-silenced_by fc false true other busy long stored sdn closed =
+silenced_by last fc false true other busy long sdn closed =
     record { rule = rules.NotHolder; is = ap (λ b. cond b (verdicts.Silent rules.NotHolder) (verdicts.Refuse not_activated rules.NotHolder)) sdn }
-silenced_by fc false false other busy long stored sdn closed = absurd cc
+silenced_by last fc false false other busy long sdn closed = absurd cc
 
 stranger_silenced : (slave : SlaveRecord) (sender : ℕ) (telegram : Telegram) (parts : Parts) → is_global_control parts telegram ≡ true → is_held_by sender slave ≡ false
     → IsSilenced (judgement (points_of slave) (remembered_of slave.memory sender) sender telegram.fc parts)
@@ -91,10 +85,10 @@ stranger_silenced slave sender telegram parts control other =
     let closed : (is_none point || stranger) ≡ true =
     ap (λ (number : Option ℕ). is_none (access_row (points_of slave) number) || point_has (λ (p : Point). not (admits sender p.access)) (access_row (points_of slave) number)) is.1
     ∙ not_open slave.state slave.holder (points_of slave).out_len sender slave.busy other in
-    let silenced = silenced_by telegram.fc (is_none point) stranger service marked long (kept_reply last) is.0 closed in
+    let silenced = silenced_by last telegram.fc (is_none point) stranger service marked long is.0 closed in
     record {
       rule = silenced.rule;
-      is = ap (λ b. first_judged telegram.fc (rows_by b (is_none point) stranger service marked long (kept_reply last))) (no_repeat last telegram.fc is.0) ∙ silenced.is;
+      is = ap (λ b. judged_by last telegram.fc (first_row (rows_by b (is_none point) stranger service marked long))) (no_repeat last telegram.fc is.0) ∙ silenced.is;
     }
 
 -- so who doesn't hold a slave leaves it as it is

@@ -13,13 +13,14 @@ use Rattle.dp_telegram.specs.Access.{parts_of}
 use Rattle.dp_telegram.specs.FunctionCode.{is_request}
 use Rattle.dp_responder.specs.declared.rule.Rule.{Rule}
 use Rattle.dp_responder.specs.declared.rule.Rule.TheVariants as rules
+use Rattle.dp_responder.specs.Judgement.{refusal_function}
 use Rattle.dp_responder.specs.Rules.{first_row}
 use Rattle.dp_slave.specs.SlaveRecord.{SlaveRecord}
 use Rattle.dp_line.specs.declared.event.Outcome.TheVariants.{Silence}
 use Rattle.dp_line.specs.Owned.{held_among}
 use Rattle.dp_line.specs.Hearing.{Hearing, asked_among, is_to_all, telegram_of_frame, telegram_spelt}
 use Rattle.dp_line.specs.Verdict.{verdict_of, rule_at, concerns_a_slave, has_foreign_sender, has_reserved_function, is_global_control, rows_where_known, station_rows, telegram_has}
-use Rattle.dp_line.specs.ReplyText.{reply_text}
+use Rattle.dp_line.specs.ReplyText.{reply_text, short_reply, unless_sdn}
 use Rattle.dp_line.specs.Served.{answered}
 use Rattle.dp_line.specs.Effects.{facts_heard, is_spread, outcome_heard, outcome_of_one, outcome_spread, reply_where_known, slave_after_request}
 use Rattle.dp_line.specs.Walk.{walk_heard}
@@ -29,41 +30,18 @@ use Rattle.dp_line.specs.Stations.{StationsView, IsAdmitted, IsSilent, heard_by,
 silent_text : (rule : Rule) (slave : SlaveRecord) (sender : ℕ) (telegram : Telegram) (parts : Parts) → concerns_a_slave rule ≡ false
     → reply_text slave sender telegram parts rule ≡ None
 unfolding reply_text
-silent_text rules.Halted slave sender telegram parts e = refl
-silent_text rules.NoFrame slave sender telegram parts e = refl
-silent_text rules.NoMaster slave sender telegram parts e = refl
-silent_text rules.ForeignSender slave sender telegram parts e = refl
-silent_text rules.Token slave sender telegram parts e = refl
-silent_text rules.NotRequest slave sender telegram parts e = refl
-silent_text rules.BadFunction slave sender telegram parts e = refl
-silent_text rules.BadExtension slave sender telegram parts e = refl
-silent_text rules.BadBroadcast slave sender telegram parts e = refl
-silent_text rules.NoStation slave sender telegram parts e = refl
 silent_text rules.Status slave sender telegram parts e = absurd cc
-silent_text rules.NoService slave sender telegram parts e = absurd cc
 silent_text rules.Repeat slave sender telegram parts e = absurd cc
-silent_text rules.NotActive slave sender telegram parts e = absurd cc
-silent_text rules.NotHolder slave sender telegram parts e = absurd cc
-silent_text rules.Busy slave sender telegram parts e = absurd cc
-silent_text rules.Length slave sender telegram parts e = absurd cc
 silent_text rules.NotSelected slave sender telegram parts e = absurd cc
 silent_text rules.Done slave sender telegram parts e = absurd cc
+silent_text other slave sender telegram parts e =
+    cond-false (concerns_a_slave other) (unless_sdn telegram (short_reply telegram (refusal_function other))) None e
 
-silent_answer : (rule : Rule) → concerns_a_slave rule ≡ false → answered rule None ≡ Silence rule
+pub silent_answer : (rule : Rule) → concerns_a_slave rule ≡ false → answered rule None ≡ Silence rule
 silent_answer rules.Done e = absurd cc
-silent_answer rules.Halted e = refl
-silent_answer rules.NoFrame e = refl
-silent_answer rules.NoMaster e = refl
-silent_answer rules.ForeignSender e = refl
-silent_answer rules.Token e = refl
-silent_answer rules.NotRequest e = refl
-silent_answer rules.BadFunction e = refl
-silent_answer rules.BadExtension e = refl
-silent_answer rules.BadBroadcast e = refl
-silent_answer rules.NoStation e = refl
-silent_answer other e = absurd cc
+silent_answer other e = refl
 
-silent_reply : (sender : ℕ) (rule : Rule) (telegram : Option Telegram) (parts : Option Parts) (slave : Option SlaveRecord) → concerns_a_slave rule ≡ false
+pub silent_reply : (sender : ℕ) (rule : Rule) (telegram : Option Telegram) (parts : Option Parts) (slave : Option SlaveRecord) → concerns_a_slave rule ≡ false
     → reply_where_known sender rule telegram parts slave ≡ None
 silent_reply sender rule None parts slave e = refl
 silent_reply sender rule (Some telegram) None slave e = refl

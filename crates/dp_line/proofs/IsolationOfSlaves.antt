@@ -8,7 +8,7 @@ use Rattle.dp_telegram.specs.declared.frame.Telegram.{Telegram}
 use Rattle.dp_prm.specs.declared.prm.PrmVerdict.{PrmVerdict}
 use Rattle.dp_prm.specs.declared.prm.PrmVerdict.TheVariants as prm
 use Rattle.dp_prm.specs.Meaning.{meaning_of}
-use Rattle.dp_responder.specs.Judgement.{judgement_rows, rules_of}
+use Rattle.dp_responder.specs.Judgement.{judgement_rows}
 use Rattle.dp_responder.specs.Memory.{MasterMemory, Remembered, kept_reply, last_after, master_after, with_remembered}
 use Rattle.dp_responder.specs.Rules.{first_row}
 use Rattle.dp_responder.specs.declared.rule.Rule.{Rule}
@@ -67,7 +67,7 @@ abbrev rows_with : ℕ → Telegram → Parts → SlaveRecord → Option MasterM
 rows_with sender telegram parts slave found =
     (is_fdl_status telegram, rules.Status)
     ∷ (is_unserved telegram, rules.NoService)
-    ∷ rules_of (judgement_rows (points_of slave) (option_and_then (λ m. m.last) found) sender telegram.fc parts)
+    ∷ judgement_rows (points_of slave) (option_and_then (λ m. m.last) found) sender telegram.fc parts
     ++ (is_not_selected parts slave, rules.NotSelected)
     ∷ []
 

@@ -5,8 +5,8 @@ use Rattle.std.proofs.lemmas.Bool.{cond-true, cond-false}
 use Rattle.dp_telegram.specs.declared.frame.Telegram.{Telegram}
 use Rattle.dp_telegram.specs.declared.access.Parts.{Parts}
 use Rattle.dp_telegram.specs.declared.function_code.Function.{Function}
-use Rattle.dp_telegram.specs.declared.function_code.Function.TheVariants.{SdaLow, SdnLow, SdaHigh, SdnHigh, FdlStatus, SrdLow, SrdHigh, Ident, LsapStatus, Reserved}
-use Rattle.dp_telegram.specs.FunctionCode.{function_of, asks_sdn, asks_srd, frame_count_bit, frame_count_is_valid, ok, not_activated, no_resource, user_error}
+use Rattle.dp_telegram.specs.declared.function_code.Function.TheVariants.{SdaLow, SdaHigh, FdlStatus, Ident, LsapStatus}
+use Rattle.dp_telegram.specs.FunctionCode.{function_of, asks_fdl_status, asks_sdn, asks_srd, asks_unserved, frame_count_bit, frame_count_is_valid, ok, not_activated}
 use Rattle.dp_sap.specs.AccessTable.{access_row}
 use Rattle.dp_responder.specs.declared.rule.Rule.{Rule}
 use Rattle.dp_responder.specs.declared.rule.Rule.TheVariants as rules
@@ -14,10 +14,10 @@ use Rattle.dp_responder.specs.declared.judgement.Judged.{Judged}
 use Rattle.dp_responder.specs.declared.judgement.Judged.TheVariants as verdicts
 use Rattle.dp_responder.specs.Rules.{first_row}
 use Rattle.dp_responder.specs.Memory.{MasterMemory, is_repeat, kept_reply, last_after, remembered_of, with_remembered}
-use Rattle.dp_responder.specs.Judgement.{JudgementRow, judgement_row, the_stored, the_function, judgement, first_judged, rules_of, point_has, admits, uses, takes_length}
+use Rattle.dp_responder.specs.Judgement.{judged_by, judgement, refusal_function, point_has, admits, uses, takes_length}
 use Rattle.dp_slave.specs.SlaveRecord.{SlaveRecord, points_of}
 use Rattle.dp_line.specs.declared.event.Outcome.TheVariants.{Reply, Silence}
-use Rattle.dp_line.specs.Verdict.{asks_fdl_status, asks_unserved, rule_at, slave_rows, is_fdl_status, is_unserved, is_not_selected}
+use Rattle.dp_line.specs.Verdict.{rule_at, slave_rows, is_fdl_status, is_unserved, is_not_selected}
 use Rattle.dp_line.specs.ReplyText.{reply_text, short_reply}
 use Rattle.dp_line.specs.Served.{answered, answer_of, executed, memory_after_reply, served}
 
@@ -40,45 +40,45 @@ Says slave sender telegram parts unselected rule (verdicts.Silent refusal) =
 Says slave sender telegram parts unselected rule verdicts.Pass = rule ≡ cond unselected rules.NotSelected rules.Done
 
 -- the rows by their conditions
-abbrev pub rows_by : Bool → Bool → Bool → Bool → Bool → Bool → List ℕ → List JudgementRow
-rows_by repeat off stranger other busy long stored =
-    judgement_row repeat rules.Repeat (the_stored stored)
-    ∷ judgement_row off rules.NotActive (the_function not_activated)
-    ∷ judgement_row stranger rules.NotHolder (the_function not_activated)
-    ∷ judgement_row other rules.NoService (the_function not_activated)
-    ∷ judgement_row busy rules.Busy (the_function no_resource)
-    ∷ judgement_row long rules.Length (the_function user_error)
+abbrev pub rows_by : Bool → Bool → Bool → Bool → Bool → Bool → List (Bool × Rule)
+rows_by repeat off stranger other busy long =
+    (repeat, rules.Repeat)
+    ∷ (off, rules.NotActive)
+    ∷ (stranger, rules.NotHolder)
+    ∷ (other, rules.NoService)
+    ∷ (busy, rules.Busy)
+    ∷ (long, rules.Length)
     ∷ []
 
-abbrev rule_by : Bool → Bool → Bool → Bool → Bool → Bool → List ℕ → Bool → Rule
-rule_by repeat off stranger other busy long stored unselected =
-    first_row (rules_of (rows_by repeat off stranger other busy long stored) ++ (unselected, rules.NotSelected) ∷ [])
+abbrev rule_by : Bool → Bool → Bool → Bool → Bool → Bool → Bool → Rule
+rule_by repeat off stranger other busy long unselected =
+    first_row (rows_by repeat off stranger other busy long ++ (unselected, rules.NotSelected) ∷ [])
 
-refusal_by : (slave : SlaveRecord) (sender : ℕ) (telegram : Telegram) (parts : Parts) (unselected : Bool) (rule : Rule) (function : ℕ) (sdn : Bool)
-    → reply_text slave sender telegram parts rule ≡ cond sdn None (Some (short_reply telegram function)) → IsRefusal rule
-    → Says slave sender telegram parts unselected rule (cond sdn (verdicts.Silent rule) (verdicts.Refuse function rule))
-refusal_by slave sender telegram parts unselected rule function true text refusal = (refl, text, refusal)
-refusal_by slave sender telegram parts unselected rule function false text refusal = (refl, text, refusal)
+refusal_by : (slave : SlaveRecord) (sender : ℕ) (telegram : Telegram) (parts : Parts) (unselected : Bool) (rule : Rule) (sdn : Bool)
+    → reply_text slave sender telegram parts rule ≡ cond sdn None (Some (short_reply telegram (refusal_function rule))) → IsRefusal rule
+    → Says slave sender telegram parts unselected rule (cond sdn (verdicts.Silent rule) (verdicts.Refuse (refusal_function rule) rule))
+refusal_by slave sender telegram parts unselected rule true text refusal = (refl, text, refusal)
+refusal_by slave sender telegram parts unselected rule false text refusal = (refl, text, refusal)
 
 says_by : (slave : SlaveRecord) (sender : ℕ) (telegram : Telegram) (parts : Parts) (repeat off stranger other busy long unselected : Bool)
-    → Says slave sender telegram parts unselected (rule_by repeat off stranger other busy long (kept_reply (remembered_of slave.memory sender)) unselected)
-    (first_judged telegram.fc (rows_by repeat off stranger other busy long (kept_reply (remembered_of slave.memory sender))))
+    → Says slave sender telegram parts unselected (rule_by repeat off stranger other busy long unselected)
+    (judged_by (remembered_of slave.memory sender) telegram.fc (first_row (rows_by repeat off stranger other busy long)))
 unfolding reply_text
 says_by slave sender telegram parts true off stranger other busy long unselected = (refl, refl)
 says_by slave sender telegram parts false true stranger other busy long unselected =
-    refusal_by slave sender telegram parts unselected rules.NotActive not_activated (asks_sdn (function_of telegram.fc)) refl
+    refusal_by slave sender telegram parts unselected rules.NotActive (asks_sdn (function_of telegram.fc)) refl
     (record { nothing = λ s m n p. refl; silent = refl; kept = λ s m t r. refl; quiet = λ s m t. refl })
 says_by slave sender telegram parts false false true other busy long unselected =
-    refusal_by slave sender telegram parts unselected rules.NotHolder not_activated (asks_sdn (function_of telegram.fc)) refl
+    refusal_by slave sender telegram parts unselected rules.NotHolder (asks_sdn (function_of telegram.fc)) refl
     (record { nothing = λ s m n p. refl; silent = refl; kept = λ s m t r. refl; quiet = λ s m t. refl })
 says_by slave sender telegram parts false false false true busy long unselected =
-    refusal_by slave sender telegram parts unselected rules.NoService not_activated (asks_sdn (function_of telegram.fc)) refl
+    refusal_by slave sender telegram parts unselected rules.NoService (asks_sdn (function_of telegram.fc)) refl
     (record { nothing = λ s m n p. refl; silent = refl; kept = λ s m t r. refl; quiet = λ s m t. refl })
 says_by slave sender telegram parts false false false false true long unselected =
-    refusal_by slave sender telegram parts unselected rules.Busy no_resource (asks_sdn (function_of telegram.fc)) refl
+    refusal_by slave sender telegram parts unselected rules.Busy (asks_sdn (function_of telegram.fc)) refl
     (record { nothing = λ s m n p. refl; silent = refl; kept = λ s m t r. refl; quiet = λ s m t. refl })
 says_by slave sender telegram parts false false false false false true unselected =
-    refusal_by slave sender telegram parts unselected rules.Length user_error (asks_sdn (function_of telegram.fc)) refl
+    refusal_by slave sender telegram parts unselected rules.Length (asks_sdn (function_of telegram.fc)) refl
     (record { nothing = λ s m n p. refl; silent = refl; kept = λ s m t r. refl; quiet = λ s m t. refl })
 says_by slave sender telegram parts false false false false false false unselected = refl
 
@@ -165,27 +165,14 @@ memory_alone (m ∷ memory) sender fc reply none =
 
 status_no_srd : (function : Function) → asks_fdl_status function ≡ true → asks_srd function ≡ false
 status_no_srd FdlStatus e = refl
-status_no_srd SdaLow e = absurd cc
-status_no_srd SdnLow e = absurd cc
-status_no_srd SdaHigh e = absurd cc
-status_no_srd SdnHigh e = absurd cc
-status_no_srd SrdLow e = absurd cc
-status_no_srd SrdHigh e = absurd cc
-status_no_srd Ident e = absurd cc
-status_no_srd LsapStatus e = absurd cc
-status_no_srd Reserved e = absurd cc
+status_no_srd other e = absurd cc
 
 unserved_no_data : (function : Function) → asks_unserved function ≡ true → (asks_fdl_status function ≡ false) × (asks_srd function ≡ false) × (asks_sdn function ≡ false)
 unserved_no_data SdaLow e = (refl, refl, refl)
 unserved_no_data SdaHigh e = (refl, refl, refl)
 unserved_no_data Ident e = (refl, refl, refl)
 unserved_no_data LsapStatus e = (refl, refl, refl)
-unserved_no_data FdlStatus e = absurd cc
-unserved_no_data SdnLow e = absurd cc
-unserved_no_data SdnHigh e = absurd cc
-unserved_no_data SrdLow e = absurd cc
-unserved_no_data SrdHigh e = absurd cc
-unserved_no_data Reserved e = absurd cc
+unserved_no_data other e = absurd cc
 
 -- FDL status, and the functions that no slave serves, leave the slave
 pub status_served : (slave : SlaveRecord) (sender place : ℕ) (telegram : Telegram) (parts : Parts) → is_fdl_status telegram ≡ true

@@ -6,7 +6,7 @@ use Rattle.std.proofs.lemmas.Bool.{ne_eqb, leb-true}
 use Rattle.dp_telegram.specs.declared.frame.Telegram.{Telegram}
 use Rattle.dp_telegram.specs.declared.access.Parts.{Parts}
 use Rattle.dp_telegram.specs.declared.function_code.Function.{Function}
-use Rattle.dp_telegram.specs.declared.function_code.Function.TheVariants.{SdaLow, SdnLow, SdaHigh, SdnHigh, FdlStatus, SrdLow, SrdHigh, Ident, LsapStatus, Reserved}
+use Rattle.dp_telegram.specs.declared.function_code.Function.TheVariants.{SrdLow, SrdHigh}
 use Rattle.dp_telegram.specs.FunctionCode.{function_of, asks_sdn, asks_srd, not_activated, no_resource, user_error}
 use Rattle.dp_sap.specs.declared.point.Access.{Access}
 use Rattle.dp_sap.specs.declared.point.Service.TheVariants.{Srd, Sdn}
@@ -15,8 +15,9 @@ use Rattle.dp_sap.specs.AccessTable.{PointsView, Row, access_row, admitted, colu
 use Rattle.dp_responder.specs.declared.rule.Rule.{Rule}
 use Rattle.dp_responder.specs.declared.rule.Rule.TheVariants as rules
 use Rattle.dp_responder.specs.declared.judgement.Judged.TheVariants as verdicts
-use Rattle.dp_responder.specs.Memory.{is_repeat, kept_reply, remembered_of, with_remembered}
-use Rattle.dp_responder.specs.Judgement.{judgement, first_judged, point_has, admits, uses, takes_length}
+use Rattle.dp_responder.specs.Memory.{Remembered, is_repeat, remembered_of, with_remembered}
+use Rattle.dp_responder.specs.Judgement.{judged_by, judgement, point_has, admits, uses, takes_length}
+use Rattle.dp_responder.specs.Rules.{first_row}
 use Rattle.dp_globalctl.specs.declared.command.Command.{Command}
 use Rattle.dp_globalctl.specs.Command.{command_of, control_in, selects}
 use Rattle.dp_diag.specs.Diagnosis.{is_due_high}
@@ -41,15 +42,15 @@ record RowsOff (off other long : Bool) : Type 0 where
   fits : long ≡ false
 
 -- of a request that passes no row applies
-rows_off : (fc : ℕ) (stored : List ℕ) (repeat off stranger other busy long : Bool)
-    → first_judged fc (rows_by repeat off stranger other busy long stored) ≡ verdicts.Pass → RowsOff off other long
-rows_off fc stored true off stranger other busy long e = absurd cc
-rows_off fc stored false true stranger other busy long e = absurd (not_pass (asks_sdn (function_of fc)) rules.NotActive not_activated e)
-rows_off fc stored false false true other busy long e = absurd (not_pass (asks_sdn (function_of fc)) rules.NotHolder not_activated e)
-rows_off fc stored false false false true busy long e = absurd (not_pass (asks_sdn (function_of fc)) rules.NoService not_activated e)
-rows_off fc stored false false false false true long e = absurd (not_pass (asks_sdn (function_of fc)) rules.Busy no_resource e)
-rows_off fc stored false false false false false true e = absurd (not_pass (asks_sdn (function_of fc)) rules.Length user_error e)
-rows_off fc stored false false false false false false e = record { is_on = refl; is_its = refl; fits = refl }
+rows_off : (last : Option Remembered) (fc : ℕ) (repeat off stranger other busy long : Bool)
+    → judged_by last fc (first_row (rows_by repeat off stranger other busy long)) ≡ verdicts.Pass → RowsOff off other long
+rows_off last fc true off stranger other busy long e = absurd cc
+rows_off last fc false true stranger other busy long e = absurd (not_pass (asks_sdn (function_of fc)) rules.NotActive not_activated e)
+rows_off last fc false false true other busy long e = absurd (not_pass (asks_sdn (function_of fc)) rules.NotHolder not_activated e)
+rows_off last fc false false false true busy long e = absurd (not_pass (asks_sdn (function_of fc)) rules.NoService not_activated e)
+rows_off last fc false false false false true long e = absurd (not_pass (asks_sdn (function_of fc)) rules.Busy no_resource e)
+rows_off last fc false false false false false true e = absurd (not_pass (asks_sdn (function_of fc)) rules.Length user_error e)
+rows_off last fc false false false false false false e = record { is_on = refl; is_its = refl; fits = refl }
 
 -- the row of the access table takes the request
 abbrev TakenBy : ℕ → ℕ → Row → Type 0
@@ -81,7 +82,7 @@ pub taken : (slave : SlaveRecord) (sender : ℕ) (telegram : Telegram) (parts : 
     → IfSome (row_of (output_length slave) parts.dsap) (TakenBy telegram.fc (length parts.payload.items))
 taken slave sender telegram parts passes =
     let point = access_row (points_of slave) parts.dsap in
-    let rows = rows_off telegram.fc (kept_reply (remembered_of slave.memory sender)) (is_repeat (remembered_of slave.memory sender) telegram.fc) (is_none point)
+    let rows = rows_off (remembered_of slave.memory sender) telegram.fc (is_repeat (remembered_of slave.memory sender) telegram.fc) (is_none point)
     (point_has (λ p. not (admits sender p.access)) point) (point_has (λ p. not (uses telegram.fc p.service)) point) (point_has (λ p. p.busy) point)
     (point_has (λ p. not (takes_length (length parts.payload.items) p)) point) passes in
     taken_in (points_of slave) telegram.fc (length parts.payload.items) (row_of (output_length slave) parts.dsap) rows.is_on rows.is_its rows.fits
@@ -118,14 +119,7 @@ controlled_length slave sender telegram parts passes point = just 2 (length part
 srd_no_sdn : (function : Function) → asks_srd function ≡ true → asks_sdn function ≡ false
 srd_no_sdn SrdLow e = refl
 srd_no_sdn SrdHigh e = refl
-srd_no_sdn SdaLow e = absurd cc
-srd_no_sdn SdnLow e = absurd cc
-srd_no_sdn SdaHigh e = absurd cc
-srd_no_sdn SdnHigh e = absurd cc
-srd_no_sdn FdlStatus e = absurd cc
-srd_no_sdn Ident e = absurd cc
-srd_no_sdn LsapStatus e = absurd cc
-srd_no_sdn Reserved e = absurd cc
+srd_no_sdn other e = absurd cc
 
 -- every row but that of Global_Control is one of an SRD
 abbrev found : Bool → Row → Option Row → Option Row
@@ -172,7 +166,7 @@ pub no_sdn : (slave : SlaveRecord) (sender : ℕ) (telegram : Telegram) (parts :
     → asks_sdn (function_of telegram.fc) ≡ false
 no_sdn slave sender telegram parts passes other =
     let point = access_row (points_of slave) parts.dsap in
-    let rows = rows_off telegram.fc (kept_reply (remembered_of slave.memory sender)) (is_repeat (remembered_of slave.memory sender) telegram.fc) (is_none point)
+    let rows = rows_off (remembered_of slave.memory sender) telegram.fc (is_repeat (remembered_of slave.memory sender) telegram.fc) (is_none point)
     (point_has (λ p. not (admits sender p.access)) point) (point_has (λ p. not (uses telegram.fc p.service)) point) (point_has (λ p. p.busy) point)
     (point_has (λ p. not (takes_length (length parts.payload.items) p)) point) passes in
     no_sdn_by telegram.fc (length parts.payload.items) (row_of (output_length slave) parts.dsap)

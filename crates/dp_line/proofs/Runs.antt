@@ -69,25 +69,8 @@ request_outcome world event answer master octets is request =
 -- by every rule but Done the fields of a slave stay
 executed_stays : (slave : SlaveRecord) (sender place : ℕ) (parts : Parts) (rule : Rule) (memory : List MasterMemory) → rule ≢ rules.Done
     → record (executed slave sender place parts rule) { memory = memory } ≡ record slave { memory = memory }
-executed_stays slave sender place parts rules.Done memory other = absurd (other refl)
-executed_stays slave sender place parts rules.Halted memory other = refl
-executed_stays slave sender place parts rules.NoFrame memory other = refl
-executed_stays slave sender place parts rules.NoMaster memory other = refl
-executed_stays slave sender place parts rules.ForeignSender memory other = refl
-executed_stays slave sender place parts rules.Token memory other = refl
-executed_stays slave sender place parts rules.NotRequest memory other = refl
-executed_stays slave sender place parts rules.BadFunction memory other = refl
-executed_stays slave sender place parts rules.BadExtension memory other = refl
-executed_stays slave sender place parts rules.BadBroadcast memory other = refl
-executed_stays slave sender place parts rules.NoStation memory other = refl
-executed_stays slave sender place parts rules.Status memory other = refl
-executed_stays slave sender place parts rules.NoService memory other = refl
-executed_stays slave sender place parts rules.Repeat memory other = refl
-executed_stays slave sender place parts rules.NotActive memory other = refl
-executed_stays slave sender place parts rules.NotHolder memory other = refl
-executed_stays slave sender place parts rules.Busy memory other = refl
-executed_stays slave sender place parts rules.Length memory other = refl
-executed_stays slave sender place parts rules.NotSelected memory other = refl
+executed_stays slave sender place parts rules.Done memory refused = absurd (refused refl)
+executed_stays slave sender place parts other memory refused = refl
 
 refused_served : (slave : SlaveRecord) (sender place : ℕ) (telegram : Telegram) (parts : Parts) → rule_at sender telegram parts slave ≢ rules.Done
     → record (served slave sender place telegram parts) { memory = slave.memory } ≡ slave

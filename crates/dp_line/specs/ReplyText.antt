@@ -5,12 +5,14 @@ use Rattle.dp_telegram.specs.declared.frame.Telegram.{Telegram}
 use Rattle.dp_telegram.specs.declared.access.Parts.{Parts}
 use Rattle.dp_telegram.specs.FrameText.{text_of, sc_text}
 use Rattle.dp_telegram.specs.Access.{address_of}
-use Rattle.dp_telegram.specs.FunctionCode.{function_of, asks_sdn, ok, user_error, no_resource, not_activated, data_low, data_high}
+use Rattle.dp_telegram.specs.FunctionCode.{function_of, asks_sdn, ok, data_low, data_high}
 use Rattle.dp_responder.specs.Memory.{kept_reply, remembered_of}
+use Rattle.dp_responder.specs.Judgement.{refusal_function}
 use Rattle.dp_responder.specs.declared.rule.Rule.{Rule}
 use Rattle.dp_responder.specs.declared.rule.Rule.TheVariants as rules
 use Rattle.dp_slave.specs.SlaveRecord.{SlaveRecord}
 use Rattle.dp_slave.specs.Services.{ServiceAnswer, service_answer}
+use Rattle.dp_line.specs.Verdict.{concerns_a_slave}
 
 -- a reply without data: SD1 with the addresses exchanged, and no extension (IEC 61158-4-3, response telegrams)
 abbrev pub short_reply : Telegram → ℕ → List ℕ
@@ -42,25 +44,11 @@ positive_reply telegram parts answer =
 abbrev pub unless_sdn : Telegram → List ℕ → Option (List ℕ)
 unless_sdn telegram reply = if asks_sdn (function_of telegram.fc) then None else Some reply
 
--- what a slave replies to the sender's telegram by each rule, with the functions that the rows of its judgement name; None where nothing
--- is replied
+-- what a slave replies to the sender's telegram by a rule; None where nothing is replied
 unfoldable pub reply_text : SlaveRecord → ℕ → Telegram → Parts → Rule → Option (List ℕ)
-reply_text slave sender telegram parts rules.Halted = None
-reply_text slave sender telegram parts rules.NoFrame = None
-reply_text slave sender telegram parts rules.NoMaster = None
-reply_text slave sender telegram parts rules.ForeignSender = None
-reply_text slave sender telegram parts rules.Token = None
-reply_text slave sender telegram parts rules.NotRequest = None
-reply_text slave sender telegram parts rules.BadFunction = None
-reply_text slave sender telegram parts rules.BadExtension = None
-reply_text slave sender telegram parts rules.BadBroadcast = None
-reply_text slave sender telegram parts rules.NoStation = None
 reply_text slave sender telegram parts rules.Status = Some (short_reply telegram ok)
-reply_text slave sender telegram parts rules.NoService = unless_sdn telegram (short_reply telegram not_activated)
 reply_text slave sender telegram parts rules.Repeat = Some (kept_reply (remembered_of slave.memory sender))
-reply_text slave sender telegram parts rules.NotActive = unless_sdn telegram (short_reply telegram not_activated)
-reply_text slave sender telegram parts rules.NotHolder = unless_sdn telegram (short_reply telegram not_activated)
-reply_text slave sender telegram parts rules.Busy = unless_sdn telegram (short_reply telegram no_resource)
-reply_text slave sender telegram parts rules.Length = unless_sdn telegram (short_reply telegram user_error)
 reply_text slave sender telegram parts rules.NotSelected = None
 reply_text slave sender telegram parts rules.Done = unless_sdn telegram (positive_reply telegram parts (service_answer slave parts.dsap))
+reply_text slave sender telegram parts rule =
+    if concerns_a_slave rule then unless_sdn telegram (short_reply telegram (refusal_function rule)) else None

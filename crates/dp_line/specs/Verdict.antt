@@ -6,12 +6,10 @@ use Rattle.dp_telegram.specs.declared.frame.Frame.TheVariants as frames
 use Rattle.dp_telegram.specs.declared.frame.Telegram.{Telegram}
 use Rattle.dp_telegram.specs.declared.access.Parts.{Parts}
 use Rattle.dp_telegram.specs.Access.{source_of}
-use Rattle.dp_telegram.specs.FunctionCode.{asks_sdn, function_of, is_request}
-use Rattle.dp_telegram.specs.declared.function_code.Function.{Function}
-use Rattle.dp_telegram.specs.declared.function_code.Function.TheVariants.{SdaLow, SdnLow, SdaHigh, SdnHigh, FdlStatus, SrdLow, SrdHigh, Ident, LsapStatus, Reserved}
+use Rattle.dp_telegram.specs.FunctionCode.{asks_fdl_status, asks_reserved, asks_sdn, asks_unserved, function_of, is_request}
 use Rattle.dp_sap.specs.AccessTable.{same_point, global_control}
 use Rattle.dp_responder.specs.Memory.{remembered_of}
-use Rattle.dp_responder.specs.Judgement.{judgement_rows, rules_of}
+use Rattle.dp_responder.specs.Judgement.{judgement_rows}
 use Rattle.dp_responder.specs.Rules.{first_row}
 use Rattle.dp_responder.specs.declared.rule.Rule.{Rule}
 use Rattle.dp_responder.specs.declared.rule.Rule.TheVariants as rules
@@ -19,46 +17,7 @@ use Rattle.dp_slave.specs.SlaveRecord.{SlaveRecord, group_of, points_of}
 use Rattle.dp_globalctl.specs.Command.{command_of, selects}
 use Rattle.dp_line.specs.Hearing.{Hearing, is_to_all, telegram_of_frame}
 
--- Request FDL Status (IEC 61158-4-3, function code)
-abbrev pub asks_fdl_status : Function → Bool
-asks_fdl_status FdlStatus = true
-asks_fdl_status SdaLow = false
-asks_fdl_status SdnLow = false
-asks_fdl_status SdaHigh = false
-asks_fdl_status SdnHigh = false
-asks_fdl_status SrdLow = false
-asks_fdl_status SrdHigh = false
-asks_fdl_status Ident = false
-asks_fdl_status LsapStatus = false
-asks_fdl_status Reserved = false
-
--- Send Data with Acknowledge, low and high, Request Ident and Request LSAP Status (IEC 61158-4-3, function code): no slave
--- serves them (own)
-abbrev pub asks_unserved : Function → Bool
-asks_unserved SdaLow = true
-asks_unserved SdaHigh = true
-asks_unserved Ident = true
-asks_unserved LsapStatus = true
-asks_unserved SdnLow = false
-asks_unserved SdnHigh = false
-asks_unserved FdlStatus = false
-asks_unserved SrdLow = false
-asks_unserved SrdHigh = false
-asks_unserved Reserved = false
-
--- a function outside those of this profile (own)
-abbrev pub asks_reserved : Function → Bool
-asks_reserved Reserved = true
-asks_reserved SdaLow = false
-asks_reserved SdnLow = false
-asks_reserved SdaHigh = false
-asks_reserved SdnHigh = false
-asks_reserved FdlStatus = false
-asks_reserved SrdLow = false
-asks_reserved SrdHigh = false
-asks_reserved Ident = false
-asks_reserved LsapStatus = false
-
+-- what the function of a telegram asks for
 abbrev pub is_fdl_status : Telegram → Bool
 is_fdl_status telegram = asks_fdl_status (function_of telegram.fc)
 
@@ -98,18 +57,28 @@ telegram_has condition hearing = option_map_or condition (option_and_then telegr
 abbrev pub request_has : (Parts → Telegram → Bool) → Hearing → Bool
 request_has condition hearing = option_map_or (λ parts. telegram_has (condition parts) hearing) hearing.parts false
 
--- the rows by which no slave is concerned
+-- the rows by which no slave is concerned, by their places in the table of the verdict (docs/POLICY.md)
 abbrev pub line_rows : Hearing → List (Bool × Rule)
 line_rows hearing =
+    -- 1: the line is halted, or only the place of the halt is left
     (hearing.over, rules.Halted)
+    -- 2: the octets are no single frame
     ∷ (is_none hearing.frame, rules.NoFrame)
+    -- 3: the sender is no master of the line
     ∷ (not hearing.is_master, rules.NoMaster)
+    -- 4: the frame is from another station
     ∷ (frame_has (has_foreign_sender hearing.sender) hearing, rules.ForeignSender)
+    -- 5: a token
     ∷ (frame_has is_token hearing, rules.Token)
+    -- 6: a short acknowledgement or a response
     ∷ (frame_has is_no_request hearing, rules.NotRequest)
+    -- 7: the function is none of this profile
     ∷ (telegram_has has_reserved_function hearing, rules.BadFunction)
+    -- 8: an extension octet that is announced is missing or not plain
     ∷ (is_none hearing.parts, rules.BadExtension)
+    -- 9: it is for all stations, and no Global_Control
     ∷ (telegram_has is_to_all hearing && not (request_has is_global_control hearing), rules.BadBroadcast)
+    -- 10: it is for one station, and no slave has its address
     ∷ (not (telegram_has is_to_all hearing) && is_none hearing.slave, rules.NoStation)
     ∷ []
 
@@ -119,18 +88,20 @@ abbrev pub is_not_selected : Parts → SlaveRecord → Bool
 is_not_selected parts slave =
     same_point parts.dsap global_control && not (selects (command_of parts.payload.items).group (group_of slave))
 
--- the rows of a slave for an SRD or an SDN: repeat, point, sender, service, busy mark and length, then the selection
+-- the rows of a slave for an SRD or an SDN: 13 to 18 are those of its judgement
 abbrev pub slave_rows : ℕ → Telegram → Parts → SlaveRecord → List (Bool × Rule)
 slave_rows sender telegram parts slave =
-    rules_of (judgement_rows (points_of slave) (remembered_of slave.memory sender) sender telegram.fc parts)
+    judgement_rows (points_of slave) (remembered_of slave.memory sender) sender telegram.fc parts
+    -- 19: a Global_Control that doesn't select the slave
     ++ (is_not_selected parts slave, rules.NotSelected)
     ∷ []
 
--- the rows of the slave that has the destination address, and of each slave where it is the global one; the functions that are no SRD and no
--- SDN come first
+-- the rows of the slave that has the destination address, and of each slave where it is the global one
 abbrev pub station_rows : ℕ → Telegram → Parts → SlaveRecord → List (Bool × Rule)
 station_rows sender telegram parts slave =
+    -- 11: FDL status
     (is_fdl_status telegram, rules.Status)
+    -- 12: a service that no slave has
     ∷ (is_unserved telegram, rules.NoService)
     ∷ slave_rows sender telegram parts slave
 
@@ -144,7 +115,7 @@ rows_where_known sender telegram parts slave = []
 abbrev pub verdict_rows : Hearing → List (Bool × Rule)
 verdict_rows hearing = line_rows hearing ++ rows_where_known hearing.sender (option_and_then telegram_of_frame hearing.frame) hearing.parts hearing.slave
 
--- the rule by which a request is answered; where no row applies, the service is done, and a request to all reaches the slaves
+-- the rule by which a request is answered; 20: where no row applies, the service is done, and a request to all reaches the slaves
 unfoldable pub verdict_of : Hearing → Rule
 verdict_of hearing = first_row (verdict_rows hearing)
 
@@ -164,12 +135,4 @@ concerns_a_slave rules.BadFunction = false
 concerns_a_slave rules.BadExtension = false
 concerns_a_slave rules.BadBroadcast = false
 concerns_a_slave rules.NoStation = false
-concerns_a_slave rules.Status = true
-concerns_a_slave rules.NoService = true
-concerns_a_slave rules.Repeat = true
-concerns_a_slave rules.NotActive = true
-concerns_a_slave rules.NotHolder = true
-concerns_a_slave rules.Busy = true
-concerns_a_slave rules.Length = true
-concerns_a_slave rules.NotSelected = true
-concerns_a_slave rules.Done = true
+concerns_a_slave other = true

@@ -51,8 +51,8 @@ impl Request<'_> {
         ensures rule { result ≡ rule_of self.now slave.old.slave }
     {
         match judge_sdn(slave.points(), self.sender, self.telegram.fc, self.parts) {
-            Some(rule) => rule,
-            None => self.control(slave),
+            Rule::Done => self.control(slave),
+            refusal => refusal,
         }
     }
 

@@ -1,13 +1,11 @@
 -- What is remembered of a sender, by induction over the masters.
-use Rattle.std.proofs.Common.{◌≡◌, ◌≢◌, ℕ, Bool, true, false, ◌||◌, eqb, inl, inr, List, [], ◌∷◌, ◌++◌, Option, Some, None, is_some, refl, sym, ap, ◌∙◌}
-use Rattle.std.specs.Prelude.{◌↔◌, if◌then◌else◌, find, filter, IsSome}
-use Rattle.std.specs.List.{list_any}
+use Rattle.std.proofs.Common.{◌≡◌, ◌≢◌, ℕ, Bool, true, false, ◌||◌, eqb, inl, inr, List, [], ◌∷◌, Option, Some, None, is_some, refl, sym, ap, ◌∙◌}
+use Rattle.std.specs.Prelude.{if◌then◌else◌, find, filter, IsSome}
 use Rattle.std.proofs.lemmas.Bool.{cases_Bool, eqb-true, eq-eqb, ne_eqb, both_ways}
-use Rattle.dp_telegram.specs.FunctionCode.{asks_srd, asks_sdn, function_of, frame_count_bit, frame_count_is_valid}
+use Rattle.dp_telegram.specs.FunctionCode.{asks_srd, function_of, frame_count_bit, frame_count_is_valid}
 use Rattle.dp_responder.specs.declared.judgement.Judged.TheVariants as verdicts
 use Rattle.dp_responder.specs.Memory.{JudgedRequest, MasterMemory, Remembered, last_after, memory_after, no_memory, remembered_of, same_bit, with_remembered}
-use Rattle.dp_responder.specs.Judgement.{RowAnswer, the_stored, the_function, JudgementRow, first_judged, judged_by, judgement}
-use Rattle.dp_responder.specs.declared.rule.Rule.{Rule}
+use Rattle.dp_responder.specs.Judgement.{judgement}
 use Rattle.dp_telegram.specs.declared.access.Parts.{Parts}
 use Rattle.dp_sap.specs.AccessTable.{PointsView}
 
@@ -95,29 +93,3 @@ pub last_reply : (memory : List MasterMemory) (sender fc again : ℕ) (reply : L
     → judgement points (remembered_of (with_remembered memory sender fc reply) sender) sender again parts ≡ verdicts.Repeat (record { items = reply })
 last_reply memory sender fc again reply points parts known srd valid srd_again valid_again same =
     repeat_by _ (frame_count_bit fc) again sender reply points parts (remembered_is memory sender fc reply known srd valid) srd_again valid_again same
-
--- the first row
-pub first_applies : (fc : ℕ) (before behind : List JudgementRow) (row : JudgementRow) → list_any (λ r. r.applies) before ≡ false → row.applies ≡ true
-    → first_judged fc (before ++ row ∷ behind) ≡ judged_by fc row.rule row.answer
-first_applies fc [] behind row none here = rw here refl
-first_applies fc (r ∷ before) behind row none here = elim (cases_Bool r.applies) [
-  | inl e ↦ absurd (cc (none, e))
-  | inr e ↦ rw e (first_applies fc before behind row (rw e at none) here)
-]
-
-never_pass : (fc : ℕ) (rule : Rule) (answer : RowAnswer) → judged_by fc rule answer ≢ verdicts.Pass
-never_pass fc rule (the_stored reply) e = absurd cc
-never_pass fc rule (the_function function) e = elim (cases_Bool (asks_sdn (function_of fc))) [
-  | inl sdn ↦ let silent : verdicts.Silent rule ≡ verdicts.Pass = rw sdn at e in absurd cc
-  | inr srd ↦ let refused : verdicts.Refuse function rule ≡ verdicts.Pass = rw srd at e in absurd cc
-]
-
-pub passes : (fc : ℕ) (rows : List JudgementRow) → (first_judged fc rows ≡ verdicts.Pass) ↔ (list_any (λ row. row.applies) rows ≡ false)
-passes fc [] = (λ e. refl, λ e. refl)
-passes fc (row ∷ rows) = elim (cases_Bool row.applies) [
-  | inl e ↦ (
-    λ pass. absurd (never_pass fc row.rule row.answer (rw e at pass)),
-    λ none. absurd (cc (none, e)),
-  )
-  | inr e ↦ rw e (passes fc rows)
-]

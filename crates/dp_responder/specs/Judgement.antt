@@ -1,5 +1,5 @@
 -- The verdict of a slave on a request, from the repeat to the length (own order).
-use Rattle.std.specs.Prelude.{ℕ, Bool, true, false, not, ◌&&◌, ◌==◌, nat_le, if◌then◌else◌, List, [], ◌∷◌, length, map, Option, Some, None, is_none}
+use Rattle.std.specs.Prelude.{ℕ, Bool, false, not, ◌&&◌, ◌==◌, nat_le, if◌then◌else◌, List, [], ◌∷◌, length, Option, is_none}
 use Rattle.std.specs.Option.{option_map_or}
 use Rattle.dp_telegram.specs.FunctionCode.{function_of, asks_srd, asks_sdn, not_activated, no_resource, user_error}
 use Rattle.dp_telegram.specs.declared.access.Parts.{Parts}
@@ -14,6 +14,7 @@ use Rattle.dp_responder.specs.declared.rule.Rule.TheVariants as rules
 use Rattle.dp_responder.specs.declared.judgement.Judged.{Judged}
 use Rattle.dp_responder.specs.declared.judgement.Judged.TheVariants as verdicts
 use Rattle.dp_responder.specs.Memory.{Remembered, is_repeat, kept_reply}
+use Rattle.dp_responder.specs.Rules.{first_row}
 
 -- a condition on a point that is on; it doesn't hold of a point that is off
 abbrev pub point_has : (Point → Bool) → Option Point → Bool
@@ -33,59 +34,49 @@ uses fc Sdn = asks_sdn (function_of fc)
 abbrev pub takes_length : ℕ → Point → Bool
 takes_length count point = nat_le point.least count && nat_le count point.most
 
--- what a row answers: the stored reply, or a reply without data of this function, which an SDN doesn't get
-pub data RowAnswer : Type 0 where
-  the_stored : List ℕ → RowAnswer
-  the_function : ℕ → RowAnswer
+-- the function of the reply without data by which a rule refuses an SRD: no resource where the point is busy, user error for a wrong
+-- length, and by every other rule that the service is not activated (IEC 61158-4-3, function code of a response; own in detail)
+abbrev pub refusal_function : Rule → ℕ
+refusal_function rules.Busy = no_resource
+refusal_function rules.Length = user_error
+refusal_function other = not_activated
 
--- a row of the verdict: when it applies, its rule, and what it answers
-pub record JudgementRow : Type 0 where
-  pub applies : Bool
-  pub rule : Rule
-  pub answer : RowAnswer
-
-abbrev pub judgement_row : Bool → Rule → RowAnswer → JudgementRow
-judgement_row applies rule answer = record { applies = applies; rule = rule; answer = answer }
-
--- the rows by which a request is refused: the point is the one that it names, None where that is off
-abbrev pub refusal_rows : Option Point → ℕ → ℕ → List ℕ → List JudgementRow
+-- the rows by which a request is refused, by their places in the table of the verdict (docs/POLICY.md): the point is the one that it
+-- names, None where that is off
+abbrev pub refusal_rows : Option Point → ℕ → ℕ → List ℕ → List (Bool × Rule)
 refusal_rows point sender fc payload =
-    judgement_row (is_none point) rules.NotActive (the_function not_activated)
-    ∷ judgement_row (point_has (λ p. not (admits sender p.access)) point) rules.NotHolder (the_function not_activated)
-    ∷ judgement_row (point_has (λ p. not (uses fc p.service)) point) rules.NoService (the_function not_activated)
-    ∷ judgement_row (point_has (λ p. p.busy) point) rules.Busy (the_function no_resource)
-    ∷ judgement_row (point_has (λ p. not (takes_length (length payload) p)) point) rules.Length (the_function user_error)
+    -- 14: the point is off
+    (is_none point, rules.NotActive)
+    -- 15: the point is for the holder, and the sender is another master
+    ∷ (point_has (λ p. not (admits sender p.access)) point, rules.NotHolder)
+    -- 16: the point takes the other service
+    ∷ (point_has (λ p. not (uses fc p.service)) point, rules.NoService)
+    -- 17: the point is marked busy
+    ∷ (point_has (λ p. p.busy) point, rules.Busy)
+    -- 18: the point takes fewer or more octets
+    ∷ (point_has (λ p. not (takes_length (length payload) p)) point, rules.Length)
     ∷ []
 
--- the rows of a slave with these points, which remembers this of the sender: a repeat first, then the refusals
-abbrev pub judgement_rows : PointsView → Option Remembered → ℕ → ℕ → Parts → List JudgementRow
+-- the rows of a slave with these points, which remembers this of the sender: the repeat and then the refusals
+abbrev pub judgement_rows : PointsView → Option Remembered → ℕ → ℕ → Parts → List (Bool × Rule)
 judgement_rows points last sender fc parts =
-    judgement_row (is_repeat last fc) rules.Repeat (the_stored (kept_reply last))
+    -- 13: an SRD with FCV 1, and its FCB is the remembered one
+    (is_repeat last fc, rules.Repeat)
     ∷ refusal_rows (access_row points parts.dsap) sender fc parts.payload.items
 
--- conditions and rules alone, for a verdict that goes on behind these rows
-abbrev pub rules_of : List JudgementRow → List (Bool × Rule)
-rules_of rows = map (λ row. (row.applies, row.rule)) rows
+-- what comes of a request by the rule of these rows: by Done it passes, a repeat gets the reply that is kept, and every other rule
+-- refuses it, an SDN in silence
+abbrev pub judged_by : Option Remembered → ℕ → Rule → Judged
+judged_by last fc rules.Done = verdicts.Pass
+judged_by last fc rules.Repeat = verdicts.Repeat (record { items = kept_reply last })
+judged_by last fc rule =
+    if asks_sdn (function_of fc) then verdicts.Silent rule else verdicts.Refuse (refusal_function rule) rule
 
--- what a row that applies gives: silence with its rule for an SDN that is refused
-abbrev pub judged_by : ℕ → Rule → RowAnswer → Judged
-judged_by fc rule (the_stored reply) = verdicts.Repeat (record { items = reply })
-judged_by fc rule (the_function function) = if asks_sdn (function_of fc) then verdicts.Silent rule else verdicts.Refuse function rule
+-- what comes of an SDN by its rule, which is never that of a repeat
+abbrev pub judged_in_silence : Rule → Judged
+judged_in_silence rules.Done = verdicts.Pass
+judged_in_silence rule = verdicts.Silent rule
 
 -- the first row that applies decides; where none does, the request passes
-abbrev pub first_judged : ℕ → List JudgementRow → Judged
-first_judged fc [] = verdicts.Pass
-first_judged fc (row ∷ rows) = if row.applies then judged_by fc row.rule row.answer else first_judged fc rows
-
--- the first row that applies: its rule, and what it answers
-abbrev pub first_refusal : List JudgementRow → Option (Rule × RowAnswer)
-first_refusal [] = None
-first_refusal (row ∷ rows) = if row.applies then Some (row.rule, row.answer) else first_refusal rows
-
--- what comes of an SDN that is refused by this rule, or by none: it passes, or there is silence
-abbrev pub judged_in_silence : Option Rule → Judged
-judged_in_silence None = verdicts.Pass
-judged_in_silence (Some rule) = verdicts.Silent rule
-
 abbrev pub judgement : PointsView → Option Remembered → ℕ → ℕ → Parts → Judged
-judgement points last sender fc parts = first_judged fc (judgement_rows points last sender fc parts)
+judgement points last sender fc parts = judged_by last fc (first_row (judgement_rows points last sender fc parts))

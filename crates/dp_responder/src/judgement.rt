@@ -1,11 +1,13 @@
 //! What comes of a request, before it is served.
 
-ghost use Rattle.std.specs.Prelude.{◌≡◌, ◌≤◌, Option, Some, option_map, length, true};
+ghost use Rattle.std.specs.Prelude.{◌≡◌, ◌≢◌, ◌≤◌, Option, Some, length, true};
+ghost use Rattle.dp_telegram.specs.FunctionCode.{asks_sdn, function_of};
 ghost use Rattle.dp_sap.specs.AccessTable.{access_row};
 ghost use Rattle.dp_responder.specs.declared.judgement.Judged.TheVariants as verdicts;
-ghost use Rattle.dp_telegram.specs.FunctionCode.{asks_sdn, function_of};
+ghost use Rattle.dp_responder.specs.declared.rule.Rule.TheVariants as rules;
+ghost use Rattle.dp_responder.specs.Rules.{first_row};
 ghost use Rattle.dp_responder.specs.Memory.{Remembered, is_repeat as is_repeated, remembered_of};
-ghost use Rattle.dp_responder.specs.Judgement.{admits as is_admitted, first_judged, first_refusal, judged_by, judged_in_silence, judgement, refusal_rows, takes_length as is_taken, the_function, uses as is_used};
+ghost use Rattle.dp_responder.specs.Judgement.{admits as is_admitted, judged_by, judged_in_silence, judgement, refusal_function as function_by, refusal_rows, takes_length as is_taken, uses as is_used};
 
 use crate::memory::{FrameMemory, Last};
 use crate::rule::Rule;
@@ -27,13 +29,6 @@ pub enum Judged {
     Silent(Rule),
 }
 
-/// A refusal: its rule, and the function of the reply without data: RS, RR or UE.
-#[derive(Clone, Copy)]
-struct Refusal {
-    rule: Rule,
-    function: u8,
-}
-
 /// Judges a request by the rows of the verdict from the repeat to the length (own order): repeat,
 /// point off, sender not admitted, another service, point busy, length.
 ///
@@ -50,24 +45,18 @@ pub fn judge(points: &Points, memory: &FrameMemory, sender: u8, fc: u8, parts: &
 
 /// Judges a request that is no repeat.
 fn judge_anew(points: &Points, sender: u8, fc: u8, parts: &Parts) -> Judged
-    ensures { result ≡ first_judged fc (refusal_rows (access_row points.now parts.now.dsap) sender fc parts.now.payload.items) }
+    ensures { (last : Option Remembered) → result ≡ judged_by last fc (first_row (refusal_rows (access_row points.now parts.now.dsap) sender fc parts.now.payload.items)) }
 {
-    match refuse(points, sender, fc, parts) {
-        Some(refusal) => refused(fc, refusal),
-        None => Judged::Pass,
-    }
+    by_rule(refusal_at(open_point(points, parts.dsap), sender, fc, &parts.payload), fc)
 }
 
 /// Judges an SDN, which is no repeat and gets no reply, by the same rows: the rule that refuses it;
-/// None where it passes.
-pub fn judge_sdn(points: &Points, sender: u8, fc: u8, parts: &Parts) -> Option<Rule>
+/// [`Rule::Done`] where it passes.
+pub fn judge_sdn(points: &Points, sender: u8, fc: u8, parts: &Parts) -> Rule
     requires { asks_sdn (function_of fc) ≡ true }
     ensures { (last : Option Remembered) → judgement points.now last sender fc parts.now ≡ judged_in_silence result }
 {
-    match refuse(points, sender, fc, parts) {
-        Some(refusal) => Some(refusal.rule),
-        None => None,
-    }
+    refusal_at(open_point(points, parts.dsap), sender, fc, &parts.payload)
 }
 
 /// An SRD with FCV 1 whose FCB is the remembered one.
@@ -94,51 +83,49 @@ fn open_point(points: &Points, number: Option<u8>) -> Option<Point>
     if point.active { Some(point) } else { None }
 }
 
-/// How a request that is no repeat is refused, if it is.
-fn refuse(points: &Points, sender: u8, fc: u8, parts: &Parts) -> Option<Refusal>
-    ensures { option_map (λ refusal. (refusal.rule, the_function refusal.function)) result
-        ≡ first_refusal (refusal_rows (access_row points.now parts.now.dsap) sender fc parts.now.payload.items) }
-{
-    refuse_at(open_point(points, parts.dsap), sender, fc, &parts.payload)
-}
-
-/// The same at the point that the request names.
-fn refuse_at(point: Option<Point>, sender: u8, fc: u8, payload: &[u8]) -> Option<Refusal>
-    ensures { option_map (λ refusal. (refusal.rule, the_function refusal.function)) result
-        ≡ first_refusal (refusal_rows point sender fc payload.now) }
+/// The rule that refuses a request at this point, None where it is off; [`Rule::Done`] where none does.
+fn refusal_at(point: Option<Point>, sender: u8, fc: u8, payload: &[u8]) -> Rule
+    ensures rule { result ≡ first_row (refusal_rows point sender fc payload.now) }
+    ensures repeat { result ≢ rules.Repeat }
 {
     let Some(point) = point else {
-        return by(Rule::NotActive, RS);
+        return Rule::NotActive;
     };
     if !admits(point.access, sender) {
-        return by(Rule::NotHolder, RS);
+        return Rule::NotHolder;
     }
     if !uses(fc, point.service) {
-        return by(Rule::NoService, RS);
+        return Rule::NoService;
     }
     if point.busy {
-        return by(Rule::Busy, RR);
+        return Rule::Busy;
     }
     if !takes_length(&point, payload.len()) {
-        return by(Rule::Length, UE);
+        return Rule::Length;
     }
-    None
+    Rule::Done
 }
 
-fn by(rule: Rule, function: u8) -> Option<Refusal>
-    ensures { result ≡ Some (record { rule = rule; function = function }) }
+/// What comes of a request that is no repeat, by its rule; an SDN that is refused gets no reply.
+fn by_rule(rule: Rule, fc: u8) -> Judged
+    requires { rule ≢ rules.Repeat }
+    ensures { (last : Option Remembered) → result ≡ judged_by last fc rule }
 {
-    Some(Refusal { rule, function })
+    match rule {
+        Rule::Done => Judged::Pass,
+        refusal if Function::of(fc).is_sdn() => Judged::Silent(refusal),
+        refusal => Judged::Refuse(refusal_function(refusal), refusal),
+    }
 }
 
-/// A refusal, to which an SDN gets no reply.
-fn refused(fc: u8, refusal: Refusal) -> Judged
-    ensures { result ≡ judged_by fc refusal.rule (the_function refusal.function) }
+/// The function of the reply without data by which a rule refuses an SRD.
+fn refusal_function(rule: Rule) -> u8
+    ensures { result ≡ function_by rule }
 {
-    if Function::of(fc).is_sdn() {
-        Judged::Silent(refusal.rule)
-    } else {
-        Judged::Refuse(refusal.function, refusal.rule)
+    match rule {
+        Rule::Busy => RR,
+        Rule::Length => UE,
+        _ => RS,
     }
 }
 

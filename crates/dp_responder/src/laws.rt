@@ -5,18 +5,21 @@ ghost use Rattle.std.specs.List.{list_any};
 ghost use Rattle.dp_telegram.specs.FunctionCode.{asks_srd, function_of, frame_count_bit, frame_count_is_valid};
 ghost use Rattle.dp_telegram.specs.declared.access.Parts.{Parts};
 ghost use Rattle.dp_sap.specs.AccessTable.{PointsView};
+ghost use Rattle.dp_responder.specs.declared.rule.Rule.{Rule};
 ghost use Rattle.dp_responder.specs.declared.judgement.Judged.{Judged};
 ghost use Rattle.dp_responder.specs.Memory.{JudgedRequest, MasterMemory, Remembered, is_repeat, memory_after, no_memory, remembered_of, same_bit, with_remembered};
-ghost use Rattle.dp_responder.specs.Judgement.{JudgementRow, first_judged, judged_by, judgement};
+ghost use Rattle.dp_responder.specs.Rules.{first_row};
+ghost use Rattle.dp_responder.specs.Judgement.{judgement, judgement_rows};
 
 /// The first row that applies decides, and a request passes exactly where none does.
 pub fn the_first_row_that_applies_decides()
-    ensures first { (fc : ℕ) (before behind : List JudgementRow) (row : JudgementRow)
-        → list_any (λ r. r.applies) before ≡ false
-        → row.applies ≡ true
-        → first_judged fc (before ++ row ∷ behind) ≡ judged_by fc row.rule row.answer }
-    ensures pass { (fc : ℕ) (rows : List JudgementRow)
-        → (first_judged fc rows ≡ Judged.Pass) ↔ (list_any (λ row. row.applies) rows ≡ false) }
+    ensures first { (before behind : List (Bool × Rule)) (row : Bool × Rule)
+        → list_any (λ r. r.0) before ≡ false
+        → row.0 ≡ true
+        → first_row (before ++ row ∷ behind) ≡ row.1 }
+    ensures pass { (points : PointsView) (last : Option Remembered) (sender fc : ℕ) (parts : Parts)
+        → (judgement points last sender fc parts ≡ Judged.Pass)
+        ↔ (list_any (λ row. row.0) (judgement_rows points last sender fc parts) ≡ false) }
 {}
 
 /// A repeat gets the reply that was remembered for its sender last: an SRD with FCV 1 and the same

@@ -42,31 +42,62 @@ numbered (row ∷ rows) number = if number == row.0 then row.1 else numbered row
 abbrev pub function_of : ℕ → Function
 function_of fc = numbered functions (fc % 16)
 
--- Send and Request Data with reply, low or high
-abbrev pub asks_srd : Function → Bool
-asks_srd SrdLow = true
-asks_srd SrdHigh = true
-asks_srd SdaLow = false
-asks_srd SdnLow = false
-asks_srd SdaHigh = false
-asks_srd SdnHigh = false
-asks_srd FdlStatus = false
-asks_srd Ident = false
-asks_srd LsapStatus = false
-asks_srd Reserved = false
+-- what a request asks for by its function
+pub data Asked : Type 0 where
+  -- SRD: data are sent and requested with a reply, at low or high priority
+  srd : Asked
+  -- SDN: data are sent with no acknowledge, at low or high priority
+  sdn : Asked
+  -- the FDL status
+  status : Asked
+  -- Send Data with Acknowledge, Request Ident and Request LSAP Status: no slave serves them (own)
+  unserved : Asked
+  -- no function of this profile (own)
+  reserved : Asked
 
--- Send Data with No acknowledge, low or high
+abbrev pub asked : Function → Asked
+asked SrdLow = srd
+asked SrdHigh = srd
+asked SdnLow = sdn
+asked SdnHigh = sdn
+asked FdlStatus = status
+asked Reserved = reserved
+asked other = unserved
+
+abbrev pub is_srd : Asked → Bool
+is_srd srd = true
+is_srd other = false
+
+abbrev pub is_sdn : Asked → Bool
+is_sdn sdn = true
+is_sdn other = false
+
+abbrev pub is_status : Asked → Bool
+is_status status = true
+is_status other = false
+
+abbrev pub is_unserved : Asked → Bool
+is_unserved unserved = true
+is_unserved other = false
+
+abbrev pub is_reserved : Asked → Bool
+is_reserved reserved = true
+is_reserved other = false
+
+abbrev pub asks_srd : Function → Bool
+asks_srd function = is_srd (asked function)
+
 abbrev pub asks_sdn : Function → Bool
-asks_sdn SdnLow = true
-asks_sdn SdnHigh = true
-asks_sdn SdaLow = false
-asks_sdn SdaHigh = false
-asks_sdn FdlStatus = false
-asks_sdn SrdLow = false
-asks_sdn SrdHigh = false
-asks_sdn Ident = false
-asks_sdn LsapStatus = false
-asks_sdn Reserved = false
+asks_sdn function = is_sdn (asked function)
+
+abbrev pub asks_fdl_status : Function → Bool
+asks_fdl_status function = is_status (asked function)
+
+abbrev pub asks_unserved : Function → Bool
+asks_unserved function = is_unserved (asked function)
+
+abbrev pub asks_reserved : Function → Bool
+asks_reserved function = is_reserved (asked function)
 
 -- the functions of a response: OK, user error, no resource, service not activated, data low, data high
 abbrev pub ok : ℕ

@@ -18,24 +18,7 @@ use Rattle.dp_text.proofs.Decimals.{short_octet}
 
 pub rule_is_short : (rule : Rule) → length (rule_name rule) ≤ 13
 rule_is_short rules.Halted = lit≤ tt
-rule_is_short rules.NoFrame = lit≤ tt
-rule_is_short rules.NoMaster = lit≤ tt
-rule_is_short rules.ForeignSender = lit≤ tt
-rule_is_short rules.Token = lit≤ tt
-rule_is_short rules.NotRequest = lit≤ tt
-rule_is_short rules.BadFunction = lit≤ tt
-rule_is_short rules.BadExtension = lit≤ tt
-rule_is_short rules.BadBroadcast = lit≤ tt
-rule_is_short rules.NoStation = lit≤ tt
-rule_is_short rules.Status = lit≤ tt
-rule_is_short rules.NoService = lit≤ tt
-rule_is_short rules.Repeat = lit≤ tt
-rule_is_short rules.NotActive = lit≤ tt
-rule_is_short rules.NotHolder = lit≤ tt
-rule_is_short rules.Busy = lit≤ tt
-rule_is_short rules.Length = lit≤ tt
-rule_is_short rules.NotSelected = lit≤ tt
-rule_is_short rules.Done = lit≤ tt
+rule_is_short other = lit≤ tt
 
 pub fault_is_short : (fault : FrameFault) → length (frame_fault_name fault) ≤ 7
 fault_is_short faults.NoStart = lit≤ tt

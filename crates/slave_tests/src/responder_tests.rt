@@ -96,8 +96,8 @@ fn sdn_text(
         return Err("an SDN")?;
     }
     match judge_sdn(points, sender, fc, parts) {
-        None => text(alloc, "pass"),
-        Some(rule) => text(alloc, rule.name()),
+        Rule::Done => text(alloc, "pass"),
+        rule => text(alloc, rule.name()),
     }
 }
 

@@ -1,4 +1,4 @@
-use Rattle.dp_responder.proofs.Memories.{first_applies, passes}
+use Rattle.dp_responder.proofs.Refusals.{first_applies, passes}
 use Rattle.dp_responder.proofs.laws.the_first_row_that_applies_decides.Goals as goal
 
 pub returns-clause-first : goal.returns-clause-first
