@@ -23,8 +23,8 @@ use Rattle.dp_audit.specs.declared.entry.Entry.{Entry}
 use Rattle.dp_line.specs.Walk.{LineRecord, walk_after}
 use Rattle.dp_audit.specs.Journal.{Journal, added, added_by_fit, entry_of, taken}
 use Rattle.dp_audit.specs.Legal.{Follows, IsLegal, after_entries, after_entry}
-use Rattle.dp_audit.specs.Kept.{Kept}
-use Rattle.dp_audit.specs.Ways.{Way, meets_halt, is_refused, brings_halt, is_recorded}
+use Rattle.dp_audit.specs.BookInvariant.{BookInvariant}
+use Rattle.dp_audit.specs.EventWays.{Way, meets_halt, is_refused, brings_halt, is_recorded}
 
 -- ---- the ways of a step
 
@@ -126,60 +126,60 @@ legal_snoc world (first ∷ entries) entry legal follows = (legal.0, legal_snoc 
 -- a recorded event takes one place of those that there are, and leaves masters as they are
 record Counts (world after : World) (event : Event) : Type 0 where
   count : after.count ≡ world.count + 1
-  places : after.places ≡ world.places
+  capacity : after.capacity ≡ world.capacity
   masters : after.masters ≡ world.masters
 
 counts : (world : World) (event : Event) → Counts world (effect world event).world event
 unfolding effect
-counts world event = record { count = refl; places = refl; masters = refl }
+counts world event = record { count = refl; capacity = refl; masters = refl }
 
-one_more : (opening world after : World) (entries : List Entry) (places : ℕ) (entry : Entry) → Kept opening world entries places → Follows world entry
-    → after ≡ after_entry world entry → (after.halted ≡ false → world.count + 1 < world.places) → Kept opening after (entries ++ entry ∷ []) places
-one_more opening world after entries places entry kept follows is more =
+one_more : (opening world after : World) (entries : List Entry) (capacity : ℕ) (entry : Entry) → BookInvariant opening world entries capacity → Follows world entry
+    → after ≡ after_entry world entry → (after.halted ≡ false → world.count + 1 < world.capacity) → BookInvariant opening after (entries ++ entry ∷ []) capacity
+one_more opening world after entries capacity entry kept follows is more =
     let some : Counts world after entry.event = subst (λ w. Counts world w entry.event) (sym is) (counts world entry.event) in
     let room = kept.running follows.running in
     record {
       legal = legal_snoc opening entries entry kept.legal (subst (λ w. Follows w entry) kept.is_after follows);
       is_after = is ∙ ap (λ w. after_entry w entry) kept.is_after ∙ sym (after_snoc opening entries entry);
       counted = some.count ∙ (let h = kept.counted in let l = length-append entries (entry ∷ []) in omega arith);
-      same_places = some.places ∙ kept.same_places;
+      same_capacity = some.capacity ∙ kept.same_capacity;
       same_masters = some.masters ∙ kept.same_masters;
       stations = kept.stations;
-      within = (let c = some.count in let p = some.places in omega (arith, c, p, room));
-      running = λ on. (let c = some.count in let p = some.places in let m = more on in omega (arith, c, p, m));
+      within = (let c = some.count in let p = some.capacity in omega (arith, c, p, room));
+      running = λ on. (let c = some.count in let p = some.capacity in let m = more on in omega (arith, c, p, m));
       room = kept.room;
     }
 
 -- behind the next place there is another one
-place_left : (world : World) → is_last_place world ≡ false → world.count + 1 < world.places
+place_left : (world : World) → is_last_place world ≡ false → world.count + 1 < world.capacity
 place_left world room = grind (arith, nat_tests)
 
 -- nothing is added
-none_more : (opening world after : World) (entries more : List Entry) (places : ℕ) → Kept opening world entries places → after ≡ world → more ≡ []
-    → Kept opening after (entries ++ more) places
-none_more opening world after entries more places kept same none =
-    subst (λ w. Kept opening w (entries ++ more) places) (sym same)
-    (subst (λ l. Kept opening world l places) (sym (ap (λ (l : List Entry). entries ++ l) none ∙ append-nil entries)) kept)
+none_more : (opening world after : World) (entries more : List Entry) (capacity : ℕ) → BookInvariant opening world entries capacity → after ≡ world → more ≡ []
+    → BookInvariant opening after (entries ++ more) capacity
+none_more opening world after entries more capacity kept same none =
+    subst (λ w. BookInvariant opening w (entries ++ more) capacity) (sym same)
+    (subst (λ l. BookInvariant opening world l capacity) (sym (ap (λ (l : List Entry). entries ++ l) none ∙ append-nil entries)) kept)
 
-kept_way : (opening world : World) (entries : List Entry) (places : ℕ) (event : Event) → Kept opening world entries places → Way world event
-    → Kept opening (step world event).world (entries ++ added world event) places
+kept_way : (opening world : World) (entries : List Entry) (capacity : ℕ) (event : Event) → BookInvariant opening world entries capacity → Way world event
+    → BookInvariant opening (step world event).world (entries ++ added world event) capacity
 unfolding effect
-kept_way opening world entries places event kept (meets_halt halted is none) =
-    none_more opening world _ entries _ places kept (ap (λ (s : Stepped). s.world) is) none
-kept_way opening world entries places event kept (is_refused fault running misfits is none) =
-    none_more opening world _ entries _ places kept (ap (λ (s : Stepped). s.world) is) none
-kept_way opening world entries places event kept (brings_halt last is one follows) =
-    subst (λ l. Kept opening (step world event).world (entries ++ l) places) (sym one)
-    (one_more opening world (step world event).world entries places (entry_of world (Operator Halt)) kept follows (ap (λ (s : Stepped). s.world) is)
+kept_way opening world entries capacity event kept (meets_halt halted is none) =
+    none_more opening world _ entries _ capacity kept (ap (λ (s : Stepped). s.world) is) none
+kept_way opening world entries capacity event kept (is_refused fault running misfits is none) =
+    none_more opening world _ entries _ capacity kept (ap (λ (s : Stepped). s.world) is) none
+kept_way opening world entries capacity event kept (brings_halt last is one follows) =
+    subst (λ l. BookInvariant opening (step world event).world (entries ++ l) capacity) (sym one)
+    (one_more opening world (step world event).world entries capacity (entry_of world (Operator Halt)) kept follows (ap (λ (s : Stepped). s.world) is)
     (λ on. (let t : true ≡ false = sym (ap (λ (s : Stepped). s.world.halted) is) ∙ on in cc)))
-kept_way opening world entries places event kept (is_recorded room is one follows) =
-    subst (λ l. Kept opening (step world event).world (entries ++ l) places) (sym one)
-    (one_more opening world (step world event).world entries places (entry_of world event) kept follows (ap (λ (s : Stepped). s.world) is)
+kept_way opening world entries capacity event kept (is_recorded room is one follows) =
+    subst (λ l. BookInvariant opening (step world event).world (entries ++ l) capacity) (sym one)
+    (one_more opening world (step world event).world entries capacity (entry_of world event) kept follows (ap (λ (s : Stepped). s.world) is)
     (λ _. place_left world room))
 
-pub kept_taken : (opening world : World) (entries : List Entry) (places : ℕ) (event : Event) → Kept opening world entries places
-    → Kept opening (step world event).world (entries ++ added world event) places
-kept_taken opening world entries places event kept = kept_way opening world entries places event kept (way world event)
+pub kept_taken : (opening world : World) (entries : List Entry) (capacity : ℕ) (event : Event) → BookInvariant opening world entries capacity
+    → BookInvariant opening (step world event).world (entries ++ added world event) capacity
+kept_taken opening world entries capacity event kept = kept_way opening world entries capacity event kept (way world event)
 
 -- ---- what contracts see of it
 
@@ -266,17 +266,17 @@ limits_parts true true true true false f false h all = absurd cc
 limits_parts true true true true true false false h all = absurd cc
 limits_parts true true true true true true false h all = absurd cc
 
-pub kept_start : (line : Description) → opening_fault line ≡ None → Kept (start_of line) (start_of line) [] line.places
+pub kept_start : (line : Description) → opening_fault line ≡ None → BookInvariant (start_of line) (start_of line) [] line.capacity
 kept_start line accepted =
-    let (places, masters) = limits_parts (nat_le 2 line.places) _ _ _ _ _ (list_all is_station line.masters) _ (by_limits (is_within_limits line) _ accepted) in
+    let (capacity, masters) = limits_parts (nat_le 2 line.capacity) _ _ _ _ _ (list_all is_station line.masters) _ (by_limits (is_within_limits line) _ accepted) in
     record {
       legal = tt;
       is_after = refl;
       counted = refl;
-      same_places = refl;
+      same_capacity = refl;
       same_masters = refl;
       stations = masters;
-      within = (let some = places in grind (arith, nat_tests));
-      running = λ _. (let some = places in grind (arith, nat_tests));
+      within = (let some = capacity in grind (arith, nat_tests));
+      running = λ _. (let some = capacity in grind (arith, nat_tests));
       room = refl;
     }

@@ -10,7 +10,7 @@ use Rattle.dp_audit.specs.declared.entry.Entry.{Entry}
 use Rattle.dp_audit.specs.Packed.{IsPackable, packed_entry, packed_event, packed_facts, packed_outcome, packed_entries, record_octets, two_octets}
 use Rattle.dp_audit.specs.Unpacked.{entry_in, numbered, record_in}
 use Rattle.dp_audit.specs.Records.{HavePlaces, entry_at}
-use Rattle.dp_audit.specs.Stored.{AreStored, entries_in, entry_before, starts_from}
+use Rattle.dp_audit.specs.RecordsInvariant.{AreStored, entries_in, entry_before, starts_from}
 use Rattle.dp_audit.proofs.ReadBack.{entry_read}
 use Rattle.dp_audit.proofs.Sizes.{entry_size, packed_size}
 
@@ -63,11 +63,11 @@ read_whole entries all have = stored_read [] 1 entries all have
 -- ---- keeping
 
 -- what is stored with one more entry
-pub stored_more : (entries : List Entry) (entry : Entry) (octets starts more_octets more_starts : List ℕ) (places room more_room start_room more_start_room : ℕ)
-    → AreStored entries octets starts places room start_room → IsPackable entry → entry.place ≡ length entries + 1 → length entries < places
+pub stored_more : (entries : List Entry) (entry : Entry) (octets starts more_octets more_starts : List ℕ) (capacity room more_room start_room more_start_room : ℕ)
+    → AreStored entries octets starts capacity room start_room → IsPackable entry → entry.place ≡ length entries + 1 → length entries < capacity
     → more_octets ≡ octets ++ record_octets entry → more_starts ≡ starts ++ length octets ∷ [] → room ≤ more_room → start_room ≤ more_start_room
-    → AreStored (entries ++ entry ∷ []) more_octets more_starts places more_room more_start_room
-stored_more entries entry octets starts more_octets more_starts places room more_room start_room more_start_room stored packable next free is_octets is_starts at_least starts_at_least =
+    → AreStored (entries ++ entry ∷ []) more_octets more_starts capacity more_room more_start_room
+stored_more entries entry octets starts more_octets more_starts capacity room more_room start_room more_start_room stored packable next free is_octets is_starts at_least starts_at_least =
     let all = length-append entries (entry ∷ []) in
     record {
       records = is_octets ∙ ap (λ o. o ++ record_octets entry) stored.records ∙ sym (packed_more entries entry);
@@ -82,8 +82,8 @@ stored_more entries entry octets starts more_octets more_starts places room more
     }
 
 -- what is stored is what is read
-pub read_is : (entries : List Entry) (octets starts : List ℕ) (places room start_room : ℕ) → AreStored entries octets starts places room start_room → entries_in octets 1 starts ≡ entries
-read_is entries octets starts places room start_room stored =
+pub read_is : (entries : List Entry) (octets starts : List ℕ) (capacity room start_room : ℕ) → AreStored entries octets starts capacity room start_room → entries_in octets 1 starts ≡ entries
+read_is entries octets starts capacity room start_room stored =
     ap (λ o. entries_in o 1 starts) stored.records ∙ ap (λ s. entries_in (packed_entries entries) 1 s) stored.table ∙ read_whole entries stored.packable stored.in_turn
 
 -- ---- sizes
@@ -92,11 +92,11 @@ starts_count : (start : ℕ) (entries : List Entry) → length (starts_from star
 starts_count start [] = refl
 starts_count start (entry ∷ entries) = omega (arith, starts_count (start + length (record_octets entry)) entries)
 
-pub counted : (entries : List Entry) (octets starts : List ℕ) (places room start_room : ℕ) → AreStored entries octets starts places room start_room → length starts ≡ length entries
-counted entries octets starts places room start_room stored = ap length stored.table ∙ starts_count 0 entries
+pub counted : (entries : List Entry) (octets starts : List ℕ) (capacity room start_room : ℕ) → AreStored entries octets starts capacity room start_room → length starts ≡ length entries
+counted entries octets starts capacity room start_room stored = ap length stored.table ∙ starts_count 0 entries
 
-pub octets_count : (entries : List Entry) (octets starts : List ℕ) (places room start_room : ℕ) → AreStored entries octets starts places room start_room → length octets ≤ 520 * length entries
-octets_count entries octets starts places room start_room stored =
+pub octets_count : (entries : List Entry) (octets starts : List ℕ) (capacity room start_room : ℕ) → AreStored entries octets starts capacity room start_room → length octets ≤ 520 * length entries
+octets_count entries octets starts capacity room start_room stored =
     let same = ap length stored.records in
     let size = packed_size entries stored.packable in
     omega arith
@@ -116,15 +116,15 @@ record_is before entry size is =
     ∙ ap (λ n. before ++ (two_octets n ++ packed_entry entry)) whole
 
 -- what a push leaves: it is stored, and read as one entry more
-pub pushed : (entry : Entry) (octets starts more_octets more_starts : List ℕ) (places room more_room start_room more_start_room : ℕ)
-    → AreStored (entries_in octets 1 starts) octets starts places room start_room → IsPackable entry → entry.place ≡ length (entries_in octets 1 starts) + 1 → length (entries_in octets 1 starts) < places
+pub pushed : (entry : Entry) (octets starts more_octets more_starts : List ℕ) (capacity room more_room start_room more_start_room : ℕ)
+    → AreStored (entries_in octets 1 starts) octets starts capacity room start_room → IsPackable entry → entry.place ≡ length (entries_in octets 1 starts) + 1 → length (entries_in octets 1 starts) < capacity
     → more_octets ≡ octets ++ record_octets entry → more_starts ≡ starts ++ length octets ∷ [] → room ≤ more_room → start_room ≤ more_start_room
-    → AreStored (entries_in more_octets 1 more_starts) more_octets more_starts places more_room more_start_room × (entries_in more_octets 1 more_starts ≡ entries_in octets 1 starts ++ entry ∷ [])
-pushed entry octets starts more_octets more_starts places room more_room start_room more_start_room stored packable next free is_octets is_starts at_least starts_at_least =
+    → AreStored (entries_in more_octets 1 more_starts) more_octets more_starts capacity more_room more_start_room × (entries_in more_octets 1 more_starts ≡ entries_in octets 1 starts ++ entry ∷ [])
+pushed entry octets starts more_octets more_starts capacity room more_room start_room more_start_room stored packable next free is_octets is_starts at_least starts_at_least =
     let entries = entries_in octets 1 starts in
-    let more = stored_more entries entry octets starts more_octets more_starts places room more_room start_room more_start_room stored packable next free is_octets is_starts at_least starts_at_least in
-    let read = read_is (entries ++ entry ∷ []) more_octets more_starts places more_room more_start_room more in
-    (subst (λ es. AreStored es more_octets more_starts places more_room more_start_room) (sym read) more, read)
+    let more = stored_more entries entry octets starts more_octets more_starts capacity room more_room start_room more_start_room stored packable next free is_octets is_starts at_least starts_at_least in
+    let read = read_is (entries ++ entry ∷ []) more_octets more_starts capacity more_room more_start_room more in
+    (subst (λ es. AreStored es more_octets more_starts capacity more_room more_start_room) (sym read) more, read)
 
 -- ---- none yet
 
@@ -132,12 +132,12 @@ none_read : entries_in [] 1 [] ≡ []
 unfolding entries_in
 none_read = refl
 
-pub none_stored : (octets starts : List ℕ) (places room start_room : ℕ) → octets ≡ [] → starts ≡ [] → places ≤ 65536 → 520 * places ≤ room → places ≤ start_room
-    → AreStored (entries_in octets 1 starts) octets starts places room start_room × (entries_in octets 1 starts ≡ [])
-none_stored octets starts places room start_room no_octets no_starts few enough starts_enough =
+pub none_stored : (octets starts : List ℕ) (capacity room start_room : ℕ) → octets ≡ [] → starts ≡ [] → capacity ≤ 65536 → 520 * capacity ≤ room → capacity ≤ start_room
+    → AreStored (entries_in octets 1 starts) octets starts capacity room start_room × (entries_in octets 1 starts ≡ [])
+none_stored octets starts capacity room start_room no_octets no_starts few enough starts_enough =
     let read : entries_in octets 1 starts ≡ [] = ap (λ o. entries_in o 1 starts) no_octets ∙ ap (λ s. entries_in [] 1 s) no_starts ∙ none_read in
-    let stored : AreStored [] octets starts places room start_room = record { records = no_octets; table = no_starts; packable = tt; in_turn = tt; within = omega arith; few = few; room = enough; starts_room = starts_enough } in
-    (subst (λ es. AreStored es octets starts places room start_room) (sym read) stored, read)
+    let stored : AreStored [] octets starts capacity room start_room = record { records = no_octets; table = no_starts; packable = tt; in_turn = tt; within = omega arith; few = few; room = enough; starts_room = starts_enough } in
+    (subst (λ es. AreStored es octets starts capacity room start_room) (sym read) stored, read)
 
 -- ---- finding
 
@@ -167,9 +167,9 @@ found_from before (entry ∷ entries) (suc index) =
     ∙ ap (λ start. record_from ((before ++ first) ++ others) (slice_get (starts_from start entries) index)) (sym (length-append before first))
     ∙ found_from (before ++ first) entries index
 
-pub found : (entries : List Entry) (octets starts : List ℕ) (places room start_room : ℕ) → AreStored entries octets starts places room start_room → (index : ℕ)
+pub found : (entries : List Entry) (octets starts : List ℕ) (capacity room start_room : ℕ) → AreStored entries octets starts capacity room start_room → (index : ℕ)
     → option_and_then (λ start. record_in (drop start octets)) (slice_get starts index) ≡ option_map record_octets (slice_get entries index)
-found entries octets starts places room start_room stored index =
+found entries octets starts capacity room start_room stored index =
     ap (λ o. record_from o (slice_get starts index)) stored.records
     ∙ ap (λ s. record_from (packed_entries entries) (slice_get s index)) stored.table
     ∙ found_from [] entries index
@@ -182,8 +182,8 @@ start_within start (entry ∷ entries) (suc index) at e =
     let later = start_within (start + length (record_octets entry)) entries index at e in
     omega arith
 
-pub start_is_within : (entries : List Entry) (octets starts : List ℕ) (places room start_room : ℕ) → AreStored entries octets starts places room start_room → (index start : ℕ) → slice_get starts index ≡ Some start → start ≤ length octets
-start_is_within entries octets starts places room start_room stored index start e =
+pub start_is_within : (entries : List Entry) (octets starts : List ℕ) (capacity room start_room : ℕ) → AreStored entries octets starts capacity room start_room → (index start : ℕ) → slice_get starts index ≡ Some start → start ≤ length octets
+start_is_within entries octets starts capacity room start_room stored index start e =
     let same = ap length stored.records in
     let within = start_within 0 entries index start (ap (λ s. slice_get s index) (sym stored.table) ∙ e) in
     omega arith
@@ -206,20 +206,20 @@ entry_of_record entries index place entry have all at e =
     ap (entry_in place) (sym (append-nil (record_octets entry))) ∙ entry_read place entry [] packable ∙ ap (λ p. Some (record entry { place = p })) (at ∙ sym here)
 
 -- the same by the place
-pub record_at : (entries : List Entry) (octets starts : List ℕ) (places room start_room : ℕ) → AreStored entries octets starts places room start_room → (place : ℕ)
+pub record_at : (entries : List Entry) (octets starts : List ℕ) (capacity room start_room : ℕ) → AreStored entries octets starts capacity room start_room → (place : ℕ)
     → option_and_then (λ start. record_in (drop start octets)) (numbered starts place) ≡ option_map record_octets (entry_at entries place)
-record_at entries octets starts places room start_room stored place = by (place == 0)
+record_at entries octets starts capacity room start_room stored place = by (place == 0)
   where
     by : (none : Bool) → option_and_then (λ start. record_in (drop start octets)) (cond none None (slice_get starts (place - 1))) ≡ option_map record_octets (cond none None (slice_get entries (place - 1)))
     by true = refl
-    by false = found entries octets starts places room start_room stored (place - 1)
+    by false = found entries octets starts capacity room start_room stored (place - 1)
 
-pub start_at_within : (entries : List Entry) (octets starts : List ℕ) (places room start_room : ℕ) → AreStored entries octets starts places room start_room → (place start : ℕ) → numbered starts place ≡ Some start → start ≤ length octets
-start_at_within entries octets starts places room start_room stored place start = by (place == 0)
+pub start_at_within : (entries : List Entry) (octets starts : List ℕ) (capacity room start_room : ℕ) → AreStored entries octets starts capacity room start_room → (place start : ℕ) → numbered starts place ≡ Some start → start ≤ length octets
+start_at_within entries octets starts capacity room start_room stored place start = by (place == 0)
   where
     by : (none : Bool) → cond none None (slice_get starts (place - 1)) ≡ Some start → start ≤ length octets
     by true e = absurd cc
-    by false e = start_is_within entries octets starts places room start_room stored (place - 1) start e
+    by false e = start_is_within entries octets starts capacity room start_room stored (place - 1) start e
 
 pub entry_read_at : (entries : List Entry) (place : ℕ) (octets : List ℕ) (read : Option Entry) → HavePlaces 1 entries → AllByRecursion IsPackable entries
     → Some octets ≡ option_map record_octets (entry_at entries place) → read ≡ entry_in place octets → read ≡ entry_at entries place

@@ -56,8 +56,8 @@ has_first (e ∷ entries) = record { first = entry_text e; others = entry_lines 
 
 -- a line that isn't halted has a place left
 pub record HasRoom (world : World) : Type 0 where
-  pub left : world.halted ≡ false → world.count < world.places
-  pub most : world.places ≤ 65536
+  pub left : world.halted ≡ false → world.count < world.capacity
+  pub most : world.capacity ≤ 65536
 
 within_by : (within : Bool) (others : Option OpenFault) → cond (not within) (Some Limit) others ≡ None → within ≡ true
 within_by true others e = refl
@@ -75,10 +75,10 @@ first_two a b c d e f g h all =
 pub room_at_start : (line : Description) → opening_fault line ≡ None → HasRoom (start_of line)
 room_at_start line e =
     let (least, most) =
-    first_two (leb 2 line.places) (leb line.places 65536) (leb 1 (length line.masters)) (leb (length line.masters) 16) (leb 1 (length line.slaves)) (leb (length line.slaves) 64)
+    first_two (leb 2 line.capacity) (leb line.capacity 65536) (leb 1 (length line.masters)) (leb (length line.masters) 16) (leb 1 (length line.slaves)) (leb (length line.slaves) 64)
     (list_all is_station line.masters) (list_all slave_is_within_limits line.slaves) (within_by (is_within_limits line) _ e) in
-    let two = leb-true 2 line.places least in
-    record { left = λ running. omega arith; most = leb-true line.places 65536 most }
+    let two = leb-true 2 line.capacity least in
+    record { left = λ running. omega arith; most = leb-true line.capacity 65536 most }
 
 pub room_kept : (world : World) (e : Entry) → Follows world e → HasRoom world → HasRoom (after_entry world e)
 unfolding effect
@@ -91,8 +91,8 @@ room_kept world e follows room = record {
     runs true halted e = absurd cc
     runs false halted e = refl
 
-    by : (last : Bool) → is_last_place world ≡ last → (is_halt e.event || world.halted) ≡ false → world.count + 1 < world.places
-    by false is running = let more = leb-false world.places (world.count + 1) is in omega arith
+    by : (last : Bool) → is_last_place world ≡ last → (is_halt e.event || world.halted) ≡ false → world.count + 1 < world.capacity
+    by false is running = let more = leb-false world.capacity (world.count + 1) is in omega arith
     by true is running = absurd (let halt : true ≡ false = sym (ap is_halt (follows.halts_at_last is)) ∙ runs (is_halt e.event) world.halted running in cc)
 
 pub small_place : (world : World) (e : Entry) → Follows world e → HasRoom world → world.count + 1 ≤ 4294967295

@@ -1,7 +1,7 @@
 pub mod Codes
 pub mod Journal
 pub mod Legal
-pub mod Ways
+pub mod EventWays
 pub mod Packed
 pub mod Unpacked
 pub mod AuditText
@@ -11,5 +11,5 @@ pub mod FirstWrong
 pub mod AuditExamples
 pub mod UnpackedExamples
 pub mod Records
-pub mod Kept
-pub mod Stored
+pub mod BookInvariant
+pub mod RecordsInvariant

@@ -5,7 +5,7 @@ use Rattle.dp_audit.specs.declared.entry.Entry.{Entry}
 -- entries, and for how many there is room
 pub record RecordsView : Type 0 where
   pub entries : List Entry
-  pub places : ℕ
+  pub capacity : ℕ
 
 -- the entry at a place, from 1; None exactly outside the places that are taken
 abbrev pub entry_at : List Entry → ℕ → Option Entry

@@ -45,13 +45,13 @@ pub struct Book {
 
 impl Model for Book {
     ghost use Rattle.dp_audit.specs.Journal.{Journal};
-    ghost use Rattle.dp_audit.specs.Kept.{Kept};
+    ghost use Rattle.dp_audit.specs.BookInvariant.{BookInvariant};
 
     ghost Value = { Journal };
 
     ghost view = { λ b. record { number = b.number; opening = b.opening.value.world; entries = b.records.entries; state = b.state } };
 
-    ghost invariant = { λ b. Kept b.opening.value.world b.state.world b.records.entries b.records.places };
+    ghost invariant = { λ b. BookInvariant b.opening.value.world b.state.world b.records.entries b.records.capacity };
 }
 
 impl Book {
@@ -82,7 +82,7 @@ impl Book {
         ensures journal { self.new ≡ taken self.old event }
     {
         let mut step = Step::blank();
-        self.take_to(&event, &mut step);
+        self.take_into(&event, &mut step);
         Receipt {
             place: step.place,
             event,
@@ -93,13 +93,13 @@ impl Book {
 
     /// The same of an event that stays where it is; the answer is written where one lies, and moved
     /// nowhere. It takes no memory.
-    pub fn take_to(&mut self, event: &Event, answer: &mut Step)
+    pub fn take_into(&mut self, event: &Event, answer: &mut Step)
         ensures answer { answer.new ≡ (step_of self.old.state.world event.now).answer }
         ensures journal { self.new ≡ taken self.old event.now }
     {
         self.state.holders_are_masters();
         let before = Snapshot::of(&self.state);
-        self.state.take_to(event, answer);
+        self.state.take_into(event, answer);
         keep(&mut self.records, &before, event, answer);
     }
 
@@ -118,10 +118,10 @@ impl Book {
     }
 
     /// How many entries there may be: the last place, 2 to 65,536, which is the halt's.
-    pub fn places(&self) -> u32
-        ensures { result ≡ self.now.opening.places }
+    pub fn capacity(&self) -> u32
+        ensures { result ≡ self.now.opening.capacity }
     {
-        self.records.places()
+        self.records.capacity()
     }
 
     /// The entry at a place; None exactly where the place isn't one from 1 to [`Book::count`].
@@ -158,12 +158,12 @@ impl Book {
 
     /// The entries are a legal history from the opening, the line is what they leave, they have their
     /// places, and each event is within the limits of its text: facts of the type, for proofs.
-    pub fn is_legal(&self)
+    pub fn prove_legal(&self)
         ensures legal { IsLegal self.now.opening self.now.entries }
         ensures after { self.now.state.world ≡ after_entries self.now.opening self.now.entries }
         ensures counted { self.now.state.world.count ≡ length self.now.entries }
-        ensures within { length self.now.entries ≤ self.now.opening.places }
-        ensures places { self.now.state.world.places ≡ self.now.opening.places }
+        ensures within { length self.now.entries ≤ self.now.opening.capacity }
+        ensures capacity { self.now.state.world.capacity ≡ self.now.opening.capacity }
         ensures masters { self.now.state.world.masters ≡ self.now.opening.masters }
         ensures limits { AllByRecursion (λ entry. IsWithinLimits entry.event) self.now.entries }
     {
@@ -172,11 +172,11 @@ impl Book {
 }
 
 /// Room for so many entries, or the fault that memory was refused.
-fn room_for(alloc: Global, places: u32) -> Result<Records, OpenFault>
-    requires { places ≤ 65536 }
-    ensures { MatchResult result (λ records. records ≡ record { entries = []; places = places }) (λ fault. fault ≡ OpenFault.OutOfMemory) }
+fn room_for(alloc: Global, capacity: u32) -> Result<Records, OpenFault>
+    requires { capacity ≤ 65536 }
+    ensures { MatchResult result (λ records. records ≡ record { entries = []; capacity = capacity }) (λ fault. fault ≡ OpenFault.OutOfMemory) }
 {
-    Records::with_places(alloc, places).map_err(|_| OpenFault::OutOfMemory)
+    Records::with_capacity(alloc, capacity).map_err(|_| OpenFault::OutOfMemory)
 }
 
 /// Keeps what the step of a line records: its event, or the halt in its stead, or nothing.
@@ -185,7 +185,7 @@ fn keep(records: &mut Records, before: &Snapshot<LineState>, event: &Event, step
     requires holders { HaveMasters before.now.value.world.masters before.now.value.world.slaves }
     requires stations { list_all is_station before.now.value.world.masters ≡ true }
     requires counted { before.now.value.world.count ≡ length records.old.entries }
-    requires room { before.now.value.world.halted ≡ false → before.now.value.world.count + 1 ≤ records.old.places }
+    requires room { before.now.value.world.halted ≡ false → before.now.value.world.count + 1 ≤ records.old.capacity }
     ensures { records.new ≡ record records.old { entries = records.old.entries ++ added before.now.value.world event.now } }
 {
     facts_tell_masters();
@@ -198,7 +198,7 @@ fn keep(records: &mut Records, before: &Snapshot<LineState>, event: &Event, step
 
 /// Keeps the halt, which let these slaves go.
 fn keep_halt(records: &mut Records, addresses: &ArrayVec<u8, MOST_SLAVES>)
-    requires { length records.old.entries < records.old.places }
+    requires { length records.old.entries < records.old.capacity }
     ensures { records.new ≡ record records.old {
       entries = records.old.entries ++ (record { place = length records.old.entries + 1; event = Operator Halt; facts = None; outcome = Released addresses.now }) ∷ [];
     } }

@@ -23,39 +23,39 @@ pub(crate) struct Records {
     octets: Vec<u8>,
     /// Where the record of each entry begins.
     starts: Vec<u32>,
-    places: u32,
+    capacity: u32,
 }
 
 impl Model for Records {
     ghost use Rattle.std.specs.Prelude.{vec_capacity};
     ghost use Rattle.dp_audit.specs.Records.{RecordsView};
-    ghost use Rattle.dp_audit.specs.Stored.{AreStored, entries_in};
+    ghost use Rattle.dp_audit.specs.RecordsInvariant.{AreStored, entries_in};
 
     ghost Value = { RecordsView };
 
-    ghost view = { λ r. record { entries = entries_in r.octets.items 1 r.starts.items; places = r.places } };
+    ghost view = { λ r. record { entries = entries_in r.octets.items 1 r.starts.items; capacity = r.capacity } };
 
-    ghost invariant = { λ r. AreStored (entries_in r.octets.items 1 r.starts.items) r.octets.items r.starts.items r.places (vec_capacity r.octets) (vec_capacity r.starts) };
+    ghost invariant = { λ r. AreStored (entries_in r.octets.items 1 r.starts.items) r.octets.items r.starts.items r.capacity (vec_capacity r.octets) (vec_capacity r.starts) };
 }
 
 impl Records {
     /// Room for so many entries, of which there is none yet; or memory was refused.
-    pub(crate) fn with_places(alloc: Global, places: u32) -> Result<Records, AllocError>
-        requires { places ≤ 65536 }
-        ensures { IfOk result (λ records. records ≡ record { entries = []; places = places }) }
+    pub(crate) fn with_capacity(alloc: Global, capacity: u32) -> Result<Records, AllocError>
+        requires { capacity ≤ 65536 }
+        ensures { IfOk result (λ records. records ≡ record { entries = []; capacity = capacity }) }
     {
-        let octets = Vec::with_capacity(alloc, LONGEST * places as usize)?;
-        let starts = Vec::with_capacity(alloc, places as usize)?;
+        let octets = Vec::with_capacity(alloc, LONGEST * capacity as usize)?;
+        let starts = Vec::with_capacity(alloc, capacity as usize)?;
         Ok(Records {
             octets,
             starts,
-            places,
+            capacity,
         })
     }
 
     /// Puts an entry behind the others, at the next place. It takes no memory.
     pub(crate) fn push(&mut self, event: &Event, facts: &Facts, outcome: &Outcome)
-        requires room { length self.old.entries < self.old.places }
+        requires room { length self.old.entries < self.old.capacity }
         requires point { HasToldPoint event.now }
         requires holder { HasToldHolder facts.now }
         requires recorded { IsNoRefusal outcome.now }
@@ -77,10 +77,10 @@ impl Records {
     }
 
     /// For how many entries there is room.
-    pub(crate) fn places(&self) -> u32
-        ensures { result ≡ self.now.places }
+    pub(crate) fn capacity(&self) -> u32
+        ensures { result ≡ self.now.capacity }
     {
-        self.places
+        self.capacity
     }
 
     /// The entry at a place.
@@ -105,7 +105,7 @@ impl Records {
     pub(crate) fn are_packed(&self)
         ensures places { HavePlaces 1 self.now.entries }
         ensures packable { AllByRecursion IsPackable self.now.entries }
-        ensures within { length self.now.entries ≤ self.now.places }
+        ensures within { length self.now.entries ≤ self.now.capacity }
     {
         let _ = &self.octets;
     }

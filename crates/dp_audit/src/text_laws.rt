@@ -68,6 +68,6 @@ pub fn the_text_of_a_book_is_accepted(book: &Book)
         → book.now.number ≡ line.number
         → checked line (audit_text book.now.number book.now.entries) ≡ Ok (length book.now.entries) }
 {
-    book.is_legal();
+    book.prove_legal();
     every_legal_text_is_accepted();
 }

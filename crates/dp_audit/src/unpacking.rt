@@ -10,17 +10,9 @@ use crate::kinds::{
     BUSY, DIAG, DONE, HALT, INPUT, NO_FACTS, NONE, RELEASED, REPLY, REQUEST, SILENCE, SPREAD, TICK,
 };
 use arrayvec::ArrayVec;
-use dp_line::{Event, Facts, Op, Outcome, Rule};
+use dp_line::{Event, Facts, MOST_EXTENDED, MOST_SLAVES, Op, Outcome, Rule};
 use dp_sap::{MOST_DATA, State};
-
-/// The most octets of a request or a reply.
-const MOST_OCTETS: usize = 255;
-
-/// The most octets of an extended diagnosis.
-const MOST_EXTENDED: usize = 238;
-
-/// The most slaves of a line.
-const MOST_SLAVES: usize = 64;
+use dp_telegram::MOST_OCTETS;
 
 /// The states by their numbers, from 1.
 const STATES: [State; 3] = [State::WaitPrm, State::WaitCfg, State::DataExch];

@@ -7,21 +7,21 @@ use Rattle.dp_slave.specs.declared.view.SlaveView.{SlaveView}
 use Rattle.dp_line.specs.declared.event.Op.{Op}
 use Rattle.dp_line.specs.declared.event.Op.TheVariants.{Input}
 use Rattle.dp_line.specs.World.{described_at}
-use Rattle.dp_devices.specs.declared.driven.Driven.{Driven}
+use Rattle.dp_devices.specs.declared.driven_slave.DrivenSlave.{DrivenSlave}
 use Rattle.dp_devices.specs.Devices.{is_still, next_inputs}
 
 -- the slave of a description, where its device isn't still
-abbrev pub driven_by : ℕ → SlaveSpec → Option Driven
+abbrev pub driven_by : ℕ → SlaveSpec → Option DrivenSlave
 driven_by address slave = if is_still slave.device then None else Some (record { address = address; device = slave.device })
 
 -- the slave that is described for the address, where its device isn't still
-abbrev pub driven_at : List SlaveSpec → ℕ → Option Driven
+abbrev pub driven_at : List SlaveSpec → ℕ → Option DrivenSlave
 driven_at slaves address = option_and_then (driven_by address) (described_at slaves address)
 
 -- those that devices drive, in ascending order of address: of each address in turn, the slave that has it, with inputs or without
-unfoldable pub driven_slaves : List SlaveSpec → List Driven
+unfoldable pub driven_slaves : List SlaveSpec → List DrivenSlave
 driven_slaves slaves = filter_map (driven_at slaves) (range_with_len 0 global_address)
 
 -- what its device does next to a slave that is seen like this
-abbrev pub next_input : Driven → SlaveView → Op
+abbrev pub next_input : DrivenSlave → SlaveView → Op
 next_input driven slave = Input driven.address (record { items = next_inputs driven.device slave.inputs.items slave.outputs.items })

@@ -5,8 +5,8 @@
 #![tactic(auto)]
 
 mod devices;
-mod driven;
+mod driven_slave;
 pub mod laws;
 
 pub use devices::next_inputs;
-pub use driven::{Driven, MOST_DRIVEN, driven_slaves};
+pub use driven_slave::{DrivenSlave, MOST_DRIVEN, driven_slaves};

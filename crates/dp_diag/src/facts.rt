@@ -34,12 +34,12 @@ pub fn octets(facts: &DiagFacts) -> ArrayVec<u8, MOST_DATA>
     ensures { result.items ≡ diagnosis_text facts.now }
 {
     let mut octets = ArrayVec::new();
-    octets_to(facts, &mut octets);
+    octets_into(facts, &mut octets);
     octets
 }
 
 /// Puts the octets of the diagnosis where octets lie, as [`octets`] answers them.
-pub fn octets_to(facts: &DiagFacts, octets: &mut ArrayVec<u8, MOST_DATA>)
+pub fn octets_into(facts: &DiagFacts, octets: &mut ArrayVec<u8, MOST_DATA>)
     ensures { octets.new.items ≡ diagnosis_text facts.now }
 {
     let [ident_high, ident_low] = facts.ident.to_be_bytes();

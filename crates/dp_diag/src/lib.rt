@@ -11,4 +11,4 @@ pub mod laws;
 
 pub use diag::{Diag, MOST_EXTENDED};
 pub use dp_sap::State;
-pub use facts::{DiagFacts, octets, octets_to};
+pub use facts::{DiagFacts, octets, octets_into};

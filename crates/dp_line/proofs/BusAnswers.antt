@@ -24,7 +24,7 @@ use Rattle.dp_slave.specs.SlaveRecord.{SlaveRecord, limits_of, starting_slave}
 use Rattle.dp_slave.specs.Acts.{Act, configures, exchanges, is_controlled, is_read, misconfigures, tells_diagnosis}
 use Rattle.dp_slave.specs.Fields.{acted}
 use Rattle.dp_slave.specs.Services.{chk_cfg_act, control_of, its_cfg, prm_act, same_octets, service_act, set_prm_act}
-use Rattle.dp_slave.specs.Lives.{IsSound}
+use Rattle.dp_slave.specs.Soundness.{IsSound}
 use Rattle.dp_line.specs.declared.event.Event.{Event}
 use Rattle.dp_line.specs.declared.event.Event.TheVariants.{Operator}
 use Rattle.dp_line.specs.declared.event.Op.{Op}

@@ -21,7 +21,7 @@ use Rattle.dp_slave.specs.SlaveRecord.{SlaveRecord, input_length, limits_of, out
 use Rattle.dp_slave.specs.Acts.{Act, locks, faults, unlocks, sets_min_tsdr, configures, misconfigures, exchanges, tells_diagnosis, is_read, is_controlled, is_fed, reports, is_marked, ticks, halts}
 use Rattle.dp_slave.specs.Fields.{acted}
 use Rattle.dp_slave.specs.Services.{chk_cfg_act, control_of, its_cfg, prm_act, same_octets, service_act, set_prm_act}
-use Rattle.dp_slave.specs.Lives.{IsSound, acts_after, all_fit, fits}
+use Rattle.dp_slave.specs.Soundness.{IsSound, acts_after, all_fit, fits}
 use Rattle.dp_line.specs.declared.event.Event.{Event}
 use Rattle.dp_line.specs.declared.event.Event.TheVariants.{Request, Operator}
 use Rattle.dp_line.specs.declared.event.Op.{Op}

@@ -20,7 +20,7 @@ use Rattle.dp_slave.specs.SlaveRecord.{SlaveRecord, is_held_by, output_length, p
 use Rattle.dp_slave.specs.Acts.{tells_diagnosis, is_read, is_controlled}
 use Rattle.dp_slave.specs.Fields.{acted}
 use Rattle.dp_slave.specs.Services.{chk_cfg_act, control_of, service_act, set_prm_act}
-use Rattle.dp_slave.specs.Lives.{IsSound}
+use Rattle.dp_slave.specs.Soundness.{IsSound}
 use Rattle.dp_line.specs.declared.event.Event.{Event}
 use Rattle.dp_line.specs.declared.event.Event.TheVariants.{Request}
 use Rattle.dp_line.specs.World.{Description, World, slave_at, start_of}

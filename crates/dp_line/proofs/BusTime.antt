@@ -6,7 +6,7 @@ use Rattle.std.specs.List.{AllByRecursion}
 use Rattle.std.proofs.lemmas.Bool.{eq-eqb}
 use Rattle.dp_prm.specs.declared.prm.Prm.{Prm}
 use Rattle.dp_slave.specs.SlaveRecord.{SlaveRecord, full_time, is_held}
-use Rattle.dp_slave.specs.Lives.{IsSound}
+use Rattle.dp_slave.specs.Soundness.{IsSound}
 use Rattle.dp_line.specs.declared.event.Event.{Event}
 use Rattle.dp_line.specs.World.{Description, start_of}
 use Rattle.dp_line.specs.Steps.{run}

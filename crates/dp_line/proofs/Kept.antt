@@ -19,7 +19,7 @@ use Rattle.dp_line.specs.World.{address_of_slave, slave_among}
 use Rattle.dp_line.specs.Hearing.{is_to_all}
 use Rattle.dp_line.specs.Verdict.{is_global_control}
 use Rattle.dp_line.specs.Effects.{served_where_asked, slave_after_op}
-use Rattle.dp_line.specs.Serving.{served_to}
+use Rattle.dp_line.specs.RequestAtSlave.{served_to}
 use Rattle.dp_line.specs.Stations.{AreStations, AreThreaded, HaveMasters, IsMove, stays, lets_go, is_locked, StationsView, at_index, operated, slave_asked, slaves_of, ticked}
 use Rattle.dp_line.proofs.Addresses.{absent-indexed, addresses_kept, ascend-same, at_address, at_index-map, find-indexed, indexed-same, there-indexed}
 use Rattle.dp_line.proofs.Controls.{control_holder}

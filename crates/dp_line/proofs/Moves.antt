@@ -25,7 +25,7 @@ use Rattle.dp_line.specs.declared.event.Op.TheVariants.{Input, Diag, Busy, Tick,
 use Rattle.dp_line.specs.Events.{act_of_op}
 use Rattle.dp_line.specs.World.{address_of_slave}
 use Rattle.dp_line.specs.Served.{executed, served}
-use Rattle.dp_line.specs.Serving.{served_to}
+use Rattle.dp_line.specs.RequestAtSlave.{served_to}
 use Rattle.dp_line.specs.Stations.{AreBefore, AreThreaded, IsMove, stays, lets_go, is_locked, IsWritten, at_index, links_of, lists_of, operated, slaves_of}
 use Rattle.dp_line.proofs.Addresses.{slave_read}
 

@@ -118,7 +118,7 @@ faults_by true true c e = absurd cc
 faults_by true false false e = absurd cc
 
 pub record IsOpened (line : Description) : Type 0 where
-  pub two_places : 2 ≤ line.places
+  pub two_places : 2 ≤ line.capacity
   pub few_masters : length line.masters ≤ 16
   pub few_slaves : length line.slaves ≤ 64
   pub configured : list_all has_configuration line.slaves ≡ true
@@ -126,10 +126,10 @@ pub record IsOpened (line : Description) : Type 0 where
 pub opened : (line : Description) → opening_fault line ≡ None → IsOpened line
 opened line e =
     let (within, configured) = faults_by (is_within_limits line) (has_twice (station_addresses line)) (list_all has_configuration line.slaves) e in
-    let limits = limits_by (nat_le 2 line.places) (nat_le line.places 65536) (nat_le 1 (length line.masters)) (nat_le (length line.masters) 16)
+    let limits = limits_by (nat_le 2 line.capacity) (nat_le line.capacity 65536) (nat_le 1 (length line.masters)) (nat_le (length line.masters) 16)
     (nat_le 1 (length line.slaves)) (nat_le (length line.slaves) 64) (list_all is_station line.masters) (list_all slave_is_within_limits line.slaves) within in
     record {
-      two_places = leb-true 2 line.places limits.0;
+      two_places = leb-true 2 line.capacity limits.0;
       few_masters = leb-true (length line.masters) 16 limits.1;
       few_slaves = leb-true (length line.slaves) 64 limits.2;
       configured = configured;

@@ -13,6 +13,6 @@ pub mod Walk
 pub mod Isolation
 pub mod Bus
 pub mod Stations
-pub mod Serving
+pub mod RequestAtSlave
 pub mod LineExamples
 pub mod BroadcastExamples

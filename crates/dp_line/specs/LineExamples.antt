@@ -39,7 +39,7 @@ slave_5 = record {
 abbrev pub fresh : World
 fresh = record {
   masters = 1 ∷ 2 ∷ [];
-  places = 1000;
+  capacity = 1000;
   count = 0;
   halted = false;
   slaves = starting_slave (1 ∷ 2 ∷ []) slave_5 ∷ [];
@@ -163,7 +163,7 @@ operator_halts = refl
 
 -- at the last place the halt is recorded instead of what comes, an operator's own halt too; what doesn't fit is refused before that
 pub at_the_last_place :
-    (run (record fresh { places = 2 }) (ask 1 lock ∷ inputs 9 [] ∷ Operator Halt ∷ [])).answers
+    (run (record fresh { capacity = 2 }) (ask 1 lock ∷ inputs 9 [] ∷ Operator Halt ∷ [])).answers
     ≡ (record { place = Some 1; facts = Some (WaitPrm, None); outcome = reply (0xE5 ∷ []) rules.Done; halted = None })
     ∷ (record { place = None; facts = None; outcome = Refused faults.NoStation; halted = None })
     ∷ (record { place = None; facts = None; outcome = Refused faults.Halted; halted = Some (record { items = 5 ∷ [] }) })

@@ -13,7 +13,7 @@ use Rattle.dp_line.specs.declared.fault.OpenFault.TheVariants.{TwiceAddress, Lim
 -- slaves in ascending order of address (own)
 pub record World : Type 0 where
   pub masters : List ℕ
-  pub places : ℕ
+  pub capacity : ℕ
   pub count : ℕ
   pub halted : Bool
   pub slaves : List SlaveRecord
@@ -38,7 +38,7 @@ slave_at world address = slave_among world.slaves address
 
 -- at most the place of the halt is left
 abbrev pub is_last_place : World → Bool
-is_last_place world = nat_le world.places (world.count + 1)
+is_last_place world = nat_le world.capacity (world.count + 1)
 
 abbrev pub takes_no_more : World → Bool
 takes_no_more world = world.halted || is_last_place world
@@ -46,7 +46,7 @@ takes_no_more world = world.halted || is_last_place world
 -- a line's description: its number in the rack, the places of its journal, and its stations
 pub record Description : Type 0 where
   pub number : ℕ
-  pub places : ℕ
+  pub capacity : ℕ
   pub masters : List ℕ
   pub slaves : List SlaveSpec
 
@@ -54,7 +54,7 @@ pub record Description : Type 0 where
 abbrev pub description_of : LineSpec → Description
 description_of line = record {
   number = line.number;
-  places = line.capacity;
+  capacity = line.capacity;
   masters = line.masters.items;
   slaves = line.slaves.items;
 }
@@ -66,7 +66,7 @@ slave_is_within_limits slave = is_station slave.address && nat_le slave.user_max
 -- the limits of a line's description (own)
 abbrev pub is_within_limits : Description → Bool
 is_within_limits line =
-    nat_le 2 line.places && nat_le line.places 65536
+    nat_le 2 line.capacity && nat_le line.capacity 65536
     && nat_le 1 (length line.masters) && nat_le (length line.masters) 16
     && nat_le 1 (length line.slaves) && nat_le (length line.slaves) 64
     && list_all is_station line.masters
@@ -106,7 +106,7 @@ ascending slaves = filter_map (described_at slaves) (range_with_len 0 global_add
 abbrev pub start_of : Description → World
 start_of line = record {
   masters = line.masters;
-  places = line.places;
+  capacity = line.capacity;
   count = 0;
   halted = false;
   slaves = map (starting_slave line.masters) (ascending line.slaves);

@@ -7,7 +7,7 @@ ghost use Rattle.dp_telegram.specs.declared.frame.Frame.{Frame as Frames};
 ghost use Rattle.dp_telegram.specs.FrameText.{Spells};
 ghost use Rattle.dp_responder.specs.declared.rule.Rule.{Rule as Rules};
 ghost use Rattle.dp_slave.specs.SlaveRecord.{IsReleased, SlaveRecord, full_time, is_held};
-ghost use Rattle.dp_slave.specs.Lives.{IsSound};
+ghost use Rattle.dp_slave.specs.Soundness.{IsSound};
 ghost use Rattle.dp_line.specs.declared.event.Event.{Event as Events};
 ghost use Rattle.dp_line.specs.declared.event.Outcome.{Outcome as Answered};
 ghost use Rattle.dp_line.specs.World.{Description, World, opening_fault, slave_at, start_of};

@@ -159,14 +159,14 @@ pub fn time_runs_only_under_a_holder()
 pub fn a_watchdog_runs_out_in_time()
     ensures before { (world : World) (address left : ℕ) (slave : SlaveRecord) (times : List ℕ)
         → world.halted ≡ false
-        → world.count + length times < world.places
+        → world.count + length times < world.capacity
         → slave_at world address ≡ Some slave
         → slave.left ≡ Some left
         → sum_by (λ time. time) times < left
         → slave_at (run world (time_passes times)).world address ≡ Some (record slave { left = Some (left - sum_by (λ time. time) times) }) }
     ensures then { (world : World) (address left : ℕ) (slave : SlaveRecord) (times : List ℕ)
         → world.halted ≡ false
-        → world.count + length times < world.places
+        → world.count + length times < world.capacity
         → slave_at world address ≡ Some slave
         → slave.left ≡ Some left
         → 0 < left

@@ -9,6 +9,7 @@ use crate::description::LineSpec;
 use crate::fault::OpenFault;
 use arrayvec::ArrayVec;
 use dp_cfg::CfgIds;
+use dp_prm::MOST_USER_PARAMETERS;
 use dp_slave::SlaveSpec;
 use dp_telegram::is_station;
 
@@ -19,9 +20,6 @@ pub const MOST_SLAVES: usize = 64;
 const LEAST_PLACES: u32 = 2;
 
 const MOST_PLACES: u32 = 65_536;
-
-/// The most user parameters of a slave, in octets.
-const MOST_USER_PARAMETERS: u8 = 237;
 
 impl LineSpec {
     /// Why no line is opened from the description: `Limit` where a number is outside its limits, else
@@ -71,7 +69,7 @@ fn slaves_are_within(slaves: &[SlaveSpec]) -> bool
 fn slave_is_within(slave: &SlaveSpec) -> bool
     ensures { result ≡ slave_is_within_limits slave.now }
 {
-    is_station(slave.address) && slave.user_max <= MOST_USER_PARAMETERS
+    is_station(slave.address) && usize::from(slave.user_max) <= MOST_USER_PARAMETERS
 }
 
 /// The addresses of masters and slaves.

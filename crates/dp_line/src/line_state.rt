@@ -28,7 +28,7 @@ use std::marker::Model;
 /// A line of slaves, opened from its description. Nothing but [`LineState::open`] takes memory.
 #[derive(Drop)]
 pub struct LineState {
-    places: u32,
+    capacity: u32,
     count: u32,
     halted: bool,
     last_walk: u32,
@@ -46,7 +46,7 @@ impl Model for LineState {
     ghost view = { λ s. record {
       world = record {
         masters = s.stations.masters;
-        places = s.places;
+        capacity = s.capacity;
         count = s.count;
         halted = s.halted;
         slaves = s.stations.slaves;
@@ -54,7 +54,7 @@ impl Model for LineState {
       last_walk = s.last_walk;
     } };
 
-    ghost invariant = { λ s. (s.halted ≡ false → s.count < s.places) × AreBefore (s.count + 1) s.stations.slaves };
+    ghost invariant = { λ s. (s.halted ≡ false → s.count < s.capacity) × AreBefore (s.count + 1) s.stations.slaves };
 }
 
 impl LineState {
@@ -73,7 +73,7 @@ impl LineState {
         }
         let stations = Stations::start(alloc, line).map_err(|_| OpenFault::OutOfMemory)?;
         Ok(LineState {
-            places: line.capacity,
+            capacity: line.capacity,
             count: 0,
             halted: false,
             last_walk: 0,
@@ -88,14 +88,14 @@ impl LineState {
         ensures walk { self.new.last_walk ≡ walk_after self.old.world event.now self.old.last_walk }
     {
         let mut answer = Step::blank();
-        self.take_to(event, &mut answer);
+        self.take_into(event, &mut answer);
         answer
     }
 
     /// Takes one event, and writes the answer where one lies.
     ///
     /// It does what [`LineState::take`] does, and spares the copy of the answer, 376 octets.
-    pub fn take_to(&mut self, event: &Event, answer: &mut Step)
+    pub fn take_into(&mut self, event: &Event, answer: &mut Step)
         ensures world { self.new.world ≡ (step self.old.world event.now).world }
         ensures answer { answer.new ≡ (step self.old.world event.now).answer }
         ensures walk { self.new.last_walk ≡ walk_after self.old.world event.now self.old.last_walk }
@@ -106,7 +106,7 @@ impl LineState {
         if let Some(fault) = self.misfit(event) {
             return unrecorded(Outcome::Refused(fault), None, answer);
         }
-        if self.places - self.count <= 1 {
+        if self.capacity - self.count <= 1 {
             return unrecorded(told_halted(event), Some(self.halt()), answer);
         }
         match event {

@@ -7,7 +7,7 @@ ghost use Rattle.dp_line.specs.ReplyText.{short_reply, positive_reply, data_repl
 
 use arrayvec::ArrayVec;
 use dp_telegram::function_code::{DH, DL};
-use dp_telegram::{Octets, Parts, Telegram, acknowledge_to};
+use dp_telegram::{Octets, Parts, Telegram, acknowledge_into};
 
 /// Writes a reply without data.
 pub(crate) fn short(telegram: &Telegram, function: u8, text: &mut Octets)
@@ -19,7 +19,7 @@ pub(crate) fn short(telegram: &Telegram, function: u8, text: &mut Octets)
         fc: function,
         du: ArrayVec::new(),
     };
-    reply.encode_to(text);
+    reply.encode_into(text);
 }
 
 /// Writes a positive reply with these octets, of high priority or not; where there are none, it is the
@@ -39,7 +39,7 @@ pub(crate) fn positive(
     } else if high {
         short(telegram, DH, text);
     } else {
-        acknowledge_to(text);
+        acknowledge_into(text);
     }
 }
 
@@ -65,5 +65,5 @@ fn with_data(telegram: &Telegram, parts: &Parts, function: u8, octets: &[u8], te
     du.try_extend_from_slice(parts.ssap.as_slice()).unwrap();
     du.try_extend_from_slice(parts.dsap.as_slice()).unwrap();
     du.try_extend_from_slice(octets).unwrap();
-    reply.encode_to(text);
+    reply.encode_into(text);
 }

@@ -11,7 +11,7 @@ ghost use Rattle.dp_line.specs.Effects.{state_and_holder};
 ghost use Rattle.dp_line.specs.Verdict.{is_global_control as is_global_control_of};
 ghost use Rattle.dp_line.specs.Served.{answered};
 ghost use Rattle.dp_line.specs.ReplyText.{positive_reply, short_reply};
-ghost use Rattle.dp_line.specs.Serving.{answer_to, rule_of, served_to, act_of, read_by, judged, Passes, IsOfProfile, AsksForData};
+ghost use Rattle.dp_line.specs.RequestAtSlave.{answer_to, rule_of, served_to, act_of, read_by, judged, Passes, IsOfProfile, AsksForData};
 
 use crate::event::{Facts, Outcome};
 use crate::reply;
@@ -21,7 +21,7 @@ use dp_responder::{Judged, Rule, judge, judge_sdn};
 use dp_sap::{CHK_CFG, GET_CFG, GLOBAL_CONTROL, RD_INP, RD_OUTP, SET_PRM, SLAVE_DIAG};
 use dp_slave::Slave;
 use dp_telegram::function_code::{Function, OK, RS};
-use dp_telegram::{Octets, Parts, Telegram, acknowledge_to};
+use dp_telegram::{Octets, Parts, Telegram, acknowledge_into};
 
 /// A request of a master that has reached a slave.
 #[derive(Drop)]
@@ -178,16 +178,16 @@ impl Request<'_> {
             None => self.exchange(slave, text),
             Some(SLAVE_DIAG) => {
                 let mut diagnosis = ArrayVec::new();
-                slave.slave_diag_to(self.sender, &mut diagnosis);
+                slave.slave_diag_into(self.sender, &mut diagnosis);
                 reply::positive(self.telegram, self.parts, &diagnosis, false, text)
             }
             Some(SET_PRM) => {
                 slave.set_prm(self.sender, self.place, &self.parts.payload);
-                acknowledge_to(text);
+                acknowledge_into(text);
             }
             Some(CHK_CFG) => {
                 slave.chk_cfg(&self.parts.payload);
-                acknowledge_to(text);
+                acknowledge_into(text);
             }
             Some(point) => reply::positive(
                 self.telegram,

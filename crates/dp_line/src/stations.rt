@@ -11,19 +11,19 @@ ghost use Rattle.dp_line.specs.Hearing.{is_to_all};
 ghost use Rattle.dp_line.specs.Verdict.{is_global_control};
 ghost use Rattle.dp_line.specs.declared.event.Outcome.{Outcome as Answers};
 ghost use Rattle.dp_line.specs.Effects.{served_where_asked, slave_after_op, state_and_holder};
-ghost use Rattle.dp_line.specs.Serving.{IsOfProfile, answer_to, ruled_by, served_to};
+ghost use Rattle.dp_line.specs.RequestAtSlave.{IsOfProfile, answer_to, ruled_by, served_to};
 ghost use Rattle.dp_line.specs.Stations.{AreBefore, AreEmpty, HaveMasters, fresh_slave, freed, index_of, slave_asked, slaves_of, started, ticked};
 
 mod answering;
 mod lists;
 
-use crate::description::LineSpec;
+use crate::description::{LineSpec, described};
 use crate::event::{Facts, Op, Outcome};
 use crate::fault::OperatorFault;
 use crate::limits::MOST_SLAVES;
 use crate::request::Request;
 use arrayvec::ArrayVec;
-use dp_owners::{Linked, Links, Owners};
+use dp_owners::{Linked, Links, MOST_MASTERS, Owners};
 use dp_slave::{Slave, SlaveSpec};
 use dp_telegram::LAST_STATION;
 use std::alloc::{AllocError, Global};
@@ -36,7 +36,7 @@ type Indices = [Option<u8>; 256];
 /// that holds it.
 #[derive(Drop)]
 pub(crate) struct Stations {
-    masters: ArrayVec<u8, 16>,
+    masters: ArrayVec<u8, MOST_MASTERS>,
     slaves: Vec<Slave>,
     indices: Indices,
     owners: Owners,
@@ -213,7 +213,7 @@ fn no_owners() -> Owners
 fn starting_slaves(
     alloc: Global,
     descriptions: &[SlaveSpec],
-    masters: &ArrayVec<u8, 16>,
+    masters: &ArrayVec<u8, MOST_MASTERS>,
 ) -> Result<Vec<Slave>, AllocError>
     requires { list_all has_configuration descriptions.now ≡ true }
     ensures { IfOk result (λ slaves. slaves.items ≡ map (fresh_slave masters.now.items) (ascending descriptions.now)) }
@@ -228,7 +228,7 @@ fn starting_slaves(
 }
 
 /// A slave at its start.
-fn fresh(description: &SlaveSpec, masters: &ArrayVec<u8, 16>) -> Slave
+fn fresh(description: &SlaveSpec, masters: &ArrayVec<u8, MOST_MASTERS>) -> Slave
     requires { has_configuration description.now ≡ true }
     ensures { result ≡ fresh_slave masters.now.items description.now }
 {
@@ -240,13 +240,6 @@ fn slave_in(slaves: &[Slave], index: usize) -> Option<&Slave>
     ensures { option_copied result ≡ slice_get slaves.now index }
 {
     slaves.get(index)
-}
-
-/// The description of the slave that has the address.
-fn described(descriptions: &[SlaveSpec], address: u8) -> Option<&SlaveSpec>
-    ensures { option_copied result ≡ described_at descriptions.now address }
-{
-    descriptions.iter().find(|slave| slave.address == address)
 }
 
 /// The index of each slave by its address.

@@ -1,6 +1,6 @@
 mod Writing
 mod Readings
-mod RacksInUse
+mod ScriptRacks
 mod Parting
 mod Passing
 mod Played

@@ -6,7 +6,7 @@ use Rattle.std.proofs.lemmas.Bool.{eqb-true}
 use Rattle.dp_telegram.specs.declared.cutter.Cut.{Cut}
 use Rattle.dp_telegram.specs.Stream.{CutStream, cuts_of, with_cut, uncut}
 use Rattle.dp_audit.specs.Journal.{Journal}
-use Rattle.dp_script.specs.LinesInUse.{Answered, Stream, Passed, piece_answered, pieces_answered, cut_passed, passed, then_passed}
+use Rattle.dp_script.specs.ScriptLines.{Answered, Stream, Passed, piece_answered, pieces_answered, cut_passed, passed, then_passed}
 use Rattle.dp_text.specs.Writes.{WritesPrefix}
 use Rattle.dp_script.proofs.Writing.{appends_none, appends_more, more_prefix}
 

@@ -5,23 +5,23 @@ use Rattle.std.specs.Io.KnownBytes.{Appends}
 use Rattle.std.proofs.lemmas.List.Quantifiers.{position-Some}
 use Rattle.std.proofs.lemmas.Option.{slice_get_read}
 use Rattle.dp_audit.specs.Journal.{Journal}
-use Rattle.dp_script.specs.declared.stop.Stop.{Stop}
-use Rattle.dp_script.specs.declared.stop.Stop.TheVariants as stops
+use Rattle.dp_script.specs.declared.obey_fault.ObeyFault.{ObeyFault}
+use Rattle.dp_script.specs.declared.obey_fault.ObeyFault.TheVariants as stops
 use Rattle.dp_text.specs.declared.op_line.OpLine.{OpLine}
-use Rattle.dp_devices.specs.declared.driven.Driven.{Driven}
+use Rattle.dp_devices.specs.declared.driven_slave.DrivenSlave.{DrivenSlave}
 use Rattle.dp_script.specs.Commands.{send, operate}
-use Rattle.dp_script.specs.LinesInUse.{LineInUse, Sent, Stream, passed, sent_at, sent, operated}
-use Rattle.dp_script.specs.ScriptText.{RackInUse, Obeyed, obeyed, obeyed_by_line}
+use Rattle.dp_script.specs.ScriptLines.{ScriptLine, Sent, Stream, passed, sent_at, sent, operated}
+use Rattle.dp_script.specs.ScriptText.{ScriptRack, Obeyed, obeyed, obeyed_by_line}
 use Rattle.dp_text.specs.Writes.{WritesPrefix}
 use Rattle.dp_script.specs.Runs.{Sends, Obeys}
 
 -- ---- a line
 
-ends : (sending : Sent) (line_in_use : LineInUse) (old new : Option (List ℕ)) (r : Result (Unit {0}) Stop) → OnOk r (line_in_use ≡ sending.line_in_use) → OnOk r (Appends old new sending.text)
-    → OnErr r (WritesPrefix old new sending.text) → IfErr r (λ stop. stop ≡ stops.WriteFault) → Sends (Some sending) line_in_use old new r
-ends sending line_in_use old new (Ok done) leaves ok err fault = (leaves, ok)
-ends sending line_in_use old new (Err stops.WriteFault) leaves ok err fault = err
-ends sending line_in_use old new (Err stops.NoCommand) leaves ok err fault = absurd cc
+ends : (sending : Sent) (script_line : ScriptLine) (old new : Option (List ℕ)) (r : Result (Unit {0}) ObeyFault) → OnOk r (script_line ≡ sending.script_line) → OnOk r (Appends old new sending.text)
+    → OnErr r (WritesPrefix old new sending.text) → IfErr r (λ stop. stop ≡ stops.WriteFault) → Sends (Some sending) script_line old new r
+ends sending script_line old new (Ok done) leaves ok err fault = (leaves, ok)
+ends sending script_line old new (Err stops.WriteFault) leaves ok err fault = err
+ends sending script_line old new (Err stops.NoCommand) leaves ok err fault = absurd cc
 
 on_both : {T E A B C : Type 0} (r : Result T E) → (A → B → C) → OnOk r A → OnOk r B → OnOk r C
 on_both (Ok x) f a b = f a b
@@ -43,16 +43,16 @@ found streams master index stream is read =
       stream_is = slice_get_read streams (length streams) index stream refl within read;
     }
 
-pub sends : (journal next : Journal) (streams : List Stream) (driven : List Driven) (master index : ℕ) (octets : List ℕ) (stream following : Stream) (old new : Option (List ℕ)) (r : Result (Unit {0}) Stop)
+pub sends : (journal next : Journal) (streams : List Stream) (driven : List DrivenSlave) (master index : ℕ) (octets : List ℕ) (stream following : Stream) (old new : Option (List ℕ)) (r : Result (Unit {0}) ObeyFault)
     → IsFound streams master index stream
     → OnOk r (next ≡ (passed journal stream octets).journal) → OnOk r (following ≡ (passed journal stream octets).stream) → OnOk r (Appends old new (passed journal stream octets).text)
     → OnErr r (WritesPrefix old new (passed journal stream octets).text) → IfErr r (λ stop. stop ≡ stops.WriteFault)
     → Sends (sent (record { journal = journal; streams = streams; driven = driven }) master octets) (record { journal = next; streams = set streams index following; driven = driven }) old new r
 sends journal next streams driven master index octets stream following old new r at journal_is stream_is ok err fault =
-    let line_in_use : LineInUse = record { journal = journal; streams = streams; driven = driven } in
-    let sending = sent_at line_in_use octets index stream in
-    let is : sent line_in_use master octets ≡ Some sending =
-    ap (option_and_then (λ index. option_map (sent_at line_in_use octets index) (slice_get streams index))) at.place_is ∙ ap (option_map (sent_at line_in_use octets index)) at.stream_is in
+    let script_line : ScriptLine = record { journal = journal; streams = streams; driven = driven } in
+    let sending = sent_at script_line octets index stream in
+    let is : sent script_line master octets ≡ Some sending =
+    ap (option_and_then (λ index. option_map (sent_at script_line octets index) (slice_get streams index))) at.place_is ∙ ap (option_map (sent_at script_line octets index)) at.stream_is in
     let leaves = on_both r (λ (w : next ≡ (passed journal stream octets).journal) (s : following ≡ (passed journal stream octets).stream).
     ap (λ v. record { journal = v; streams = set streams index following; driven = driven }) w
     ∙ ap (λ f. record { journal = (passed journal stream octets).journal; streams = set streams index f; driven = driven }) s) journal_is stream_is in
@@ -61,7 +61,7 @@ sends journal next streams driven master index octets stream following old new r
 
 -- ---- a rack
 
-by_line : (lines : List LineInUse) (chosen : ℕ) (following : LineInUse) (old new : Option (List ℕ)) (r : Result (Unit {0}) Stop) (sending : Option Sent) → Sends sending following old new r
+by_line : (lines : List ScriptLine) (chosen : ℕ) (following : ScriptLine) (old new : Option (List ℕ)) (r : Result (Unit {0}) ObeyFault) (sending : Option Sent) → Sends sending following old new r
     → Obeys (option_map (obeyed_by_line (record { lines = lines; chosen = chosen })) sending) (record { lines = set lines chosen following; chosen = chosen }) old new r
 by_line lines chosen following old new (Ok done) (Some sending) s = (ap (λ f. record { lines = set lines chosen f; chosen = chosen }) s.0, s.1)
 by_line lines chosen following old new (Err stops.WriteFault) (Some sending) s = s
@@ -70,34 +70,34 @@ by_line lines chosen following old new (Ok done) None s = absurd s
 by_line lines chosen following old new (Err stops.WriteFault) None s = absurd s
 by_line lines chosen following old new (Err stops.NoCommand) None s = s
 
-pub obeys_send : (lines : List LineInUse) (chosen : ℕ) (line following : LineInUse) (master : ℕ) (octets : List ℕ) (old new : Option (List ℕ)) (r : Result (Unit {0}) Stop)
+pub obeys_send : (lines : List ScriptLine) (chosen : ℕ) (line following : ScriptLine) (master : ℕ) (octets : List ℕ) (old new : Option (List ℕ)) (r : Result (Unit {0}) ObeyFault)
     → slice_get lines chosen ≡ Some line → Sends (sent line master octets) following old new r
     → Obeys (obeyed (record { lines = lines; chosen = chosen }) (send master octets)) (record { lines = set lines chosen following; chosen = chosen }) old new r
 obeys_send lines chosen line following master octets old new r is s =
-    let rack_in_use : RackInUse = record { lines = lines; chosen = chosen } in
-    let here : obeyed rack_in_use (send master octets) ≡ option_map (obeyed_by_line rack_in_use) (sent line master octets) =
-    ap (option_and_then (λ line. option_map (obeyed_by_line rack_in_use) (sent line master octets))) is in
+    let script_rack : ScriptRack = record { lines = lines; chosen = chosen } in
+    let here : obeyed script_rack (send master octets) ≡ option_map (obeyed_by_line script_rack) (sent line master octets) =
+    ap (option_and_then (λ line. option_map (obeyed_by_line script_rack) (sent line master octets))) is in
     subst (λ (o : Option Obeyed). Obeys o (record { lines = set lines chosen following; chosen = chosen }) old new r) (sym here)
     (by_line lines chosen following old new r (sent line master octets) s)
 
 -- the line of what is done to it, and its text written
-wrote : (lines : List LineInUse) (chosen : ℕ) (following : LineInUse) (text : List ℕ) (sending : Sent) (old new : Option (List ℕ)) (r : Result (Unit {0}) Stop)
-    → record { line_in_use = following; text = text } ≡ sending
+wrote : (lines : List ScriptLine) (chosen : ℕ) (following : ScriptLine) (text : List ℕ) (sending : Sent) (old new : Option (List ℕ)) (r : Result (Unit {0}) ObeyFault)
+    → record { script_line = following; text = text } ≡ sending
     → OnOk r (Appends old new text) → OnErr r (WritesPrefix old new text) → IfErr r (λ stop. stop ≡ stops.WriteFault)
     → Obeys (Some (obeyed_by_line (record { lines = lines; chosen = chosen }) sending)) (record { lines = set lines chosen following; chosen = chosen }) old new r
 wrote lines chosen following text sending old new r is ok err fault =
     by_line lines chosen following old new r (Some sending)
-    (subst (λ s. Sends (Some s) following old new r) is (ends (record { line_in_use = following; text = text }) following old new r (on_ok r refl) ok err fault))
+    (subst (λ s. Sends (Some s) following old new r) is (ends (record { script_line = following; text = text }) following old new r (on_ok r refl) ok err fault))
 
 -- what a line of the operator asks of the chosen line
-pub obeys_op : (lines : List LineInUse) (chosen : ℕ) (line following : LineInUse) (said : Option OpLine) (op : OpLine) (text : List ℕ) (old new : Option (List ℕ)) (r : Result (Unit {0}) Stop)
-    → slice_get lines chosen ≡ Some line → said ≡ Some op → record { line_in_use = following; text = text } ≡ operated line op
+pub obeys_op : (lines : List ScriptLine) (chosen : ℕ) (line following : ScriptLine) (said : Option OpLine) (op : OpLine) (text : List ℕ) (old new : Option (List ℕ)) (r : Result (Unit {0}) ObeyFault)
+    → slice_get lines chosen ≡ Some line → said ≡ Some op → record { script_line = following; text = text } ≡ operated line op
     → OnOk r (Appends old new text) → OnErr r (WritesPrefix old new text) → IfErr r (λ stop. stop ≡ stops.WriteFault)
     → Obeys (option_and_then (obeyed (record { lines = lines; chosen = chosen })) (option_map operate said)) (record { lines = set lines chosen following; chosen = chosen }) old new r
 obeys_op lines chosen line following said op text old new r is says done ok err fault =
-    let rack_in_use : RackInUse = record { lines = lines; chosen = chosen } in
-    let here : option_and_then (obeyed rack_in_use) (option_map operate said) ≡ Some (obeyed_by_line rack_in_use (operated line op)) =
-    ap (λ (o : Option OpLine). option_and_then (obeyed rack_in_use) (option_map operate o)) says
-    ∙ ap (option_map (λ l. obeyed_by_line rack_in_use (operated l op))) is in
+    let script_rack : ScriptRack = record { lines = lines; chosen = chosen } in
+    let here : option_and_then (obeyed script_rack) (option_map operate said) ≡ Some (obeyed_by_line script_rack (operated line op)) =
+    ap (λ (o : Option OpLine). option_and_then (obeyed script_rack) (option_map operate o)) says
+    ∙ ap (option_map (λ l. obeyed_by_line script_rack (operated l op))) is in
     subst (λ (o : Option Obeyed). Obeys o (record { lines = set lines chosen following; chosen = chosen }) old new r) (sym here)
     (wrote lines chosen following text (operated line op) old new r done ok err fault)

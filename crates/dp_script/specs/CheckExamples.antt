@@ -31,7 +31,7 @@ abbrev rack_1 : RackDescription
 rack_1 = record {
   workers = 4;
   lines = record {
-    line = record { number = 1; places = 1000; masters = 1 ∷ 2 ∷ []; slaves = slave_5 ∷ [] };
+    line = record { number = 1; capacity = 1000; masters = 1 ∷ 2 ∷ []; slaves = slave_5 ∷ [] };
     listen = None;
     operator = None;
   } ∷ [];

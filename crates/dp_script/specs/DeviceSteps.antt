@@ -7,7 +7,7 @@ use Rattle.dp_line.specs.declared.event.Event.TheVariants.{Operator}
 use Rattle.dp_line.specs.World.{slave_at}
 use Rattle.dp_line.specs.Steps.{step}
 use Rattle.dp_audit.specs.Journal.{Journal, taken}
-use Rattle.dp_devices.specs.declared.driven.Driven.{Driven}
+use Rattle.dp_devices.specs.declared.driven_slave.DrivenSlave.{DrivenSlave}
 use Rattle.dp_devices.specs.DrivenSlaves.{next_input}
 
 -- what devices leave: the journal, and how many Inputs of theirs were recorded
@@ -24,16 +24,16 @@ fed_by journal event = record {
 }
 
 -- the device of a slave that is seen like this feeds it
-abbrev pub fed_as_seen : Journal → Driven → Option SlaveView → Fed
+abbrev pub fed_as_seen : Journal → DrivenSlave → Option SlaveView → Fed
 fed_as_seen journal driven None = record { journal = journal; recorded = 0 }
 fed_as_seen journal driven (Some slave) = fed_by journal (Operator (next_input driven slave))
 
 -- the device of one slave feeds it, by its inputs and outputs as they are then
-abbrev pub fed_once : Journal → Driven → Fed
+abbrev pub fed_once : Journal → DrivenSlave → Fed
 fed_once journal driven = fed_as_seen journal driven (option_map view_of (slave_at journal.state.world driven.address))
 
 -- one device after another
-abbrev pub fed_each : Journal → List Driven → Fed
+abbrev pub fed_each : Journal → List DrivenSlave → Fed
 fed_each journal [] = record { journal = journal; recorded = 0 }
 fed_each journal (driven ∷ others) =
     let first = fed_once journal driven in

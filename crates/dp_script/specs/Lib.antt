@@ -2,8 +2,8 @@ pub mod Codes
 pub mod Commands
 pub mod CommandView
 pub mod DeviceSteps
-pub mod LinesInUse
-pub mod LineInUseExamples
+pub mod ScriptLines
+pub mod ScriptLineExamples
 pub mod ScriptText
 pub mod Runs
 pub mod FaultTexts

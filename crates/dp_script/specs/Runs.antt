@@ -6,29 +6,29 @@ use Rattle.rack_file.specs.declared.fault.RackFault.{RackFault}
 use Rattle.rack_file.specs.Rack.{RackDescription}
 use Rattle.dp_script.specs.declared.run_fault.RunFault.{RunFault}
 use Rattle.dp_script.specs.declared.run_fault.RunFault.TheVariants as runs
-use Rattle.dp_script.specs.declared.stop.Stop.{Stop}
-use Rattle.dp_script.specs.declared.stop.Stop.TheVariants as stops
-use Rattle.dp_script.specs.LinesInUse.{LineInUse, Sent}
-use Rattle.dp_script.specs.ScriptText.{RackInUse, Obeyed, Played, script_text}
+use Rattle.dp_script.specs.declared.obey_fault.ObeyFault.{ObeyFault}
+use Rattle.dp_script.specs.declared.obey_fault.ObeyFault.TheVariants as stops
+use Rattle.dp_script.specs.ScriptLines.{ScriptLine, Sent}
+use Rattle.dp_script.specs.ScriptText.{ScriptRack, Obeyed, Played, script_text}
 use Rattle.dp_audit.specs.declared.fault.AuditFault.{AuditFault}
 use Rattle.dp_script.specs.Checks.{checked_on, verdict_text, verdict_status}
 
 -- a command to a line: at the end the line is as it leaves it, and the writer has its whole text; a prefix where a write failed; and
 -- where it is none nothing is written
-abbrev pub Sends : Option Sent → LineInUse → Option (List ℕ) → Option (List ℕ) → Result (Unit {0}) Stop → Type 0
-Sends (Some sending) line_in_use old new (Ok done) = (line_in_use ≡ sending.line_in_use) × Appends old new sending.text
-Sends (Some sending) line_in_use old new (Err stops.WriteFault) = WritesPrefix old new sending.text
-Sends (Some sending) line_in_use old new (Err stops.NoCommand) = ⊥
-Sends None line_in_use old new (Err stops.NoCommand) = Keeps old new
-Sends None line_in_use old new other = ⊥
+abbrev pub Sends : Option Sent → ScriptLine → Option (List ℕ) → Option (List ℕ) → Result (Unit {0}) ObeyFault → Type 0
+Sends (Some sending) script_line old new (Ok done) = (script_line ≡ sending.script_line) × Appends old new sending.text
+Sends (Some sending) script_line old new (Err stops.WriteFault) = WritesPrefix old new sending.text
+Sends (Some sending) script_line old new (Err stops.NoCommand) = ⊥
+Sends None script_line old new (Err stops.NoCommand) = Keeps old new
+Sends None script_line old new other = ⊥
 
 -- the same of a command to a rack in use
-abbrev pub Obeys : Option Obeyed → RackInUse → Option (List ℕ) → Option (List ℕ) → Result (Unit {0}) Stop → Type 0
-Obeys (Some obeyed) rack_in_use old new (Ok done) = (rack_in_use ≡ obeyed.rack_in_use) × Appends old new obeyed.text
-Obeys (Some obeyed) rack_in_use old new (Err stops.WriteFault) = WritesPrefix old new obeyed.text
-Obeys (Some obeyed) rack_in_use old new (Err stops.NoCommand) = ⊥
-Obeys None rack_in_use old new (Err stops.NoCommand) = Keeps old new
-Obeys None rack_in_use old new other = ⊥
+abbrev pub Obeys : Option Obeyed → ScriptRack → Option (List ℕ) → Option (List ℕ) → Result (Unit {0}) ObeyFault → Type 0
+Obeys (Some obeyed) script_rack old new (Ok done) = (script_rack ≡ obeyed.script_rack) × Appends old new obeyed.text
+Obeys (Some obeyed) script_rack old new (Err stops.WriteFault) = WritesPrefix old new obeyed.text
+Obeys (Some obeyed) script_rack old new (Err stops.NoCommand) = ⊥
+Obeys None script_rack old new (Err stops.NoCommand) = Keeps old new
+Obeys None script_rack old new other = ⊥
 
 -- at the end of a run the writer has the whole text; where a line is no command, the text of the lines before it; and else a prefix
 abbrev pub Plays : Played → Option (List ℕ) → Option (List ℕ) → Result (Unit {0}) RunFault → Type 0

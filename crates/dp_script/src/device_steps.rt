@@ -2,15 +2,15 @@
 
 ghost use Rattle.std.specs.Prelude.{◌≡◌, ◌≤◌, if◌then◌else◌, length};
 ghost use Rattle.dp_line.specs.declared.event.Event.TheVariants.{Operator};
-ghost use Rattle.dp_devices.specs.declared.driven.TheConstants.{MOST_DRIVEN};
+ghost use Rattle.dp_devices.specs.declared.driven_slave.TheConstants.{MOST_DRIVEN};
 ghost use Rattle.dp_script.specs.DeviceSteps.{fed_by, fed_once, fed_each};
 
 use dp_audit::Book;
-use dp_devices::Driven;
+use dp_devices::DrivenSlave;
 use dp_line::{Event, Op, Step};
 
 /// The devices feed these slaves, one after another; how many inputs were recorded.
-pub(crate) fn feed_each(book: &mut Book, driven: &[Driven]) -> u8
+pub(crate) fn feed_each(book: &mut Book, driven: &[DrivenSlave]) -> u8
     requires { length driven.now ≤ MOST_DRIVEN }
     ensures { record { journal = book.new; recorded = result } ≡ fed_each book.old driven.now }
 {
@@ -26,7 +26,7 @@ pub(crate) fn feed_each(book: &mut Book, driven: &[Driven]) -> u8
 }
 
 /// The device of a slave feeds it; whether that was recorded.
-fn feed(book: &mut Book, driven: Driven) -> bool
+fn feed(book: &mut Book, driven: DrivenSlave) -> bool
     ensures { record { journal = book.new; recorded = if result then 1 else 0 } ≡ fed_once book.old driven }
 {
     match book.state().view(driven.address) {
@@ -40,6 +40,6 @@ fn take(book: &mut Book, op: Op) -> bool
     ensures { record { journal = book.new; recorded = if result then 1 else 0 } ≡ fed_by book.old (Operator op) }
 {
     let mut step = Step::blank();
-    book.take_to(&Event::Operator(op), &mut step);
+    book.take_into(&Event::Operator(op), &mut step);
     step.place.is_some()
 }

@@ -8,13 +8,13 @@ mod check;
 mod command;
 mod device_steps;
 mod input;
-mod line_in_use;
+mod script_line;
 mod output;
-mod rack_in_use;
+mod script_rack;
 mod run;
 mod run_fault;
 mod script;
-mod stop;
+mod obey_fault;
 pub mod stream_laws;
 
 pub use check::run_check;

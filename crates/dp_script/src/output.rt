@@ -4,14 +4,14 @@ ghost use Rattle.std.specs.Prelude.{◌≡◌, OnOk, OnErr, IfErr};
 ghost use Rattle.std.specs.Io.KnownBytes.{Appends};
 ghost use Rattle.dp_text.specs.Writes.{WritesPrefix};
 
-use crate::stop::Stop;
+use crate::obey_fault::ObeyFault;
 use std::io::Write;
 
 /// Writes all of the bytes, or a prefix of them where a write fails or takes no octet.
-pub(crate) fn write_whole<W: Write>(writer: &mut W, bytes: &[u8]) -> Result<(), Stop>
+pub(crate) fn write_whole<W: Write>(writer: &mut W, bytes: &[u8]) -> Result<(), ObeyFault>
     ensures ok { OnOk result (Appends (W.contents writer.old) (W.contents writer.new) bytes.now) }
     ensures err { OnErr result (WritesPrefix (W.contents writer.old) (W.contents writer.new) bytes.now) }
-    ensures fault { IfErr result (λ stop. stop ≡ Stop.WriteFault) }
+    ensures fault { IfErr result (λ stop. stop ≡ ObeyFault.WriteFault) }
 {
-    dp_text::write_whole(writer, bytes).map_err(|_| Stop::WriteFault)
+    dp_text::write_whole(writer, bytes).map_err(|_| ObeyFault::WriteFault)
 }

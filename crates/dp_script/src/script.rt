@@ -8,9 +8,9 @@ ghost use Rattle.dp_script.specs.ScriptText.{line_obeyed, play, script_text};
 ghost use Rattle.dp_script.specs.Runs.{Obeys, Plays};
 
 use crate::command::command_in;
-use crate::rack_in_use::RackInUse;
+use crate::script_rack::ScriptRack;
 use crate::run_fault::RunFault;
-use crate::stop::Stop;
+use crate::obey_fault::ObeyFault;
 use dp_text::{Lines, Text};
 use rack_file::Rack;
 use std::alloc::Global;
@@ -30,19 +30,19 @@ pub(crate) fn run_script<W: Write>(
     requires fit { All (λ line. opening_fault (description_of line.spec) ≡ None) rack.now.lines.items }
     ensures { Plays (script_text (rack_described rack.now) script.now) (W.contents writer.old) (W.contents writer.new) result }
 {
-    let Ok(mut rack_in_use) = RackInUse::open(alloc, rack) else {
+    let Ok(mut script_rack) = ScriptRack::open(alloc, rack) else {
         return Err(RunFault::OutOfMemory);
     };
-    play_lines(&mut rack_in_use, script.as_bytes(), writer)
+    play_lines(&mut script_rack, script.as_bytes(), writer)
 }
 
 /// Obeys the lines of a script in turn, and writes what each writes.
 fn play_lines<W: Write>(
-    rack_in_use: &mut RackInUse,
+    script_rack: &mut ScriptRack,
     script: &[u8],
     writer: &mut W,
 ) -> Result<(), RunFault>
-    ensures { Plays (play rack_in_use.old 1 (lines_of script.now)) (W.contents writer.old) (W.contents writer.new) result }
+    ensures { Plays (play script_rack.old 1 (lines_of script.now)) (W.contents writer.old) (W.contents writer.new) result }
 {
     let mut text = Text::new();
     let mut lines = Lines::of(script);
@@ -50,10 +50,10 @@ fn play_lines<W: Write>(
         let Some(line) = lines.next() else {
             return Ok(());
         };
-        match obey_line(rack_in_use, line, &mut text, writer) {
+        match obey_line(script_rack, line, &mut text, writer) {
             Ok(()) => {}
-            Err(Stop::NoCommand) => return Err(RunFault::Script(index + 1)),
-            Err(Stop::WriteFault) => return Err(RunFault::WriteFault),
+            Err(ObeyFault::NoCommand) => return Err(RunFault::Script(index + 1)),
+            Err(ObeyFault::WriteFault) => return Err(RunFault::WriteFault),
         }
     }
     Err(RunFault::OutOfMemory)
@@ -61,15 +61,15 @@ fn play_lines<W: Write>(
 
 /// Obeys one line; it may be no command, or one that can't be obeyed.
 fn obey_line<W: Write>(
-    rack_in_use: &mut RackInUse,
+    script_rack: &mut ScriptRack,
     line: &[u8],
     text: &mut Text,
     writer: &mut W,
-) -> Result<(), Stop>
-    ensures { Obeys (line_obeyed rack_in_use.old line.now) rack_in_use.new (W.contents writer.old) (W.contents writer.new) result }
+) -> Result<(), ObeyFault>
+    ensures { Obeys (line_obeyed script_rack.old line.now) script_rack.new (W.contents writer.old) (W.contents writer.new) result }
 {
     match command_in(line) {
-        Some(command) => rack_in_use.obey(command, text, writer),
-        None => Err(Stop::NoCommand),
+        Some(command) => script_rack.obey(command, text, writer),
+        None => Err(ObeyFault::NoCommand),
     }
 }

@@ -2,7 +2,7 @@
 
 ghost use Rattle.std.specs.Prelude.{◌≡◌, ℕ, List, ◌++◌};
 ghost use Rattle.dp_audit.specs.Journal.{Journal};
-ghost use Rattle.dp_script.specs.LinesInUse.{Stream, passed, then_passed};
+ghost use Rattle.dp_script.specs.ScriptLines.{Stream, passed, then_passed};
 
 use dp_telegram::stream_laws::later_octets_change_no_piece;
 

@@ -13,7 +13,7 @@ use Rattle.dp_audit.specs.declared.entry.Receipt.{Receipt}
 use Rattle.dp_shared.specs.declared.line_view.PassView.{PassView}
 use Rattle.dp_shared.specs.Passes.{with_receipt}
 use Rattle.dp_sessions.specs.Sessions.{AreExchanged, IsBrokenOff, IsCutOff, IsServed, reply_in, requests_in, with_receipts}
-use Rattle.dp_sessions.specs.Serving.{IsBrokenIn, IsCutTo, IsServedTo, with_cuts}
+use Rattle.dp_sessions.specs.SessionProgress.{IsBrokenIn, IsCutTo, IsServedTo, with_cuts}
 
 -- ---- known octets
 

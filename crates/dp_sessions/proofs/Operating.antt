@@ -8,7 +8,7 @@ use Rattle.std.proofs.lemmas.Bool.{cases_lt, lt-ltb}
 use Rattle.std.proofs.lemmas.List.{append-nil, length-take, map-append, nil_from_length, take_all}
 use Rattle.dp_text.specs.Writes.{WritesPrefix}
 use Rattle.dp_shared.specs.declared.line_view.PassView.{PassView}
-use Rattle.dp_devices.specs.declared.driven.Driven.{Driven}
+use Rattle.dp_devices.specs.declared.driven_slave.DrivenSlave.{DrivenSlave}
 use Rattle.dp_sessions.specs.declared.line_fault.LineFault.TheVariants as faults
 use Rattle.dp_sessions.specs.Operators.{AreAnswered, AreBrokenOff, AreServed, BeginsWith, FallsInto, IsAnswered, IsDone, IsUnended, asked_in, command_in, ended, line_feed}
 use Rattle.dp_sessions.specs.Operating.{AreServedTo, BreaksOff, GoesOn, kept}
@@ -38,7 +38,7 @@ unended_more (first ∷ line) octet before other =
 
 -- ---- what is answered
 
-answered_then : (driven : List Driven) (lines : List (List ℕ)) (line : List ℕ) (texts : List (List ℕ)) (text : List ℕ) (p q r : PassView)
+answered_then : (driven : List DrivenSlave) (lines : List (List ℕ)) (line : List ℕ) (texts : List (List ℕ)) (text : List ℕ) (p q r : PassView)
     → AreAnswered driven lines p q texts → IsAnswered driven line q r text → AreAnswered driven (lines ++ line ∷ []) p r (texts ++ text ∷ [])
 answered_then driven [] line texts text p q r first one =
     let here : IsAnswered driven line p r text = subst (λ w. IsAnswered driven line w r text) first.0 one in
@@ -86,12 +86,12 @@ kept_command line = elim (cases_lt 1024 (length line)) [
   | inr short ↦ ap command_in (take_all 1025 line (omega (arith, short)))
 ]
 
-answered_kept : (driven : List Driven) (line held : List ℕ) (q r : PassView) (text : List ℕ) → held ≡ kept line → IsAnswered driven held q r text → IsAnswered driven line q r text
+answered_kept : (driven : List DrivenSlave) (line held : List ℕ) (q r : PassView) (text : List ℕ) → held ≡ kept line → IsAnswered driven held q r text → IsAnswered driven line q r text
 answered_kept driven line held q r text is answered = subst (λ c. IsDone driven c q r text) (ap command_in is ∙ kept_command line) answered
 
 -- ---- what is served so far
 
-pub served_start : (driven : List Driven) (held : List ℕ) (pass : PassView) (old : Option (List ℕ)) → held ≡ [] → AreServedTo driven [] held pass pass old old
+pub served_start : (driven : List DrivenSlave) (held : List ℕ) (pass : PassView) (old : Option (List ℕ)) → held ≡ [] → AreServedTo driven [] held pass pass old old
 served_start driven held pass old empty = record {
   lines = [];
   rest = [];
@@ -103,7 +103,7 @@ served_start driven held pass old empty = record {
 }
 
 -- an octet that ends no line
-octet_served : (driven : List Driven) (held now : List ℕ) (octet : ℕ) (p : PassView) (old : Option (List ℕ))
+octet_served : (driven : List DrivenSlave) (held now : List ℕ) (octet : ℕ) (p : PassView) (old : Option (List ℕ))
     → (octet == line_feed) ≡ false → now ≡ kept (held ++ octet ∷ []) → GoesOn driven (octet ∷ []) held now p p old old
 octet_served driven held now octet p old other is stream start first s = record {
   lines = s.lines;
@@ -121,7 +121,7 @@ octet_served driven held now octet p old other is stream start first s = record 
   written = s.written;
 }
 
-pub served_octet : (driven : List Driven) (held now : List ℕ) (octet : ℕ) (p q : PassView) (old : Option (List ℕ))
+pub served_octet : (driven : List DrivenSlave) (held now : List ℕ) (octet : ℕ) (p q : PassView) (old : Option (List ℕ))
     → (octet == line_feed) ≡ false → q ≡ p → now ≡ kept (held ++ octet ∷ []) → GoesOn driven (octet ∷ []) held now p q old old
 served_octet driven held now octet p q old other same is = subst (λ w. GoesOn driven (octet ∷ []) held now p w old old) (sym same) (octet_served driven held now octet p old other is)
 
@@ -147,7 +147,7 @@ line_ends stream rest lines parted = record {
   unended = all_unended lines rest parted.begins.unended parted.unended;
 }
 
-served_line : (driven : List Driven) (held now : List ℕ) (p q : PassView) (text : List ℕ) (old new : Option (List ℕ))
+served_line : (driven : List DrivenSlave) (held now : List ℕ) (p q : PassView) (text : List ℕ) (old new : Option (List ℕ))
     → now ≡ [] → IsAnswered driven held p q text → Appends old new text → GoesOn driven (line_feed ∷ []) held now p q old new
 served_line driven held now p q text old new empty answered written stream start first s = record {
   lines = s.lines ++ s.rest ∷ [];
@@ -161,7 +161,7 @@ served_line driven held now p q text old new empty answered written stream start
       (appends_more first old new (concat s.texts) (concat (text ∷ [])) s.written (subst (Appends old new) (sym (append-nil text)) written));
 }
 
-broken_line : (driven : List Driven) (held : List ℕ) (p q : PassView) (text : List ℕ) (old new : Option (List ℕ))
+broken_line : (driven : List DrivenSlave) (held : List ℕ) (p q : PassView) (text : List ℕ) (old new : Option (List ℕ))
     → IsAnswered driven held p q text → WritesPrefix old new text → BreaksOff driven (line_feed ∷ []) held p q old new
 broken_line driven held p q text old new answered failed stream start first s = record {
   lines = s.lines ++ s.rest ∷ [];
@@ -174,27 +174,27 @@ broken_line driven held p q text old new answered failed stream start first s = 
       (record { whole = []; last = text; texts_are = refl; between = old; written = appends_none old; failed = failed });
 }
 
-pub line_served : (driven : List Driven) (held now : List ℕ) (octet : ℕ) (p q : PassView) (text : List ℕ) (old new : Option (List ℕ))
+pub line_served : (driven : List DrivenSlave) (held now : List ℕ) (octet : ℕ) (p q : PassView) (text : List ℕ) (old new : Option (List ℕ))
     → octet ≡ line_feed → now ≡ [] → IsAnswered driven held p q text → Appends old new text → GoesOn driven (octet ∷ []) held now p q old new
 line_served driven held now octet p q text old new is empty answered written =
     subst (λ o. GoesOn driven (o ∷ []) held now p q old new) (sym is) (served_line driven held now p q text old new empty answered written)
 
-pub line_broken : (driven : List Driven) (held : List ℕ) (octet : ℕ) (p q : PassView) (text : List ℕ) (old new : Option (List ℕ))
+pub line_broken : (driven : List DrivenSlave) (held : List ℕ) (octet : ℕ) (p q : PassView) (text : List ℕ) (old new : Option (List ℕ))
     → octet ≡ line_feed → IsAnswered driven held p q text → WritesPrefix old new text → BreaksOff driven (octet ∷ []) held p q old new
 line_broken driven held octet p q text old new is answered failed =
     subst (λ o. BreaksOff driven (o ∷ []) held p q old new) (sym is) (broken_line driven held p q text old new answered failed)
 
 -- ---- octets, one after another
 
-pub on_start : (driven : List Driven) (held : List ℕ) (p : PassView) (old : Option (List ℕ)) → GoesOn driven [] held held p p old old
+pub on_start : (driven : List DrivenSlave) (held : List ℕ) (p : PassView) (old : Option (List ℕ)) → GoesOn driven [] held held p p old old
 on_start driven held p old stream start first s = subst (λ os. AreServedTo driven os held start p first old) (sym (append-nil stream)) s
 
-pub on_more : (driven : List Driven) (octets more h k l : List ℕ) (p q r : PassView) (a b c : Option (List ℕ))
+pub on_more : (driven : List DrivenSlave) (octets more h k l : List ℕ) (p q r : PassView) (a b c : Option (List ℕ))
     → GoesOn driven octets h k p q a b → GoesOn driven more k l q r b c → GoesOn driven (octets ++ more) h l p r a c
 on_more driven octets more h k l p q r a b c one other stream start first s =
     subst (λ os. AreServedTo driven os l start r first c) (append_assoc stream octets more) (other (stream ++ octets) start first (one stream start first s))
 
-broken_more : (driven : List Driven) (stream more : List ℕ) (p q : PassView) (a b : Option (List ℕ)) → AreBrokenOff driven stream p q a b → AreBrokenOff driven (stream ++ more) p q a b
+broken_more : (driven : List DrivenSlave) (stream more : List ℕ) (p q : PassView) (a b : Option (List ℕ)) → AreBrokenOff driven stream p q a b → AreBrokenOff driven (stream ++ more) p q a b
 broken_more driven stream more p q a b s = record {
   lines = s.lines;
   others = s.others ++ more;
@@ -207,14 +207,14 @@ broken_more driven stream more p q a b s = record {
   written = s.written;
 }
 
-pub breaks_more : (driven : List Driven) (octets one more h k : List ℕ) (p q r : PassView) (a b c : Option (List ℕ))
+pub breaks_more : (driven : List DrivenSlave) (octets one more h k : List ℕ) (p q r : PassView) (a b c : Option (List ℕ))
     → GoesOn driven octets h k p q a b → BreaksOff driven one k q r b c → BreaksOff driven (octets ++ (one ++ more)) h p r a c
 breaks_more driven octets one more h k p q r a b c on off stream start first s =
     subst (λ os. AreBrokenOff driven os start r first c)
     (append_assoc (stream ++ octets) one more ∙ append_assoc stream octets (one ++ more))
     (broken_more driven ((stream ++ octets) ++ one) more start r first c (off (stream ++ octets) start first (on stream start first s)))
 
-pub served_all : (driven : List Driven) (stream held : List ℕ) (p q : PassView) (a b : Option (List ℕ)) → AreServedTo driven stream held p q a b → AreServed driven stream p q a b
+pub served_all : (driven : List DrivenSlave) (stream held : List ℕ) (p q : PassView) (a b : Option (List ℕ)) → AreServedTo driven stream held p q a b → AreServed driven stream p q a b
 served_all driven stream held p q a b s = record {
   lines = s.lines;
   rest = s.rest;
@@ -225,13 +225,13 @@ served_all driven stream held p q a b s = record {
 }
 
 -- no octet is left
-pub goes_to : (driven : List Driven) (octets done left h k : List ℕ) (p q : PassView) (a b : Option (List ℕ))
+pub goes_to : (driven : List DrivenSlave) (octets done left h k : List ℕ) (p q : PassView) (a b : Option (List ℕ))
     → octets ≡ done ++ left → length left ≡ 0 → GoesOn driven done h k p q a b → GoesOn driven octets h k p q a b
 goes_to driven octets done left h k p q a b parts none on =
     subst (λ os. GoesOn driven os h k p q a b) (sym (parts ∙ ap (λ l. done ++ l) (nil_from_length left none) ∙ append-nil done)) on
 
 -- it breaks off at this octet
-pub breaks_at : (driven : List Driven) (octets done left : List ℕ) (octet : ℕ) (more h k : List ℕ) (p q r : PassView) (a b c : Option (List ℕ))
+pub breaks_at : (driven : List DrivenSlave) (octets done left : List ℕ) (octet : ℕ) (more h k : List ℕ) (p q r : PassView) (a b c : Option (List ℕ))
     → octets ≡ done ++ left → left ≡ octet ∷ more → GoesOn driven done h k p q a b → BreaksOff driven (octet ∷ []) k q r b c → BreaksOff driven octets h p r a c
 breaks_at driven octets done left octet more h k p q r a b c parts first on off =
     subst (λ os. BreaksOff driven os h p r a c) (sym (parts ∙ ap (λ l. done ++ l) first)) (breaks_more driven done (octet ∷ []) more h k p q r a b c on off)

@@ -6,7 +6,7 @@ use Rattle.dp_shared.specs.declared.line_view.PassView.{PassView}
 use Rattle.dp_sessions.specs.declared.session_end.SessionEnd.{SessionEnd}
 use Rattle.dp_sessions.specs.declared.session_end.SessionEnd.TheVariants as ends
 use Rattle.dp_sessions.specs.Sessions.{Exchanges}
-use Rattle.dp_sessions.specs.Serving.{IsBrokenIn, IsServedTo}
+use Rattle.dp_sessions.specs.SessionProgress.{IsBrokenIn, IsServedTo}
 use Rattle.dp_sessions.proofs.Exchanging.{broken_off, broken_then, consumed_none, consumes_kept, consumes_more, consumes_none, served_more, served_none, served_then, served_whole}
 
 -- so many reads gave a stream, of which what is held is no piece

@@ -1,6 +1,6 @@
 pub mod Codes
 pub mod Pools
-pub mod Serving
+pub mod SessionProgress
 pub mod Sessions
 pub mod Operators
 pub mod Operating

@@ -16,7 +16,7 @@ use Rattle.dp_text.specs.declared.op_line.OpLine.{OpLine}
 use Rattle.dp_text.specs.declared.op_line.OpLine.TheVariants as asked
 use Rattle.dp_text.specs.OpLines.{op_line_of}
 use Rattle.dp_text.specs.Texts.{outcome_line, owned_text, show_text, stepped_text}
-use Rattle.dp_devices.specs.declared.driven.Driven.{Driven}
+use Rattle.dp_devices.specs.declared.driven_slave.DrivenSlave.{DrivenSlave}
 use Rattle.dp_sessions.specs.declared.line_fault.LineFault.{LineFault}
 use Rattle.dp_sessions.specs.declared.line_fault.LineFault.TheVariants as faults
 use Rattle.dp_sessions.specs.declared.session_end.SessionEnd.{SessionEnd}
@@ -82,26 +82,26 @@ abbrev pub IsLook : Question → Answer → PassView → PassView → Type 0
 IsLook question answer before after = (count : ℕ) × (after ≡ with_look before (look_by before question count answer))
 
 -- what is seen of a slave is fed to it by its device, and the Input counts where it has a place; nothing is fed where no slave is seen
-abbrev pub IsFedAsSeen : Driven → Option SlaveView → PassView → PassView → ℕ → Type 0
+abbrev pub IsFedAsSeen : DrivenSlave → Option SlaveView → PassView → PassView → ℕ → Type 0
 IsFedAsSeen driven None before after recorded = (after ≡ before) × (recorded ≡ 0)
 IsFedAsSeen driven (Some slave) before after recorded =
     (receipt : Receipt) × IsTaken (Operator (next_input driven slave)) before after receipt × (recorded ≡ (if is_some receipt.place then 1 else 0))
 
 -- a look at a slave, and then its device feeds it
-pub record IsFed (driven : Driven) (before after : PassView) (recorded : ℕ) : Type 0 where
+pub record IsFed (driven : DrivenSlave) (before after : PassView) (recorded : ℕ) : Type 0 where
   pub seen : Option SlaveView
   pub looked : PassView
   pub look : IsLook (Question.View driven.address) (Answer.View seen) before looked
   pub fed : IsFedAsSeen driven seen looked after recorded
 
 -- one slave after another, and so many Inputs were recorded
-abbrev pub AreFed : List Driven → PassView → PassView → ℕ → Type 0
+abbrev pub AreFed : List DrivenSlave → PassView → PassView → ℕ → Type 0
 AreFed [] before after recorded = (after ≡ before) × (recorded ≡ 0)
 AreFed (driven ∷ others) before after recorded =
     (between : PassView) × (first rest : ℕ) × IsFed driven before between first × AreFed others between after rest × (recorded ≡ first + rest)
 
 -- what is asked for is done by the pass, and this is the answer; these are the slaves that devices drive
-abbrev pub IsOperated : List Driven → OpLine → PassView → PassView → List ℕ → Type 0
+abbrev pub IsOperated : List DrivenSlave → OpLine → PassView → PassView → List ℕ → Type 0
 IsOperated driven (asked.Event op) before after text = (receipt : Receipt) × IsTaken (Operator op) before after receipt × (text ≡ outcome_line receipt.outcome)
 IsOperated driven (asked.Owned master) before after text = (addresses : ArrayVec ℕ) × IsLook (Question.Owned master) (Answer.Owned addresses) before after × (text ≡ owned_text addresses.items)
 IsOperated driven (asked.Show address) before after text = (seen : Option SlaveView) × IsLook (Question.View address) (Answer.View seen) before after × (text ≡ show_text seen)
@@ -109,15 +109,15 @@ IsOperated driven asked.Step before after text = (recorded : ℕ) × AreFed driv
 IsOperated driven asked.Nothing before after text = (after ≡ before) × (text ≡ [])
 
 -- a line that can't be done is told why
-abbrev pub IsDone : List Driven → Result OpLine LineFault → PassView → PassView → List ℕ → Type 0
+abbrev pub IsDone : List DrivenSlave → Result OpLine LineFault → PassView → PassView → List ℕ → Type 0
 IsDone driven (Ok op_line) before after text = IsOperated driven op_line before after text
 IsDone driven (Err fault) before after text = (after ≡ before) × (text ≡ fault_text fault)
 
-abbrev pub IsAnswered : List Driven → List ℕ → PassView → PassView → List ℕ → Type 0
+abbrev pub IsAnswered : List DrivenSlave → List ℕ → PassView → PassView → List ℕ → Type 0
 IsAnswered driven line before after text = IsDone driven (command_in line) before after text
 
 -- lines are answered one after another, each with one text
-abbrev pub AreAnswered : List Driven → List (List ℕ) → PassView → PassView → List (List ℕ) → Type 0
+abbrev pub AreAnswered : List DrivenSlave → List (List ℕ) → PassView → PassView → List (List ℕ) → Type 0
 AreAnswered driven [] before after texts = (after ≡ before) × (texts ≡ [])
 AreAnswered driven (line ∷ lines) before after texts =
     (between : PassView) × (text : List ℕ) × (others : List (List ℕ)) × (texts ≡ text ∷ others)
@@ -126,7 +126,7 @@ AreAnswered driven (line ∷ lines) before after texts =
 -- ---- a session
 
 -- all lines of the stream were answered, and every answer is written; what is behind the last LF is dropped
-pub record AreServed (driven : List Driven) (stream : List ℕ) (before after : PassView) (old new : Option (List ℕ)) : Type 0 where
+pub record AreServed (driven : List DrivenSlave) (stream : List ℕ) (before after : PassView) (old new : Option (List ℕ)) : Type 0 where
   pub lines : List (List ℕ)
   pub rest : List ℕ
   pub parted : FallsInto stream lines rest
@@ -135,7 +135,7 @@ pub record AreServed (driven : List Driven) (stream : List ℕ) (before after : 
   pub written : Appends old new (concat texts)
 
 -- the first lines of the stream were answered, and a write failed in the answer to the last of these
-pub record AreBrokenOff (driven : List Driven) (stream : List ℕ) (before after : PassView) (old new : Option (List ℕ)) : Type 0 where
+pub record AreBrokenOff (driven : List DrivenSlave) (stream : List ℕ) (before after : PassView) (old new : Option (List ℕ)) : Type 0 where
   pub lines : List (List ℕ)
   pub others : List ℕ
   pub begins : BeginsWith stream lines others
@@ -144,7 +144,7 @@ pub record AreBrokenOff (driven : List Driven) (stream : List ℕ) (before after
   pub written : IsCutOff old new texts
 
 -- a stream was read, with as many reads as this at most, and its lines were answered: how it ended says how far, and what is left to read
-abbrev pub Operates : SessionEnd → List Driven → ℕ → List ℕ → PassView → PassView → Option (List ℕ) → Option (List ℕ) → Option (List ℕ) → Type 0
+abbrev pub Operates : SessionEnd → List DrivenSlave → ℕ → List ℕ → PassView → PassView → Option (List ℕ) → Option (List ℕ) → Option (List ℕ) → Type 0
 Operates ends.EndOfInput driven turns stream before after left old new = AreServed driven stream before after old new × IsAtEnd left
 Operates ends.ReadFault driven turns stream before after left old new = AreServed driven stream before after old new
 -- each read gave an octet at least
@@ -159,7 +159,7 @@ pub record HasNoPass (streams : Streams) (end : SessionEnd) : Type 0 where
   pub unwritten : Keeps streams.written streams.written_after
 
 -- a new pass of an operator answers the stream
-pub record HasOperated (driven : List Driven) (turns : ℕ) (streams : Streams) (end : SessionEnd) : Type 0 where
+pub record HasOperated (driven : List DrivenSlave) (turns : ℕ) (streams : Streams) (end : SessionEnd) : Type 0 where
   pub number : ℕ
   pub pass : PassView
   pub stream : List ℕ
@@ -167,5 +167,5 @@ pub record HasOperated (driven : List Driven) (turns : ℕ) (streams : Streams) 
   pub operated : Operates end driven turns stream (new_pass number 127) pass streams.left_after streams.written streams.written_after
 
 -- a session of an operator, of as many reads as this at most, with a line of which devices drive these slaves
-abbrev pub IsOperatorSession : List Driven → ℕ → Streams → SessionEnd → Type 0
+abbrev pub IsOperatorSession : List DrivenSlave → ℕ → Streams → SessionEnd → Type 0
 IsOperatorSession driven turns streams end = HasNoPass streams end ⊎ HasOperated driven turns streams end

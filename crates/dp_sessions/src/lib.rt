@@ -11,9 +11,9 @@ mod operator_line;
 mod pool;
 mod pool_fault;
 mod port;
-mod session;
+mod exchange;
 mod session_end;
-mod sessions;
+mod serve;
 pub mod sharing;
 
 pub use dp_devices::next_inputs;
@@ -24,4 +24,4 @@ pub use pool::{Job, run_pool};
 pub use pool_fault::PoolFault;
 pub use port::{LineAndClaims, Port};
 pub use session_end::SessionEnd;
-pub use sessions::serve;
+pub use serve::serve;

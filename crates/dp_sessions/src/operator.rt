@@ -4,7 +4,7 @@ ghost use Rattle.std.specs.Prelude.{◌≡◌, ℕ, List, [], ◌∷◌, ◌++�
 ghost use Rattle.std.specs.Io.KnownBytes.{Appends, Consumes};
 ghost use Rattle.dp_text.specs.Writes.{WritesPrefix};
 ghost use Rattle.dp_shared.specs.Passes.{line_of, table_of};
-ghost use Rattle.dp_devices.specs.declared.driven.TheConstants.{MOST_DRIVEN};
+ghost use Rattle.dp_devices.specs.declared.driven_slave.TheConstants.{MOST_DRIVEN};
 ghost use Rattle.dp_devices.specs.DrivenSlaves.{driven_slaves as all_driven};
 ghost use Rattle.dp_sessions.specs.Operators.{IsAnswered, IsOperatorSession, Operates};
 ghost use Rattle.dp_sessions.specs.Operating.{BreaksOff, GoesOn, kept};
@@ -13,7 +13,7 @@ use crate::operator_line::{LONGEST_LINE, answer_line};
 use crate::port::Port;
 use crate::session_end::SessionEnd;
 use arrayvec::ArrayVec;
-use dp_devices::{Driven, MOST_DRIVEN, driven_slaves};
+use dp_devices::{DrivenSlave, MOST_DRIVEN, driven_slaves};
 use dp_line::LineSpec;
 use dp_shared::{Line, Pass};
 use dp_telegram::GLOBAL_ADDRESS;
@@ -73,7 +73,7 @@ pub fn serve_operator<T: Wait, R: Read, W: Write>(
 #[derive(Drop)]
 struct OperatorSession {
     pass: Pass,
-    driven: ArrayVec<Driven, MOST_DRIVEN>,
+    driven: ArrayVec<DrivenSlave, MOST_DRIVEN>,
     begun: ArrayVec<u8, KEPT>,
 }
 

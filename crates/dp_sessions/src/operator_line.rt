@@ -3,11 +3,11 @@
 ghost use Rattle.std.specs.Prelude.{◌≡◌, ◌≤◌, length, OnErr, OnOk, IfOk, MatchOption};
 ghost use Rattle.std.specs.Io.KnownBytes.{Appends};
 ghost use Rattle.dp_shared.specs.Passes.{table_of};
-ghost use Rattle.dp_devices.specs.declared.driven.TheConstants.{MOST_DRIVEN};
+ghost use Rattle.dp_devices.specs.declared.driven_slave.TheConstants.{MOST_DRIVEN};
 ghost use Rattle.dp_sessions.specs.Operators.{AreFed, IsAnswered, IsFed, IsFedAsSeen, IsOperated, command_in as command_of, fault_text};
 
 use crate::line_fault::LineFault;
-use dp_devices::Driven;
+use dp_devices::DrivenSlave;
 use dp_line::{Op, SlaveView};
 use dp_shared::{Line, Pass};
 use dp_text::{OpLine, Text, read_op};
@@ -21,7 +21,7 @@ pub(crate) const LONGEST_LINE: usize = 1_024;
 pub(crate) fn answer_line<T: Wait>(
     rt: &T,
     line: &Line,
-    driven: &[Driven],
+    driven: &[DrivenSlave],
     pass: &mut Pass,
     octets: &[u8],
     text: &mut Text,
@@ -69,7 +69,7 @@ fn set_fault(text: &mut Text, fault: LineFault)
 fn operate<T: Wait>(
     rt: &T,
     line: &Line,
-    driven: &[Driven],
+    driven: &[DrivenSlave],
     pass: &mut Pass,
     op_line: OpLine,
     text: &mut Text,
@@ -91,7 +91,7 @@ fn operate<T: Wait>(
 }
 
 /// The devices feed these slaves, one after another; how many inputs were recorded.
-fn feed_each<T: Wait>(rt: &T, line: &Line, driven: &[Driven], pass: &mut Pass) -> u8
+fn feed_each<T: Wait>(rt: &T, line: &Line, driven: &[DrivenSlave], pass: &mut Pass) -> u8
     requires ours { pass.old.table ≡ table_of line.now }
     requires operator { pass.old.view.address ≡ 127 }
     requires few { length driven.now ≤ MOST_DRIVEN }
@@ -110,7 +110,7 @@ fn feed_each<T: Wait>(rt: &T, line: &Line, driven: &[Driven], pass: &mut Pass) -
 
 /// The device of a slave feeds it, by its inputs and outputs as they are then; how many inputs were
 /// recorded, 0 or 1.
-fn feed<T: Wait>(rt: &T, line: &Line, driven: Driven, pass: &mut Pass) -> u8
+fn feed<T: Wait>(rt: &T, line: &Line, driven: DrivenSlave, pass: &mut Pass) -> u8
     requires ours { pass.old.table ≡ table_of line.now }
     requires operator { pass.old.view.address ≡ 127 }
     ensures ours { pass.new.table ≡ pass.old.table }
@@ -126,7 +126,7 @@ fn feed<T: Wait>(rt: &T, line: &Line, driven: Driven, pass: &mut Pass) -> u8
 fn feed_as_seen<T: Wait>(
     rt: &T,
     line: &Line,
-    driven: Driven,
+    driven: DrivenSlave,
     seen: &Option<SlaveView>,
     pass: &mut Pass,
 ) -> u8

@@ -9,7 +9,7 @@ use crate::gate::Gate;
 use crate::pool_fault::PoolFault;
 use crate::port::Port;
 use crate::session_end::SessionEnd;
-use crate::sessions;
+use crate::serve;
 use crossbeam_channel::Receiver;
 use dp_shared::WorkerSeat;
 use std::io::{Read, Write};

@@ -275,7 +275,7 @@ the_seventh a b c d e f g h all = (split_and (a && b && c && d && e && f) g (spl
 -- they are stations
 pub masters_are_stations : (line : Description) → opening_fault line ≡ None → list_all is_station line.masters ≡ true
 masters_are_stations line accepted =
-    the_seventh (nat_le 2 line.places) _ _ _ _ _ (list_all is_station line.masters) _ (by_limits (is_within_limits line) _ accepted)
+    the_seventh (nat_le 2 line.capacity) _ _ _ _ _ (list_all is_station line.masters) _ (by_limits (is_within_limits line) _ accepted)
 
 -- ---- what the rule says of words and seats
 

@@ -25,7 +25,7 @@ use Rattle.dp_slave.specs.SlaveRecord.{input_length}
 use Rattle.dp_audit.specs.declared.entry.Entry.{Entry}
 use Rattle.dp_audit.specs.declared.entry.Receipt.{Receipt}
 use Rattle.dp_audit.specs.Journal.{added, entry_of, receipt_of, taken}
-use Rattle.dp_audit.specs.Ways.{Way, meets_halt, is_refused, brings_halt, is_recorded}
+use Rattle.dp_audit.specs.EventWays.{Way, meets_halt, is_refused, brings_halt, is_recorded}
 use Rattle.dp_audit.proofs.Histories.{way}
 use Rattle.dp_shared.specs.Content.{Content, IsHistory, taken_under, world_now}
 use Rattle.dp_shared.specs.Numbers.{under, times, once}
@@ -47,7 +47,7 @@ module _ (c c' : Content) (number : c'.book.number ≡ c.book.number) (opening :
     (numbers : c'.numbers ≡ c.numbers) (last : c'.last ≡ c.last) (history : IsHistory c') (halted : (world_now c).halted ≡ true → (world_now c').halted ≡ true) where
   numbered_too : IsNumbered c → IsNumbered c'
   numbered_too n k m e = let old = n k m (subst (λ ns. get_elem? ns k ≡ some m) numbers e) in
-      (subst (λ w. (m ≡ 0) ↔ (k + 1 ≡ w.places)) (sym opening) old.0, subst (λ l. m ≤ l) (sym last) old.1)
+      (subst (λ w. (m ≡ 0) ↔ (k + 1 ≡ w.capacity)) (sym opening) old.0, subst (λ l. m ≤ l) (sym last) old.1)
 
   pub goes_same : (ps : List PassView) → Goes c c' ps ps
   goes_same ps = record {
@@ -151,14 +151,14 @@ at_end (x ∷ xs) a b (suc j) e = ⊎_elim inl (λ t. inr (ap suc t.0, t.1)) (at
 module _ (c c' : Content) (long : length c.numbers ≡ length c.book.entries) (e : Entry) (n : ℕ) (p : PassView)
     (number : c'.book.number ≡ c.book.number) (opening : c'.book.opening ≡ c.book.opening) (entries : c'.book.entries ≡ c.book.entries ++ e ∷ [])
     (numbers : c'.numbers ≡ c.numbers ++ n ∷ []) (last : c'.last ≡ c.last) (history : IsHistory c')
-    (open_yet : (world_now c).halted ≡ false) (place : (n ≡ 0) ↔ (length c.book.entries + 1 ≡ c.book.opening.places)) (small : n ≤ c.last) where
+    (open_yet : (world_now c).halted ≡ false) (place : (n ≡ 0) ↔ (length c.book.entries + 1 ≡ c.book.opening.capacity)) (small : n ≤ c.last) where
   never : {X : Type 0} → (world_now c).halted ≡ true → X
   never h = absurd (let f : true ≡ false = sym h ∙ open_yet in cc)
 
   more_numbered : IsNumbered c → IsNumbered c'
   more_numbered old k m g = ⊎_elim
-      (λ t. let o = old k m t in (subst (λ w. (m ≡ 0) ↔ (k + 1 ≡ w.places)) (sym opening) o.0, subst (λ l. m ≤ l) (sym last) o.1))
-      (λ t. let at : k ≡ length c.book.entries = t.0 ∙ long in (subst (λ (z : ℕ × ℕ × World). (z.0 ≡ 0) ↔ (z.1 + 1 ≡ z.2.places)) (λ i. (t.1 i, sym at i, sym opening i)) place, subst (λ (z : ℕ × ℕ). z.0 ≤ z.1) (λ i. (t.1 i, sym last i)) small))
+      (λ t. let o = old k m t in (subst (λ w. (m ≡ 0) ↔ (k + 1 ≡ w.capacity)) (sym opening) o.0, subst (λ l. m ≤ l) (sym last) o.1))
+      (λ t. let at : k ≡ length c.book.entries = t.0 ∙ long in (subst (λ (z : ℕ × ℕ × World). (z.0 ≡ 0) ↔ (z.1 + 1 ≡ z.2.capacity)) (λ i. (t.1 i, sym at i, sym opening i)) place, subst (λ (z : ℕ × ℕ). z.0 ≤ z.1) (λ i. (t.1 i, sym last i)) small))
       (at_end c.numbers n m k (subst (λ ns. get_elem? ns k ≡ some m) numbers g))
 
   -- the halt, in the stead of an event of this pass
@@ -245,8 +245,8 @@ unfolding taken
 opening_stays c n event = refl
 
 module _ (c : Content) (p : PassView) (event : Event) (history : IsHistory (taken_under c p.number event)) (long : length c.numbers ≡ length c.book.entries)
-    (counted : (world_now c).count ≡ length c.book.entries) (places : (world_now c).places ≡ c.book.opening.places)
-    (within : length (taken_under c p.number event).book.entries ≤ c.book.opening.places) (sent : is_of p.address event ≡ true) (above : 0 < p.number) (small : p.number ≤ c.last) where
+    (counted : (world_now c).count ≡ length c.book.entries) (capacity : (world_now c).capacity ≡ c.book.opening.capacity)
+    (within : length (taken_under c p.number event).book.entries ≤ c.book.opening.capacity) (sent : is_of p.address event ≡ true) (above : 0 < p.number) (small : p.number ≤ c.last) where
   abbrev c' : Content
   c' = taken_under c p.number event
 
@@ -286,22 +286,22 @@ module _ (c : Content) (p : PassView) (event : Event) (history : IsHistory (take
   by_way (brings_halt full is one follows) = let e : Entry = entry_of (world_now c) (Operator Halt) in let more = grown (e ∷ []) one in
       let zero_numbers : c'.numbers ≡ c.numbers ++ 0 ∷ [] = more.1 ∙ ap (λ b. c.numbers ++ cond b 0 p.number ∷ []) full in
       let longer : length (c.book.entries ++ e ∷ []) ≡ length c.book.entries + 1 = length-append c.book.entries (e ∷ []) in
-      let fit : length c.book.entries + 1 ≤ c.book.opening.places = subst (λ n. n ≤ c.book.opening.places) (ap length more.0 ∙ longer) within in
-      let at_last : (world_now c).places ≤ (world_now c).count + 1 = grind (arith, nat_tests) in
+      let fit : length c.book.entries + 1 ≤ c.book.opening.capacity = subst (λ n. n ≤ c.book.opening.capacity) (ap length more.0 ∙ longer) within in
+      let at_last : (world_now c).capacity ≤ (world_now c).count + 1 = grind (arith, nat_tests) in
       subst (λ s. After (answered s)) (sym is) (subst (λ (t : Bool). Goes c c' (p ∷ []) (record p { told = p.told || t } ∷ [])) (sym (told_says event))
       (goes_halt c c' long e 0 p same_number same_opening more.0 zero_numbers refl history follows.running ((λ _. (omega arith)), λ _. refl) (omega arith) refl above true
       (ap (λ (w : World). w.halted) (world_then _ is))))
   by_way (is_recorded room is one follows) = let e : Entry = entry_of (world_now c) event in let more = grown (e ∷ []) one in
       let own_numbers : c'.numbers ≡ c.numbers ++ p.number ∷ [] = more.1 ∙ ap (λ b. c.numbers ++ cond b 0 p.number ∷ []) room in
-      let left : (world_now c).count + 1 < (world_now c).places = grind (arith, nat_tests) in
+      let left : (world_now c).count + 1 < (world_now c).capacity = grind (arith, nat_tests) in
       subst (λ s. After (answered s)) (sym is) (subst After (sym (place_of (world_now c) event))
       (goes_event c c' long e p.number p same_number same_opening more.0 own_numbers refl history follows.running ((λ z. absurd (omega arith)), λ z. absurd (omega arith)) small refl above sent))
 
 pub goes_receipt : (c given : Content) (p : PassView) (receipt : Receipt) → IsSent c p receipt → given ≡ taken_under c p.number receipt.event → IsHistory given
-    → length given.book.entries ≤ given.book.opening.places → Goes c given (p ∷ []) (with_receipt p receipt receipt.place ∷ [])
+    → length given.book.entries ≤ given.book.opening.capacity → Goes c given (p ∷ []) (with_receipt p receipt receipt.place ∷ [])
 goes_receipt c given p receipt sent is history within =
     subst (λ (g : Content). Goes c g (p ∷ []) (with_receipt p receipt receipt.place ∷ [])) (sym is)
     (subst (λ (r : Receipt). Goes c (taken_under c p.number receipt.event) (p ∷ []) (with_receipt p r r.place ∷ [])) (sym sent.answer)
-    (by_way c p receipt.event (subst IsHistory is history) sent.history.long sent.counted sent.places
-    (subst (λ (w : World). length (taken_under c p.number receipt.event).book.entries ≤ w.places) (opening_stays c p.number receipt.event)
-    (subst (λ (g : Content). length g.book.entries ≤ g.book.opening.places) is within)) sent.sender sent.above sent.given (way (world_now c) receipt.event)))
+    (by_way c p receipt.event (subst IsHistory is history) sent.history.long sent.counted sent.capacity
+    (subst (λ (w : World). length (taken_under c p.number receipt.event).book.entries ≤ w.capacity) (opening_stays c p.number receipt.event)
+    (subst (λ (g : Content). length g.book.entries ≤ g.book.opening.capacity) is within)) sent.sender sent.above sent.given (way (world_now c) receipt.event)))

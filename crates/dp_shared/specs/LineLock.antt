@@ -71,7 +71,7 @@ pub record FitsPass (content : Content) (pass : PassView) : Type 0 where
 
 -- an entry's number is 0 exactly at the last place, and none is above the last given
 abbrev pub IsNumbered : Content → Type 0
-IsNumbered content = (index n : ℕ) → get_elem? content.numbers index ≡ some n → ((n ≡ 0) ↔ (index + 1 ≡ content.book.opening.places)) × (n ≤ content.last)
+IsNumbered content = (index n : ℕ) → get_elem? content.numbers index ≡ some n → ((n ≡ 0) ↔ (index + 1 ≡ content.book.opening.capacity)) × (n ≤ content.last)
 
 -- ---- the rule
 

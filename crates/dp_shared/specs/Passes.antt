@@ -78,7 +78,7 @@ pub record IsSent (content : Content) (pass : PassView) (receipt : Receipt) : Ty
   pub sender : is_of pass.address receipt.event ≡ true
   pub history : IsHistory content
   pub counted : (world_now content).count ≡ length content.book.entries
-  pub places : (world_now content).places ≡ content.book.opening.places
+  pub capacity : (world_now content).capacity ≡ content.book.opening.capacity
   pub answer : receipt ≡ receipt_of receipt.event (step (world_now content) receipt.event).answer
 
 -- the pass after a look

@@ -24,7 +24,7 @@ impl Closed {
             let Some(entry) = book.entry(done + 1) else {
                 return false;
             };
-            let Some(behind) = behind_entry(left, entry, address, book.places()) else {
+            let Some(behind) = behind_entry(left, entry, address, book.capacity()) else {
                 return false;
             };
             left = behind;

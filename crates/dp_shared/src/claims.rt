@@ -10,12 +10,13 @@ use crate::claim_view::ClaimView;
 use crate::worker_seat::WorkerSeat;
 use arrayvec::ArrayVec;
 use atomic_table::{Perch, Seat, Table};
-use dp_line::LineSpec;
+use dp_line::{LineSpec, MOST_MASTERS};
+use dp_telegram::GLOBAL_ADDRESS;
 use std::alloc::Global;
 use std::marker::Model;
 
 /// How many words there are: one for each address that a station may have.
-const WORDS: usize = 127;
+const WORDS: usize = GLOBAL_ADDRESS as usize;
 
 /// The word of the perch while no seat rests on it, and while one does.
 const EMPTY: u64 = 0;
@@ -30,7 +31,7 @@ const TAKEN: u64 = 2;
 #[derive(Drop)]
 pub struct Claims {
     table: Table<(), ClaimView, (), OneHolder, Global>,
-    masters: ArrayVec<u8, 16>,
+    masters: ArrayVec<u8, MOST_MASTERS>,
     workers: u8,
     opening: Perch<(), ClaimView>,
 }
@@ -242,7 +243,7 @@ fn split_one(
 }
 
 /// The same masters.
-fn copy_of(masters: &ArrayVec<u8, 16>) -> ArrayVec<u8, 16>
+fn copy_of(masters: &ArrayVec<u8, MOST_MASTERS>) -> ArrayVec<u8, MOST_MASTERS>
     ensures { result ≡ masters.now }
 {
     masters.clone().unwrap()

@@ -9,7 +9,7 @@ ghost use Rattle.dp_shared.specs.Passes.{line_of, table_of};
 use crate::line::{Line, give_same};
 use crate::line_lock::LineSeat;
 use crate::pass::Pass;
-use crate::shelf::Shelf;
+use crate::numbered_book::NumberedBook;
 use dp_audit::Book;
 use std::marker::Model;
 
@@ -19,7 +19,7 @@ use std::marker::Model;
 /// how many passes were out.
 #[derive(Drop)]
 pub struct Closed {
-    shelf: Shelf,
+    numbered_book: NumberedBook,
 }
 
 impl Model for Closed {
@@ -27,7 +27,7 @@ impl Model for Closed {
 
     ghost Value = { Content };
 
-    ghost view = { λ c. c.shelf };
+    ghost view = { λ c. c.numbered_book };
 }
 
 impl Closed {
@@ -35,7 +35,7 @@ impl Closed {
     pub fn book(&self) -> &Book
         ensures { result.now ≡ self.now.book }
     {
-        self.shelf.book()
+        self.numbered_book.book()
     }
 }
 
@@ -59,16 +59,16 @@ impl Line {
             (λ fault. (fault.line ≡ self) × (fault.passes ≡ passes)) }
     {
         let mut keeper = self.sit();
-        let Some(shelf) = self.try_take(&mut keeper) else {
+        let Some(numbered_book) = self.try_take(&mut keeper) else {
             return Err(CloseFault { line: self, passes });
         };
-        if shelf.out() as usize != passes.len() {
-            give_same(&self, &mut keeper, shelf);
+        if numbered_book.out() as usize != passes.len() {
+            give_same(&self, &mut keeper, numbered_book);
             return Err(CloseFault { line: self, passes });
         }
         gather(&self, &mut keeper, passes);
         self.learn(&mut keeper);
-        Ok(Closed { shelf })
+        Ok(Closed { numbered_book })
     }
 }
 

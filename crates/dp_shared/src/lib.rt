@@ -25,7 +25,7 @@ mod line_view;
 mod looks;
 mod one_slot;
 mod pass;
-mod shelf;
+mod numbered_book;
 mod worker_seat;
 
 pub use claim_fault::{ClaimFault, ClaimsFault};

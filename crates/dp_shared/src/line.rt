@@ -1,6 +1,6 @@
 //! A line behind its lock.
 
-ghost use Rattle.std.specs.Prelude.{◌≡◌, ◌≢◌, ◌+◌, ◌<◌, ◌^◌, [], ◌∷◌, true, None, IfOk, IfErr, IfNone, IfSome, MatchResult, length, if◌then◌else◌};
+ghost use Rattle.std.specs.Prelude.{◌≡◌, ◌≢◌, ◌+◌, ◌<◌, ◌≤◌, ◌^◌, [], ◌∷◌, true, None, IfOk, IfErr, IfNone, IfSome, MatchResult, length, if◌then◌else◌};
 ghost use Rattle.dp_responder.specs.declared.rule.Rule.TheVariants.{Halted};
 ghost use Rattle.dp_line.specs.declared.event.Event.TheVariants.{Request, Operator};
 ghost use Rattle.dp_line.specs.declared.event.Outcome.TheVariants.{Refused, Silence};
@@ -18,7 +18,8 @@ use crate::line_steps::LineLock;
 use crate::line_view::LineView;
 use crate::one_slot::OneSlot;
 use crate::pass::Pass;
-use crate::shelf::Shelf;
+use crate::numbered_book::NumberedBook;
+use arrayvec::ArrayVec;
 use dp_audit::Receipt;
 use dp_line::{Event, LineSpec, Op, OpenFault, Step};
 use dp_telegram::{GLOBAL_ADDRESS, Octets};
@@ -31,7 +32,7 @@ const MOST_PASSES: u32 = 64;
 
 /// A line that threads share: a journal behind a lock of its own. Nothing but [`Line::open`] takes
 /// memory.
-pub type Line = OneSlot<Option<Shelf>, LineView, LineSpec, LineLock>;
+pub type Line = OneSlot<Option<NumberedBook>, LineView, LineSpec, LineLock>;
 
 impl Line {
     /// The line at its start, and no pass; room for all places of its journal is reserved.
@@ -51,9 +52,9 @@ impl Line {
     pub fn number<R: Wait>(&self, rt: &R) -> u8
         ensures { result ≡ (line_of self.now).number }
     {
-        let (mut seat, shelf) = self.sit_and_take(rt);
-        let number = shelf.book().number();
-        give_same(self, &mut seat, shelf);
+        let (mut seat, numbered_book) = self.sit_and_take(rt);
+        let number = numbered_book.book().number();
+        give_same(self, &mut seat, numbered_book);
         number
     }
 
@@ -66,13 +67,13 @@ impl Line {
             × (pass.table ≡ table_of self.now) × (pass.view ≡ new_pass pass.view.number address)) }
         ensures err { IfErr result (λ fault. fault ≡ (if may_open (line_of self.now) address then PassFault.TooMany else PassFault.UnknownMaster)) }
     {
-        let (mut seat, mut shelf) = self.sit_and_take(rt);
-        if let Some(fault) = self.refusal(&shelf, address) {
-            give_same(self, &mut seat, shelf);
+        let (mut seat, mut numbered_book) = self.sit_and_take(rt);
+        if let Some(fault) = self.refusal(&numbered_book, address) {
+            give_same(self, &mut seat, numbered_book);
             return Err(fault);
         }
-        let number = shelf.number_pass();
-        give_new(self, &mut seat, shelf, address);
+        let number = numbered_book.number_pass();
+        give_new(self, &mut seat, numbered_book, address);
         Ok(Pass {
             seat,
             number,
@@ -96,9 +97,24 @@ impl Line {
         ensures halted { IfNone result.place ((result.facts ≡ None) × (result.outcome ≡ Silence Halted)) }
         ensures above { IfSome result.place (λ place. IsAbove pass.old.view place) }
     {
+        self.exchange_lent(rt, pass, octets.as_slice())
+    }
+
+    /// Like [`Line::exchange`], of octets where they lie, 0 to 255 of them, which saves a copy.
+    pub fn exchange_lent<R: Wait>(&self, rt: &R, pass: &mut Pass, octets: &[u8]) -> Receipt
+        requires ours { pass.old.table ≡ table_of self.now }
+        requires master { pass.old.view.address ≢ 127 }
+        requires few { length octets.now ≤ 255 }
+        ensures ours { pass.new.table ≡ pass.old.table }
+        ensures address { pass.new.view.address ≡ pass.old.view.address }
+        ensures event { result.event ≡ Request pass.old.view.address (record { items = octets.now }) }
+        ensures pass { pass.new.view ≡ with_receipt pass.old.view result result.place }
+        ensures halted { IfNone result.place ((result.facts ≡ None) × (result.outcome ≡ Silence Halted)) }
+        ensures above { IfSome result.place (λ place. IsAbove pass.old.view place) }
+    {
         let event = Event::Request {
             master: pass.address,
-            octets: octets.clone().unwrap(),
+            octets: ArrayVec::try_from(octets).unwrap(),
         };
         self.send(rt, pass, event)
     }
@@ -125,22 +141,22 @@ impl Line {
         requires { pass.table ≡ table_of self.now }
     {
         let Pass { mut seat, .. } = pass;
-        let mut shelf = self.take(rt, &mut seat);
-        shelf.put_back();
-        give_same(self, &mut seat, shelf);
+        let mut numbered_book = self.take(rt, &mut seat);
+        numbered_book.put_back();
+        give_same(self, &mut seat, numbered_book);
     }
 
     /// Why a pass of this address isn't opened; None where it is.
-    fn refusal(&self, shelf: &Shelf, address: u8) -> Option<PassFault>
-        requires { IsOf (line_of self.now) shelf.now.book }
-        ensures none { IfNone result ((may_open (line_of self.now) address ≡ true) × (shelf.now.last + 1 < 2 ^ 32) × (shelf.now.out + 1 < 2 ^ 32)) }
+    fn refusal(&self, numbered_book: &NumberedBook, address: u8) -> Option<PassFault>
+        requires { IsOf (line_of self.now) numbered_book.now.book }
+        ensures none { IfNone result ((may_open (line_of self.now) address ≡ true) × (numbered_book.now.last + 1 < 2 ^ 32) × (numbered_book.now.out + 1 < 2 ^ 32)) }
         ensures some { IfSome result (λ fault. fault ≡ (if may_open (line_of self.now) address then PassFault.TooMany else PassFault.UnknownMaster)) }
     {
-        shelf.is_legal();
-        if address != GLOBAL_ADDRESS && !shelf.state().is_master(address) {
+        numbered_book.prove_legal();
+        if address != GLOBAL_ADDRESS && !numbered_book.state().is_master(address) {
             return Some(PassFault::UnknownMaster);
         }
-        if shelf.out() >= MOST_PASSES || shelf.last() == u32::MAX {
+        if numbered_book.out() >= MOST_PASSES || numbered_book.last() == u32::MAX {
             return Some(PassFault::TooMany);
         }
         None
@@ -157,12 +173,12 @@ impl Line {
         ensures unplaced { IfNone result.place (IsTurnedAway result) }
         ensures above { IfSome result.place (λ place. IsAbove pass.old.view place) }
     {
-        let mut shelf = self.take(rt, &mut pass.seat);
-        shelf.is_legal();
+        let mut numbered_book = self.take(rt, &mut pass.seat);
+        numbered_book.prove_legal();
         let mut answer = Step::blank();
-        shelf.take_to(pass.number, &event, &mut answer);
-        shelf.is_legal();
-        let count = shelf.count();
+        numbered_book.take_into(pass.number, &event, &mut answer);
+        numbered_book.prove_legal();
+        let count = numbered_book.count();
         if answer.place.is_some() {
             pass.made += 1;
         }
@@ -172,42 +188,42 @@ impl Line {
             facts: answer.facts,
             outcome: answer.outcome,
         };
-        give_receipt(self, &mut pass.seat, shelf, &receipt);
+        give_receipt(self, &mut pass.seat, numbered_book, &receipt);
         receipt
     }
 }
 
 /// The content goes home as it was, but for the count of passes out.
-pub(crate) fn give_same(line: &Line, seat: &mut LineSeat, shelf: Shelf)
+pub(crate) fn give_same(line: &Line, seat: &mut LineSeat, numbered_book: NumberedBook)
     requires ours { seat.old.table_id ≡ table_of line.now }
-    requires same { HasContent seat.old.me (λ content. shelf ≡ record content { out = shelf.out }) }
+    requires same { HasContent seat.old.me (λ content. numbered_book ≡ record content { out = numbered_book.out }) }
     ensures ours { seat.new.table_id ≡ seat.old.table_id }
     ensures given { seat.new.me ≡ (left_with seat.old.me.0 seat.old.me.0.passes, []) }
 {
-    shelf.is_legal();
-    line.give::<Brand, ()>(seat, shelf, &());
+    numbered_book.prove_legal();
+    line.give::<Brand, ()>(seat, numbered_book, &());
 }
 
 /// The content goes home with one pass more, which is this seat's.
-fn give_new(line: &Line, seat: &mut LineSeat, shelf: Shelf, address: u8)
+fn give_new(line: &Line, seat: &mut LineSeat, numbered_book: NumberedBook, address: u8)
     requires ours { seat.old.table_id ≡ table_of line.now }
     requires more { HasContent seat.old.me (λ content. (seat.old.me.0.passes ≡ [])
-        × (shelf ≡ record content { last = content.last + 1; out = content.out + 1 })) }
+        × (numbered_book ≡ record content { last = content.last + 1; out = content.out + 1 })) }
     ensures ours { seat.new.table_id ≡ seat.old.table_id }
-    ensures given { seat.new.me ≡ (left_with seat.old.me.0 (new_pass shelf.last address ∷ []), []) }
+    ensures given { seat.new.me ≡ (left_with seat.old.me.0 (new_pass numbered_book.last address ∷ []), []) }
 {
-    shelf.is_legal();
-    line.give::<Brand, u8>(seat, shelf, &address);
+    numbered_book.prove_legal();
+    line.give::<Brand, u8>(seat, numbered_book, &address);
 }
 
 /// The content goes home after one event of this seat's pass.
-fn give_receipt(line: &Line, seat: &mut LineSeat, shelf: Shelf, receipt: &Receipt)
+fn give_receipt(line: &Line, seat: &mut LineSeat, numbered_book: NumberedBook, receipt: &Receipt)
     requires ours { seat.old.table_id ≡ table_of line.now }
     requires taken { HasContent seat.old.me (λ content. (pass : PassView) × (seat.old.me.0.passes ≡ pass ∷ [])
-        × IsSent content pass receipt.now × (shelf ≡ taken_under content pass.number receipt.now.event)) }
+        × IsSent content pass receipt.now × (numbered_book ≡ taken_under content pass.number receipt.now.event)) }
     ensures ours { seat.new.table_id ≡ seat.old.table_id }
     ensures given { seat.new.me ≡ (left_with seat.old.me.0 (with_receipt (pass_in seat.old.me.0.passes) receipt.now receipt.now.place ∷ []), []) }
 {
-    shelf.is_legal();
-    line.give::<Brand, Receipt>(seat, shelf, receipt);
+    numbered_book.prove_legal();
+    line.give::<Brand, Receipt>(seat, numbered_book, receipt);
 }

@@ -13,7 +13,7 @@ use crate::line_steps::{Gather, Give, Learn, LineLock, Next, Sit, Take};
 use crate::line_view::LineView;
 use crate::one_slot::OneSlot;
 use crate::pass::Pass;
-use crate::shelf::Shelf;
+use crate::numbered_book::NumberedBook;
 use atomic_table::{Seat, Table};
 use dp_line::{LineSpec, OpenFault};
 use std::alloc::Global;
@@ -21,7 +21,7 @@ use std::sync::Wait;
 use std::thread;
 
 /// A seat at a line's lock.
-pub(crate) type LineSeat = Seat<Option<Shelf>, LineView>;
+pub(crate) type LineSeat = Seat<Option<NumberedBook>, LineView>;
 
 impl Line {
     /// A line at its start behind its lock. All room is taken here; the table too may be refused.
@@ -30,9 +30,9 @@ impl Line {
         ensures opened { opening_fault (description_of line.now) ≡ None
             → MatchResult result (λ opened. line_of opened ≡ line.now) (λ fault. fault ≡ OpenFault.OutOfMemory) }
     {
-        let shelf = Shelf::open(alloc, line)?;
-        let slots = slots_with(alloc, shelf)?;
-        let made = Table::<Option<Shelf>, LineView, LineSpec, LineLock, Global>::new(
+        let numbered_book = NumberedBook::open(alloc, line)?;
+        let slots = slots_with(alloc, numbered_book)?;
+        let made = Table::<Option<NumberedBook>, LineView, LineSpec, LineLock, Global>::new(
             alloc,
             &[0],
             slots,
@@ -53,11 +53,11 @@ impl Line {
     }
 
     /// Tries once to take the content.
-    pub(crate) fn try_take(&self, seat: &mut LineSeat) -> Option<Shelf>
+    pub(crate) fn try_take(&self, seat: &mut LineSeat) -> Option<NumberedBook>
         requires ours { seat.old.table_id ≡ table_of self.now }
         requires empty { seat.old.me.1 ≡ [] }
         ensures ours { seat.new.table_id ≡ seat.old.table_id }
-        ensures took { MatchOption result (seat.new.me ≡ seat.old.me) (λ shelf. Took seat.old.me shelf seat.new.me) }
+        ensures took { MatchOption result (seat.new.me ≡ seat.old.me) (λ numbered_book. Took seat.old.me numbered_book seat.new.me) }
     {
         if self.table.shared.compare_exchange::<Take>(seat, 0, 0, 1) != 0 {
             return None;
@@ -66,15 +66,15 @@ impl Line {
     }
 
     /// Takes the content, however long that takes.
-    pub(crate) fn take<R: Wait>(&self, rt: &R, seat: &mut LineSeat) -> Shelf
+    pub(crate) fn take<R: Wait>(&self, rt: &R, seat: &mut LineSeat) -> NumberedBook
         requires ours { seat.old.table_id ≡ table_of self.now }
         requires empty { seat.old.me.1 ≡ [] }
         ensures ours { seat.new.table_id ≡ seat.old.table_id }
         ensures took { Took seat.old.me result seat.new.me }
     {
         for _ in rt.forever() {
-            if let Some(shelf) = self.try_take(seat) {
-                return shelf;
+            if let Some(numbered_book) = self.try_take(seat) {
+                return numbered_book;
             }
             thread::yield_now();
         }
@@ -82,26 +82,26 @@ impl Line {
     }
 
     /// A new seat that took the content.
-    pub(crate) fn sit_and_take<R: Wait>(&self, rt: &R) -> (LineSeat, Shelf)
+    pub(crate) fn sit_and_take<R: Wait>(&self, rt: &R) -> (LineSeat, NumberedBook)
         ensures ours { result.0.table_id ≡ table_of self.now }
         ensures took { Took (blank (line_of self.now), []) result.1 result.0.me }
         ensures of_line { IsOf (line_of self.now) result.1.book }
     {
         let mut seat = self.sit();
-        let shelf = self.take(rt, &mut seat);
-        (seat, shelf)
+        let numbered_book = self.take(rt, &mut seat);
+        (seat, numbered_book)
     }
 
     /// Gives the content back. What the seat's passes become is picked at the call, from `about` and the
     /// other arguments.
-    pub(crate) fn give<N: Next, T>(&self, seat: &mut LineSeat, shelf: Shelf, about: &T)
+    pub(crate) fn give<N: Next, T>(&self, seat: &mut LineSeat, numbered_book: NumberedBook, about: &T)
         requires ours { seat.old.table_id ≡ table_of self.now }
-        requires goes { HasContent seat.old.me (λ content. Goes content shelf seat.old.me.0.passes N.next) }
+        requires goes { HasContent seat.old.me (λ content. Goes content numbered_book seat.old.me.0.passes N.next) }
         ensures ours { seat.new.table_id ≡ seat.old.table_id }
         ensures given { seat.new.me ≡ (left_with seat.old.me.0 N.next, []) }
     {
         let _ = about;
-        let _ = self.table.shared.exchange(seat, 0, Some(shelf));
+        let _ = self.table.shared.exchange(seat, 0, Some(numbered_book));
         self.table.shared.store::<Give<N>>(seat, 0, 0);
     }
 
@@ -127,10 +127,10 @@ impl Line {
 }
 
 /// The slots of a line's lock: one, with this content.
-fn slots_with(alloc: Global, shelf: Shelf) -> Result<Vec<Option<Shelf>>, OpenFault>
-    ensures { MatchResult result (λ slots. slots.items ≡ Some shelf ∷ []) (λ fault. fault ≡ OpenFault.OutOfMemory) }
+fn slots_with(alloc: Global, numbered_book: NumberedBook) -> Result<Vec<Option<NumberedBook>>, OpenFault>
+    ensures { MatchResult result (λ slots. slots.items ≡ Some numbered_book ∷ []) (λ fault. fault ≡ OpenFault.OutOfMemory) }
 {
     let mut slots = Vec::with_capacity(alloc, 1).map_err(|_| OpenFault::OutOfMemory)?;
-    slots.push_reserved(Some(shelf));
+    slots.push_reserved(Some(numbered_book));
     Ok(slots)
 }

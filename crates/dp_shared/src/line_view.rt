@@ -1,6 +1,6 @@
 //! What a seat at a line's lock knows, for proofs: no value of these types is made.
 
-use crate::shelf::Shelf;
+use crate::numbered_book::NumberedBook;
 use arrayvec::ArrayVec;
 use dp_audit::Receipt;
 use dp_line::{LineSpec, MOST_SLAVES};
@@ -56,5 +56,5 @@ pub struct LineView {
     /// None for a new seat, one for a pass, and those joined for the seat that closes the line.
     pub passes: LinkedList<PassView>,
     /// The content as the seat took it, while the seat has it.
-    pub note: Option<Shelf>,
+    pub note: Option<NumberedBook>,
 }

@@ -13,7 +13,7 @@ use crate::line::Line;
 use crate::line_lock::LineSeat;
 use crate::line_view::{Answer, Question};
 use crate::pass::Pass;
-use crate::shelf::Shelf;
+use crate::numbered_book::NumberedBook;
 use arrayvec::ArrayVec;
 use dp_line::{MOST_SLAVES, SlaveView};
 use std::marker::Brand;
@@ -37,13 +37,13 @@ impl Line {
         ensures look { pass.new.view ≡ with_look pass.old.view (look_by pass.old.view (Question.View address) result.count (Answer.View result.value)) }
         ensures later { IsNoEarlier pass.old.view result.count }
     {
-        let shelf = self.take(rt, &mut pass.seat);
-        shelf.is_legal();
+        let numbered_book = self.take(rt, &mut pass.seat);
+        numbered_book.prove_legal();
         let seen = Seen {
-            count: shelf.count(),
-            value: shelf.state().view(address),
+            count: numbered_book.count(),
+            value: numbered_book.state().view(address),
         };
-        give_view(self, &mut pass.seat, shelf, address, &seen);
+        give_view(self, &mut pass.seat, numbered_book, address, &seen);
         seen
     }
 
@@ -61,13 +61,13 @@ impl Line {
         ensures look { pass.new.view ≡ with_look pass.old.view (look_by pass.old.view (Question.Owned master) result.count (Answer.Owned result.value)) }
         ensures later { IsNoEarlier pass.old.view result.count }
     {
-        let shelf = self.take(rt, &mut pass.seat);
-        shelf.is_legal();
+        let numbered_book = self.take(rt, &mut pass.seat);
+        numbered_book.prove_legal();
         let seen = Seen {
-            count: shelf.count(),
-            value: shelf.state().owned_by(master),
+            count: numbered_book.count(),
+            value: numbered_book.state().owned_by(master),
         };
-        give_owned(self, &mut pass.seat, shelf, master, &seen);
+        give_owned(self, &mut pass.seat, numbered_book, master, &seen);
         seen
     }
 }
@@ -83,12 +83,12 @@ struct Asked<'a, T> {
 fn give_view(
     line: &Line,
     seat: &mut LineSeat,
-    shelf: Shelf,
+    numbered_book: NumberedBook,
     address: u8,
     seen: &Seen<Option<SlaveView>>,
 )
     requires ours { seat.old.table_id ≡ table_of line.now }
-    requires same { HasContent seat.old.me (λ content. (shelf ≡ content) × (seat.old.me.0.passes ≡ pass_in seat.old.me.0.passes ∷ [])
+    requires same { HasContent seat.old.me (λ content. (numbered_book ≡ content) × (seat.old.me.0.passes ≡ pass_in seat.old.me.0.passes ∷ [])
         × (seen.now.count ≡ length content.book.entries) × (seen.now.value ≡ option_map view_of (slave_at (world_now content) address))) }
     ensures ours { seat.new.table_id ≡ seat.old.table_id }
     ensures given { seat.new.me ≡ (
@@ -97,21 +97,21 @@ fn give_view(
       [],
     ) }
 {
-    shelf.is_legal();
+    numbered_book.prove_legal();
     let about = Asked { address, seen };
-    line.give::<Brand, Asked<Option<SlaveView>>>(seat, shelf, &about);
+    line.give::<Brand, Asked<Option<SlaveView>>>(seat, numbered_book, &about);
 }
 
 /// The content goes home as it was, after a look at a master's list.
 fn give_owned(
     line: &Line,
     seat: &mut LineSeat,
-    shelf: Shelf,
+    numbered_book: NumberedBook,
     address: u8,
     seen: &Seen<ArrayVec<u8, MOST_SLAVES>>,
 )
     requires ours { seat.old.table_id ≡ table_of line.now }
-    requires same { HasContent seat.old.me (λ content. (shelf ≡ content) × (seat.old.me.0.passes ≡ pass_in seat.old.me.0.passes ∷ [])
+    requires same { HasContent seat.old.me (λ content. (numbered_book ≡ content) × (seat.old.me.0.passes ≡ pass_in seat.old.me.0.passes ∷ [])
         × (seen.now.count ≡ length content.book.entries) × (seen.now.value.items ≡ owned (world_now content) address)) }
     ensures ours { seat.new.table_id ≡ seat.old.table_id }
     ensures given { seat.new.me ≡ (
@@ -120,7 +120,7 @@ fn give_owned(
       [],
     ) }
 {
-    shelf.is_legal();
+    numbered_book.prove_legal();
     let about = Asked { address, seen };
-    line.give::<Brand, Asked<ArrayVec<u8, MOST_SLAVES>>>(seat, shelf, &about);
+    line.give::<Brand, Asked<ArrayVec<u8, MOST_SLAVES>>>(seat, numbered_book, &about);
 }

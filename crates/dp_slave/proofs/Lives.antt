@@ -13,7 +13,7 @@ use Rattle.dp_slave.specs.SlaveRecord.{SlaveRecord, full_time, input_length, is_
 use Rattle.dp_slave.specs.Acts.{Act, Control, locks, faults, unlocks, sets_min_tsdr, configures, misconfigures, exchanges, tells_diagnosis, is_read, is_controlled, is_fed, reports, is_marked, ticks, halts, releases, runs_out}
 use Rattle.dp_slave.specs.Fields.{acted, cleared_by, is_frozen_by}
 use Rattle.dp_slave.specs.Services.{prm_act}
-use Rattle.dp_slave.specs.Lives.{IsSound, acts_after, all_fit, fits}
+use Rattle.dp_slave.specs.Soundness.{IsSound, acts_after, all_fit, fits}
 
 pub released_again : (slave : SlaveRecord) → released (released slave) ≡ released slave
 unfolding released

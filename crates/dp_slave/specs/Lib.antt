@@ -5,7 +5,7 @@ pub mod Acts
 pub mod Fields
 pub mod Controls
 pub mod Services
-pub mod Lives
+pub mod Soundness
 pub mod View
 pub mod Codes
 pub mod Names

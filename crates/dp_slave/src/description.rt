@@ -1,6 +1,7 @@
 //! The description of a slave.
 
 use arrayvec::ArrayVec;
+use dp_cfg::MOST_OCTETS;
 
 /// What feeds a slave's inputs (own).
 #[derive(Clone, Copy, Debug, PartialEq, Eq)]
@@ -21,7 +22,7 @@ pub struct SlaveSpec {
     /// Ident number.
     pub ident: u16,
     /// Configuration, 0 to 244 octets of identifiers.
-    pub cfg: ArrayVec<u8, 244>,
+    pub cfg: ArrayVec<u8, MOST_OCTETS>,
     /// The slave has a sync mode.
     pub sync: bool,
     /// The slave has a freeze mode.

@@ -7,7 +7,7 @@ ghost use Rattle.dp_slave.specs.SlaveRecord.{SlaveRecord, limits_of, released, s
 ghost use Rattle.dp_slave.specs.Acts.{Act, Control, exchanges, halts, is_controlled, releases, ticks};
 ghost use Rattle.dp_slave.specs.Fields.{acted};
 ghost use Rattle.dp_slave.specs.Services.{set_prm_act};
-ghost use Rattle.dp_slave.specs.Lives.{acts_after, all_fit, IsSound};
+ghost use Rattle.dp_slave.specs.Soundness.{acts_after, all_fit, IsSound};
 
 /// A released slave stays as it is when it is released again, and a halt releases.
 pub fn released_is_a_fixed_point()

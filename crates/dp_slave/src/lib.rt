@@ -14,6 +14,7 @@ mod slave;
 mod view;
 
 pub use description::{Device, SlaveSpec};
+pub use dp_cfg::MOST_OCTETS as MOST_CONFIGURATION;
 pub use fault::InputFault;
 pub use slave::Slave;
 pub use view::SlaveView;

@@ -170,13 +170,13 @@ impl Slave {
         ensures octets { result.items ≡ diagnosis_text (diag_facts self.old.slave) }
     {
         let mut octets = ArrayVec::new();
-        self.slave_diag_to(sender, &mut octets);
+        self.slave_diag_into(sender, &mut octets);
         octets
     }
 
     /// Slave_Diag that puts its octets where octets lie, as [`Slave::slave_diag`] answers them.
     #[tactic(auto, unfolding(crate::specs::Fields::acted))]
-    pub fn slave_diag_to(&mut self, sender: u8, octets: &mut ArrayVec<u8, MOST_DATA>)
+    pub fn slave_diag_into(&mut self, sender: u8, octets: &mut ArrayVec<u8, MOST_DATA>)
         ensures slave { self.new ≡ with_slave self.old (acted self.old.slave (tells_diagnosis sender)) }
         ensures octets { octets.new.items ≡ diagnosis_text (diag_facts self.old.slave) }
     {
@@ -201,7 +201,7 @@ impl Slave {
             self.diag.unread = false;
             self.left = self.left_again();
         }
-        dp_diag::octets_to(&facts, octets);
+        dp_diag::octets_into(&facts, octets);
     }
 
     /// The master holds the slave.

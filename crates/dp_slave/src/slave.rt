@@ -12,7 +12,7 @@ use crate::process_data::ProcessData;
 use arrayvec::ArrayVec;
 use dp_cfg::CfgIds;
 use dp_diag::Diag;
-use dp_owners::Links;
+use dp_owners::{Links, MOST_MASTERS};
 use dp_prm::Prm;
 use dp_responder::FrameMemory;
 use dp_sap::{Points, State};
@@ -82,7 +82,7 @@ impl Model for Slave {
 impl Slave {
     /// A slave at its start, on a line with these masters. Its configuration is one that can be
     /// parsed.
-    pub fn open(description: &SlaveSpec, masters: &ArrayVec<u8, 16>) -> Slave
+    pub fn open(description: &SlaveSpec, masters: &ArrayVec<u8, MOST_MASTERS>) -> Slave
         requires { reading_of description.now.cfg.items ≡ Ok description.now.cfg.items }
         ensures slave { result.slave ≡ starting_slave masters.now.items description.now }
         ensures links { result.links ≡ record { prev = None; next = None } }

@@ -27,7 +27,7 @@ pub struct Parts {
 }
 
 impl Parts {
-    /// No points and no payload: room for [`Telegram::parts_to`].
+    /// No points and no payload: room for [`Telegram::parts_into`].
     pub fn blank() -> Parts
         ensures { result ≡ record { dsap = None; ssap = None; payload = record { items = [] } } }
     {
@@ -49,7 +49,7 @@ impl Telegram {
         ensures parts { (parts : Parts) → (result ≡ Some parts) ↔ HasParts self.now parts }
     {
         let mut parts = Parts::blank();
-        if self.parts_to(&mut parts) {
+        if self.parts_into(&mut parts) {
             Some(parts)
         } else {
             None
@@ -58,7 +58,7 @@ impl Telegram {
 
     /// Puts what [`Telegram::parts`] tells where parts lie, and says whether there is such; where there
     /// isn't, they stay. It moves no parts, which costs the copy of 264 octets each time.
-    pub fn parts_to(&self, parts: &mut Parts) -> bool
+    pub fn parts_into(&self, parts: &mut Parts) -> bool
         ensures found { (if result then Some parts.new else None) ≡ parts_of self.now }
         ensures stays { (if result then parts.old else parts.new) ≡ parts.old }
     {

@@ -7,12 +7,9 @@ ghost use Rattle.dp_telegram.specs.Stream.{piece_of, left_of, cut_lent, frame_in
 
 use crate::decoding::{fault_in, frame_in, frame_size};
 use crate::fault::FrameFault;
-use crate::frame::{Frame, Octets};
+use crate::frame::{Frame, MOST_OCTETS, Octets};
 use arrayvec::ArrayVec;
 use std::marker::Model;
-
-/// The most octets that are held: the longest frame has so many.
-const MOST: usize = 255;
 
 /// Room for as many again: the octets held, then at most 254, are moved to the front only after at
 /// least 256 were handed out, so on average no octet is moved more than once.
@@ -101,7 +98,7 @@ impl Cutter {
         ensures most { length self.new ≤ 255 }
     {
         let held = self.end - self.start;
-        let taken = octets.len().min(MOST - held);
+        let taken = octets.len().min(MOST_OCTETS - held);
         if self.end + taken > ROOM {
             self.buffer.copy_within(self.start..self.end, 0);
             self.start = 0;

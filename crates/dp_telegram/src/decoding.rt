@@ -31,7 +31,7 @@ pub fn decode(octets: &[u8]) -> Result<Frame, FrameFault>
 ///
 /// It is [`decode`] without the fault, and moves no frame, which costs the copy of 261 octets each time;
 /// a telegram that lies there gives its room.
-pub fn decode_to(octets: &[u8], frame: &mut Frame) -> bool
+pub fn decode_into(octets: &[u8], frame: &mut Frame) -> bool
     ensures found { (if result then Some frame.new else None) ≡ frame_of octets.now }
     ensures stays { (if result then frame.old else frame.new) ≡ frame.old }
 {
@@ -43,7 +43,7 @@ pub fn decode_to(octets: &[u8], frame: &mut Frame) -> bool
 }
 
 impl Frame {
-    /// A telegram of zeros without a data unit: room for [`decode_to`].
+    /// A telegram of zeros without a data unit: room for [`decode_into`].
     pub fn blank() -> Frame
         ensures { result ≡ Frame.Telegram (record { da = 0; sa = 0; fc = 0; du = record { items = [] } }) }
     {

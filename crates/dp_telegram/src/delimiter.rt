@@ -11,8 +11,8 @@ pub(crate) const SD2: u8 = 0x68;
 pub(crate) const SD3: u8 = 0xA2;
 /// Token.
 pub(crate) const SD4: u8 = 0xDC;
-/// Short acknowledgement.
-pub(crate) const SC: u8 = 0xE5;
+/// Short acknowledgement (IEC 61158-4-3, frame formats).
+pub const SC: u8 = 0xE5;
 /// End delimiter.
 pub(crate) const ED: u8 = 0x16;
 

@@ -35,7 +35,7 @@ pub fn encode(frame: &Frame) -> Octets
 /// Makes a text that of the short acknowledgement.
 ///
 /// It does what [`encode`] does, and spares the copy of the text, 264 octets.
-pub fn acknowledge_to(text: &mut Octets)
+pub fn acknowledge_into(text: &mut Octets)
     ensures { text.new.items ≡ text_of frames.Ack }
 {
     text.clear();
@@ -43,8 +43,8 @@ pub fn acknowledge_to(text: &mut Octets)
 }
 
 impl Telegram {
-    /// Makes a text that of the telegram, as [`acknowledge_to`] does of the short acknowledgement.
-    pub fn encode_to(&self, text: &mut Octets)
+    /// Makes a text that of the telegram, as [`acknowledge_into`] does of the short acknowledgement.
+    pub fn encode_into(&self, text: &mut Octets)
         ensures { text.new.items ≡ text_of (frames.Telegram self.now) }
     {
         text.clear();

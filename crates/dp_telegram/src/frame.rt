@@ -2,8 +2,11 @@
 
 use arrayvec::ArrayVec;
 
+/// The most octets of a frame: those of an SD2 telegram of the greatest length.
+pub const MOST_OCTETS: usize = 255;
+
 /// Octets of at most one frame, 0 to 255 of them.
-pub type Octets = ArrayVec<u8, 255>;
+pub type Octets = ArrayVec<u8, MOST_OCTETS>;
 
 /// A telegram with its octets as they stand on the wire (IEC 61158-4-3, telegrams of fixed and of
 /// variable length).

@@ -11,9 +11,7 @@ use crate::number::{number_in, octet_in};
 use crate::words::{Words, is_text};
 use arrayvec::ArrayVec;
 use dp_line::Op;
-
-/// The most octets of a word.
-const MOST_OCTETS: usize = 255;
+use dp_telegram::MOST_OCTETS;
 
 /// What stands in octets until they are decoded.
 const BLANK: [u8; MOST_OCTETS] = [0; MOST_OCTETS];

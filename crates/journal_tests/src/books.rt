@@ -48,7 +48,7 @@ impl Desk {
             return Err(Fail::new("no event"));
         };
         let mut answer = Step::blank();
-        self.other.take_to(&event, &mut answer);
+        self.other.take_into(&event, &mut answer);
         let told = row_of(alloc, answer.place, &event, &answer.facts, &answer.outcome)?;
         let receipt = self.book.take(event);
         let same = row_of(
@@ -124,9 +124,9 @@ fn place_of(alloc: Global, book: &Book, place: u32) -> Result<String, Fail> {
 /// The book: number, entries, places and whether it is halted; then what is at each place from 0 to behind the
 /// last entry, and at the greatest number.
 fn book_of(alloc: Global, book: &Book) -> Result<String, Fail> {
-    let (number, count, places) = (book.number(), book.count(), book.places());
+    let (number, count, capacity) = (book.number(), book.count(), book.capacity());
     let halted = book.state().is_halted();
-    let mut told = format!(in alloc; "line {number}, {count} of {places}, halted {halted}\n")?;
+    let mut told = format!(in alloc; "line {number}, {count} of {capacity}, halted {halted}\n")?;
     for place in 0..count.saturating_add(2) {
         told.push_str(&place_of(alloc, book, place)?)?;
     }

@@ -93,7 +93,7 @@ line_of value = do
   listen ← optional None port_of (codes "listen") line
   operator ← optional None port_of (codes "operator") line
   Ok (record {
-    line = record { number = number; places = capacity; masters = masters; slaves = slaves };
+    line = record { number = number; capacity = capacity; masters = masters; slaves = slaves };
     listen = listen;
     operator = operator;
   })

@@ -39,7 +39,7 @@ abbrev line_1 : LineDescription
 line_1 = record {
   line = record {
     number = 1;
-    places = 1000;
+    capacity = 1000;
     masters = 1 ∷ 2 ∷ [];
     slaves = record {
       address = 5;
@@ -116,7 +116,7 @@ abbrev whole_line : LineDescription
 whole_line = record {
   line = record {
     number = 1;
-    places = 2;
+    capacity = 2;
     masters = 1 ∷ [];
     slaves = record {
       address = 5;

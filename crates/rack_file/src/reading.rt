@@ -16,7 +16,9 @@ use crate::toml_keys::{
     table_in, text_in, value_at,
 };
 use arrayvec::ArrayVec;
-use dp_line::{Device, LineSpec, SlaveSpec};
+use dp_line::{
+    Device, LineSpec, MOST_CONFIGURATION, MOST_MASTERS, MOST_USER_PARAMETERS, SlaveSpec,
+};
 use std::alloc::Global;
 use toml::{Table, Value};
 
@@ -27,17 +29,14 @@ const WORKERS: u8 = 4;
 const MOST_WORKERS: u32 = 32;
 
 /// User parameters that a slave takes whose description doesn't say how many, in octets.
-const USER_PARAMETERS: u8 = 237;
+const USER_PARAMETERS: u8 = MOST_USER_PARAMETERS as u8;
 
 /// The most lines of a rack.
 const MOST_LINES: usize = 8;
 
-/// The most masters of a line.
-const MOST_MASTERS: usize = 16;
-
 /// A configuration: at most 244 octets in hex text.
 #[tactic(auto, unfolding(crate::specs::RackFile::configuration_of))]
-fn configuration_in(alloc: Global, value: &Value) -> Result<ArrayVec<u8, 244>, RackFault>
+fn configuration_in(alloc: Global, value: &Value) -> Result<ArrayVec<u8, MOST_CONFIGURATION>, RackFault>
     ensures { Gives (λ cfg. cfg.items) result (configuration_of (view value.now)) }
 {
     let octets = octets_in(alloc, value)?;
@@ -49,7 +48,7 @@ fn configuration_in(alloc: Global, value: &Value) -> Result<ArrayVec<u8, 244>, R
 
 /// A slave's configuration.
 #[tactic(auto, unfolding(crate::specs::TomlKeys::required))]
-fn required_configuration(alloc: Global, slave: &Table) -> Result<ArrayVec<u8, 244>, RackFault>
+fn required_configuration(alloc: Global, slave: &Table) -> Result<ArrayVec<u8, MOST_CONFIGURATION>, RackFault>
     ensures { Gives (λ cfg. cfg.items) result (required configuration_of (codes "cfg") (table_view slave.now)) }
 {
     configuration_in(alloc, required_value(slave, "cfg")?)
@@ -116,7 +115,7 @@ fn slave_in(alloc: Global, value: &Value) -> Result<SlaveSpec, RackFault>
 }
 
 /// The masters of a line.
-fn masters_in(values: &[Value]) -> Result<ArrayVec<u8, 16>, RackFault>
+fn masters_in(values: &[Value]) -> Result<ArrayVec<u8, MOST_MASTERS>, RackFault>
     requires { length values.now ≤ 16 }
     ensures { Gives (λ masters. masters.items) result (each_of (number_to 255) (map view values.now)) }
 {
@@ -129,7 +128,7 @@ fn masters_in(values: &[Value]) -> Result<ArrayVec<u8, 16>, RackFault>
 
 /// The masters of a line, at most 16.
 #[tactic(auto, unfolding(crate::specs::TomlKeys::required, crate::specs::RackFile::masters_of))]
-fn required_masters(line: &Table) -> Result<ArrayVec<u8, 16>, RackFault>
+fn required_masters(line: &Table) -> Result<ArrayVec<u8, MOST_MASTERS>, RackFault>
     ensures { Gives (λ masters. masters.items) result (required masters_of (codes "masters") (table_view line.now)) }
 {
     let values = array_in(required_value(line, "masters")?)?;

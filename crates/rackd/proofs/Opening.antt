@@ -10,7 +10,7 @@ use Rattle.dp_shared.specs.Claims.{Claiming, IsNewSeat, Seated}
 use Rattle.dp_sessions.specs.Pools.{HasSeats, IsSeatAt}
 use Rattle.dp_sessions.specs.declared.port.LineAndClaims.{LineAndClaims}
 use Rattle.rackd.specs.declared.served_line.ServedLine.{ServedLine}
-use Rattle.rackd.specs.Serving.{AreOpened, IsOneMore, line_at, specs_of}
+use Rattle.rackd.specs.ServeOutput.{AreOpened, IsOneMore, line_at, specs_of}
 
 -- there is one port more, and these are seats at it
 pub record AreFresh {L : Type 0} (before after : List (LineAndClaims L Claiming)) (fresh : List Seated) : Type 0 where

@@ -15,7 +15,7 @@ use Rattle.dp_script.specs.declared.run_fault.RunFault.{RunFault}
 use Rattle.dp_script.specs.declared.run_fault.RunFault.TheVariants as runs
 use Rattle.rackd.specs.declared.served_line.ServedLine.{ServedLine}
 use Rattle.rackd.specs.ServedLines.{AreInOrder, ArePutInOrder, all_served, served_line, with_both}
-use Rattle.rackd.specs.Serving.{AreLinesOf, IsListeningFault, ServesLines, ServesRack, described, has_ports}
+use Rattle.rackd.specs.ServeOutput.{AreLinesOf, IsListeningFault, ServesLines, ServesRack, described, has_ports}
 use Rattle.rackd.proofs.Serving.{same_list, some_parts}
 use Rattle.rackd.proofs.Writing.{keeps_same}
 

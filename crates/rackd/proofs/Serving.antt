@@ -14,7 +14,7 @@ use Rattle.dp_script.specs.declared.run_fault.RunFault.{RunFault}
 use Rattle.dp_script.specs.declared.run_fault.RunFault.TheVariants as runs
 use Rattle.rackd.specs.declared.served_line.ServedLine.{ServedLine}
 use Rattle.rackd.specs.ServedLines.{all_served, served_line}
-use Rattle.rackd.specs.Serving.{AreBrokenOff, AreServed, AreServedInPart, AreWritten, EndsLines, IsLeftBy, ServesLines, WritesAudit, ports_of, ready, specs_of, text_of}
+use Rattle.rackd.specs.ServeOutput.{AreBrokenOff, AreServed, AreServedInPart, AreWritten, EndsLines, IsLeftBy, ServesLines, WritesAudit, ports_of, ready, specs_of, text_of}
 use Rattle.rackd.proofs.Writing.{appends_more, appends_none, keeps_more}
 
 -- ---- lines with their ports

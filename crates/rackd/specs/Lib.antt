@@ -1,3 +1,3 @@
 pub mod Ending
 pub mod ServedLines
-pub mod Serving
+pub mod ServeOutput

@@ -3,7 +3,7 @@
 ghost use Rattle.std.specs.Prelude.{◌≡◌, ◌≤◌, IfOk, length, map};
 ghost use Rattle.std.specs.List.{range_with_len};
 ghost use Rattle.dp_shared.specs.Passes.{line_of};
-ghost use Rattle.rackd.specs.Serving.{AreOpened};
+ghost use Rattle.rackd.specs.ServeOutput.{AreOpened};
 
 use crate::listening::Listening;
 use crate::served_line::ServedLine;
@@ -60,9 +60,25 @@ impl Doors {
 
 /// What accepts connections. It stands for a type of acceptor where threads start, since the check finds there
 /// that it may go to a thread by that bound alone.
-pub(crate) trait Accept {
+pub(crate) trait Accept: Sized {
+    /// Where it listens.
+    fn listener(&self) -> &TcpListener;
+
+    /// Takes a connection; whether it takes further ones.
+    fn take<H: Wait>(&self, rt: &H, stream: TcpStream) -> bool;
+
     /// Accepts so many connections, while the doors are open.
-    fn accept_all<H: Wait + Clock>(self, rt: &H, doors: &Doors, sessions: u64);
+    fn accept_all<H: Wait + Clock>(self, rt: &H, doors: &Doors, sessions: u64) {
+        if !doors.are_open(rt) {
+            return;
+        }
+        for _ in 0..sessions {
+            let stream = next_connection(rt, self.listener());
+            if !doors.are_open(rt) || !self.take(rt, stream) {
+                return;
+            }
+        }
+    }
 }
 
 /// Accepts the masters of a line, and hands their sessions to the workers.
@@ -77,20 +93,14 @@ pub(crate) struct MasterAcceptor {
 }
 
 impl Accept for MasterAcceptor {
-    fn accept_all<H: Wait + Clock>(self, rt: &H, doors: &Doors, sessions: u64) {
-        if !doors.are_open(rt) {
-            return;
-        }
-        for _ in 0..sessions {
-            let stream = next_connection(rt, &self.listener);
-            if !doors.are_open(rt) {
-                return;
-            }
-            if let Ok(job) = job_of(self.port, stream) {
-                if self.jobs.send(rt, job).is_err() {
-                    return;
-                }
-            }
+    fn listener(&self) -> &TcpListener {
+        &self.listener
+    }
+
+    fn take<H: Wait>(&self, rt: &H, stream: TcpStream) -> bool {
+        match job_of(self.port, stream) {
+            Ok(job) => self.jobs.send(rt, job).is_ok(),
+            Err(_) => true,
         }
     }
 }
@@ -110,29 +120,17 @@ pub(crate) struct OperatorAcceptor<'a> {
 }
 
 impl Accept for OperatorAcceptor<'_> {
-    fn accept_all<H: Wait + Clock>(self, rt: &H, doors: &Doors, sessions: u64) {
-        if !doors.are_open(rt) {
-            return;
-        }
-        for _ in 0..sessions {
-            let stream = next_connection(rt, &self.listener);
-            if !doors.are_open(rt) {
-                return;
-            }
-            self.serve(rt, &stream);
-        }
+    fn listener(&self) -> &TcpListener {
+        &self.listener
     }
-}
 
-impl OperatorAcceptor<'_> {
-    /// Serves the operator of a connection.
-    fn serve<H: Wait>(&self, rt: &H, stream: &TcpStream) {
-        if stream.set_nodelay(true).is_err() {
-            return;
+    fn take<H: Wait>(&self, rt: &H, stream: TcpStream) -> bool {
+        if stream.set_nodelay(true).is_ok() {
+            let (mut reader, mut writer) = (&stream, &stream);
+            serve_operator(rt, &mut reader, &mut writer, self.port, self.line, TURNS);
+            self.served.fetch_add(1, SeqCst);
         }
-        let (mut reader, mut writer) = (stream, stream);
-        serve_operator(rt, &mut reader, &mut writer, self.port, self.line, TURNS);
-        self.served.fetch_add(1, SeqCst);
+        true
     }
 }
 

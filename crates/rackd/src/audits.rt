@@ -2,7 +2,7 @@
 
 ghost use Rattle.std.specs.Prelude.{map};
 ghost use Rattle.dp_shared.specs.Passes.{line_of};
-ghost use Rattle.rackd.specs.Serving.{EndsLines, WritesAudit, line_at};
+ghost use Rattle.rackd.specs.ServeOutput.{EndsLines, WritesAudit, line_at};
 
 use dp_script::RunFault;
 use dp_sessions::{LineAndClaims, Port};

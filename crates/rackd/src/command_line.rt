@@ -81,7 +81,7 @@ Exit statuses:
 
 /// What the words ask for.
 #[derive(Drop)]
-pub enum Asked<'a> {
+pub enum Invocation<'a> {
     /// No words: the script of standard input is run on its rack.
     Input,
     /// `run RACK SCRIPT`: the script of a file is run on the rack of another.
@@ -121,32 +121,32 @@ pub fn words_of<'a>(rt: &HostRuntime) -> Result<Vec<String>, Fault<'a>> {
 }
 
 /// What the words ask for, the program's own name in front.
-pub fn read_words<'a>(alloc: Global, words: &'a [String]) -> Result<Asked<'a>, Fault<'a>> {
+pub fn read_words<'a>(alloc: Global, words: &'a [String]) -> Result<Invocation<'a>, Fault<'a>> {
     let Ok(command) = command(alloc) else {
         return Err(Fault::Run(RunFault::OutOfMemory));
     };
     match command.try_get_matches_from(words) {
-        Ok(matches) => Ok(asked_by(&matches)),
-        Err(error) => Ok(Asked::Answer(error)),
+        Ok(matches) => Ok(invocation_of(&matches)),
+        Err(error) => Ok(Invocation::Answer(error)),
     }
 }
 
 /// What words that are accepted ask for.
-fn asked_by<'a>(matches: &ArgMatches<'a>) -> Asked<'a> {
+fn invocation_of<'a>(matches: &ArgMatches<'a>) -> Invocation<'a> {
     match matches.subcommand() {
-        Some(("run", files)) => Asked::Run {
+        Some(("run", files)) => Invocation::Run {
             rack: path_in(files, RACK),
             script: path_in(files, SCRIPT),
         },
-        Some(("check", files)) => Asked::Check {
+        Some(("check", files)) => Invocation::Check {
             rack: path_in(files, RACK),
             audit: path_in(files, AUDIT),
         },
-        Some((_, files)) => Asked::Serve {
+        Some((_, files)) => Invocation::Serve {
             rack: path_in(files, RACK),
             sessions: files.get_one(SESSIONS),
         },
-        None => Asked::Input,
+        None => Invocation::Input,
     }
 }
 

@@ -1,7 +1,7 @@
 //! Listening at the ports of lines.
 
 ghost use Rattle.std.specs.Prelude.{◌≡◌, IfErr, IfOk, length};
-ghost use Rattle.rackd.specs.Serving.{IsListeningFault};
+ghost use Rattle.rackd.specs.ServeOutput.{IsListeningFault};
 
 use crate::ending::Fault;
 use crate::served_line::ServedLine;

@@ -16,7 +16,7 @@ mod served_line;
 mod threads;
 
 use clap::error::ErrorKind as Answer;
-use command_line::{Asked, read_words, words_of};
+use command_line::{Invocation, read_words, words_of};
 use dp_script::split_input;
 pub use dp_script::{RunFault, run_check, run_text};
 use ending::{Fault, status};
@@ -24,7 +24,7 @@ use log::{Log, info};
 pub use rack_file::{Rack, RackFault, RackLine, read_rack};
 use serve::{Served, serve_text};
 use std::fs;
-use std::io::{self, BufWriter, ErrorKind, Write};
+use std::io::{self, BufWriter, ErrorKind, Printer, Write};
 use std::net::{Net, TcpListener, TcpStream};
 use std::process::ExitCode;
 use std::rt::Runtime;
@@ -60,11 +60,11 @@ fn obey<
         + Sync,
 >(rt: &H, words: &'a [String]) -> Result<ExitCode, Fault<'a>> {
     match read_words(rt.alloc(), words)? {
-        Asked::Input => run_input(rt),
-        Asked::Run { rack, script } => run_files(rt, rack, script),
-        Asked::Check { rack, audit } => check_files(rt, rack, audit),
-        Asked::Serve { rack, sessions } => serve_file(rt, rack, sessions),
-        Asked::Answer(answer) => Ok(tell(rt, &answer)?),
+        Invocation::Input => run_input(rt),
+        Invocation::Run { rack, script } => run_files(rt, rack, script),
+        Invocation::Check { rack, audit } => check_files(rt, rack, audit),
+        Invocation::Serve { rack, sessions } => serve_file(rt, rack, sessions),
+        Invocation::Answer(answer) => Ok(tell(rt, &answer)?),
     }
 }
 
@@ -128,13 +128,9 @@ fn serve_file<
         + Sync,
 >(rt: &H, rack: &'a str, sessions: Option<u32>) -> Result<ExitCode, Fault<'a>> {
     let rack = read_file(rt, rack)?;
-    let Ok(mut output) = BufWriter::new(rt.alloc(), io::writer(rt)) else {
-        return Err(Fault::Run(RunFault::OutOfMemory));
-    };
+    let mut output = buffered(rt)?;
     let served = serve_text(rt, rt.alloc(), rack.as_str(), sessions, &mut output);
-    if output.flush().is_err() {
-        return Err(Fault::Run(RunFault::WriteFault));
-    }
+    flushed(output)?;
     let Served { masters, operators } = served?;
     info!(rt; "served {masters} sessions of masters and {operators} of operators");
     Ok(ExitCode::SUCCESS)
@@ -159,13 +155,9 @@ fn run_out(
     rack: &str,
     script: &str,
 ) -> Result<ExitCode, RunFault> {
-    let Ok(mut output) = BufWriter::new(rt.alloc(), io::writer(rt)) else {
-        return Err(RunFault::OutOfMemory);
-    };
+    let mut output = buffered(rt)?;
     let ran = run_text(rt.alloc(), rack, script, &mut output);
-    if output.flush().is_err() {
-        return Err(RunFault::WriteFault);
-    }
+    flushed(output)?;
     ran.map(|()| ExitCode::SUCCESS)
 }
 
@@ -175,12 +167,18 @@ fn check_out(
     rack: &str,
     audit: &str,
 ) -> Result<ExitCode, RunFault> {
-    let Ok(mut output) = BufWriter::new(rt.alloc(), io::writer(rt)) else {
-        return Err(RunFault::OutOfMemory);
-    };
+    let mut output = buffered(rt)?;
     let checked = run_check(rt.alloc(), rack, audit, &mut output);
-    if output.flush().is_err() {
-        return Err(RunFault::WriteFault);
-    }
+    flushed(output)?;
     checked.map(|status| ExitCode::from(status))
+}
+
+/// Standard output behind a buffer.
+fn buffered<H: Runtime + AllocGlobal>(rt: &H) -> Result<BufWriter<Printer<'_, H>>, RunFault> {
+    BufWriter::new(rt.alloc(), io::writer(rt)).map_err(|_| RunFault::OutOfMemory)
+}
+
+/// Writes what the buffer has left. A fault of it goes before any other.
+fn flushed<W: Write + Drop>(mut output: BufWriter<W>) -> Result<(), RunFault> {
+    output.flush().map_err(|_| RunFault::WriteFault)
 }

@@ -3,7 +3,7 @@
 ghost use Rattle.std.specs.Prelude.{◌≡◌, [], All, IfOk, None, length};
 ghost use Rattle.dp_sessions.specs.Pools.{HasSeats};
 ghost use Rattle.dp_line.specs.World.{description_of, opening_fault};
-ghost use Rattle.rackd.specs.Serving.{AreOpened, IsOneMore};
+ghost use Rattle.rackd.specs.ServeOutput.{AreOpened, IsOneMore};
 
 use crate::served_line::ServedLine;
 use dp_line::LineSpec;

@@ -7,7 +7,7 @@ ghost use Rattle.dp_sessions.specs.Pools.{HasSeats};
 ghost use Rattle.dp_line.specs.World.{opening_fault};
 ghost use Rattle.rack_file.specs.Rack.{rack_described};
 ghost use Rattle.rack_file.specs.RackFile.{rack_in};
-ghost use Rattle.rackd.specs.Serving.{AreOpened, Serves, ServesLines, ServesRack, ready};
+ghost use Rattle.rackd.specs.ServeOutput.{AreOpened, Serves, ServesLines, ServesRack, ready};
 
 use crate::acceptors::Acceptors;
 use crate::audits::write_audits;

@@ -3,7 +3,7 @@
 use crate::rows::{Answers, play};
 use crate::words::{Words, flag, hex_text, repeated, text};
 use dp_telegram::{
-    Frame, GLOBAL_ADDRESS, LAST_STATION, Octets, Telegram, acknowledge_to, decode, encode,
+    Frame, GLOBAL_ADDRESS, LAST_STATION, Octets, Telegram, acknowledge_into, decode, encode,
     is_station, request,
 };
 use std::alloc::Global;
@@ -32,11 +32,11 @@ impl Answers for Codec {
         match words.word()? {
             "decode" => decoded(alloc, &words.octets(alloc)?),
             "acknowledge" => {
-                acknowledge_to(&mut self.text);
+                acknowledge_into(&mut self.text);
                 hex_text(alloc, &self.text)
             }
             "write" => {
-                telegram_of(alloc, &mut words)?.encode_to(&mut self.text);
+                telegram_of(alloc, &mut words)?.encode_into(&mut self.text);
                 hex_text(alloc, &self.text)
             }
             "request" => requested(alloc, &mut words),

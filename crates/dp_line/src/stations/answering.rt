@@ -14,7 +14,7 @@ use crate::event::{Facts, Outcome};
 use crate::request::Request;
 use dp_responder::Rule;
 use dp_telegram::function_code::Function;
-use dp_telegram::{Frame, GLOBAL_ADDRESS, Parts, Telegram, decode_to};
+use dp_telegram::{Frame, GLOBAL_ADDRESS, Parts, Telegram, decode_into};
 
 impl Stations {
     /// Writes the answer to a request that takes this place of the journal, and tells the facts of the
@@ -34,7 +34,7 @@ impl Stations {
         ensures walk { walk.new ≡ walk_heard (heard_by self.old master octets.now) walk.old }
     {
         let mut frame = Frame::blank();
-        if !decode_to(octets, &mut frame) {
+        if !decode_into(octets, &mut frame) {
             return silent(Rule::NoFrame, outcome);
         }
         if !self.has_master(master) {
@@ -64,7 +64,7 @@ impl Stations {
         ensures walk { walk.new ≡ walk_heard (heard_telegram self.old.slaves sender telegram.now) walk.old }
     {
         let mut parts = Parts::blank();
-        if !telegram.parts_to(&mut parts) {
+        if !telegram.parts_into(&mut parts) {
             return silent(Rule::BadExtension, outcome);
         }
         let request = Request {

@@ -10,7 +10,7 @@ ghost use Rattle.dp_line.specs.Events.{expires, misfit_at};
 ghost use Rattle.dp_line.specs.Owned.{held_among};
 ghost use Rattle.dp_line.specs.Verdict.{is_global_control};
 ghost use Rattle.dp_line.specs.Effects.{state_and_holder};
-ghost use Rattle.dp_line.specs.Serving.{IsOfProfile, answer_to, ruled_by, served_to};
+ghost use Rattle.dp_line.specs.RequestAtSlave.{IsOfProfile, answer_to, ruled_by, served_to};
 ghost use Rattle.dp_line.specs.Stations.{AreBefore, AreThreaded, HaveMasters, IsAt, IsWritten, appended_to, at_index, links_of, master_index, operated, slaves_of, ticked, unlinked_from};
 
 use crate::event::{Facts, Op, Outcome};

@@ -7,8 +7,8 @@ pub returns : goal.returns
 returns c = λ line accepted opening number.
     c.every_legal_text_is_accepted.ensures line _ _ accepted (record {
       entries = c.args.book.now.entries;
-      legal = subst (λ w. IsLegal w c.args.book.now.entries) opening c.is_legal.ensures.legal;
-      limits = c.is_legal.ensures.limits;
+      legal = subst (λ w. IsLegal w c.args.book.now.entries) opening c.prove_legal.ensures.legal;
+      limits = c.prove_legal.ensures.limits;
       counted = refl;
       written = ap (λ n. audit_text n c.args.book.now.entries) number;
     })

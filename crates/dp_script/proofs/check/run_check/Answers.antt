@@ -1,5 +1,5 @@
 use Rattle.rack_file.specs.Rack.{rack_described}
-use Rattle.dp_script.proofs.RacksInUse.{lines_open}
+use Rattle.dp_script.proofs.ScriptRacks.{lines_open}
 use Rattle.dp_script.proofs.check.run_check.Goals as goal
 
 pub verdict_on-requires : goal.verdict_on-requires

@@ -1,6 +1,6 @@
 use Rattle.rack_file.specs.RackFile.{rack_in}
 use Rattle.rack_file.specs.Rack.{rack_described}
-use Rattle.dp_script.proofs.RacksInUse.{lines_open, some_lines}
+use Rattle.dp_script.proofs.ScriptRacks.{lines_open, some_lines}
 use Rattle.dp_script.proofs.Played.{memory_told}
 use Rattle.dp_script.proofs.run.run_text.Goals as goal
 

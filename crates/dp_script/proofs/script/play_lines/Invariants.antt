@@ -6,4 +6,4 @@ use Rattle.dp_script.proofs.script.play_lines.Given as goal
 
 abbrev pub invariant-loop-index : goal.invariant-loop-index
 invariant-loop-index g l =
-    SoFar (play l.fn.rack_in_use 1 (lines_of l.script)) (g.W.Write.contents l.fn.writer) (g.W.Write.contents l.writer) l.rack_in_use (l.index + 1) l.lines
+    SoFar (play l.fn.script_rack 1 (lines_of l.script)) (g.W.Write.contents l.fn.writer) (g.W.Write.contents l.writer) l.script_rack (l.index + 1) l.lines

@@ -7,6 +7,6 @@ give-requires-clause-goes c = let h = c.requires.same in let e = h.3 in (
   h.0,
   h.1,
   h.2,
-  goes_same h.0 c.args.shelf (ap (λ z. z.book.number) e) (ap (λ z. z.book.opening) e) (ap (λ z. z.book.entries) e) (ap (λ z. z.numbers) e) (ap (λ z. z.last) e) c.is_legal.ensures.history
+  goes_same h.0 c.args.numbered_book (ap (λ z. z.book.number) e) (ap (λ z. z.book.opening) e) (ap (λ z. z.book.entries) e) (ap (λ z. z.numbers) e) (ap (λ z. z.last) e) c.prove_legal.ensures.history
       (λ halted. ap (λ z. z.book.state.world.halted) e ∙ halted) c.args.seat.now.me.0.passes,
 )

@@ -1,5 +1,5 @@
 use Rattle.std.proofs.Common.{rules, ◌≡◌, ◌∷◌, ◌++◌, [], sym, ap, ◌∙◌, append_assoc}
-use Rattle.rackd.specs.Serving.{line_at}
+use Rattle.rackd.specs.ServeOutput.{line_at}
 use Rattle.rackd.proofs.Serving.{one_more_port, ports_break_off}
 use Rattle.rackd.proofs.audits.write_audits.Goals as goal
 

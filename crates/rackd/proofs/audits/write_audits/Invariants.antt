@@ -1,5 +1,5 @@
 use Rattle.std.proofs.Common.{◌≡◌, ◌++◌, map}
-use Rattle.rackd.specs.Serving.{AreWritten, line_at}
+use Rattle.rackd.specs.ServeOutput.{AreWritten, line_at}
 use Rattle.rackd.proofs.audits.write_audits.Given as goal
 
 abbrev pub invariant-loop-port : goal.invariant-loop-port

@@ -1,6 +1,6 @@
 use Rattle.std.proofs.Common.{◌≡◌, All, length, take}
 use Rattle.dp_sessions.specs.Pools.{HasSeats}
-use Rattle.rackd.specs.Serving.{AreOpened}
+use Rattle.rackd.specs.ServeOutput.{AreOpened}
 use Rattle.rackd.proofs.opened_lines.open_lines.Given as goal
 
 abbrev pub invariant-loop-line : goal.invariant-loop-line

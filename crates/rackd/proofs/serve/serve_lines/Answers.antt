@@ -1,5 +1,5 @@
 use Rattle.std.proofs.Common.{map}
-use Rattle.rackd.specs.Serving.{line_at}
+use Rattle.rackd.specs.ServeOutput.{line_at}
 use Rattle.rackd.proofs.Opening.{opened_specs}
 use Rattle.rackd.proofs.Serving.{served_in_part, served_uncounted, served_whole}
 use Rattle.rackd.proofs.serve.serve_lines.Goals as goal

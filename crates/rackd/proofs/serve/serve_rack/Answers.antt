@@ -1,6 +1,6 @@
 use Rattle.std.proofs.Common.{rules, ◌≡◌, ◌≤◌, length, map, Err, ap, subst, arith}
 use Rattle.rack_file.specs.Rack.{line_described}
-use Rattle.rackd.specs.Serving.{ServesLines}
+use Rattle.rackd.specs.ServeOutput.{ServesLines}
 use Rattle.rackd.proofs.RacksServed.{as_many_lines, lines_of_rack, refused_lines, refused_ports, served_open, stopped}
 use Rattle.rackd.proofs.serve.serve_rack.Goals as goal
 

@@ -5,7 +5,7 @@ use Rattle.dp_line.specs.declared.event.Event.{Event}
 use Rattle.dp_line.specs.declared.event.Outcome.{Outcome}
 use Rattle.dp_audit.specs.declared.entry.Entry.{Entry}
 use Rattle.dp_audit.specs.Packed.{IsPackable, packed_event, packed_outcome, record_octets}
-use Rattle.dp_audit.specs.Stored.{AreStored, entries_in}
+use Rattle.dp_audit.specs.RecordsInvariant.{AreStored, entries_in}
 use Rattle.dp_audit.proofs.Stores.{counted, octets_count, pushed, record_is}
 use Rattle.dp_audit.proofs.records.Records.push.Goals as goal
 
@@ -24,7 +24,7 @@ push_reserved-requires c =
     let count = counted _ _ _ _ _ _ stored in
     let same = c.self.inside.starts.ok.0 in
     let view = ap (λ v. length v.entries) c.self.view_is in
-    let places = ap (λ v. v.places) c.self.view_is in
+    let capacity = ap (λ v. v.capacity) c.self.view_is in
     let free = c.requires.room in
     let room = stored.starts_room in
     omega arith
@@ -35,7 +35,7 @@ pack_event-requires c =
     let size = octets_count _ _ _ _ _ _ stored in
     let same = c.self.inside.octets.ok.0 in
     let view = ap (λ v. length v.entries) c.self.view_is in
-    let places = ap (λ v. v.places) c.self.view_is in
+    let capacity = ap (λ v. v.capacity) c.self.view_is in
     let free = c.requires.room in
     let room = stored.room in
     let event = c.event_size.ensures.size in
@@ -48,7 +48,7 @@ pack_answer-requires-clause-room c =
     let size = octets_count _ _ _ _ _ _ stored in
     let same = c.self.inside.octets.ok.0 in
     let view = ap (λ v. length v.entries) c.self.view_is in
-    let places = ap (λ v. v.places) c.self.view_is in
+    let capacity = ap (λ v. v.capacity) c.self.view_is in
     let free = c.requires.room in
     let room = stored.room in
     let event = c.event_size.ensures.size in
@@ -69,7 +69,7 @@ Kept c =
     let octets = c.pack_answer.new.octets in
     let starts = c.push_reserved.new.self in
     let before = entries_in c.self.inside.octets.items 1 c.self.inside.starts.items in
-    AreStored (entries_in octets.items 1 starts.items) octets.items starts.items c.self.inside.places (vec_capacity octets) (vec_capacity starts)
+    AreStored (entries_in octets.items 1 starts.items) octets.items starts.items c.self.inside.capacity (vec_capacity octets) (vec_capacity starts)
     × (entries_in octets.items 1 starts.items ≡ before ++ entry_of before c.args.event.now c.args.facts.now c.args.outcome.now ∷ [])
 
 kept : (c : goal.After-pack_answer) → Kept c
@@ -79,7 +79,7 @@ kept c =
     let entry = entry_of (entries_in octets.items 1 starts.items) c.args.event.now c.args.facts.now c.args.outcome.now in
     let packable : IsPackable entry = record { event = c.pack_event.ensures.limits; point = c.requires.point; holder = c.requires.holder; outcome = c.pack_answer.ensures.limits } in
     let view = ap (λ v. length v.entries) c.self.view_is in
-    let places = ap (λ v. v.places) c.self.view_is in
+    let capacity = ap (λ v. v.capacity) c.self.view_is in
     let room = c.requires.room in
     let capacity = c.pack_event.ensures.capacity in
     let more_capacity = c.pack_answer.ensures.capacity in
@@ -87,7 +87,7 @@ kept c =
     let items : c.pack_answer.new.octets.items ≡ octets.items ++ record_octets entry =
     rw (c.pack_answer.ensures.items, c.pack_event.ensures.items) (record_is octets.items entry (c.event_size.result + 2 + c.outcome_size.result) size) in
     let more : c.push_reserved.new.self.items ≡ starts.items ++ length octets.items ∷ [] = rw (c.push_reserved.ensures.items, c.len.ensures, octets.ok.0) refl in
-    pushed entry octets.items starts.items c.pack_answer.new.octets.items c.push_reserved.new.self.items c.self.inside.places (vec_capacity octets) (vec_capacity c.pack_answer.new.octets) (vec_capacity starts) (vec_capacity c.push_reserved.new.self)
+    pushed entry octets.items starts.items c.pack_answer.new.octets.items c.push_reserved.new.self.items c.self.inside.capacity (vec_capacity octets) (vec_capacity c.pack_answer.new.octets) (vec_capacity starts) (vec_capacity c.push_reserved.new.self)
     c.self.invariant packable refl (omega arith) items more (omega arith) (omega (arith, c.push_reserved.ensures.capacity))
 
 pub invariant_of-self : goal.invariant_of-self
@@ -95,5 +95,5 @@ invariant_of-self c = (kept c).0
 
 pub returns : goal.returns
 returns c =
-    ap (λ entries. record { entries = entries; places = c.self.inside.places }) (kept c).1
-    ∙ ap (λ view. record { entries = view.entries ++ entry_of view.entries c.args.event.now c.args.facts.now c.args.outcome.now ∷ []; places = view.places }) c.self.view_is
+    ap (λ entries. record { entries = entries; capacity = c.self.inside.capacity }) (kept c).1
+    ∙ ap (λ view. record { entries = view.entries ++ entry_of view.entries c.args.event.now c.args.facts.now c.args.outcome.now ∷ []; capacity = view.capacity }) c.self.view_is

@@ -13,9 +13,9 @@ invariant_of-self c = (
 pub returns-clause-line : goal.returns-clause-line
 returns-clause-line c =
     with_world c.args.self.now _ _ _ c.self.inside.last_walk c.self.view_is
-    (op_world c.args.self.now.world c.args.op.now c.args.address c.self.inside.places c.self.inside.count c.self.inside.halted c.self.inside.stations c.operate-facts.new.self (ap (λ (l : LineRecord). l.world) c.self.view_is) c.requires.address c.operate-facts.ensures.slaves)
+    (op_world c.args.self.now.world c.args.op.now c.args.address c.self.inside.capacity c.self.inside.count c.self.inside.halted c.self.inside.stations c.operate-facts.new.self (ap (λ (l : LineRecord). l.world) c.self.view_is) c.requires.address c.operate-facts.ensures.slaves)
 
 pub returns-clause-answer : goal.returns-clause-answer
 returns-clause-answer c =
     c.recorded.ensures
-    ∙ op_answer c.args.self.now.world c.args.op.now c.args.address c.self.inside.places c.self.inside.count c.self.inside.halted c.self.inside.stations c.operate-facts.result (ap (λ (l : LineRecord). l.world) c.self.view_is) c.requires.address c.operate-facts.ensures.facts
+    ∙ op_answer c.args.self.now.world c.args.op.now c.args.address c.self.inside.capacity c.self.inside.count c.self.inside.halted c.self.inside.stations c.operate-facts.result (ap (λ (l : LineRecord). l.world) c.self.view_is) c.requires.address c.operate-facts.ensures.facts

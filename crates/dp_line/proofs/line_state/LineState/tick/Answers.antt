@@ -14,9 +14,9 @@ invariant_of-self c = (
 pub returns-clause-line : goal.returns-clause-line
 returns-clause-line c =
     with_world c.args.self.now _ _ _ c.self.inside.last_walk c.self.view_is
-    (tick_world c.args.self.now.world c.args.time c.self.inside.places c.self.inside.count c.self.inside.halted c.self.inside.stations c.tick-let_go.new.self (ap (λ (l : LineRecord). l.world) c.self.view_is) c.tick-let_go.ensures.slaves)
+    (tick_world c.args.self.now.world c.args.time c.self.inside.capacity c.self.inside.count c.self.inside.halted c.self.inside.stations c.tick-let_go.new.self (ap (λ (l : LineRecord). l.world) c.self.view_is) c.tick-let_go.ensures.slaves)
 
 pub returns-clause-answer : goal.returns-clause-answer
 returns-clause-answer c =
     c.recorded.ensures
-    ∙ tick_answer c.args.self.now.world c.args.time c.self.inside.places c.self.inside.count c.self.inside.halted c.self.inside.stations c.tick-let_go.result (ap (λ (l : LineRecord). l.world) c.self.view_is) c.tick-let_go.ensures.let_go
+    ∙ tick_answer c.args.self.now.world c.args.time c.self.inside.capacity c.self.inside.count c.self.inside.halted c.self.inside.stations c.tick-let_go.result (ap (λ (l : LineRecord). l.world) c.self.view_is) c.tick-let_go.ensures.let_go

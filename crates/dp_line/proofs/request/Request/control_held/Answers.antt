@@ -3,7 +3,7 @@ use Rattle.dp_responder.specs.Memory.{remembered_of}
 use Rattle.dp_responder.specs.declared.judgement.Judged.TheVariants as verdicts
 use Rattle.dp_responder.specs.Judgement.{judgement}
 use Rattle.dp_slave.specs.SlaveParts.{with_slave}
-use Rattle.dp_line.specs.Serving.{judged}
+use Rattle.dp_line.specs.RequestAtSlave.{judged}
 use Rattle.dp_line.proofs.Judging.{says_so, silence_served}
 use Rattle.dp_line.proofs.Controls.{control_is, control_asks}
 use Rattle.dp_line.proofs.request.Request.control_held.Goals as goal

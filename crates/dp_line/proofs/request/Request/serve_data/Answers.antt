@@ -1,7 +1,7 @@
 use Rattle.std.proofs.Common.{◌≡◌, ap, sym, ◌∙◌, rules}
 use Rattle.dp_responder.specs.declared.judgement.Judged.TheVariants as verdicts
 use Rattle.dp_slave.specs.SlaveParts.{with_slave}
-use Rattle.dp_line.specs.Serving.{judged}
+use Rattle.dp_line.specs.RequestAtSlave.{judged}
 use Rattle.dp_line.proofs.Judging.{says_so, answer_by, repeat_served, repeat_answered, silence_served}
 use Rattle.dp_line.proofs.request.Request.serve_data.Goals as goal
 

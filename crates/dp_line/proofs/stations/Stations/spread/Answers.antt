@@ -1,6 +1,6 @@
 use Rattle.std.proofs.Common.{◌≡◌, List, length, map, ap, subst, ◌∙◌, arith}
 use Rattle.dp_slave.specs.SlaveParts.{SlaveParts}
-use Rattle.dp_line.specs.Serving.{served_to}
+use Rattle.dp_line.specs.RequestAtSlave.{served_to}
 use Rattle.dp_line.specs.Stations.{AreThreaded, slaves_of}
 use Rattle.dp_line.proofs.Kept.{stations_controlled}
 use Rattle.dp_line.proofs.stations.Stations.spread.Goals as goal

@@ -1,6 +1,6 @@
 use Rattle.std.proofs.Common.{ℕ, [], ◌∷◌, ◌++◌, refl, sym, ap, ◌∙◌, append_assoc}
 use Rattle.arrayvec.specs.ArrayVec.{ArrayVec}
-use Rattle.dp_devices.specs.declared.driven.Driven.{Driven}
+use Rattle.dp_devices.specs.declared.driven_slave.DrivenSlave.{DrivenSlave}
 use Rattle.dp_sessions.proofs.Exchanging.{on_err}
 use Rattle.dp_sessions.proofs.Listening.{breaks_off_as, goes_on_as}
 use Rattle.dp_sessions.proofs.Operating.{breaks_at, goes_to, on_more, on_start}
@@ -29,7 +29,7 @@ loop-octet-preserved g c =
             way.2
             (goes_on_as c.args.self.now.driven.items c.loop-octet.self.driven.items (octet ∷ []) c.loop-octet.self.begun.items c.take.new.self.begun.items
             c.loop-octet.self.pass.view c.take.new.self.pass.view (g.W.Write.contents c.loop-octet.writer) (g.W.Write.contents c.take.new.writer)
-            (ap (λ (d : ArrayVec Driven). d.items) c.loop-octet.invariant.driven) c.in_ok-take.ensures.ok),
+            (ap (λ (d : ArrayVec DrivenSlave). d.items) c.loop-octet.invariant.driven) c.in_ok-take.ensures.ok),
       );
     }
 
@@ -43,7 +43,7 @@ returns-in_err-take-clause-err g c =
     way.1 c.in-Some.ensures.cases.0 way.2
     (breaks_off_as c.args.self.now.driven.items c.loop-octet.self.driven.items (octet ∷ []) c.loop-octet.self.begun.items
     c.loop-octet.self.pass.view c.take.new.self.pass.view (g.W.Write.contents c.loop-octet.writer) (g.W.Write.contents c.take.new.writer)
-    (ap (λ (d : ArrayVec Driven). d.items) c.loop-octet.invariant.driven) c.in_err-take.ensures.err))
+    (ap (λ (d : ArrayVec DrivenSlave). d.items) c.loop-octet.invariant.driven) c.in_err-take.ensures.err))
 
 pub returns-clause-ok : goal.returns-clause-ok
 returns-clause-ok g c =

@@ -1,6 +1,6 @@
 use Rattle.std.proofs.Common.{rules, ◌≡◌, ℕ, ◌<◌, List, length, take, refl, ap, ◌∙◌, arith, length-take}
 use Rattle.arrayvec.specs.ArrayVec.{ArrayVec}
-use Rattle.dp_devices.specs.declared.driven.Driven.{Driven}
+use Rattle.dp_devices.specs.declared.driven_slave.DrivenSlave.{DrivenSlave}
 use Rattle.dp_sessions.proofs.Listening.{breaks_off_as, ends_of_input, ends_of_read, ends_of_turns, ends_of_write, goes_on_as, way_more, way_start}
 use Rattle.dp_sessions.proofs.operator.OperatorSession.run.Goals as goal
 
@@ -38,7 +38,7 @@ loop-reads-preserved g c =
           c.loop-reads.invariant.way c.in-Ok.ensures.bytes.0 some
           (goes_on_as c.args.self.now.driven.items c.loop-reads.self.driven.items octets c.loop-reads.self.begun.items c.pass_octets.new.self.begun.items
           c.loop-reads.self.pass.view c.pass_octets.new.self.pass.view (g.W.Write.contents c.loop-reads.writer) (g.W.Write.contents c.pass_octets.new.writer)
-          (ap (λ (d : ArrayVec Driven). d.items) c.loop-reads.invariant.driven) c.in-Ok-pass_octets.ensures.ok);
+          (ap (λ (d : ArrayVec DrivenSlave). d.items) c.loop-reads.invariant.driven) c.in-Ok-pass_octets.ensures.ok);
     }
 
 pub returns-in_default-clause-operated : goal.returns-in_default-clause-operated
@@ -51,7 +51,7 @@ returns-in_default-clause-operated g c =
     c.loop-reads.invariant.way c.in-Ok.ensures.bytes.0
     (breaks_off_as c.args.self.now.driven.items c.loop-reads.self.driven.items octets c.loop-reads.self.begun.items
     c.loop-reads.self.pass.view c.pass_octets.new.self.pass.view (g.W.Write.contents c.loop-reads.writer) (g.W.Write.contents c.pass_octets.new.writer)
-    (ap (λ (d : ArrayVec Driven). d.items) c.loop-reads.invariant.driven) c.in_default.ensures.err)
+    (ap (λ (d : ArrayVec DrivenSlave). d.items) c.loop-reads.invariant.driven) c.in_default.ensures.err)
 
 pub returns-in-Err-clause-operated : goal.returns-in-Err-clause-operated
 returns-in-Err-clause-operated g c =

@@ -1,0 +1,88 @@
+//! The slaves that devices drive.
+
+ghost use Rattle.std.specs.Prelude.{◌≡◌, Bool, Option};
+ghost use Rattle.std.specs.Option.{option_copied};
+ghost use Rattle.dp_line.specs.World.{described_at};
+ghost use Rattle.dp_devices.specs.Devices.{is_still as is_still_device};
+ghost use Rattle.dp_devices.specs.DrivenSlaves.{driven_at as driven_among, driven_slaves as all_driven, next_input as input_next};
+
+use crate::devices::next_inputs;
+use arrayvec::ArrayVec;
+use dp_line::{Device, LineSpec, Op, SlaveSpec, SlaveView, described};
+use dp_telegram::{GLOBAL_ADDRESS, LAST_STATION};
+
+/// The most slaves that a list of them has: one for each station address.
+pub const MOST_DRIVEN: usize = GLOBAL_ADDRESS as usize;
+
+/// A slave whose device feeds its inputs by itself.
+#[derive(Clone, Copy, Debug, PartialEq, Eq)]
+pub struct DrivenSlave {
+    /// The slave's address, 0 to 126.
+    pub address: u8,
+    /// Its device, which isn't still.
+    pub device: Device,
+}
+
+impl Default for DrivenSlave {
+    fn default() -> DrivenSlave {
+        DrivenSlave {
+            address: 0,
+            device: Device::Still,
+        }
+    }
+}
+
+impl DrivenSlave {
+    /// What the device does next to the slave, which is seen like this: an Input of as many octets as the
+    /// slave has inputs, of none where it has none.
+    pub fn next_input(self, slave: &SlaveView) -> Op
+        ensures { result ≡ input_next self slave.now }
+    {
+        Op::Input {
+            address: self.address,
+            octets: next_inputs(
+                self.device,
+                slave.inputs.as_slice(),
+                slave.outputs.as_slice(),
+            ),
+        }
+    }
+}
+
+/// The slaves of a line that devices drive, in ascending order of address: those whose device isn't
+/// still, with inputs or without.
+pub fn driven_slaves(line: &LineSpec) -> ArrayVec<DrivenSlave, MOST_DRIVEN>
+    ensures { result.items ≡ all_driven line.now.slaves.items }
+{
+    let mut driven = ArrayVec::new();
+    for address in 0..=LAST_STATION {
+        if let Some(slave) = driven_at(&line.slaves, address) {
+            driven.push(slave);
+        }
+    }
+    driven
+}
+
+/// The slave at an address, where a device drives it.
+fn driven_at(slaves: &[SlaveSpec], address: u8) -> Option<DrivenSlave>
+    ensures { result ≡ driven_among slaves.now address }
+{
+    let slave = described(slaves, address)?;
+    if is_still(slave.device) {
+        return None;
+    }
+    Some(DrivenSlave {
+        address,
+        device: slave.device,
+    })
+}
+
+fn is_still(device: Device) -> bool
+    ensures { result ≡ is_still_device device }
+{
+    match device {
+        Device::Still => true,
+        Device::Counter => false,
+        Device::Mirror => false,
+    }
+}

@@ -1,0 +1,144 @@
+-- A line in use, and what its masters send it (own).
+use Rattle.std.specs.Prelude.{ℕ, ◌==◌, List, [], ◌∷◌, ◌++◌, map, slice_get, slice_set, Option, option_map, option_and_then, position}
+use Rattle.dp_telegram.specs.declared.cutter.Cut.{Cut}
+use Rattle.dp_telegram.specs.declared.cutter.Cut.TheVariants as pieces
+use Rattle.dp_telegram.specs.Stream.{CutStream, cuts_of}
+use Rattle.dp_line.specs.declared.event.Event.{Event as LineEvent}
+use Rattle.dp_line.specs.declared.event.Event.TheVariants.{Request, Operator}
+use Rattle.dp_line.specs.declared.event.Outcome.{Outcome}
+use Rattle.dp_line.specs.declared.event.Op.{Op}
+use Rattle.dp_slave.specs.View.{view_of}
+use Rattle.dp_line.specs.World.{Description, slave_at}
+use Rattle.dp_line.specs.Owned.{owned}
+use Rattle.dp_line.specs.Steps.{step}
+use Rattle.dp_audit.specs.Journal.{Journal, opened, taken}
+use Rattle.dp_audit.specs.AuditText.{audit_text}
+use Rattle.dp_text.specs.declared.op_line.OpLine.{OpLine}
+use Rattle.dp_text.specs.declared.op_line.OpLine.TheVariants.{Event, Owned, Show, Step, Nothing}
+use Rattle.dp_text.specs.Texts.{outcome_line, answer_text, dropped_text, owned_text, show_text, stepped_text}
+use Rattle.dp_devices.specs.declared.driven_slave.DrivenSlave.{DrivenSlave}
+use Rattle.dp_devices.specs.DrivenSlaves.{driven_slaves}
+use Rattle.dp_script.specs.DeviceSteps.{fed_each}
+
+-- a master's stream: of the octets that came, those that can't be judged yet
+pub record Stream : Type 0 where
+  pub master : ℕ
+  pub held : List ℕ
+
+-- a line in use: its journal, a stream for each of its masters, and the slaves that devices drive
+pub record ScriptLine : Type 0 where
+  pub journal : Journal
+  pub streams : List Stream
+  pub driven : List DrivenSlave
+
+-- the stream of a master before anything came
+abbrev pub empty_stream : ℕ → Stream
+empty_stream master = record { master = master; held = [] }
+
+-- the line at its start
+abbrev pub line_at_start : Description → ScriptLine
+line_at_start line = record { journal = opened line; streams = map empty_stream line.masters; driven = driven_slaves line.slaves }
+
+-- what a line answers to an event
+abbrev pub told_of : Journal → LineEvent → Outcome
+told_of journal event = (step journal.state.world event).answer.outcome
+
+-- what pieces of a stream leave and write
+pub record Answered : Type 0 where
+  pub journal : Journal
+  pub text : List ℕ
+
+-- a frame is one event, and its answer is written; dropped octets are no event, and are told
+abbrev pub piece_answered : Journal → ℕ → Cut → Answered
+piece_answered journal master (pieces.Frame frame octets) =
+    record { journal = taken journal (Request master octets); text = answer_text master (told_of journal (Request master octets)) }
+piece_answered journal master (pieces.Dropped fault count) = record { journal = journal; text = dropped_text master fault count }
+
+-- pieces one after another
+abbrev pub pieces_answered : Journal → ℕ → List Cut → Answered
+pieces_answered journal master [] = record { journal = journal; text = [] }
+pieces_answered journal master (piece ∷ others) =
+    let first = piece_answered journal master piece in
+    let rest = pieces_answered first.journal master others in
+    record { journal = rest.journal; text = first.text ++ rest.text }
+
+-- what octets that a master sends leave and write
+pub record Passed : Type 0 where
+  pub journal : Journal
+  pub stream : Stream
+  pub text : List ℕ
+
+-- the pieces of a stream are answered, and what can't be judged yet is held
+abbrev pub cut_passed : Journal → ℕ → CutStream → Passed
+cut_passed journal master cut =
+    let answered = pieces_answered journal master cut.cuts in
+    record { journal = answered.journal; stream = record { master = master; held = cut.rest }; text = answered.text }
+
+-- octets go on with the stream, in whatever pieces they come
+abbrev pub passed : Journal → Stream → List ℕ → Passed
+passed journal stream octets = cut_passed journal stream.master (cuts_of (stream.held ++ octets))
+
+-- octets that come after others
+abbrev pub then_passed : Passed → List ℕ → Passed
+then_passed before octets =
+    let after = passed before.journal before.stream octets in
+    record { journal = after.journal; stream = after.stream; text = before.text ++ after.text }
+
+-- what a command to a line leaves and writes
+pub record Sent : Type 0 where
+  pub script_line : ScriptLine
+  pub text : List ℕ
+
+-- octets on the stream at this index
+abbrev pub sent_at : ScriptLine → List ℕ → ℕ → Stream → Sent
+sent_at script_line octets index stream =
+    let passing = passed script_line.journal stream octets in
+    record {
+      script_line = record script_line { journal = passing.journal; streams = slice_set script_line.streams index passing.stream };
+      text = passing.text;
+    }
+
+-- a master sends octets; None where it isn't the line's
+abbrev pub sent : ScriptLine → ℕ → List ℕ → Option Sent
+sent script_line master octets =
+    option_and_then
+    (λ index. option_map (sent_at script_line octets index) (slice_get script_line.streams index))
+    (position (λ stream. stream.master == master) script_line.streams)
+
+-- which slaves a master holds; none for an address that is no master's
+abbrev pub owned_line : ScriptLine → ℕ → List ℕ
+owned_line script_line master = owned_text (owned script_line.journal.state.world master)
+
+-- the slave at an address, if one has it
+abbrev pub show_line : ScriptLine → ℕ → List ℕ
+show_line script_line address = show_text (option_map view_of (slave_at script_line.journal.state.world address))
+
+-- the operator does something, which is one event; the streams stay
+abbrev pub took : ScriptLine → Op → Sent
+took script_line op =
+    record {
+      script_line = record script_line { journal = taken script_line.journal (Operator op) };
+      text = outcome_line (told_of script_line.journal (Operator op));
+    }
+
+-- the devices of the line feed their slaves, in ascending order of address, and how many Inputs were recorded is told
+abbrev pub stepped : ScriptLine → Sent
+stepped script_line =
+    let fed = fed_each script_line.journal script_line.driven in
+    record { script_line = record script_line { journal = fed.journal }; text = stepped_text fed.recorded }
+
+-- what is asked leaves the line as it is
+abbrev pub told : ScriptLine → List ℕ → Sent
+told script_line text = record { script_line = script_line; text = text }
+
+-- what a line of the operator leaves and writes
+abbrev pub operated : ScriptLine → OpLine → Sent
+operated script_line (Event op) = took script_line op
+operated script_line (Owned master) = told script_line (owned_line script_line master)
+operated script_line (Show address) = told script_line (show_line script_line address)
+operated script_line Step = stepped script_line
+operated script_line Nothing = told script_line []
+
+-- the audit text of its journal
+abbrev pub journal_text : ScriptLine → List ℕ
+journal_text script_line = audit_text script_line.journal.number script_line.journal.entries

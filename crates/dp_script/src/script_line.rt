@@ -1,0 +1,261 @@
+//! A line in use: its journal, the streams of its masters, and the slaves that devices drive.
+
+ghost use Rattle.std.specs.Prelude.{◌≡◌, ◌≤◌, ◌==◌, length, None, map, position, IfOk, OnOk, OnErr, IfErr};
+ghost use Rattle.std.specs.Io.KnownBytes.{Appends};
+ghost use Rattle.dp_telegram.specs.declared.cutter.Cut.TheVariants as pieces;
+ghost use Rattle.dp_telegram.specs.Stream.{cut_lent, cut_length};
+ghost use Rattle.dp_telegram.specs.FrameText.{frame_at};
+ghost use Rattle.dp_line.specs.declared.event.Event.TheVariants.{Request};
+ghost use Rattle.dp_line.specs.World.{description_of, opening_fault};
+ghost use Rattle.dp_script.specs.ScriptLines.{line_at_start, empty_stream, piece_answered, passed, sent, operated, took, stepped, owned_line, show_line, journal_text};
+ghost use Rattle.dp_text.specs.Writes.{WritesPrefix};
+ghost use Rattle.dp_script.specs.Runs.{Sends};
+
+use crate::device_steps::feed_each;
+use crate::output::write_whole;
+use crate::obey_fault::ObeyFault;
+use crate::stream_laws::pieces_of_a_stream_do_not_matter;
+use arrayvec::ArrayVec;
+use dp_audit::Book;
+use dp_devices::{DrivenSlave, MOST_DRIVEN, driven_slaves};
+use dp_line::{Event, LineSpec, Op, Step};
+use dp_telegram::{Cutter, Piece};
+use dp_text::{HexWords, OpLine, Text};
+use std::alloc::{AllocError, Global};
+use std::io::Write;
+use std::marker::Model;
+
+/// Octets that are decoded at once.
+const CHUNK: usize = 64;
+
+/// What a master sends, in whatever pieces it comes.
+#[derive(Drop)]
+struct Stream {
+    master: u8,
+    cutter: Cutter,
+}
+
+impl Model for Stream {
+    ghost use Rattle.std.specs.Prelude.{◌≤◌, length};
+    ghost use Rattle.dp_script.specs.ScriptLines.{Stream as View};
+
+    ghost Value = { View };
+
+    ghost view = { λ s. record { master = s.master; held = s.cutter } };
+
+    ghost invariant = { λ s. length s.cutter ≤ 255 };
+}
+
+/// A line in use. Each of its masters has a stream of its own, which commands go on with.
+#[derive(Drop)]
+pub(crate) struct ScriptLine {
+    book: Book,
+    streams: Vec<Stream>,
+    driven: ArrayVec<DrivenSlave, MOST_DRIVEN>,
+}
+
+impl Model for ScriptLine {
+    ghost use Rattle.dp_script.specs.ScriptLines.{ScriptLine as View};
+
+    ghost Value = { View };
+
+    ghost view = { λ s. record { journal = s.book; streams = s.streams.items; driven = s.driven.items } };
+}
+
+impl ScriptLine {
+    /// The line at its start; or memory was refused.
+    pub(crate) fn open(alloc: Global, line: &LineSpec) -> Result<ScriptLine, AllocError>
+        requires { opening_fault (description_of line.now) ≡ None }
+        ensures { IfOk result (λ script_line. script_line ≡ line_at_start (description_of line.now)) }
+    {
+        Ok(ScriptLine {
+            book: Book::open(alloc, line).map_err(|_| AllocError)?,
+            streams: empty_streams(alloc, &line.masters)?,
+            driven: driven_slaves(line),
+        })
+    }
+
+    /// Its number in the rack.
+    pub(crate) fn number(&self) -> u8
+        ensures { result ≡ self.now.journal.number }
+    {
+        self.book.number()
+    }
+
+    /// A master sends octets, and the answers are written; it may be none of the line's.
+    pub(crate) fn send<W: Write>(
+        &mut self,
+        master: u8,
+        octets: HexWords<'_>,
+        text: &mut Text,
+        writer: &mut W,
+    ) -> Result<(), ObeyFault>
+        ensures { Sends (sent self.old master octets.entry) self.new (W.contents writer.old) (W.contents writer.new) result }
+    {
+        let Some(index) = index_of(&self.streams, master) else {
+            return Err(ObeyFault::NoCommand);
+        };
+        self.streams[index].pass_words(&mut self.book, octets, text, writer)
+    }
+
+    /// Does what a line of the operator asks for, and makes the text its answer: none for an empty line or
+    /// a comment.
+    pub(crate) fn operate(&mut self, op_line: OpLine, text: &mut Text)
+        ensures { record { script_line = self.new; text = text.new } ≡ operated self.old op_line }
+    {
+        match op_line {
+            OpLine::Event(op) => self.take(op, text),
+            OpLine::Owned(master) => self.list_owned(master, text),
+            OpLine::Show(address) => self.show_slave(address, text),
+            OpLine::Step => self.step(text),
+            OpLine::Nothing => text.clear(),
+        }
+    }
+
+    /// The operator does something, and the text becomes the answer.
+    fn take(&mut self, op: Op, text: &mut Text)
+        ensures { record { script_line = self.new; text = text.new } ≡ took self.old op }
+    {
+        let mut step = Step::blank();
+        self.book.take_into(&Event::Operator(op), &mut step);
+        text.set_outcome(&step.outcome);
+    }
+
+    /// The devices feed their slaves, and the text tells how many inputs were recorded.
+    fn step(&mut self, text: &mut Text)
+        ensures { record { script_line = self.new; text = text.new } ≡ stepped self.old }
+    {
+        let recorded = feed_each(&mut self.book, self.driven.as_slice());
+        text.set_stepped(recorded);
+    }
+
+    /// Makes the text the list of the slaves that a master holds, oldest lock first.
+    fn list_owned(&self, master: u8, text: &mut Text)
+        ensures { text.new ≡ owned_line self.now master }
+    {
+        text.set_owned(self.book.state().owned_by(master).as_slice());
+    }
+
+    /// Makes the text what is shown of the slave at an address, which none may have.
+    fn show_slave(&self, address: u8, text: &mut Text)
+        ensures { text.new ≡ show_line self.now address }
+    {
+        text.set_show(&self.book.state().view(address));
+    }
+
+    /// Writes the audit text of its journal.
+    pub(crate) fn write_journal<W: Write>(&self, writer: &mut W) -> Result<(), ObeyFault>
+        ensures ok { OnOk result (Appends (W.contents writer.old) (W.contents writer.new) (journal_text self.now)) }
+        ensures err { OnErr result (WritesPrefix (W.contents writer.old) (W.contents writer.new) (journal_text self.now)) }
+        ensures fault { IfErr result (λ stop. stop ≡ ObeyFault.WriteFault) }
+    {
+        self.book.write_text(writer).map_err(|_| ObeyFault::WriteFault)
+    }
+}
+
+/// A stream for each of the masters, before anything came.
+fn empty_streams(alloc: Global, masters: &[u8]) -> Result<Vec<Stream>, AllocError>
+    ensures { IfOk result (λ streams. streams.items ≡ map empty_stream masters.now) }
+{
+    let mut streams = Vec::new(alloc);
+    for master in masters {
+        streams.push(Stream {
+            master: *master,
+            cutter: Cutter::new(),
+        })?;
+    }
+    Ok(streams)
+}
+
+/// Where the stream of a master stands.
+fn index_of(streams: &[Stream], master: u8) -> Option<usize>
+    ensures { result ≡ position (λ stream. stream.master == master) streams.now }
+{
+    streams.iter().position(|stream| stream.master == master)
+}
+
+impl Stream {
+    /// Octets come in words, and the answers to the pieces that they complete are written.
+    fn pass_words<W: Write>(
+        &mut self,
+        book: &mut Book,
+        mut octets: HexWords<'_>,
+        text: &mut Text,
+        writer: &mut W,
+    ) -> Result<(), ObeyFault>
+        ensures journal { OnOk result (book.new ≡ (passed book.old self.old octets.entry).journal) }
+        ensures stream { OnOk result (self.new ≡ (passed book.old self.old octets.entry).stream) }
+        ensures ok { OnOk result (Appends (W.contents writer.old) (W.contents writer.new) (passed book.old self.old octets.entry).text) }
+        ensures err { OnErr result (WritesPrefix (W.contents writer.old) (W.contents writer.new) (passed book.old self.old octets.entry).text) }
+        ensures fault { IfErr result (λ stop. stop ≡ ObeyFault.WriteFault) }
+    {
+        pieces_of_a_stream_do_not_matter();
+        let mut chunk = [0; CHUNK];
+        loop {
+            let count = octets.fill(&mut chunk);
+            self.pass(book, &chunk[..count], text, writer)?;
+            if count < CHUNK {
+                return Ok(());
+            }
+        }
+    }
+
+    /// Octets come, and the answers to the pieces that they complete are written.
+    fn pass<W: Write>(
+        &mut self,
+        book: &mut Book,
+        octets: &[u8],
+        text: &mut Text,
+        writer: &mut W,
+    ) -> Result<(), ObeyFault>
+        ensures journal { OnOk result (book.new ≡ (passed book.old self.old octets.now).journal) }
+        ensures stream { OnOk result (self.new ≡ (passed book.old self.old octets.now).stream) }
+        ensures ok { OnOk result (Appends (W.contents writer.old) (W.contents writer.new) (passed book.old self.old octets.now).text) }
+        ensures err { OnErr result (WritesPrefix (W.contents writer.old) (W.contents writer.new) (passed book.old self.old octets.now).text) }
+        ensures fault { IfErr result (λ stop. stop ≡ ObeyFault.WriteFault) }
+    {
+        let mut left = octets;
+        loop {
+            if let Some(piece) = self.cutter.front() {
+                let count = piece.size();
+                answer_piece(text, book, self.master, piece);
+                self.cutter.pass(count);
+                write_whole(writer, text.as_bytes())?;
+            } else if left.is_empty() {
+                return Ok(());
+            } else {
+                let taken = self.cutter.feed(left);
+                (_, left) = left.split_at(taken);
+            }
+        }
+    }
+}
+
+/// Makes the text the answer to a piece of a master's stream: a frame is one event of the line.
+fn answer_piece(text: &mut Text, book: &mut Book, master: u8, piece: Piece<'_>)
+    requires { cut_length (cut_lent piece) ≤ 255 }
+    ensures { record { journal = book.new; text = text.new } ≡ piece_answered book.old master (cut_lent piece.entry) }
+{
+    match piece {
+        Piece::Frame(octets) => answer_frame(text, book, master, octets),
+        Piece::Dropped { fault, count } => text.set_dropped(master, fault, count),
+    }
+}
+
+/// Makes the text the answer to a frame of a master's stream.
+fn answer_frame(text: &mut Text, book: &mut Book, master: u8, octets: &[u8])
+    requires { length octets.now ≤ 255 }
+    ensures { record { journal = book.new; text = text.new }
+        ≡ piece_answered book.old master (pieces.Frame (frame_at octets.now) (record { items = octets.now })) }
+{
+    let mut event = Event::Request {
+        master,
+        octets: ArrayVec::new(),
+    };
+    if let Event::Request { octets: copy, .. } = &mut event {
+        copy.try_extend_from_slice(octets).unwrap();
+    }
+    let mut step = Step::blank();
+    book.take_into(&event, &mut step);
+    text.set_answer(master, &step.outcome);
+}

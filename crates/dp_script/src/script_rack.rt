@@ -1,0 +1,138 @@
+//! A rack in use: its lines, and the one that commands speak to.
+
+ghost use Rattle.std.specs.Prelude.{◌≡◌, ◌<◌, ◌==◌, ℕ, List, Option, None, option_and_then, All, map, position, length, IfOk, IfSome};
+ghost use Rattle.dp_script.specs.Commands.{choose_line, send as send_octets, write_journal as journal_asked, operation_of};
+ghost use Rattle.dp_line.specs.World.{description_of, opening_fault};
+ghost use Rattle.rack_file.specs.Rack.{rack_described};
+ghost use Rattle.dp_script.specs.CommandView.{command_view};
+ghost use Rattle.dp_script.specs.ScriptLines.{line_at_start};
+ghost use Rattle.dp_script.specs.ScriptText.{rack_at_start, obeyed};
+ghost use Rattle.dp_script.specs.Runs.{Obeys};
+
+use crate::command::Command;
+use crate::script_line::ScriptLine;
+use crate::output::write_whole;
+use crate::obey_fault::ObeyFault;
+use dp_text::{HexWords, Text, op_line_in};
+use rack_file::{Rack, RackLine};
+use std::alloc::{AllocError, Global};
+use std::io::Write;
+use std::marker::Model;
+
+/// The lines of a rack in the order of its file, and the chosen one, which is one of them.
+#[derive(Drop)]
+pub(crate) struct ScriptRack {
+    lines: Vec<ScriptLine>,
+    chosen: usize,
+}
+
+impl Model for ScriptRack {
+    ghost use Rattle.std.specs.Prelude.{◌<◌, length};
+    ghost use Rattle.dp_script.specs.ScriptText.{ScriptRack as View};
+
+    ghost Value = { View };
+
+    ghost view = { λ d. record { lines = d.lines.items; chosen = d.chosen } };
+
+    ghost invariant = { λ d. d.chosen < length d.lines.items };
+}
+
+impl ScriptRack {
+    /// Each line at its start, the first chosen; or memory was refused.
+    pub(crate) fn open(alloc: Global, rack: &Rack) -> Result<ScriptRack, AllocError>
+        requires some { 0 < length rack.now.lines.items }
+        requires fit { All (λ line. opening_fault (description_of line.spec) ≡ None) rack.now.lines.items }
+        ensures { IfOk result (λ script_rack. script_rack ≡ rack_at_start (rack_described rack.now)) }
+    {
+        Ok(ScriptRack {
+            lines: lines_of(alloc, &rack.lines)?,
+            chosen: 0,
+        })
+    }
+
+    /// Obeys a command, and writes what it writes; it may be one that can't be obeyed.
+    pub(crate) fn obey<W: Write>(
+        &mut self,
+        command: Command<'_>,
+        text: &mut Text,
+        writer: &mut W,
+    ) -> Result<(), ObeyFault>
+        ensures { Obeys (option_and_then (obeyed self.old) (command_view command.entry)) self.new (W.contents writer.old) (W.contents writer.new) result }
+    {
+        match command {
+            Command::ChooseLine(number) => self.choose(number),
+            Command::Send { master, octets } => self.send(master, octets, text, writer),
+            Command::WriteJournal => self.write_journal(writer),
+            Command::Operate(line) => self.operate(line, text, writer),
+        }
+    }
+
+    /// Speaks to the line of this number from now on, if there is one.
+    fn choose(&mut self, number: u8) -> Result<(), ObeyFault>
+        ensures { (contents : Option (List ℕ)) → Obeys (obeyed self.old (choose_line number)) self.new contents contents result }
+    {
+        match index_of(&self.lines, number) {
+            Some(index) => {
+                self.chosen = index;
+                Ok(())
+            }
+            None => Err(ObeyFault::NoCommand),
+        }
+    }
+
+    /// A master sends octets to the chosen line.
+    fn send<W: Write>(
+        &mut self,
+        master: u8,
+        octets: HexWords<'_>,
+        text: &mut Text,
+        writer: &mut W,
+    ) -> Result<(), ObeyFault>
+        ensures { Obeys (obeyed self.old (send_octets master octets.entry)) self.new (W.contents writer.old) (W.contents writer.new) result }
+    {
+        self.lines[self.chosen].send(master, octets, text, writer)
+    }
+
+    /// Writes the audit text of the chosen line.
+    fn write_journal<W: Write>(&self, writer: &mut W) -> Result<(), ObeyFault>
+        ensures { Obeys (obeyed self.now journal_asked) self.now (W.contents writer.old) (W.contents writer.new) result }
+    {
+        self.lines[self.chosen].write_journal(writer)
+    }
+
+    /// The chosen line does what a line of its operator asks for, if it is one; its answer is written.
+    fn operate<W: Write>(
+        &mut self,
+        line: &[u8],
+        text: &mut Text,
+        writer: &mut W,
+    ) -> Result<(), ObeyFault>
+        ensures { Obeys (option_and_then (obeyed self.old) (operation_of line.now)) self.new (W.contents writer.old) (W.contents writer.new) result }
+    {
+        let Some(op_line) = op_line_in(line) else {
+            return Err(ObeyFault::NoCommand);
+        };
+        self.lines[self.chosen].operate(op_line, text);
+        write_whole(writer, text.as_bytes())
+    }
+}
+
+/// Where the line of a number stands first.
+fn index_of(lines: &[ScriptLine], number: u8) -> Option<usize>
+    ensures index { result ≡ position (λ line. line.journal.number == number) lines.now }
+    ensures bound { IfSome result (λ index. index < length lines.now) }
+{
+    lines.iter().position(|line| line.number() == number)
+}
+
+/// The lines at their start.
+fn lines_of(alloc: Global, lines: &[RackLine]) -> Result<Vec<ScriptLine>, AllocError>
+    requires { All (λ line. opening_fault (description_of line.spec) ≡ None) lines.now }
+    ensures { IfOk result (λ script_lines. script_lines.items ≡ map (λ line. line_at_start (description_of line.spec)) lines.now) }
+{
+    let mut script_lines = Vec::new(alloc);
+    for line in lines {
+        script_lines.push(ScriptLine::open(alloc, &line.spec)?)?;
+    }
+    Ok(script_lines)
+}

@@ -1,0 +1,122 @@
+//! Sessions of masters with a line.
+
+ghost use Rattle.std.specs.Prelude.{◌≡◌, ℕ, true, None, [], ◌∷◌, IfErr, IfOk};
+ghost use Rattle.std.specs.Io.KnownBytes.{Consumes, Keeps};
+ghost use Rattle.dp_shared.specs.Claims.{claimed};
+ghost use Rattle.dp_shared.specs.Passes.{new_pass, table_of};
+ghost use Rattle.dp_sessions.specs.Sessions.{EndsAtOnce, IsSession, Refuses, is_master_of};
+
+use crate::gate::Gate;
+use crate::port::Port;
+use crate::exchange::Session;
+use crate::session_end::SessionEnd;
+use dp_shared::{ClaimFault, Claims, Pass, WorkerSeat};
+use dp_telegram::is_station;
+use std::io::{Read, Write};
+use std::sync::Wait;
+
+/// A session of a master with the line of a port, of at most so many reads; a worker's seat at the port's
+/// claims serves it. How it ended is the answer (own).
+///
+/// The first octet is the master's address. An address that is no master of the line ends the session with
+/// `UnknownMaster`, then one that another seat holds with `AddressHeld`, then a refused pass with `NoPass`,
+/// and nothing is written. Otherwise E5 is written, and the octets after the address are a stream of
+/// telegrams. Each frame of it is one exchange; its reply is written whole before the next frame is
+/// exchanged, and a silence writes nothing. A read that fails in any way ends the session.
+///
+/// At every end the pass is back and the seat holds nothing. It waits for the gate and for the line, and takes
+/// no memory.
+pub fn serve<T: Wait, R: Read, W: Write, G: Gate>(
+    rt: &T,
+    reader: &mut R,
+    writer: &mut W,
+    port: &Port,
+    seat: &mut WorkerSeat,
+    gate: &G,
+    turns: u32,
+) -> SessionEnd
+    requires ours { seat.old.table ≡ port.now.claims.table }
+    requires free { seat.old.view.held ≡ None }
+    ensures ours { seat.new.table ≡ seat.old.table }
+    ensures free { seat.new.view.held ≡ None }
+    ensures session { IsSession port.now.claims.masters turns
+        (record { left = R.remaining reader.old; left_after = R.remaining reader.new; written = W.contents writer.old; written_after = W.contents writer.new })
+        seat.old.view seat.new.view result }
+{
+    if turns == 0 {
+        return SessionEnd::TurnLimit;
+    }
+    let address = match first_octet(reader) {
+        Ok(address) => address,
+        Err(end) => return end,
+    };
+    let pass = match admit(rt, port, seat, address) {
+        Ok(pass) => pass,
+        Err(end) => return end,
+    };
+    let mut session = Session::open(pass, port.line.number(rt));
+    let end = session.accept(rt, reader, writer, &port.line, gate, turns - 1);
+    port.line.hand_back(rt, session.close());
+    port.claims.release(seat);
+    end
+}
+
+/// The first octet of a session, by one read; or how the session ends without one.
+fn first_octet<R: Read>(reader: &mut R) -> Result<u8, SessionEnd>
+    ensures ok { IfOk result (λ octet. Consumes (R.remaining reader.old) (R.remaining reader.new) (octet ∷ [])) }
+    ensures err { IfErr result (λ end. Keeps (R.remaining reader.old) (R.remaining reader.new) × ((turns : ℕ) → EndsAtOnce end turns (R.remaining reader.new))) }
+{
+    let mut first = [0; 1];
+    match reader.read(&mut first) {
+        Ok(0) => Err(SessionEnd::EndOfInput),
+        Ok(_) => Ok(first[0]),
+        Err(_) => Err(SessionEnd::ReadFault),
+    }
+}
+
+/// The pass of a master whose address the seat claims; or why the session is refused, and the seat holds
+/// nothing.
+fn admit<T: Wait>(
+    rt: &T,
+    port: &Port,
+    seat: &mut WorkerSeat,
+    address: u8,
+) -> Result<Pass, SessionEnd>
+    requires ours { seat.old.table ≡ port.now.claims.table }
+    requires free { seat.old.view.held ≡ None }
+    ensures ours { seat.new.table ≡ seat.old.table }
+    ensures known { IfOk result (λ _. is_master_of port.now.claims.masters address ≡ true) }
+    ensures claimed { IfOk result (λ _. seat.new.view ≡ claimed seat.old.view address) }
+    ensures pass { IfOk result (λ pass. (pass.table ≡ table_of port.now.line) × (pass.view ≡ new_pass pass.view.number address)) }
+    ensures free { IfErr result (λ _. seat.new.view.held ≡ None) }
+    ensures refused { IfErr result (λ end. Refuses end port.now.claims.masters address seat.old.view seat.new.view) }
+{
+    claim(&port.claims, seat, address)?;
+    match port.line.open_pass(rt, address) {
+        Ok(pass) => Ok(pass),
+        Err(_) => {
+            port.claims.release(seat);
+            Err(SessionEnd::NoPass)
+        }
+    }
+}
+
+/// Claims the address of a master; or why the session is refused, and the seat holds nothing.
+fn claim(claims: &Claims, seat: &mut WorkerSeat, address: u8) -> Result<(), SessionEnd>
+    requires ours { seat.old.table ≡ claims.now.table }
+    requires free { seat.old.view.held ≡ None }
+    ensures ours { seat.new.table ≡ seat.old.table }
+    ensures known { IfOk result (λ _. is_master_of claims.now.masters address ≡ true) }
+    ensures claimed { IfOk result (λ _. seat.new.view ≡ claimed seat.old.view address) }
+    ensures free { IfErr result (λ _. seat.new.view.held ≡ None) }
+    ensures refused { IfErr result (λ end. Refuses end claims.now.masters address seat.old.view seat.new.view) }
+{
+    if !is_station(address) {
+        return Err(SessionEnd::UnknownMaster);
+    }
+    match claims.claim(seat, address) {
+        Ok(()) => Ok(()),
+        Err(ClaimFault::UnknownMaster) => Err(SessionEnd::UnknownMaster),
+        Err(ClaimFault::Held) => Err(SessionEnd::AddressHeld),
+    }
+}
