@@ -46,7 +46,7 @@ least() {
   until limited "$kib" "$@"; starts; do kib=$((kib + 4)); done
 }
 
-# is_refused: whether the last run ended for want of memory, with nothing but the beginning of its output written
+# is_refused: whether the last run ended out of memory, with nothing but the beginning of its output written
 is_refused() {
   [ "$status" = 3 ] && [ "$(cat "$work/err")" = 'rackd: out of memory' ] && [[ $(cat "$work/whole") == "$(cat "$work/out")"* ]]
 }

@@ -99,7 +99,7 @@ pub(crate) fn ask_one<L: Asked + Sync, R: Threads + Wait + Sync>(
     started.then(|| replies.load(SeqCst))
 }
 
-/// The same, where each asks a line of its own.
+/// Lets masters ask at one time, each a line of its own; how many replies there were.
 pub(crate) fn ask_own<L: Asked + Sync, R: Threads + Wait + Sync>(
     rt: &R,
     lines: &[L],

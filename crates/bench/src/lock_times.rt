@@ -70,7 +70,7 @@ fn opened_book(alloc: Global) -> Result<Book, OpenFault> {
     Book::open(alloc, &described(alloc, REQUESTS)?)
 }
 
-/// The same, of one line.
+/// One round of masters that ask one line.
 fn one_round<R: Threads + Wait + Clock + Sync>(
     rt: &R,
     alloc: Global,
@@ -87,7 +87,7 @@ fn opened_line(alloc: Global, requests: u32) -> Result<Line, OpenFault> {
     Line::open(alloc, &described(alloc, requests)?)
 }
 
-/// The same, of lines of their own.
+/// One round of masters that each ask a line of their own.
 fn own_round<R: Threads + Wait + Clock + Sync>(
     rt: &R,
     alloc: Global,

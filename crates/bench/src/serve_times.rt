@@ -72,7 +72,7 @@ fn bare_round<R: Threads + Wait + Clock + Net<Listener = TcpListener, Stream = T
     whole(replies.unwrap_or(0), spent)
 }
 
-/// The same, of sessions with lines of their own.
+/// One round of sessions, each with a line of its own.
 fn served_round<R: Threads + Wait + Clock + Net<Listener = TcpListener, Stream = TcpStream> + Sync>(
     rt: &R,
     alloc: Global,

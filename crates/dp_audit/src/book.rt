@@ -91,8 +91,8 @@ impl Book {
         }
     }
 
-    /// The same of an event that stays where it is; the answer is written where one lies, and moved
-    /// nowhere. It takes no memory.
+    /// Like [`Book::take`], but of a lent event, and writes into `answer`: neither is copied. It takes no
+    /// memory.
     pub fn take_into(&mut self, event: &Event, answer: &mut Step)
         ensures answer { answer.new ≡ (step_of self.old.state.world event.now).answer }
         ensures journal { self.new ≡ taken self.old event.now }

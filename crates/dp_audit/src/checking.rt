@@ -49,7 +49,7 @@ pub fn is_header_of(line: &[u8], number: u8) -> bool
     is_header(line, number, &mut Text::new())
 }
 
-/// The same, with room to write the header into.
+/// A line, without its LF, is the header of this number; `written` is room to write the header into.
 fn is_header(line: &[u8], number: u8, written: &mut Text) -> bool
     ensures { result ≡ same_text line.now (header_text number) }
 {

@@ -40,7 +40,7 @@ pub(crate) fn first_identifier(octets: &[u8]) -> Option<(Lengths, &[u8])>
     Some((lengths, rest))
 }
 
-/// The same for an identifier of the special format, from the octets behind its head.
+/// The lengths of an identifier of the special format, and the octets behind it; `rest` is what follows its head.
 fn special(head: u8, rest: &[u8]) -> Option<(Lengths, &[u8])>
     ensures value { option_map (λ p. (p.0.inputs, p.0.outputs, p.1.now)) result
         ≡ option_map lengths_and_rest (special_at head rest.now) }

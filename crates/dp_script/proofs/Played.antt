@@ -83,7 +83,7 @@ pub line_written_in_part : (played : Played) (old new newer : Option (List ℕ))
     → SoFar played old new script_rack n (line ∷ lines) → Obeys (line_obeyed script_rack line) next new newer (Err stops.WriteFault) → WritesPrefix old newer played.text
 line_written_in_part played old new newer script_rack next n line lines s obeys = fault_by played old new newer script_rack next n line lines (line_obeyed script_rack line) refl s obeys
 
--- want of memory before anything is written
+-- out of memory before anything is written
 pub memory_told : (rack : Result RackDescription RackFault) (script : List ℕ) (old : Option (List ℕ)) → RunsText rack script old old (Err runs.OutOfMemory)
 memory_told (Ok rack) script old = ([], (script_text rack script).text, refl, appends_none old)
 memory_told (Err fault) script old = keeps_same old

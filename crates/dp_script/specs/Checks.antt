@@ -22,7 +22,7 @@ checked_by_line (Some line) text = checked line.line text
 abbrev pub checked_on : RackDescription → List ℕ → Result ℕ AuditFault
 checked_on rack text = checked_by_line (line_named rack.lines (lines_of text)) text
 
--- what is written of an audit text; want of memory isn't written
+-- what is written of an audit text; out of memory isn't written
 abbrev pub verdict_text : Result ℕ AuditFault → List ℕ
 verdict_text (Ok count) = codes "legal " ++ decimal count ++ codes "\n"
 verdict_text (Err (faults.BadLine line)) = codes "bad line " ++ decimal line ++ codes "\n"

@@ -38,7 +38,7 @@ Plays played old new (Err runs.OutOfMemory) = WritesPrefix old new played.text
 Plays played old new (Err runs.WriteFault) = WritesPrefix old new played.text
 Plays played old new (Err (runs.Rack fault)) = ⊥
 
--- a rack that isn't accepted is reported, or the want of memory, and nothing is written
+-- a rack that isn't accepted is reported, or that memory is out, and nothing is written
 abbrev pub RefusesRack : {T : Type 0} → RackFault → Option (List ℕ) → Option (List ℕ) → Result T RunFault → Type 0
 RefusesRack fault old new (Err (runs.Rack told)) = (told ≡ fault) × Keeps old new
 RefusesRack fault old new (Err runs.OutOfMemory) = Keeps old new

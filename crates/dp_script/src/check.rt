@@ -39,7 +39,7 @@ pub fn run_check<W: Write>(
     }
 }
 
-/// What an audit text is found to be on a rack, or the want of memory.
+/// What an audit text is found to be on a rack; or that memory is out.
 fn verdict_on(alloc: Global, rack: &Rack, audit: &str) -> Result<u32, AuditFault>
     requires { All (λ line. opening_fault (description_of line.spec) ≡ None) rack.now.lines.items }
     ensures { (result ≡ Err AuditFault.OutOfMemory) ⊎ (result ≡ checked_on (rack_described rack.now) audit.now) }

@@ -242,7 +242,7 @@ fn split_one(
     }
 }
 
-/// The same masters.
+/// A copy of the masters.
 fn copy_of(masters: &ArrayVec<u8, MOST_MASTERS>) -> ArrayVec<u8, MOST_MASTERS>
     ensures { result ≡ masters.now }
 {

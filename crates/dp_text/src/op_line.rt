@@ -70,7 +70,7 @@ pub fn read_op(line: &str) -> Result<OpLine, TextFault>
     }
 }
 
-/// The same of the octets of a line; None where it is no command.
+/// What the octets of a line ask for; None where they are no command.
 pub fn op_line_in(line: &[u8]) -> Option<OpLine>
     ensures { result ≡ op_line_of line.now }
 {

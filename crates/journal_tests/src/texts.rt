@@ -30,7 +30,7 @@ fn checks(alloc: Global, capacity: u32, text: &str, expected: &str) -> Result<()
     is_told(told, expected)
 }
 
-/// The same of each of these texts, of a line of 1000 places.
+/// Checks each of these texts, of a line of 1000 places.
 fn all_check(alloc: Global, texts: &[&str], expected: &str) -> Result<(), Fail> {
     for text in texts {
         checks(alloc, 1000, text, expected)?;

@@ -8,7 +8,7 @@ use dp_line::OpenFault;
 use thiserror::Error;
 
 /// Why a rack file isn't accepted. The first that applies is reported: `NotToml`, `BadKey`, `TwiceLine`,
-/// `Open` of the first line of the file that is refused; want of memory is `OutOfMemory`, wherever it
+/// `Open` of the first line of the file that is refused; out of memory is `OutOfMemory`, wherever it
 /// comes.
 #[derive(Clone, Copy, Debug, PartialEq, Eq, Error)]
 pub enum RackFault {

@@ -316,7 +316,7 @@ fn rack_in_document(alloc: Global, file: &Table) -> Result<Rack, RackFault>
 pub fn read_rack(alloc: Global, text: &str) -> Result<Rack, RackFault>
     // The rack is the one that the text describes.
     ensures ok { IfOk result (λ rack. rack_in text.now ≡ Ok (rack_described rack)) }
-    // A fault other than want of memory is the text's.
+    // Every fault but that memory is out is the text's.
     ensures refused { IfErr result (λ fault. Fails fault (rack_in text.now)) }
 {
     match toml::table_from_str(alloc, text) {

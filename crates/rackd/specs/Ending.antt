@@ -7,7 +7,7 @@ use Rattle.dp_script.specs.FaultTexts.{run_fault_text}
 use Rattle.rackd.specs.declared.ending.Fault.{Fault}
 use Rattle.rackd.specs.declared.ending.Fault.TheVariants as faults
 
--- 2 for words, files, input and ports that can't be used, 3 for want of memory, 4 for a fault of standard output
+-- 2 for words, files, input and ports that can't be used, 3 where memory is out, 4 for a fault of standard output
 abbrev pub status_of : Fault → ℕ
 status_of faults.BadWord = 2
 status_of (faults.CannotRead path) = 2

@@ -142,7 +142,7 @@ ServesRack rack old new (Err (faults.Run runs.OutOfMemory)) = IsServedInPart rac
 ServesRack rack old new (Err (faults.Run runs.WriteFault)) = IsServedInPart rack old new
 ServesRack rack old new (Err other) = ⊥
 
--- a rack that isn't accepted is reported, or the want of memory, and nothing is written
+-- a rack that isn't accepted is reported, or that memory is out, and nothing is written
 abbrev pub RefusesToServe : RackFault → Option (List ℕ) → Option (List ℕ) → Result Served Fault → Type 0
 RefusesToServe fault old new (Err (faults.Run (runs.Rack told))) = (told ≡ fault) × Keeps old new
 RefusesToServe fault old new (Err (faults.Run runs.OutOfMemory)) = Keeps old new

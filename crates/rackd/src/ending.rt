@@ -27,7 +27,7 @@ impl<'a> From<RunFault> for Fault<'a> {
     }
 }
 
-/// The exit status: 2 for words, files, input and ports that can't be used, 3 for want of memory, 4 for a
+/// The exit status: 2 for words, files, input and ports that can't be used, 3 where memory is out, 4 for a
 /// fault of standard output.
 pub fn status(fault: Fault<'_>) -> u8
     ensures { result ≡ status_of fault.entry }

@@ -55,7 +55,7 @@ pub(crate) fn accept_and_serve<H: Net + Threads + Wait + Clock + Sync>(
     )
 }
 
-/// The same of acceptors of any type.
+/// Starts and serves with acceptors of any type.
 fn accept_each<
     M: Accept + Send + Drop,
     O: Accept + Send + Drop,

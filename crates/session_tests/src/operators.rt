@@ -34,7 +34,7 @@ fn operates_with<T: Wait>(
     is_told(format!(in alloc; "{end}\n{written}|\n{journal}")?, expected)
 }
 
-/// The same where no other pass is out.
+/// Plays an operator's session where no other pass is out.
 fn operates<T: Wait>(
     rt: &T,
     alloc: Global,

@@ -25,7 +25,7 @@ const ASKS_1: &str = "016805056885816d3c3eed16";
 /// The acceptance, and the diagnosis of a fresh slave for master 1.
 const ANSWERED_1: &str = "e5680b0b688185083e3c020500ff80a1af16";
 
-/// The same of master 2.
+/// Master 2, and its request for the diagnosis of slave 5.
 const ASKS_2: &str = "026805056885826d3c3eee16";
 
 const ANSWERED_2: &str = "e5680b0b688285083e3c020500ff80a1b016";
@@ -110,7 +110,7 @@ fn served<H: Threads + Wait + Sync, R: Read + Send + Drop, W: Write + Send + Dro
 struct Seen {
     /// Master 1 of line 1, who is held up.
     held: AtomicU64,
-    /// The same, who went on behind the whole of the other session.
+    /// Sessions of master 1 that went on behind the whole of the other session.
     went_on: AtomicU64,
     /// The master of the other session.
     other: AtomicU64,

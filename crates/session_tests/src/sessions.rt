@@ -185,7 +185,7 @@ fn serves_with<T: Wait>(rt: &T, alloc: Global, out: usize, transcript: &str) -> 
     is_told(told, transcript)
 }
 
-/// The same where no other pass is out.
+/// Plays sessions where no other pass is out.
 fn serves<T: Wait>(rt: &T, alloc: Global, transcript: &str) -> Result<(), Fail> {
     serves_with(rt, alloc, 0, transcript)
 }
@@ -213,7 +213,7 @@ rack-audit 1 line 1
     )
 }
 
-/// The same octet by octet.
+/// A diagnosis whose request comes octet by octet.
 #[test]
 fn octet_by_octet(rt: HostRuntime) -> Result<(), Fail> {
     serves(

@@ -144,7 +144,7 @@ fn marked(points: &mut Points) -> Result<Point, SapFault>
     Ok(points.find(Some(SET_PRM)))
 }
 
-/// The same of any point and either mark.
+/// What a client proves of any point and either mark: the point is found busy where it was marked so.
 fn marked_so(points: &mut Points, number: Option<u8>, busy: bool) -> Result<Point, SapFault>
     ensures known { is_ok result ≡ is_in_table number }
     ensures found { IfOk result (λ point. point.busy ≡ busy) }

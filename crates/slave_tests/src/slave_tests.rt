@@ -26,7 +26,7 @@ exchange 1234 => low
     Ok(slave)
 }
 
-/// The same with Sync and Freeze.
+/// A slave in data exchange whose parameters have Sync_Req and Freeze_Req.
 fn exchanging_with_modes(alloc: Global) -> Result<Slave, Fail> {
     let mut slave = slave();
     play(

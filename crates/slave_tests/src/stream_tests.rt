@@ -54,7 +54,7 @@ fn cut_text(alloc: Global, cut: &Option<Cut>) -> Result<String, Fail> {
     }
 }
 
-/// The same of the first piece where it lies, without what the octets of a frame say.
+/// The first piece where it lies, without what the octets of a frame say.
 fn front_text(alloc: Global, cutter: &Cutter) -> Result<String, Fail> {
     match cutter.front() {
         None => text(alloc, "none"),

@@ -55,7 +55,7 @@ impl<'a> Words<'a> {
         Ok(hex::decode(alloc, word.as_bytes())?)
     }
 
-    /// The same in an `ArrayVec`.
+    /// The octets of a word in an `ArrayVec`.
     pub(crate) fn array<const N: usize>(&mut self, alloc: Global) -> Result<ArrayVec<u8, N>, Fail> {
         let mut octets = ArrayVec::new();
         octets.try_extend_from_slice(&self.octets(alloc)?)?;

@@ -46,7 +46,7 @@ impl Stations {
         }
     }
 
-    /// The same of a telegram of the master itself, which is a request of this profile.
+    /// Answers a telegram of the master itself, which is a request of this profile.
     fn answer_telegram(
         &mut self,
         sender: u8,
@@ -113,7 +113,8 @@ fn request_in(frame: &Frame, master: u8) -> Result<&Telegram, Rule>
     }
 }
 
-/// The same of a telegram of the master itself.
+/// A telegram of the master itself is its request, where it is one of this profile; else the rule by which it is
+/// silent.
 fn request_of(telegram: &Telegram, master: u8) -> Result<&Telegram, Rule>
     requires { has_foreign_sender master (frames.Telegram telegram.now) ≡ false }
     ensures { MatchResult result
