@@ -9,7 +9,7 @@ use crate::gate::Gate;
 use crate::pool_fault::PoolFault;
 use crate::port::Port;
 use crate::session_end::SessionEnd;
-use crate::serve;
+use crate::serve::serve;
 use crossbeam_channel::Receiver;
 use dp_shared::WorkerSeat;
 use std::io::{Read, Write};
@@ -61,7 +61,7 @@ impl Serve for Port {
         gate: &G,
         turns: u32,
     ) -> SessionEnd {
-        sessions::serve(rt, reader, writer, self, seat, gate, turns)
+        serve(rt, reader, writer, self, seat, gate, turns)
     }
 }
 

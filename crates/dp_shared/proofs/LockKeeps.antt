@@ -1,4 +1,4 @@
--- AllByRecursion kind of step keeps the rule of the line's lock.
+-- Each kind of step keeps the rule of the line's lock.
 use Rattle.std.specs.List.{AllByRecursion}
 use Rattle.std.proofs.lemmas.List.Sums.{sum_by_push}
 use Rattle.std.proofs.Common.{◌≡◌, ◌≢◌, ℕ, zero, suc, ◌+◌, ◌<◌, ◌≤◌, ◌⊎◌, inl, inr, ⊎_elim, true, eqb, List, [], ◌∷◌, ◌++◌, map, take, get_or, set, length, sym, refl, ap, ◌∙◌, subst, arith, length-set, get_or-set_same, eq-eqb, ne_eqb, Option, Some, None}

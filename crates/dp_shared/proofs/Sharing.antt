@@ -1,4 +1,4 @@
--- A journal, a numbered_book and a pass may go to another thread.
+-- A journal, a numbered book and a pass may go to another thread.
 use denote.Param.Send.{IsSend, sendable}
 use Rattle.std.proofs.Crossing.{crosses}
 use Rattle.atomic_table.proofs.shared.Seat.TheSendSync as seat
