@@ -21,7 +21,7 @@ use Rattle.dp_line.specs.Hearing.{Hearing, heard, is_to_all, telegram_of_frame}
 use Rattle.dp_line.specs.Verdict.{concerns_a_slave, is_no_request, rule_at, verdict_of}
 use Rattle.dp_line.specs.ReplyText.{reply_text}
 use Rattle.dp_line.specs.Served.{answered}
-use Rattle.dp_line.specs.Effects.{effect, outcome_heard, outcome_of, outcome_of_one, outcome_spread, reply_where_known}
+use Rattle.dp_line.specs.Effects.{effect, outcome_heard, outcome_of, outcome_of_one, outcome_spread}
 use Rattle.dp_line.specs.Steps.{step}
 use Rattle.dp_line.proofs.BusSteps.{IsConcerned, step_way}
 use Rattle.dp_line.proofs.Runs.{over_verdict}

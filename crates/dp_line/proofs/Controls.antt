@@ -1,5 +1,5 @@
 -- What a Global_Control to all does at each slave.
-use Rattle.std.proofs.Common.{◌≡◌, ℕ, Bool, true, false, not, cond, eqb, List, Option, Some, None, refl, ap, ◌∙◌}
+use Rattle.std.proofs.Common.{◌≡◌, ◌≢◌, ℕ, Bool, true, false, not, cond, eqb, Option, Some, None, refl, ap, ◌∙◌}
 use Rattle.std.specs.Prelude.{◌&&◌, ◌||◌, is_none, length}
 use Rattle.std.specs.Option.{option_map_or}
 use Rattle.dp_sap.specs.declared.state.State.{State}
@@ -12,7 +12,7 @@ use Rattle.dp_telegram.specs.declared.function_code.Function.{Function}
 use Rattle.dp_telegram.specs.declared.function_code.Function.TheVariants.{SdnLow, SdnHigh}
 use Rattle.dp_telegram.specs.FunctionCode.{function_of, asks_fdl_status, asks_srd, asks_sdn, asks_unserved, not_activated, frame_count_bit, frame_count_is_valid}
 use Rattle.dp_responder.specs.Memory.{Remembered, is_repeat, remembered_of, same_bit}
-use Rattle.dp_responder.specs.Judgement.{admits, judged_by, judgement, point_has, takes_length, uses}
+use Rattle.dp_responder.specs.Judgement.{admits, judged_by, judged_in_silence, judgement, point_has, takes_length, uses}
 use Rattle.dp_responder.specs.Rules.{first_row}
 use Rattle.dp_responder.specs.declared.judgement.Judged.{Judged}
 use Rattle.dp_responder.specs.declared.judgement.Judged.TheVariants as verdicts
@@ -58,6 +58,11 @@ not_open WaitPrm holder out_len sender busy other = refl
 not_open WaitCfg holder out_len sender busy other = refl
 not_open DataExch None out_len sender busy other = refl
 not_open DataExch (Some h) out_len sender busy other = ap not other
+
+-- an SDN that doesn't pass is silenced by its rule
+pub sdn_silenced : (rule : Rule) → rule ≢ rules.Done → judged_in_silence rule ≡ verdicts.Silent rule
+sdn_silenced rules.Done other = absurd (other refl)
+sdn_silenced rule other = refl
 
 -- a judgement of silence
 record IsSilenced (judged : Judged) : Type 0 where

@@ -47,7 +47,7 @@ pub fn judge(points: &Points, memory: &FrameMemory, sender: u8, fc: u8, parts: &
 fn judge_anew(points: &Points, sender: u8, fc: u8, parts: &Parts) -> Judged
     ensures { (last : Option Remembered) → result ≡ judged_by last fc (first_row (refusal_rows (access_row points.now parts.now.dsap) sender fc parts.now.payload.items)) }
 {
-    by_rule(refusal_at(open_point(points, parts.dsap), sender, fc, &parts.payload), fc)
+    by_rule(refusal(points, sender, fc, parts), fc)
 }
 
 /// Judges an SDN, which is no repeat and gets no reply, by the same rows: the rule that refuses it;
@@ -56,7 +56,7 @@ pub fn judge_sdn(points: &Points, sender: u8, fc: u8, parts: &Parts) -> Rule
     requires { asks_sdn (function_of fc) ≡ true }
     ensures { (last : Option Remembered) → judgement points.now last sender fc parts.now ≡ judged_in_silence result }
 {
-    refusal_at(open_point(points, parts.dsap), sender, fc, &parts.payload)
+    refusal(points, sender, fc, parts)
 }
 
 /// An SRD with FCV 1 whose FCB is the remembered one.
@@ -81,6 +81,14 @@ fn open_point(points: &Points, number: Option<u8>) -> Option<Point>
 {
     let point = points.find(number);
     if point.active { Some(point) } else { None }
+}
+
+/// The rule that refuses a request which is no repeat; [`Rule::Done`] where none does.
+fn refusal(points: &Points, sender: u8, fc: u8, parts: &Parts) -> Rule
+    ensures rule { result ≡ first_row (refusal_rows (access_row points.now parts.now.dsap) sender fc parts.now.payload.items) }
+    ensures repeat { result ≢ rules.Repeat }
+{
+    refusal_at(open_point(points, parts.dsap), sender, fc, &parts.payload)
 }
 
 /// The rule that refuses a request at this point, None where it is off; [`Rule::Done`] where none does.

@@ -8,13 +8,13 @@ mod check;
 mod command;
 mod device_steps;
 mod input;
-mod script_line;
+mod obey_fault;
 mod output;
-mod script_rack;
 mod run;
 mod run_fault;
 mod script;
-mod obey_fault;
+mod script_line;
+mod script_rack;
 pub mod stream_laws;
 
 pub use check::run_check;

@@ -8,9 +8,9 @@ ghost use Rattle.dp_script.specs.ScriptText.{line_obeyed, play, script_text};
 ghost use Rattle.dp_script.specs.Runs.{Obeys, Plays};
 
 use crate::command::command_in;
-use crate::script_rack::ScriptRack;
-use crate::run_fault::RunFault;
 use crate::obey_fault::ObeyFault;
+use crate::run_fault::RunFault;
+use crate::script_rack::ScriptRack;
 use dp_text::{Lines, Text};
 use rack_file::Rack;
 use std::alloc::Global;

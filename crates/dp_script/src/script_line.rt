@@ -12,8 +12,8 @@ ghost use Rattle.dp_text.specs.Writes.{WritesPrefix};
 ghost use Rattle.dp_script.specs.Runs.{Sends};
 
 use crate::device_steps::feed_each;
-use crate::output::write_whole;
 use crate::obey_fault::ObeyFault;
+use crate::output::write_whole;
 use crate::stream_laws::pieces_of_a_stream_do_not_matter;
 use arrayvec::ArrayVec;
 use dp_audit::Book;
@@ -149,7 +149,9 @@ impl ScriptLine {
         ensures err { OnErr result (WritesPrefix (W.contents writer.old) (W.contents writer.new) (journal_text self.now)) }
         ensures fault { IfErr result (λ stop. stop ≡ ObeyFault.WriteFault) }
     {
-        self.book.write_text(writer).map_err(|_| ObeyFault::WriteFault)
+        self.book
+            .write_text(writer)
+            .map_err(|_| ObeyFault::WriteFault)
     }
 }
 

@@ -10,9 +10,9 @@ ghost use Rattle.dp_script.specs.ScriptText.{rack_at_start, obeyed};
 ghost use Rattle.dp_script.specs.Runs.{Obeys};
 
 use crate::command::Command;
-use crate::script_line::ScriptLine;
-use crate::output::write_whole;
 use crate::obey_fault::ObeyFault;
+use crate::output::write_whole;
+use crate::script_line::ScriptLine;
 use dp_text::{HexWords, Text, op_line_in};
 use rack_file::{Rack, RackLine};
 use std::alloc::{AllocError, Global};

@@ -4,6 +4,7 @@
 //! A session comes to a [`Port`], by any reader and writer. Nothing here takes memory but what a thread takes.
 #![tactic(auto)]
 
+mod exchange;
 mod gate;
 mod line_fault;
 mod operator;
@@ -11,9 +12,8 @@ mod operator_line;
 mod pool;
 mod pool_fault;
 mod port;
-mod exchange;
+mod serving;
 mod session_end;
-mod serve;
 pub mod sharing;
 
 pub use dp_devices::next_inputs;
@@ -23,5 +23,5 @@ pub use operator::serve_operator;
 pub use pool::{Job, run_pool};
 pub use pool_fault::PoolFault;
 pub use port::{LineAndClaims, Port};
+pub use serving::serve;
 pub use session_end::SessionEnd;
-pub use serve::serve;

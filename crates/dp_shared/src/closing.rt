@@ -8,8 +8,8 @@ ghost use Rattle.dp_shared.specs.Passes.{line_of, table_of};
 
 use crate::line::{Line, give_same};
 use crate::line_lock::LineSeat;
-use crate::pass::Pass;
 use crate::numbered_book::NumberedBook;
+use crate::pass::Pass;
 use dp_audit::Book;
 use std::marker::Model;
 

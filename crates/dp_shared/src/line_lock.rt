@@ -11,9 +11,9 @@ ghost use Rattle.dp_shared.specs.Passes.{line_of, table_of};
 use crate::line::Line;
 use crate::line_steps::{Gather, Give, Learn, LineLock, Next, Sit, Take};
 use crate::line_view::LineView;
+use crate::numbered_book::NumberedBook;
 use crate::one_slot::OneSlot;
 use crate::pass::Pass;
-use crate::numbered_book::NumberedBook;
 use atomic_table::{Seat, Table};
 use dp_line::{LineSpec, OpenFault};
 use std::alloc::Global;
@@ -94,7 +94,12 @@ impl Line {
 
     /// Gives the content back. What the seat's passes become is picked at the call, from `about` and the
     /// other arguments.
-    pub(crate) fn give<N: Next, T>(&self, seat: &mut LineSeat, numbered_book: NumberedBook, about: &T)
+    pub(crate) fn give<N: Next, T>(
+        &self,
+        seat: &mut LineSeat,
+        numbered_book: NumberedBook,
+        about: &T,
+    )
         requires ours { seat.old.table_id ≡ table_of self.now }
         requires goes { HasContent seat.old.me (λ content. Goes content numbered_book seat.old.me.0.passes N.next) }
         ensures ours { seat.new.table_id ≡ seat.old.table_id }
@@ -127,7 +132,10 @@ impl Line {
 }
 
 /// The slots of a line's lock: one, with this content.
-fn slots_with(alloc: Global, numbered_book: NumberedBook) -> Result<Vec<Option<NumberedBook>>, OpenFault>
+fn slots_with(
+    alloc: Global,
+    numbered_book: NumberedBook,
+) -> Result<Vec<Option<NumberedBook>>, OpenFault>
     ensures { MatchResult result (λ slots. slots.items ≡ Some numbered_book ∷ []) (λ fault. fault ≡ OpenFault.OutOfMemory) }
 {
     let mut slots = Vec::with_capacity(alloc, 1).map_err(|_| OpenFault::OutOfMemory)?;

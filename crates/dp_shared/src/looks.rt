@@ -12,8 +12,8 @@ ghost use Rattle.dp_shared.specs.Passes.{IsNoEarlier, look_by, pass_in, table_of
 use crate::line::Line;
 use crate::line_lock::LineSeat;
 use crate::line_view::{Answer, Question};
-use crate::pass::Pass;
 use crate::numbered_book::NumberedBook;
+use crate::pass::Pass;
 use arrayvec::ArrayVec;
 use dp_line::{MOST_SLAVES, SlaveView};
 use std::marker::Brand;

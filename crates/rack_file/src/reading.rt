@@ -36,7 +36,10 @@ const MOST_LINES: usize = 8;
 
 /// A configuration: at most 244 octets in hex text.
 #[tactic(auto, unfolding(crate::specs::RackFile::configuration_of))]
-fn configuration_in(alloc: Global, value: &Value) -> Result<ArrayVec<u8, MOST_CONFIGURATION>, RackFault>
+fn configuration_in(
+    alloc: Global,
+    value: &Value,
+) -> Result<ArrayVec<u8, MOST_CONFIGURATION>, RackFault>
     ensures { Gives (λ cfg. cfg.items) result (configuration_of (view value.now)) }
 {
     let octets = octets_in(alloc, value)?;
@@ -48,7 +51,10 @@ fn configuration_in(alloc: Global, value: &Value) -> Result<ArrayVec<u8, MOST_CO
 
 /// A slave's configuration.
 #[tactic(auto, unfolding(crate::specs::TomlKeys::required))]
-fn required_configuration(alloc: Global, slave: &Table) -> Result<ArrayVec<u8, MOST_CONFIGURATION>, RackFault>
+fn required_configuration(
+    alloc: Global,
+    slave: &Table,
+) -> Result<ArrayVec<u8, MOST_CONFIGURATION>, RackFault>
     ensures { Gives (λ cfg. cfg.items) result (required configuration_of (codes "cfg") (table_view slave.now)) }
 {
     configuration_in(alloc, required_value(slave, "cfg")?)

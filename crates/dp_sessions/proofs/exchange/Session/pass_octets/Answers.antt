@@ -12,8 +12,8 @@ loop-piece-init g c = record {
   served = served_none c.args.self.now.pass.view.address (c.args.self.now.cutter ++ c.args.octets.now) c.args.self.now.pass.view (g.W.Write.contents c.args.writer.now);
 }
 
-pub loop-piece-preserved-in-Continue-1 : goal.loop-piece-preserved-in-Continue-1
-loop-piece-preserved-in-Continue-1 g c =
+pub loop-piece-preserved-in-Some : goal.loop-piece-preserved-in-Some
+loop-piece-preserved-in-Some g c =
     let master = c.args.self.now.pass.view.address in
     let stream : List ℕ = c.args.self.now.cutter ++ c.args.octets.now in
     let old = g.W.Write.contents c.args.writer.now in

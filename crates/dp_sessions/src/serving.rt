@@ -6,9 +6,9 @@ ghost use Rattle.dp_shared.specs.Claims.{claimed};
 ghost use Rattle.dp_shared.specs.Passes.{new_pass, table_of};
 ghost use Rattle.dp_sessions.specs.Sessions.{EndsAtOnce, IsSession, Refuses, is_master_of};
 
+use crate::exchange::Session;
 use crate::gate::Gate;
 use crate::port::Port;
-use crate::exchange::Session;
 use crate::session_end::SessionEnd;
 use dp_shared::{ClaimFault, Claims, Pass, WorkerSeat};
 use dp_telegram::is_station;
