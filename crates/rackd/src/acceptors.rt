@@ -60,7 +60,7 @@ impl Doors {
 
 /// What accepts connections. It stands for a type of acceptor where threads start, since the check finds there
 /// that it may go to a thread by that bound alone.
-pub(crate) trait Accept: Sized {
+pub(crate) trait Accept: Sized + Drop {
     /// Where it listens.
     fn listener(&self) -> &TcpListener;
 
