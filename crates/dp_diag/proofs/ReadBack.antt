@@ -5,7 +5,8 @@ use Rattle.arrayvec.specs.ArrayVec.{ArrayVec}
 use Rattle.dp_sap.specs.declared.state.State.{State}
 use Rattle.dp_sap.specs.declared.state.State.TheVariants.{WaitPrm, WaitCfg, DataExch}
 use Rattle.dp_diag.specs.declared.facts.DiagFacts.{DiagFacts}
-use Rattle.dp_diag.specs.DiagnosisText.{octet_of, diagnosis_text, no_master, station_status_1, station_status_2, station_status_3, is_in_data_exch, is_in_wait_prm, shown, HolderIsStation}
+use Rattle.dp_sap.specs.States.{is_in_data_exch, is_in_wait_prm}
+use Rattle.dp_diag.specs.DiagnosisText.{octet_of, diagnosis_text, no_master, station_status_1, station_status_2, station_status_3, shown, HolderIsStation}
 
 -- as many bits are told by their octet
 bits_told : (these those : List Bool) → length these ≡ length those → octet_of these ≡ octet_of those → these ≡ those

@@ -1,25 +1,12 @@
 -- The octets of a diagnosis: each bit by its condition, in the order of the standard's table.
 use Rattle.std.specs.Prelude.{ℕ, ◌+◌, ◌*◌, ◌/◌, ◌%◌, ◌<◌, Bool, true, false, not, if◌then◌else◌, List, [], ◌∷◌, ◌++◌, unwrap_or, IfSome}
-use Rattle.dp_sap.specs.declared.state.State.{State}
-use Rattle.dp_sap.specs.declared.state.State.TheVariants.{WaitPrm, WaitCfg, DataExch}
+use Rattle.dp_sap.specs.States.{is_in_data_exch, is_in_wait_prm}
 use Rattle.dp_diag.specs.declared.facts.DiagFacts.{DiagFacts}
 
 -- the octet of these bits, bit 0 first
 abbrev pub octet_of : List Bool → ℕ
 octet_of [] = 0
 octet_of (bit ∷ bits) = (if bit then 1 else 0) + 2 * octet_of bits
-
--- the slave has parameters and configuration: its state is Data_Exch (IEC 61158-6-3, slave state machine)
-abbrev pub is_in_data_exch : State → Bool
-is_in_data_exch WaitPrm = false
-is_in_data_exch WaitCfg = false
-is_in_data_exch DataExch = true
-
--- the slave has no parameters: its state is Wait_Prm (IEC 61158-6-3, slave state machine)
-abbrev pub is_in_wait_prm : State → Bool
-is_in_wait_prm WaitPrm = true
-is_in_wait_prm WaitCfg = false
-is_in_wait_prm DataExch = false
 
 -- octet 1 by its bits, bit 0 first (IEC 61158-6-3, Slave_Diag response, Station_status_1)
 abbrev pub station_status_1 : DiagFacts → List Bool

@@ -25,7 +25,7 @@ pub record Row : Type 0 where
   pub least : ℕ
   pub most : ℕ
 
--- a row, its parts in the order of the table's columns
+-- a row, its parts in the order of the table's columns (own)
 abbrev pub table_row : Option ℕ → Service → Column → Column → Column → ℕ → ℕ → Row
 table_row point service wait_prm wait_cfg data_exch least most = record {
   point = point;
@@ -98,19 +98,19 @@ pub record PointsView : Type 0 where
   pub out_len : ℕ
   pub busy : BusyMarks
 
--- the same point
+-- the same point (own)
 abbrev pub same_point : Option ℕ → Option ℕ → Bool
 same_point = option_eq nat_eq
 
--- the row of a point
+-- the row of a point (own)
 abbrev pub row_of : ℕ → Option ℕ → Option Row
 row_of out_len number = find (λ row. same_point number row.point) (access_table out_len)
 
--- the point has a row in the table, whatever the output length
+-- the point has a row in the table, whatever the output length (own)
 abbrev pub is_in_table : Option ℕ → Bool
 is_in_table number = is_some (row_of 0 number)
 
--- the marks of points of which none is busy
+-- the marks of points of which none is busy (own)
 abbrev pub no_marks : BusyMarks
 no_marks = record {
   data_exchange = false;
@@ -123,7 +123,7 @@ no_marks = record {
   chk_cfg = false;
 }
 
--- each point of the table with its mark
+-- each point of the table with its mark (own)
 abbrev pub marked_points : BusyMarks → List (Option ℕ × Bool)
 marked_points marks =
     (data_exchange, marks.data_exchange)
@@ -153,23 +153,23 @@ with_mark marks number busy = record {
   chk_cfg = if same_point number chk_cfg then busy else marks.chk_cfg;
 }
 
--- the points of a slave none of which is busy
+-- the points of a slave none of which is busy (own)
 abbrev pub unmarked : State → Option ℕ → ℕ → PointsView
 unmarked state master out_len = record { state = state; holder = master; out_len = out_len; busy = no_marks }
 
--- the column of a state
+-- the column of a state (own)
 abbrev pub column_in : State → Row → Column
 column_in WaitPrm row = row.wait_prm
 column_in WaitCfg row = row.wait_cfg
 column_in DataExch row = row.data_exch
 
--- whom a column admits under a holder; nobody where it asks for a holder and there is none
+-- whom a column admits under a holder; nobody where it asks for a holder and there is none (own)
 abbrev pub admitted : Column → Option ℕ → Option Access
 admitted off master = None
 admitted holder master = option_map (λ address. Only address) master
 admitted all master = Some All
 
--- the point that a row is, where it is on
+-- the point that a row is, where it is on (own)
 abbrev pub point_of : PointsView → Row → Access → Point
 point_of points row access = record {
   active = true;
@@ -180,7 +180,7 @@ point_of points row access = record {
   busy = is_busy points.busy row.point;
 }
 
--- the point that a row is in the state; none where it is off
+-- the point that a row is in the state; none where it is off (own)
 abbrev pub opened : PointsView → Row → Option Point
 opened points row = option_map (point_of points row) (admitted (column_in points.state row) points.holder)
 
