@@ -34,8 +34,9 @@ uses fc Sdn = asks_sdn (function_of fc)
 abbrev pub takes_length : ℕ → Point → Bool
 takes_length count point = nat_le point.least count && nat_le count point.most
 
--- the function of the reply without data by which a rule refuses an SRD: no resource where the point is busy, user error for a wrong
--- length, and by every other rule that the service is not activated (IEC 61158-4-3, function code of a response; own in detail)
+-- the function of the reply without data by which a rule refuses an SRD, an SDA, or a request for ident or for LSAP status: no resource
+-- where the point is busy, user error for a wrong length, and by every other rule that the service is not activated (IEC 61158-4-3,
+-- function code of a response; own in detail)
 abbrev pub refusal_function : Rule → ℕ
 refusal_function rules.Busy = no_resource
 refusal_function rules.Length = user_error

@@ -7,7 +7,7 @@ use Rattle.dp_prm.specs.declared.prm.PrmVerdict.{PrmVerdict}
 use Rattle.dp_prm.specs.declared.prm.PrmVerdict.TheVariants as prm
 use Rattle.dp_sap.specs.declared.state.State.{State}
 use Rattle.dp_sap.specs.declared.state.State.TheVariants.{WaitPrm, WaitCfg, DataExch}
-use Rattle.dp_diag.specs.DiagnosisText.{is_in_data_exch, is_in_wait_prm}
+use Rattle.dp_sap.specs.States.{is_in_data_exch, is_in_wait_prm}
 use Rattle.dp_slave.specs.declared.description.SlaveSpec.{SlaveSpec}
 use Rattle.dp_slave.specs.SlaveRecord.{SlaveRecord, full_time, input_length, is_held_by, output_length, released, starting_slave, zeros}
 use Rattle.dp_slave.specs.Acts.{Act, Control, locks, faults, unlocks, sets_min_tsdr, configures, misconfigures, exchanges, tells_diagnosis, is_read, is_controlled, is_fed, reports, is_marked, ticks, halts, releases, runs_out}

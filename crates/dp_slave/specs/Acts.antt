@@ -1,4 +1,4 @@
--- What can happen to one slave.
+-- What can happen to one slave (own).
 use Rattle.std.specs.Prelude.{ℕ, nat_le, Bool, true, false, List, Option}
 use Rattle.std.specs.Option.{option_map_or}
 use Rattle.dp_prm.specs.declared.prm.Prm.{Prm}
@@ -38,7 +38,7 @@ pub data Act : Type 0 where
   -- the line halts
   halts : Act
 
--- its watchdog runs, and has no more than this left
+-- its watchdog runs, and has no more than this left (IEC 61158-6-3, slave state machine, watchdog)
 abbrev pub runs_out : ℕ → Option ℕ → Bool
 runs_out time left = option_map_or (λ units. nat_le units time) left false
 

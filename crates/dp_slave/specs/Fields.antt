@@ -1,5 +1,6 @@
 -- What an act leaves of each field of a slave: one equation for a field, by cases on the act. The last case of each is that of all
--- other acts: there the field stays, but where the act releases the slave it is as released slaves have it.
+-- other acts: there the field stays, but an act that releases the slave leaves what released slaves have, and one that retriggers the
+-- watchdog leaves it its full time.
 use Rattle.std.specs.Prelude.{ℕ, ◌-◌, ◌==◌, ◌&&◌, ◌||◌, not, Bool, true, false, if◌then◌else◌, List, Option, Some, None, is_some, option_map}
 use Rattle.std.specs.Option.{option_map_or}
 use Rattle.dp_sap.specs.declared.state.State.{State}
@@ -37,7 +38,7 @@ min_tsdr_after slave (locks sender place prm) = unless_zero prm.min_tsdr slave.m
 min_tsdr_after slave (sets_min_tsdr sender octet) = unless_zero octet slave.min_tsdr
 min_tsdr_after slave act = slave.min_tsdr
 
--- the parameters are those of the lock
+-- the parameters are those of the lock (IEC 61158-6-3, Set_Prm request)
 abbrev pub prm_after : SlaveRecord → Act → Option Prm
 prm_after slave (locks sender place prm) = Some prm
 prm_after slave act = if releases slave act then None else slave.prm
@@ -104,7 +105,7 @@ outputs_after slave (is_controlled control) =
     if control.unsync || is_synced_by slave control then cleared_by slave control slave.latest else cleared_by slave control slave.outputs
 outputs_after slave act = if releases slave act then zeros (output_length slave) else slave.outputs
 
--- a watchdog that runs has its full time again
+-- a watchdog that runs has its full time again (own)
 abbrev pub left_again : SlaveRecord → Option ℕ
 left_again slave = if is_some slave.left then full_time slave else None
 
@@ -140,12 +141,12 @@ unread_after slave (reports ext stat overflow octets) = true
 unread_after slave (tells_diagnosis sender) = not (is_held_by sender slave) && slave.diag.unread
 unread_after slave act = slave.diag.unread
 
--- what the application reported last
+-- what the application reported last (own)
 abbrev pub report_after : SlaveRecord → Act → Diag
 report_after slave (reports ext stat overflow octets) = reported slave.diag ext stat overflow octets
 report_after slave act = slave.diag
 
--- the diagnosis of these parts
+-- the diagnosis of these parts (own)
 abbrev pub diag_after : SlaveRecord → Act → Diag
 diag_after slave act = record (report_after slave act) {
   unread = unread_after slave act;
@@ -159,7 +160,7 @@ abbrev pub busy_after : SlaveRecord → Act → BusyMarks
 busy_after slave (is_marked point busy) = with_mark slave.busy point busy
 busy_after slave act = slave.busy
 
--- a slave after an act: description and frame memories stay
+-- a slave after an act: description and frame memories stay (own)
 unfoldable pub acted : SlaveRecord → Act → SlaveRecord
 acted slave act = record slave {
   state = state_after slave act;

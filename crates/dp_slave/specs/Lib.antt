@@ -1,4 +1,5 @@
 pub mod SlaveRecord
+pub mod ProcessData
 pub mod SlaveParts
 pub mod SlaveLengths
 pub mod Acts

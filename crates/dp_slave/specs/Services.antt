@@ -1,4 +1,4 @@
--- What a request that passed all rows of the verdict does to a slave, and what it answers.
+-- What a request that passed all rows of the verdict does to a slave, and what it answers (IEC 61158-6-3, services of a slave).
 use Rattle.std.specs.Prelude.{ℕ, ◌==◌, ◌&&◌, Bool, true, false, if◌then◌else◌, List, [], ◌∷◌, slice_index, Option}
 use Rattle.dp_telegram.specs.FunctionCode.{is_set}
 use Rattle.dp_sap.specs.AccessTable.{same_point, data_exchange, rd_inp, rd_outp, global_control, get_cfg, slave_diag, set_prm, chk_cfg}
@@ -20,7 +20,7 @@ prm_act sender place (prm.Fault not_supported) = faults not_supported
 abbrev pub set_prm_act : SlaveRecord → ℕ → ℕ → List ℕ → Act
 set_prm_act slave sender place octets = prm_act sender place (meaning_of octets (limits_of slave))
 
--- the same octets, one by one
+-- the same octets, one by one (own)
 abbrev pub same_octets : List ℕ → List ℕ → Bool
 same_octets [] [] = true
 same_octets [] (y ∷ ys) = false
@@ -47,7 +47,7 @@ control_of octets = record {
 }
 
 -- which act a request is, by the point that its DSAP names: RD_Inp, RD_Outp and Get_Cfg only read, and a point outside the table is off,
--- so that no request to it is done
+-- so that no request to it is done (own)
 abbrev pub service_act : SlaveRecord → ℕ → ℕ → Option ℕ → List ℕ → Act
 service_act slave sender place point octets =
     if same_point point data_exchange then exchanges octets
@@ -57,7 +57,7 @@ service_act slave sender place point octets =
     else if same_point point chk_cfg then chk_cfg_act slave octets
     else is_read
 
--- the data of a reply, and whether they are of high priority
+-- the data of a reply, and whether they are of high priority (IEC 61158-4-3, function code of a response)
 pub record ServiceAnswer : Type 0 where
   pub high : Bool
   pub octets : List ℕ

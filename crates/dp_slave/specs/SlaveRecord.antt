@@ -13,7 +13,7 @@ use Rattle.dp_diag.specs.declared.facts.DiagFacts.{DiagFacts}
 use Rattle.dp_diag.specs.Diagnosis.{no_diagnosis}
 use Rattle.dp_slave.specs.declared.description.SlaveSpec.{SlaveSpec}
 
--- one slave: its description, and what events change
+-- one slave: its description, and what events change (own)
 pub record SlaveRecord : Type 0 where
   pub description : SlaveSpec
   pub state : State
@@ -46,15 +46,15 @@ input_length slave = input_octets slave.description.cfg.items
 abbrev pub output_length : SlaveRecord → ℕ
 output_length slave = output_octets slave.description.cfg.items
 
--- so many octets of zero
+-- so many octets of zero (own)
 abbrev pub zeros : ℕ → List ℕ
 zeros count = replicate count 0
 
--- its points: state, holder and output length, which decide what is on, and the busy marks
+-- its points: state, holder and output length, which decide what is on, and the busy marks (own)
 abbrev pub points_of : SlaveRecord → PointsView
 points_of slave = record { state = slave.state; holder = slave.holder; out_len = output_length slave; busy = slave.busy }
 
--- what it takes of parameters
+-- what it takes of parameters (IEC 61158-6-3, Set_Prm request)
 abbrev pub limits_of : SlaveRecord → Limits
 limits_of slave = record {
   ident = slave.description.ident;
@@ -67,7 +67,7 @@ limits_of slave = record {
 abbrev pub shown_inputs : SlaveRecord → List ℕ
 shown_inputs slave = if slave.freeze_mode then slave.copy else slave.inputs
 
--- the master is the one that holds it
+-- the master is the one that holds it (own)
 abbrev pub is_held_by : ℕ → SlaveRecord → Bool
 is_held_by master slave = option_map_or (λ holder. holder == master) slave.holder false
 

@@ -1,6 +1,6 @@
 -- What a slave goes through: acts one after another, each let through by the verdict on its request or by the line.
 use Rattle.std.specs.Prelude.{◌≡◌, ◌==◌, ◌&&◌, not, Bool, true, false, List, [], ◌∷◌, length, is_some, is_none}
-use Rattle.dp_diag.specs.DiagnosisText.{is_in_data_exch, is_in_wait_prm}
+use Rattle.dp_sap.specs.States.{is_in_data_exch, is_in_wait_prm}
 use Rattle.dp_slave.specs.SlaveRecord.{SlaveRecord, full_time, input_length, output_length, zeros}
 use Rattle.dp_slave.specs.Acts.{Act, configures, misconfigures, exchanges, is_controlled, is_fed}
 use Rattle.dp_slave.specs.Fields.{acted}

@@ -4,11 +4,11 @@
 
 mod changes;
 mod controls;
+mod data_octets;
 mod description;
 mod fault;
 pub mod laws;
 mod linked;
-mod process_data;
 mod services;
 mod slave;
 mod view;

@@ -8,7 +8,7 @@ ghost use Rattle.dp_slave.specs.SlaveRecord.{group_of, input_length, output_leng
 ghost use Rattle.dp_slave.specs.SlaveParts.{with_slave};
 
 use crate::description::SlaveSpec;
-use crate::process_data::ProcessData;
+use crate::data_octets::DataOctets;
 use arrayvec::ArrayVec;
 use dp_cfg::CfgIds;
 use dp_diag::Diag;
@@ -32,10 +32,10 @@ pub struct Slave {
     pub(crate) min_tsdr: u8,
     pub(crate) prm: Option<Prm>,
     pub(crate) cfg: Option<u8>,
-    pub(crate) inputs: ProcessData,
-    pub(crate) copy: ProcessData,
-    pub(crate) outputs: ProcessData,
-    pub(crate) latest: ProcessData,
+    pub(crate) inputs: DataOctets,
+    pub(crate) copy: DataOctets,
+    pub(crate) outputs: DataOctets,
+    pub(crate) latest: DataOctets,
     pub(crate) sync_mode: bool,
     pub(crate) freeze_mode: bool,
     pub(crate) left: Option<u32>,
@@ -95,10 +95,10 @@ impl Slave {
             min_tsdr: FIRST_MIN_TSDR,
             prm: None,
             cfg: None,
-            inputs: ProcessData::zeros(input_length),
-            copy: ProcessData::zeros(input_length),
-            outputs: ProcessData::zeros(output_length),
-            latest: ProcessData::zeros(output_length),
+            inputs: DataOctets::zeros(input_length),
+            copy: DataOctets::zeros(input_length),
+            outputs: DataOctets::zeros(output_length),
+            latest: DataOctets::zeros(output_length),
             sync_mode: false,
             freeze_mode: false,
             left: None,
@@ -150,7 +150,7 @@ impl Slave {
     }
 
     /// The inputs, or in freeze mode their copy.
-    pub(crate) fn shown(&self) -> &ProcessData
+    pub(crate) fn shown(&self) -> &DataOctets
         ensures inputs { result.now ≡ shown_inputs self.now.slave }
         ensures long { length result.now ≡ input_length self.now.slave }
     {

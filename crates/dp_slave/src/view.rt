@@ -3,7 +3,7 @@
 ghost use Rattle.std.specs.Prelude.{◌≡◌};
 ghost use Rattle.dp_slave.specs.View.{view_of};
 
-use crate::process_data::ProcessData;
+use crate::data_octets::DataOctets;
 use crate::slave::Slave;
 use arrayvec::ArrayVec;
 use dp_diag::Diag;

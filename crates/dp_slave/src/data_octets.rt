@@ -10,11 +10,11 @@ use std::marker::Model;
 
 /// Octets of inputs or of outputs, 0 to 244 of them, which keep their number.
 #[derive(Debug, Drop)]
-pub(crate) struct ProcessData {
+pub(crate) struct DataOctets {
     octets: ArrayVec<u8, MOST_DATA>,
 }
 
-impl Model for ProcessData {
+impl Model for DataOctets {
     ghost use Rattle.std.specs.Prelude.{List, ℕ};
 
     ghost Value = { List ℕ };
@@ -22,14 +22,14 @@ impl Model for ProcessData {
     ghost view = { λ d. d.octets.items };
 }
 
-impl ProcessData {
+impl DataOctets {
     /// So many octets of zero.
-    pub(crate) fn zeros(count: u8) -> ProcessData
+    pub(crate) fn zeros(count: u8) -> DataOctets
         requires { count ≤ most_data }
         ensures { result ≡ zeros count }
     {
         let zeros = [0; MOST_DATA];
-        ProcessData {
+        DataOctets {
             octets: ArrayVec::try_from(&zeros[..usize::from(count)]).unwrap(),
         }
     }

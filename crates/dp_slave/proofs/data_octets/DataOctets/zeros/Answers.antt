@@ -1,7 +1,7 @@
 use Rattle.std.proofs.Common.{◌≡◌, ◌∙◌, take, arith, rules}
 use Rattle.std.specs.Prelude.{replicate}
 use Rattle.std.proofs.lemmas.List.{take-replicate}
-use Rattle.dp_slave.proofs.process_data.ProcessData.zeros.Goals as goal
+use Rattle.dp_slave.proofs.data_octets.DataOctets.zeros.Goals as goal
 
 pub returns : goal.returns
 returns c =
