@@ -1,6 +1,7 @@
 #!/usr/bin/env bash
 # Compares the program that the repository carries with the one that was proved and built here from the sources as they
-# are: the same octets, and the same that they say they were built from. The last line is 'N passed, M failed'.
+# are: the same octets, where the toolchain is the same. Another toolchain makes other octets of the same sources: there
+# the carried program plays the stored runs instead. The last line is 'N passed, M failed'.
 set -u
 top=$(cd "$(dirname "$0")/.." && pwd)
 . "$top/dist/built.sh"
@@ -17,11 +18,18 @@ hold() {
   fi
 }
 
+# toolchain PROGRAM: what the program was built by
+toolchain() { sed -n 's/^toolchain //p' "$1.built" 2>/dev/null; }
+
 now=$(sources)
 hold 'the program is built from the sources as they are' is_built "$program" "$now"
 hold 'dist/ carries a program of the sources as they are' is_built "$carried" "$now"
-hold 'both are the same, octet for octet' cmp "$program" "$carried"
-hold 'both were built by the same toolchain' cmp "$program.built" "$carried.built"
+if [ "$(toolchain "$program")" = "$(toolchain "$carried")" ]; then
+  hold 'both are the same, octet for octet' cmp "$program" "$carried"
+else
+  echo "the carried program was built by $(toolchain "$carried"), and the toolchain here is $(toolchain "$program")"
+  hold 'the carried program plays the stored runs' "$top/tests/runs.sh" "$carried"
+fi
 if [ "$failed" != 0 ]; then echo 'dist/refresh has the repository carry the program of these sources'; fi
 echo "$passed passed, $failed failed"
 [ "$failed" = 0 ]
