@@ -8,7 +8,7 @@ use Rattle.dp_telegram.specs.declared.access.Parts.{Parts}
 use Rattle.dp_sap.specs.declared.state.State.{State}
 use Rattle.dp_sap.specs.declared.state.State.TheVariants.{WaitPrm, WaitCfg, DataExch}
 use Rattle.dp_sap.specs.AccessTable.{BusyMarks, access_row, chk_cfg, global_control}
-use Rattle.dp_diag.specs.DiagnosisText.{is_in_data_exch, is_in_wait_prm}
+use Rattle.dp_sap.specs.States.{is_in_data_exch, is_in_wait_prm}
 use Rattle.dp_prm.specs.declared.prm.PrmVerdict.{PrmVerdict}
 use Rattle.dp_prm.specs.declared.prm.PrmVerdict.TheVariants as prm
 use Rattle.dp_prm.specs.Meaning.{meaning_of}

@@ -39,7 +39,7 @@ unfolding heard
 spelt_is agree world master octets telegram is = (agree octets (frames.Telegram telegram)).1 (telegram_frame (frame_of octets) telegram is)
 
 -- the slave asked is that of the address
-asked_is : (world : World) (master : ℕ) (octets : List ℕ) (telegram : Telegram) (slave : SlaveRecord) → option_and_then telegram_of_frame (heard world master octets).frame ≡ Some telegram
+pub asked_is : (world : World) (master : ℕ) (octets : List ℕ) (telegram : Telegram) (slave : SlaveRecord) → option_and_then telegram_of_frame (heard world master octets).frame ≡ Some telegram
     → is_to_all telegram ≡ false → (heard world master octets).slave ≡ Some slave → slave_at world (address_of telegram.da) ≡ Some slave
 unfolding heard
 asked_is world master octets telegram slave spelt to_all found =

@@ -1,11 +1,9 @@
 -- The watchdog of a slave, and what its diagnosis tells of it.
-use Rattle.std.proofs.Common.{◌≡◌, ℕ, ◌+◌, ◌*◌, ◌/◌, ◌%◌, ◌<◌, Bool, true, false, cond, eqb, List, Option, Some, None, refl, sym, ap, ◌∙◌, arith}
+use Rattle.std.proofs.Common.{◌≡◌, ℕ, ◌+◌, ◌*◌, ◌/◌, ◌%◌, ◌<◌, Bool, true, false, cond, eqb, List, refl, ap, ◌∙◌, arith}
 use Rattle.std.specs.Prelude.{is_some}
-use Rattle.std.specs.Option.{option_and_then}
 use Rattle.std.specs.List.{AllByRecursion}
 use Rattle.std.proofs.lemmas.Bool.{eq-eqb}
-use Rattle.dp_prm.specs.declared.prm.Prm.{Prm}
-use Rattle.dp_slave.specs.SlaveRecord.{SlaveRecord, full_time, is_held}
+use Rattle.dp_slave.specs.SlaveRecord.{SlaveRecord, full_time}
 use Rattle.dp_slave.specs.Soundness.{IsSound}
 use Rattle.dp_line.specs.declared.event.Event.{Event}
 use Rattle.dp_line.specs.World.{Description, start_of}
@@ -48,16 +46,3 @@ pub all_told : StaysSound → (line : Description) (events : List Event)
     → AllByRecursion (λ slave. tells_watchdog slave ≡ is_some (full_time slave)) (run (start_of line) events).world.slaves
 all_told sound line events =
     each_is IsSound (λ slave. tells_watchdog slave ≡ is_some (full_time slave)) (run (start_of line) events).world.slaves (λ slave s. told slave ∙ s.watchdog) (all_sound sound line events)
-
--- who has no parameters has no watchdog
-asked_by : (prm : Option Prm) → is_some (option_and_then (λ p. p.watchdog) prm) ≡ true → is_some prm ≡ true
-asked_by None asks = absurd cc
-asked_by (Some prm) asks = refl
-
-under_holder : (slave : SlaveRecord) → IsSound slave → is_some slave.left ≡ true → is_held slave ≡ true
-under_holder slave sound runs = sym sound.parameters ∙ asked_by slave.prm (sym sound.watchdog ∙ runs)
-
-pub all_under : StaysSound → (line : Description) (events : List Event)
-    → AllByRecursion (λ slave. is_some slave.left ≡ true → is_held slave ≡ true) (run (start_of line) events).world.slaves
-all_under sound line events =
-    each_is IsSound (λ slave. is_some slave.left ≡ true → is_held slave ≡ true) (run (start_of line) events).world.slaves under_holder (all_sound sound line events)

@@ -63,8 +63,11 @@ not_false false e = absurd cc
 -- the conditions of the line's rows, which do not hold where a request concerns a slave; then the slave's rows decide
 pub record IsHeard (hearing : Hearing) : Type 0 where
   pub framed : is_none hearing.frame ≡ false
+  pub master : not hearing.is_master ≡ false
   pub own : frame_has (has_foreign_sender hearing.sender) hearing ≡ false
+  pub token : frame_has is_token hearing ≡ false
   pub request : frame_has is_no_request hearing ≡ false
+  pub function : telegram_has has_reserved_function hearing ≡ false
   pub extension : is_none hearing.parts ≡ false
   pub control : (telegram_has is_to_all hearing && not (request_has is_global_control hearing)) ≡ false
   pub there : (not (telegram_has is_to_all hearing) && is_none hearing.slave) ≡ false
@@ -90,13 +93,49 @@ heard_by_slaves hearing concerns =
     let there = past_line (not (telegram_has is_to_all hearing) && is_none hearing.slave) rules.NoStation _ refl control.2 in
     record {
       framed = framed.0;
+      master = master.0;
       own = own.0;
+      token = token.0;
       request = request.0;
+      function = function.0;
       extension = extension.0;
       control = control.0;
       there = there.0;
       verdict = over.1 ∙ framed.1 ∙ master.1 ∙ own.1 ∙ token.1 ∙ request.1 ∙ function.1 ∙ extension.1 ∙ control.1 ∙ there.1;
     }
+
+-- and where none of these conditions holds, the slave's rows decide
+pub record NoneHolds (hearing : Hearing) : Type 0 where
+  pub goes : hearing.over ≡ false
+  pub framed : is_none hearing.frame ≡ false
+  pub master : not hearing.is_master ≡ false
+  pub own : frame_has (has_foreign_sender hearing.sender) hearing ≡ false
+  pub token : frame_has is_token hearing ≡ false
+  pub request : frame_has is_no_request hearing ≡ false
+  pub function : telegram_has has_reserved_function hearing ≡ false
+  pub extension : is_none hearing.parts ≡ false
+  pub control : (telegram_has is_to_all hearing && not (request_has is_global_control hearing)) ≡ false
+  pub there : (not (telegram_has is_to_all hearing) && is_none hearing.slave) ≡ false
+
+past_all : (b1 b2 b3 b4 b5 b6 b7 b8 b9 b10 : Bool) (rest : Rule) → b1 ≡ false → b2 ≡ false → b3 ≡ false → b4 ≡ false → b5 ≡ false → b6 ≡ false → b7 ≡ false → b8 ≡ false → b9 ≡ false → b10 ≡ false
+    → cond b1 rules.Halted (cond b2 rules.NoFrame (cond b3 rules.NoMaster (cond b4 rules.ForeignSender (cond b5 rules.Token (cond b6 rules.NotRequest
+    (cond b7 rules.BadFunction (cond b8 rules.BadExtension (cond b9 rules.BadBroadcast (cond b10 rules.NoStation rest))))))))) ≡ rest
+past_all b1 b2 b3 b4 b5 b6 b7 b8 b9 b10 rest e1 e2 e3 e4 e5 e6 e7 e8 e9 e10 = rw (e1, e2, e3, e4, e5, e6, e7, e8, e9, e10) refl
+
+pub decided_by_slave : (hearing : Hearing) → NoneHolds hearing
+    → verdict_of hearing ≡ first_row (rows_where_known hearing.sender (option_and_then telegram_of_frame hearing.frame) hearing.parts hearing.slave)
+unfolding verdict_of
+decided_by_slave hearing none =
+    past_all _ _ _ _ _ _ _ _ _ _ _ none.goes none.framed none.master none.own none.token none.request none.function none.extension none.control none.there
+
+pub decided_rule : (hearing : Hearing) (telegram : Telegram) (parts : Parts) (slave : SlaveRecord) → NoneHolds hearing → option_and_then telegram_of_frame hearing.frame ≡ Some telegram
+    → hearing.parts ≡ Some parts → hearing.slave ≡ Some slave → verdict_of hearing ≡ rule_at hearing.sender telegram parts slave
+unfolding rule_at
+decided_rule hearing telegram parts slave none spelt read found =
+    decided_by_slave hearing none
+    ∙ ap (λ t. first_row (rows_where_known hearing.sender t hearing.parts hearing.slave)) spelt
+    ∙ ap (λ p. first_row (rows_where_known hearing.sender (Some telegram) p hearing.slave)) read
+    ∙ ap (λ s. first_row (rows_where_known hearing.sender (Some telegram) (Some parts) s)) found
 
 pub reached_rule : (hearing : Hearing) (telegram : Telegram) (parts : Parts) (slave : SlaveRecord) → IsConcerned hearing telegram parts → hearing.slave ≡ Some slave
     → verdict_of hearing ≡ rule_at hearing.sender telegram parts slave

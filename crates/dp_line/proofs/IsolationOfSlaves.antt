@@ -21,7 +21,8 @@ use Rattle.dp_slave.specs.Services.{chk_cfg_act, control_of, its_cfg, prm_act, s
 use Rattle.dp_line.specs.Verdict.{is_fdl_status, is_not_selected, is_unserved, rule_at, station_rows}
 use Rattle.dp_line.specs.ReplyText.{positive_reply, reply_text, unless_sdn}
 use Rattle.dp_line.specs.Served.{executed, memory_after_reply, served}
-use Rattle.dp_line.specs.Isolation.{ProcessData, frame_memory, process_data}
+use Rattle.dp_line.specs.Isolation.{frame_memory}
+use Rattle.dp_slave.specs.ProcessData.{ProcessData, process_data}
 
 -- a slave without the place of its lock and without its frame memories
 pub record Core : Type 0 where

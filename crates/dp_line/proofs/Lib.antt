@@ -33,6 +33,7 @@ pub mod BusSteps
 pub mod BusVerdict
 pub mod Controlled
 pub mod BusLives
+pub mod IsolationOfLines
 pub mod BusTime
 pub mod BusHalt
 pub mod BusStrangers
@@ -43,3 +44,5 @@ pub mod BusOutcomes
 pub mod BusReasons
 pub mod BusRows
 pub mod Facts
+pub mod BusEach
+pub mod BusRepeats

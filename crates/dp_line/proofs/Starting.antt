@@ -13,9 +13,9 @@ use Rattle.dp_slave.specs.declared.description.SlaveSpec.{SlaveSpec}
 use Rattle.dp_slave.specs.SlaveRecord.{SlaveRecord, released, starting_slave}
 use Rattle.dp_slave.specs.SlaveParts.{SlaveParts}
 use Rattle.dp_line.specs.declared.fault.OpenFault.TheVariants.{TwiceAddress, Limit, BadCfg}
-use Rattle.dp_line.specs.World.{AreAbove, Ascend, Description, address_of_slave, described_at, ascending, has_configuration, is_within_limits, opening_fault, station_addresses, has_twice, slave_is_within_limits}
+use Rattle.dp_line.specs.World.{AreAbove, Ascend, Description, HaveMasters, address_of_slave, described_at, ascending, has_configuration, is_within_limits, opening_fault, station_addresses, has_twice, slave_is_within_limits}
 use Rattle.dp_line.specs.Owned.{in_order}
-use Rattle.dp_line.specs.Stations.{AreEmpty, AreStations, HaveMasters, HaveNoOwner, Placed, StationsView, fresh_slave, freed, index_of, indices_where, is_of, links_of, lists_of, master_index, placed, slaves_of}
+use Rattle.dp_line.specs.Stations.{AreEmpty, AreStations, HaveNoOwner, Placed, StationsView, fresh_slave, freed, index_of, indices_where, is_of, links_of, lists_of, master_index, placed, slaves_of}
 
 -- one more address in the range
 range-push : (a n : ℕ) → range_with_len a (suc n) ≡ range_with_len a n ++ (a + n) ∷ []

@@ -10,9 +10,11 @@ pub mod Served
 pub mod Effects
 pub mod Steps
 pub mod Walk
+pub mod Refusals
 pub mod Isolation
 pub mod Bus
 pub mod Stations
 pub mod RequestAtSlave
 pub mod LineExamples
 pub mod BroadcastExamples
+pub mod IsolationExamples

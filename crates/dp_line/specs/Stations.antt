@@ -1,6 +1,6 @@
 -- How the stations of a line are kept: slaves by their index, and the lists of the masters threaded through them. No public clause
--- cites this module, but for `HaveMasters`.
-use Rattle.std.specs.Prelude.{◌≡◌, ◌≢◌, ℕ, zero, suc, ◌+◌, ◌≤◌, ◌<◌, ◌==◌, nat_eq, Bool, true, false, if◌then◌else◌, List, [], ◌∷◌, length, map, Option, Some, None, IfSome, option_map, slice_get, slice_set, slice_index_or, position}
+-- cites this module.
+use Rattle.std.specs.Prelude.{◌≡◌, ◌≢◌, ℕ, zero, suc, ◌+◌, ◌≤◌, ◌<◌, ◌==◌, nat_eq, Bool, true, false, if◌then◌else◌, List, [], ◌∷◌, length, map, Option, Some, None, option_map, slice_get, slice_set, slice_index_or, position}
 use Rattle.std.specs.Option.{option_and_then, option_eq}
 use Rattle.std.specs.List.{AllByRecursion, list_any}
 use Rattle.dp_telegram.specs.declared.frame.Telegram.{Telegram}
@@ -23,7 +23,7 @@ use Rattle.dp_slave.specs.Acts.{ticks}
 use Rattle.dp_slave.specs.Fields.{acted}
 use Rattle.dp_line.specs.declared.event.Op.{Op}
 use Rattle.dp_line.specs.declared.request.Request.{Request}
-use Rattle.dp_line.specs.World.{Ascend, Description, address_of_slave, ascending, slave_among}
+use Rattle.dp_line.specs.World.{Ascend, Description, HaveMasters, address_of_slave, ascending, slave_among}
 use Rattle.dp_line.specs.Events.{act_of_op}
 use Rattle.dp_line.specs.Owned.{held_among, in_order}
 use Rattle.dp_line.specs.Hearing.{Hearing, asked_among, telegram_spelt}
@@ -111,11 +111,6 @@ AreThreaded masters owners parts = IsThreaded owners (links_of parts) (lists_of 
 -- every slave was locked before this place of the journal
 abbrev pub AreBefore : ℕ → List SlaveRecord → Type 0
 AreBefore place slaves = AllByRecursion (λ slave. slave.since < place) slaves
-
--- who holds a slave is a master of the line
-abbrev pub HaveMasters : List ℕ → List SlaveRecord → Type 0
-HaveMasters masters slaves =
-    AllByRecursion (λ slave. IfSome slave.holder (λ holder. list_any (λ other. other == holder) masters ≡ true)) slaves
 
 -- nobody holds a slave, and none has links
 abbrev pub HaveNoOwner : List SlaveParts → Type 0

@@ -1,5 +1,5 @@
 -- What a line is at one moment, and at its start.
-use Rattle.std.specs.Prelude.{ℕ, ◌+◌, ◌<◌, Bool, false, not, ◌&&◌, ◌||◌, ◌==◌, nat_le, if◌then◌else◌, List, [], ◌∷◌, ◌++◌, length, map, find, Option, Some, None, is_ok}
+use Rattle.std.specs.Prelude.{◌≡◌, ℕ, ◌+◌, ◌<◌, Bool, true, false, not, ◌&&◌, ◌||◌, ◌==◌, nat_le, if◌then◌else◌, List, [], ◌∷◌, ◌++◌, length, map, find, Option, Some, None, IfSome, is_ok}
 use Rattle.std.specs.List.{AllByRecursion, list_all, list_any, filter_map, range_with_len}
 use Rattle.dp_telegram.specs.Access.{global_address, is_station}
 use Rattle.dp_cfg.specs.Reading.{reading_of}
@@ -35,6 +35,11 @@ slave_among slaves address = find (λ slave. address_of_slave slave == address) 
 
 abbrev pub slave_at : World → ℕ → Option SlaveRecord
 slave_at world address = slave_among world.slaves address
+
+-- who holds one of these slaves is one of these masters (own)
+abbrev pub HaveMasters : List ℕ → List SlaveRecord → Type 0
+HaveMasters masters slaves =
+    AllByRecursion (λ slave. IfSome slave.holder (λ holder. list_any (λ other. other == holder) masters ≡ true)) slaves
 
 -- at most the place of the halt is left
 abbrev pub is_last_place : World → Bool

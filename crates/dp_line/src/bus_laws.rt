@@ -20,8 +20,9 @@ ghost use Rattle.dp_line.specs.Bus.{AreTurnedAway, HasPlace, HasReason, HasShort
 
 /// Whatever came to a line since its start, each of its slaves is sound: outside Data_Exch outputs and
 /// latest data are zero and neither mode is on; it is in Wait_Prm exactly where nobody holds it, and has
-/// parameters exactly where a master does.
-pub fn outputs_are_zero_outside_data_exchange()
+/// parameters exactly where a master does; its watchdog runs exactly where these ask for one, and so only
+/// under a holder.
+pub fn each_slave_stays_sound()
     ensures { (line : Description) (events : List Events)
         → AllByRecursion IsSound (run (start_of line) events).world.slaves }
 {

@@ -3,14 +3,13 @@
 ghost use Rattle.std.specs.Prelude.{◌≡◌, ◌==◌, false, None, Some, IfSome, MatchResult, option_map};
 ghost use Rattle.std.specs.List.{list_any};
 ghost use Rattle.dp_slave.specs.View.{view_of};
-ghost use Rattle.dp_line.specs.World.{description_of, opening_fault, slave_at, takes_no_more};
+ghost use Rattle.dp_line.specs.World.{Ascend, HaveMasters, description_of, opening_fault, slave_at, takes_no_more};
 ghost use Rattle.dp_line.specs.Owned.{owned};
 ghost use Rattle.dp_line.specs.declared.event.Event.TheVariants.{Request, Operator};
 ghost use Rattle.dp_line.specs.declared.event.Op.TheVariants.{Halt, Tick};
 ghost use Rattle.dp_line.specs.Events.{address_of_op, misfit, misfit_among};
 ghost use Rattle.dp_line.specs.Effects.{effect, halted_world, held_addresses};
 ghost use Rattle.dp_line.specs.Hearing.{heard};
-ghost use Rattle.dp_line.specs.Stations.{HaveMasters};
 ghost use Rattle.dp_line.specs.Walk.{starting_line, walk_after, walk_heard};
 ghost use Rattle.dp_line.specs.Steps.{step, told_halted as told_by_halted, unrecorded as unrecorded_step};
 
@@ -161,6 +160,13 @@ impl LineState {
         ensures { result ≡ self.now.last_walk }
     {
         self.last_walk
+    }
+
+    /// Slaves stand in ascending order of address: a fact of the type, for proofs.
+    pub fn slaves_ascend(&self)
+        ensures { Ascend self.now.world.slaves }
+    {
+        self.stations.ascend();
     }
 
     /// Who holds a slave is a master of the line: a fact of the type, for proofs.

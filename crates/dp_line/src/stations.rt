@@ -4,7 +4,7 @@ ghost use Rattle.std.specs.Prelude.{◌≡◌, ℕ, ◌≤◌, ◌<◌, ◌==◌
 ghost use Rattle.std.specs.Option.{option_copied};
 ghost use Rattle.std.specs.List.{list_all, list_any};
 ghost use Rattle.dp_slave.specs.SlaveRecord.{released, is_held};
-ghost use Rattle.dp_line.specs.World.{address_of_slave, ascending, described_at, description_of, has_configuration, opening_fault, slave_among};
+ghost use Rattle.dp_line.specs.World.{Ascend, HaveMasters, address_of_slave, ascending, described_at, description_of, has_configuration, opening_fault, slave_among};
 ghost use Rattle.dp_line.specs.Events.{address_of_op, expires, misfit_among};
 ghost use Rattle.dp_line.specs.Owned.{held_among};
 ghost use Rattle.dp_line.specs.Hearing.{is_to_all};
@@ -12,7 +12,7 @@ ghost use Rattle.dp_line.specs.Verdict.{is_global_control};
 ghost use Rattle.dp_line.specs.declared.event.Outcome.{Outcome as Answers};
 ghost use Rattle.dp_line.specs.Effects.{served_where_asked, slave_after_op, state_and_holder};
 ghost use Rattle.dp_line.specs.RequestAtSlave.{IsOfProfile, answer_to, ruled_by, served_to};
-ghost use Rattle.dp_line.specs.Stations.{AreBefore, AreEmpty, HaveMasters, fresh_slave, freed, index_of, slave_asked, slaves_of, started, ticked};
+ghost use Rattle.dp_line.specs.Stations.{AreBefore, AreEmpty, fresh_slave, freed, index_of, slave_asked, slaves_of, started, ticked};
 
 mod answering;
 mod lists;
@@ -75,6 +75,13 @@ impl Stations {
         ensures { result ≡ list_any (λ other. other == address) self.now.masters }
     {
         self.masters.contains(&address)
+    }
+
+    /// Slaves stand in ascending order of address: a fact of the type, for proofs.
+    pub(crate) fn ascend(&self)
+        ensures { Ascend self.now.slaves }
+    {
+        let _ = &self.slaves;
     }
 
     /// Who holds a slave is a master: a fact of the type, for proofs.

@@ -5,13 +5,13 @@ ghost use Rattle.std.specs.Option.{option_and_then};
 ghost use Rattle.std.specs.List.{AllByRecursion};
 ghost use Rattle.dp_owners.specs.declared.owners.TheConstants.{MOST_MASTERS as most_masters};
 ghost use Rattle.dp_owners.specs.Threaded.{IsFree, IsThreaded, IsThreadedWith};
-ghost use Rattle.dp_line.specs.World.{address_of_slave};
+ghost use Rattle.dp_line.specs.World.{HaveMasters, address_of_slave};
 ghost use Rattle.dp_line.specs.Events.{expires, misfit_at};
 ghost use Rattle.dp_line.specs.Owned.{held_among};
 ghost use Rattle.dp_line.specs.Verdict.{is_global_control};
 ghost use Rattle.dp_line.specs.Effects.{state_and_holder};
 ghost use Rattle.dp_line.specs.RequestAtSlave.{IsOfProfile, answer_to, ruled_by, served_to};
-ghost use Rattle.dp_line.specs.Stations.{AreBefore, AreThreaded, HaveMasters, IsAt, IsWritten, appended_to, at_index, links_of, master_index, operated, slaves_of, ticked, unlinked_from};
+ghost use Rattle.dp_line.specs.Stations.{AreBefore, AreThreaded, IsAt, IsWritten, appended_to, at_index, links_of, master_index, operated, slaves_of, ticked, unlinked_from};
 
 use crate::event::{Facts, Op, Outcome};
 use crate::limits::MOST_SLAVES;
