@@ -1,6 +1,6 @@
 //! A line: its masters, its slaves and the places of its journal.
 
-ghost use Rattle.std.specs.Prelude.{◌≡◌, ◌==◌, false, None, Some, IfSome, MatchResult, option_map};
+ghost use Rattle.std.specs.Prelude.{◌≡◌, ◌==◌, false, None, Some, IfOk, IfSome, MatchResult, option_map};
 ghost use Rattle.std.specs.List.{list_any};
 ghost use Rattle.dp_slave.specs.View.{view_of};
 ghost use Rattle.dp_line.specs.World.{Ascend, HaveMasters, description_of, opening_fault, slave_at, takes_no_more};
@@ -66,6 +66,7 @@ impl LineState {
         ensures refused { IfSome (opening_fault (description_of line.now)) (λ fault. result ≡ Err fault) }
         ensures opened { opening_fault (description_of line.now) ≡ None
             → MatchResult result (λ state. state ≡ starting_line (description_of line.now)) (λ fault. fault ≡ OpenFault.OutOfMemory) }
+        ensures start { IfOk result (λ state. state ≡ starting_line (description_of line.now)) }
     {
         if let Some(fault) = line.fault() {
             return Err(fault);

@@ -7,8 +7,8 @@ ghost use Rattle.dp_responder.specs.Memory.{with_remembered};
 ghost use Rattle.dp_slave.specs.SlaveRecord.{group_of, input_length, output_length, points_of, shown_inputs, starting_slave};
 ghost use Rattle.dp_slave.specs.SlaveParts.{with_slave};
 
-use crate::description::SlaveSpec;
 use crate::data_octets::DataOctets;
+use crate::description::SlaveSpec;
 use arrayvec::ArrayVec;
 use dp_cfg::CfgIds;
 use dp_diag::Diag;

@@ -3,6 +3,7 @@
 
 #[cfg(test)]
 mod broadcast_tests;
+pub mod clients;
 #[cfg(test)]
 mod commands;
 #[cfg(test)]

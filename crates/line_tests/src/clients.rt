@@ -1,0 +1,118 @@
+//! Clients of a line: what a program that takes events and asks concludes from the contracts of a line
+//! and its laws alone. The prover reads them, and nothing runs them.
+
+ghost use Rattle.std.specs.Prelude.{◌≡◌, ◌≢◌, ℕ, List, true, false, None, Some, IfOk, option_map};
+ghost use Rattle.std.specs.List.{AllByRecursion};
+ghost use Rattle.arrayvec.specs.ArrayVec.{ArrayVec as Vectors};
+ghost use Rattle.dp_telegram.specs.declared.frame.Frame.{Frame as Frames};
+ghost use Rattle.dp_telegram.specs.declared.frame.Telegram.{Telegram as Telegrams};
+ghost use Rattle.dp_telegram.specs.FrameText.{Spells};
+ghost use Rattle.dp_telegram.specs.Access.{address_of, global_address};
+ghost use Rattle.dp_telegram.specs.FunctionCode.{asks_srd, frame_count_is_valid, function_of};
+ghost use Rattle.dp_responder.specs.declared.rule.Rule.{Rule as Rules};
+ghost use Rattle.dp_slave.specs.View.{view_of};
+ghost use Rattle.dp_line.specs.declared.event.Event.{Event as Events};
+ghost use Rattle.dp_line.specs.declared.event.Outcome.{Outcome as Answered};
+ghost use Rattle.dp_line.specs.World.{description_of, slave_at, start_of, takes_no_more};
+ghost use Rattle.dp_line.specs.Events.{is_request_of};
+ghost use Rattle.dp_line.specs.Effects.{slave_after};
+ghost use Rattle.dp_line.specs.Steps.{run, step};
+ghost use Rattle.dp_line.specs.Refusals.{IsRefusal};
+ghost use Rattle.dp_line.specs.Isolation.{Agrees, MeetsNoLastPlace, only_requests_of, watched};
+
+use dp_line::laws::take_each;
+use dp_line::{Event, LineSpec, LineState, OpenFault, SlaveView, Step};
+use std::alloc::Global;
+
+/// What was shown of a slave before an event, the answer, and what is shown of it then.
+#[derive(Drop)]
+pub struct Looks {
+    /// Before.
+    pub before: Option<SlaveView>,
+    /// The answer.
+    pub answer: Step,
+    /// After.
+    pub after: Option<SlaveView>,
+}
+
+/// Looks at a slave before and after an event.
+pub fn look_around(line: &mut LineState, event: &Event, address: u8) -> Looks
+    ensures recorded { (place : ℕ) → result.answer.place ≡ Some place
+        → result.after ≡ option_map view_of (option_map (slave_after line.old.world event.now) (slave_at line.old.world address)) }
+    ensures beside { (master : ℕ) (octets : Vectors ℕ) (telegram : Telegrams)
+        → event.now ≡ Events.Request master octets
+        → Spells octets.items (Frames.Telegram telegram)
+        → address_of telegram.da ≢ global_address
+        → address ≢ address_of telegram.da
+        → result.answer.halted ≡ None
+        → result.after ≡ result.before }
+    ensures refused { IsRefusal result.answer.outcome → result.answer.halted ≡ None → result.after ≡ result.before }
+{
+    dp_line::laws::each_slave_before_and_after();
+    dp_line::laws::only_the_slave_asked_changes();
+    dp_line::laws::a_refusal_changes_nothing();
+    let before = line.view(address);
+    let answer = line.take(event);
+    Looks {
+        before,
+        answer,
+        after: line.view(address),
+    }
+}
+
+/// Opens a line, lets it take events, and asks it twice, with events in between.
+pub fn ask_again(
+    alloc: Global,
+    spec: &LineSpec,
+    before: &[Event],
+    request: &Event,
+    between: &[Event],
+) -> Result<(Step, Step), OpenFault>
+    ensures { IfOk result (λ answers. (master : ℕ) (octets reply : Vectors ℕ) (rule : Rules) (telegram : Telegrams)
+        → request.now ≡ Events.Request master octets
+        → Spells octets.items (Frames.Telegram telegram)
+        → asks_srd (function_of telegram.fc) ≡ true
+        → frame_count_is_valid telegram.fc ≡ true
+        → answers.0.outcome ≡ Answered.Reply reply rule
+        → AllByRecursion (λ event. is_request_of master event ≡ false) between.now
+        → takes_no_more (run (step (run (start_of (description_of spec.now)) before.now).world request.now).world between.now).world ≡ false
+        → answers.1.outcome ≡ Answered.Reply reply Rules.Repeat) }
+{
+    dp_line::laws::a_repeat_gets_the_same_octets();
+    let mut line = LineState::open(alloc, spec)?;
+    take_each(&mut line, before);
+    let first = line.take(request);
+    take_each(&mut line, between);
+    Ok((first, line.take(request)))
+}
+
+/// Opens two lines, and lets each take events of its own.
+pub fn open_both(
+    alloc: Global,
+    spec: &LineSpec,
+    other: &LineSpec,
+    before: &[Event],
+    before_there: &[Event],
+) -> Result<(LineState, LineState), OpenFault>
+    ensures { IfOk result (λ lines. (master address : ℕ) (events : List Events)
+        → Agrees master address lines.0.world lines.1.world
+        → MeetsNoLastPlace lines.0.world events
+        → MeetsNoLastPlace lines.1.world (only_requests_of master events)
+        → watched master address lines.0.world events ≡ watched master address lines.1.world (only_requests_of master events)) }
+{
+    dp_line::laws::isolation_since_the_opening();
+    let mut line = LineState::open(alloc, spec)?;
+    let mut another = LineState::open(alloc, other)?;
+    take_each(&mut line, before);
+    take_each(&mut another, before_there);
+    Ok((line, another))
+}
+
+/// Asks for the list of an address that is no master's.
+pub fn list_of_a_stranger(line: &LineState, address: u8) -> bool
+    ensures { result ≡ true }
+{
+    dp_line::laws::who_is_no_master_owns_nothing();
+    line.holders_are_masters();
+    line.is_master(address) || line.owned_by(address).is_empty()
+}
