@@ -508,6 +508,8 @@ refused_threads() {
   for threads in 4 5 6; do
     serve "$threads threads" "$work/rack-2"
     starved "$threads threads" 0
+    serve "$threads threads at ports that the system chose" "$work/rack-0"
+    starved "$threads threads at ports that the system chose" 0
   done
   threads=7
   serve 'one worker is refused' "$work/rack-2" 2
@@ -523,6 +525,7 @@ refused_threads() {
 }
 
 { echo 'workers = 2'; line 1 "$masters" "$operators"; slave 5; } >"$work/rack-2"
+{ echo 'workers = 2'; line 1 0 0; slave 5; } >"$work/rack-0"
 "$refuse" 0 "$BASH" -c :
 if [ $? = 98 ]; then
   echo 'threads cannot be refused here'

@@ -144,7 +144,7 @@ pub(crate) fn serve_lines<H: Net + Threads + Wait + Clock + Sync, W: Write>(
     let Ok(()) = write_ready(writer) else {
         return Err(RunFault::WriteFault);
     };
-    let served = accept_and_serve(rt, acceptors, lines, &ports, seats, jobs, sessions);
+    let served = accept_and_serve(rt, acceptors, &ports, seats, jobs, sessions);
     match write_audits(alloc, ports, writer) {
         Ok(()) => {}
         Err(fault) => return Err(fault),

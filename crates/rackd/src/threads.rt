@@ -4,7 +4,7 @@ ghost use Rattle.std.specs.Prelude.{◌≡◌, ◌≤◌, All, length};
 ghost use Rattle.dp_sessions.specs.Pools.{HasSeats};
 
 use crate::acceptors::{Accept, Acceptors, Doors, MasterJob, TURNS};
-use crate::served_line::ServedLine;
+use arrayvec::ArrayVec;
 use crossbeam_channel::Receiver;
 use dp_sessions::{OpenGate, PoolFault, Port, run_pool};
 use dp_shared::WorkerSeat;
@@ -13,6 +13,12 @@ use std::sync::{Mutex, Wait};
 use std::thread;
 use std::thread::Threads;
 use std::time::Clock;
+
+/// The most ports of a rack: two for each of its lines.
+const MOST_PORTS: usize = 16;
+
+/// Ports that are listened at.
+type OpenPorts = ArrayVec<u16, MOST_PORTS>;
 
 /// Whether so many threads can be had at one time: they are started, and end.
 pub(crate) fn can_start<H: Threads + Wait + Sync>(rt: &H, count: usize) -> bool {
@@ -39,7 +45,6 @@ pub(crate) fn can_start<H: Threads + Wait + Sync>(rt: &H, count: usize) -> bool 
 pub(crate) fn accept_and_serve<H: Net + Threads + Wait + Clock + Sync>(
     rt: &H,
     acceptors: Acceptors<'_>,
-    lines: &[ServedLine],
     ports: &[Port],
     seats: Vec<Vec<WorkerSeat>>,
     jobs: Receiver<MasterJob>,
@@ -51,7 +56,7 @@ pub(crate) fn accept_and_serve<H: Net + Threads + Wait + Clock + Sync>(
     let Acceptors { masters, operators } = acceptors;
     let doors = Doors::closed();
     accept_each(
-        rt, masters, operators, lines, ports, seats, jobs, &doors, sessions,
+        rt, masters, operators, ports, seats, jobs, &doors, sessions,
     )
 }
 
@@ -64,7 +69,6 @@ fn accept_each<
     rt: &H,
     masters: Vec<M>,
     operators: Vec<O>,
-    lines: &[ServedLine],
     ports: &[Port],
     seats: Vec<Vec<WorkerSeat>>,
     jobs: Receiver<MasterJob>,
@@ -74,6 +78,9 @@ fn accept_each<
     requires workers { (1 ≤ length seats.items) × (length seats.items ≤ 32) }
     requires seats { All (λ own. HasSeats ports.now own.items) seats.items }
 {
+    let mut open_ports = OpenPorts::new();
+    note_ports(&masters, &mut open_ports);
+    note_ports(&operators, &mut open_ports);
     thread::scope(
         thread::scope_env(),
         rt,
@@ -99,18 +106,26 @@ fn accept_each<
             let served = run_pool(rt, ports, seats, jobs, &OpenGate, TURNS);
             if served.is_err() {
                 doors.close(rt);
-                knock(rt, lines);
+                knock(rt, &open_ports);
             }
             served
         },
     )
 }
 
-/// Connects to each port of these lines once, so that who waits for a connection there sees that the doors are
+/// Notes the ports that are listened at. For port 0 the system chose one, which the rack file doesn't say.
+fn note_ports<A: Accept>(acceptors: &[A], open_ports: &mut OpenPorts) {
+    for acceptor in acceptors {
+        if let Ok(address) = acceptor.listener().local_addr() {
+            let _ = open_ports.try_push(address.port());
+        }
+    }
+}
+
+/// Connects to each of these ports once, so that who waits for a connection there sees that the doors are
 /// closed. A port that is listened at no more is left.
-fn knock<N: Net>(net: &N, lines: &[ServedLine]) {
-    for line in lines {
-        let _ = TcpStream::connect(net, (Ipv4Addr::LOCALHOST, line.listen));
-        let _ = TcpStream::connect(net, (Ipv4Addr::LOCALHOST, line.operator));
+fn knock<N: Net>(net: &N, open_ports: &[u16]) {
+    for port in open_ports {
+        let _ = TcpStream::connect(net, (Ipv4Addr::LOCALHOST, *port));
     }
 }
