@@ -204,7 +204,7 @@ takes_keeps line slots id v s r _ at _ = let x : ℕ = get_or s.words 0 0 in ⊎
     ))
     r.lies
 
--- what a seat with a note knows of its own passes
+-- what a seat knows of its own passes
 pub learns_keeps : (line : LineSpec) (slots id : ℕ) (v : LineView) (held : List (ℕ × Option Content))
     → Allows (LineRule line) slots id (v, held) 0 (λ n. n) (learns (step slots 0 0 0 none) (v, held))
 learns_keeps line slots id v held s r _ at _ = (
@@ -212,7 +212,11 @@ learns_keeps line slots id v held s r _ at _ = (
   keeps,
   tt,
   unmoved line s r id v at,
-  (refl, λ c n. subst (λ z. AllByRecursion (FitsPass z) v.passes) (noted_is line s r id v at c n).0 (r.each_fits id v at)),
+  (
+    refl,
+    λ c n. subst (λ z. AllByRecursion (FitsPass z) v.passes) (noted_is line s r id v at c n).0 (r.each_fits id v at),
+    λ k. (let t = sum_at (λ u. times k (numbers_of u)) s.views id v at in let one = r.each_once k in let small = once_small k r.content.last in omega arith),
+  ),
 )
 
 -- a new seat

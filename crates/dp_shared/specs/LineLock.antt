@@ -1,5 +1,5 @@
 -- The rule of a line's lock, and its kinds of step (own). The word is 0 while the content is at home, and 1 while one seat has it.
-use Rattle.std.specs.Prelude.{◌≡◌, ◌≢◌, ◌⊎◌, ℕ, ◌+◌, ◌<◌, ◌≤◌, Bool, true, false, ◌==◌, List, [], ◌∷◌, ◌++◌, map, take, length, slice_index, sum_by, Option, Some, None, option_map}
+use Rattle.std.specs.Prelude.{◌≡◌, ◌≢◌, ◌⊎◌, ℕ, ◌+◌, ◌<◌, ◌≤◌, Bool, true, false, not, ◌&&◌, ◌==◌, List, [], ◌∷◌, ◌++◌, map, take, length, slice_index, sum_by, Option, Some, None, option_map}
 use Rattle.std.specs.List.{AllByRecursion}
 use mathlib.Core.Option.{some, none}
 use mathlib.Core.Logic.{◌↔◌}
@@ -19,7 +19,7 @@ use Rattle.dp_audit.specs.declared.entry.Entry.{Entry}
 use Rattle.dp_audit.specs.declared.entry.Receipt.{Receipt}
 use Rattle.dp_audit.specs.Journal.{Journal}
 use Rattle.dp_audit.specs.Legal.{after_entries}
-use Rattle.dp_shared.specs.Numbers.{under, times, once}
+use Rattle.dp_shared.specs.Numbers.{AllDiffer, under, times, once}
 use Rattle.dp_shared.specs.Content.{Content, IsHistory, world_now}
 use Rattle.dp_shared.specs.declared.line_view.PassView.{PassView}
 use Rattle.dp_shared.specs.declared.line_view.LineView.{LineView}
@@ -35,9 +35,9 @@ use Rattle.dp_shared.specs.declared.line_view.Answer.TheVariants as answers
 abbrev pub receipt_for : Entry → Receipt
 receipt_for entry = record { place = Some entry.place; event = entry.event; facts = entry.facts; outcome = entry.outcome }
 
--- an event of this address: a master's request, or for 127 an operator's
+-- an event of this address: a master's request, or for 127, which is no master's, an operator's event and no other
 abbrev pub is_of : ℕ → Event → Bool
-is_of address (Request master octets) = master == address
+is_of address (Request master octets) = master == address && not (address == 127)
 is_of address (Operator op) = address == 127
 
 -- an answer that says that the line is halted
@@ -114,6 +114,16 @@ pub record LineRule (line : LineSpec) (state : Slotted) : Type 0 where
   pub numbered : IsNumbered content
   pub each_fits : (j : ℕ) (view : LineView) → get_elem? state.views j ≡ some view → AllByRecursion (FitsPass content) view.passes
 
+-- ---- what laws of the rule speak of
+
+-- this pass is the one at an index among those of a seat
+abbrev pub IsPassAt : Slotted → ℕ → ℕ → PassView → Type 0
+IsPassAt state seat index pass = (view : LineView) × (get_elem? state.views seat ≡ some view) × (get_elem? view.passes index ≡ some pass)
+
+-- the receipt of an entry is one of the pass
+abbrev pub HasReceipt : PassView → Entry → Type 0
+HasReceipt pass entry = (index : ℕ) × (get_elem? pass.receipts index ≡ some (receipt_for entry))
+
 -- ---- the steps
 
 -- a seat without a pass
@@ -158,6 +168,7 @@ gives next at before word after = after ≡ (left_with before.0 next, rest befor
 abbrev pub learns : At → Seated → ℕ → Seated → Type 0
 learns at before word after =
     (after ≡ before) × ((content : Content) → before.0.note ≡ Some content → AllByRecursion (FitsPass content) before.0.passes)
+    × AllDiffer (numbers_of before.0)
 
 -- a new seat has no pass and no note
 abbrev pub sits : At → Seated → ℕ → Seated → Type 0

@@ -69,7 +69,7 @@ fn is_entry(entry: &Entry, address: u8, last: u32) -> bool
     ensures { result ≡ is_entry_of address last entry.now }
 {
     let sent = match &entry.event {
-        Event::Request { master, .. } => *master == address,
+        Event::Request { master, .. } => *master == address && address != GLOBAL_ADDRESS,
         Event::Operator(_) => address == GLOBAL_ADDRESS,
     };
     sent && entry.place < last

@@ -47,24 +47,13 @@ impl Line {
         Line::locked(alloc, line)
     }
 
-    /// The line's number in the rack. It waits until it has the journal, which stays as it is, and takes no
-    /// memory.
-    pub fn number<R: Wait>(&self, rt: &R) -> u8
-        ensures { result ≡ (line_of self.now).number }
-    {
-        let (mut seat, numbered_book) = self.sit_and_take(rt);
-        let number = numbered_book.book().number();
-        give_same(self, &mut seat, numbered_book);
-        number
-    }
-
     /// A pass of this address, without receipts or looks: a master's, or for 127 an operator's.
     ///
     /// `UnknownMaster` exactly where the address is neither a master's nor 127; else `TooMany` where
     /// 64 passes are out or 2^32 - 1 were opened (own). It waits until it has the journal.
     pub fn open_pass<R: Wait>(&self, rt: &R, address: u8) -> Result<Pass, PassFault>
         ensures ok { IfOk result (λ pass. (may_open (line_of self.now) address ≡ true)
-            × (pass.table ≡ table_of self.now) × (pass.view ≡ new_pass pass.view.number address)) }
+            × (pass.table ≡ table_of self.now) × (pass.line ≡ (line_of self.now).number) × (pass.view ≡ new_pass pass.view.number address)) }
         ensures err { IfErr result (λ fault. fault ≡ (if may_open (line_of self.now) address then PassFault.TooMany else PassFault.UnknownMaster)) }
     {
         let (mut seat, mut numbered_book) = self.sit_and_take(rt);
@@ -72,10 +61,12 @@ impl Line {
             give_same(self, &mut seat, numbered_book);
             return Err(fault);
         }
+        let line = numbered_book.book().number();
         let number = numbered_book.number_pass();
         give_new(self, &mut seat, numbered_book, address);
         Ok(Pass {
             seat,
+            line,
             number,
             address,
             made: 0,
@@ -91,6 +82,7 @@ impl Line {
         requires ours { pass.old.table ≡ table_of self.now }
         requires master { pass.old.view.address ≢ 127 }
         ensures ours { pass.new.table ≡ pass.old.table }
+        ensures line { pass.new.line ≡ pass.old.line }
         ensures address { pass.new.view.address ≡ pass.old.view.address }
         ensures event { result.event ≡ Request pass.old.view.address octets.now }
         ensures pass { pass.new.view ≡ with_receipt pass.old.view result result.place }
@@ -106,6 +98,7 @@ impl Line {
         requires master { pass.old.view.address ≢ 127 }
         requires few { length octets.now ≤ 255 }
         ensures ours { pass.new.table ≡ pass.old.table }
+        ensures line { pass.new.line ≡ pass.old.line }
         ensures address { pass.new.view.address ≡ pass.old.view.address }
         ensures event { result.event ≡ Request pass.old.view.address (record { items = octets.now }) }
         ensures pass { pass.new.view ≡ with_receipt pass.old.view result result.place }
@@ -127,6 +120,7 @@ impl Line {
         requires ours { pass.old.table ≡ table_of self.now }
         requires operator { pass.old.view.address ≡ 127 }
         ensures ours { pass.new.table ≡ pass.old.table }
+        ensures line { pass.new.line ≡ pass.old.line }
         ensures address { pass.new.view.address ≡ pass.old.view.address }
         ensures event { result.event ≡ Operator op }
         ensures pass { pass.new.view ≡ with_receipt pass.old.view result result.place }
@@ -140,10 +134,19 @@ impl Line {
     pub fn hand_back<R: Wait>(&self, rt: &R, pass: Pass)
         requires { pass.table ≡ table_of self.now }
     {
-        let Pass { mut seat, .. } = pass;
-        let mut numbered_book = self.take(rt, &mut seat);
+        let mut pass = pass;
+        self.put_back(rt, &mut pass);
+    }
+
+    /// The pass is counted as out no more, and nothing else changes: neither the journal nor what the pass
+    /// knows.
+    fn put_back<R: Wait>(&self, rt: &R, pass: &mut Pass)
+        requires { pass.old.table ≡ table_of self.now }
+        ensures { pass.new ≡ pass.old }
+    {
+        let mut numbered_book = self.take(rt, &mut pass.seat);
         numbered_book.put_back();
-        give_same(self, &mut seat, numbered_book);
+        give_same(self, &mut pass.seat, numbered_book);
     }
 
     /// Why a pass of this address isn't opened; None where it is.
@@ -167,6 +170,7 @@ impl Line {
         requires ours { pass.old.table ≡ table_of self.now }
         requires sent { is_of pass.old.view.address event ≡ true }
         ensures ours { pass.new.table ≡ pass.old.table }
+        ensures line { pass.new.line ≡ pass.old.line }
         ensures address { pass.new.view.address ≡ pass.old.view.address }
         ensures event { result.event ≡ event }
         ensures pass { pass.new.view ≡ with_receipt pass.old.view result result.place }

@@ -4,8 +4,9 @@ ghost use Rattle.std.specs.Prelude.{◌≡◌, [], ◌∷◌, ◌++◌, Some, No
 ghost use Rattle.std.specs.List.{AllByRecursion};
 ghost use Rattle.dp_line.specs.World.{description_of, opening_fault};
 ghost use Rattle.dp_shared.specs.Content.{Content};
-ghost use Rattle.dp_shared.specs.LineLock.{FitsPass, Goes, IsOf, blank, left_with};
+ghost use Rattle.dp_shared.specs.LineLock.{FitsPass, Goes, IsOf, blank, left_with, numbers_of};
 ghost use Rattle.dp_shared.specs.Locks.{HasContent, Took};
+ghost use Rattle.dp_shared.specs.Numbers.{AllDiffer};
 ghost use Rattle.dp_shared.specs.Passes.{line_of, table_of};
 
 use crate::line::Line;
@@ -121,11 +122,12 @@ impl Line {
         self.table.shared.join_seat::<Gather>(keeper, seat);
     }
 
-    /// What the seat's passes are, under the content that it noted.
+    /// What the seat's passes are, under the content that it noted, and that their numbers differ.
     pub(crate) fn learn(&self, keeper: &mut LineSeat)
         requires ours { keeper.old.table_id ≡ table_of self.now }
         ensures same { keeper.new.me ≡ keeper.old.me }
         ensures learnt { (content : Content) → keeper.old.me.0.note ≡ Some content → AllByRecursion (FitsPass content) keeper.old.me.0.passes }
+        ensures differ { AllDiffer (numbers_of keeper.old.me.0) }
     {
         self.table.shared.load::<Learn>(keeper, 0);
     }

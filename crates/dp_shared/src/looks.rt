@@ -34,6 +34,7 @@ impl Line {
     pub fn snapshot<R: Wait>(&self, rt: &R, pass: &mut Pass, address: u8) -> Seen<Option<SlaveView>>
         requires { pass.old.table ≡ table_of self.now }
         ensures ours { pass.new.table ≡ pass.old.table }
+        ensures line { pass.new.line ≡ pass.old.line }
         ensures look { pass.new.view ≡ with_look pass.old.view (look_by pass.old.view (Question.View address) result.count (Answer.View result.value)) }
         ensures later { IsNoEarlier pass.old.view result.count }
     {
@@ -58,6 +59,7 @@ impl Line {
     ) -> Seen<ArrayVec<u8, MOST_SLAVES>>
         requires { pass.old.table ≡ table_of self.now }
         ensures ours { pass.new.table ≡ pass.old.table }
+        ensures line { pass.new.line ≡ pass.old.line }
         ensures look { pass.new.view ≡ with_look pass.old.view (look_by pass.old.view (Question.Owned master) result.count (Answer.Owned result.value)) }
         ensures later { IsNoEarlier pass.old.view result.count }
     {
