@@ -143,14 +143,15 @@ pub record AreBrokenOff (driven : List DrivenSlave) (stream : List ℕ) (before 
   pub answered : AreAnswered driven lines before after texts
   pub written : IsCutOff old new texts
 
--- a stream was read, with as many reads as this at most, and its lines were answered: how it ended says how far, and what is left to read
-abbrev pub Operates : SessionEnd → List DrivenSlave → ℕ → List ℕ → PassView → PassView → Option (List ℕ) → Option (List ℕ) → Option (List ℕ) → Type 0
-Operates ends.EndOfInput driven turns stream before after left old new = AreServed driven stream before after old new × IsAtEnd left
-Operates ends.ReadFault driven turns stream before after left old new = AreServed driven stream before after old new
--- each read gave an octet at least
-Operates ends.TurnLimit driven turns stream before after left old new = AreServed driven stream before after old new × (turns ≤ length stream)
-Operates ends.WriteFault driven turns stream before after left old new = AreBrokenOff driven stream before after old new
-Operates other driven turns stream before after left old new = ⊥
+-- a stream was read, and its lines were answered: how the session ended says how far, how many reads it made of those that it may make, and
+-- what is left to read
+abbrev pub Operates : SessionEnd → List DrivenSlave → ℕ → ℕ → List ℕ → PassView → PassView → Option (List ℕ) → Option (List ℕ) → Option (List ℕ) → Type 0
+Operates ends.EndOfInput driven turns made stream before after left old new = AreServed driven stream before after old new × IsAtEnd left
+Operates ends.ReadFault driven turns made stream before after left old new = AreServed driven stream before after old new
+-- as many reads as it may make were made, and each gave an octet at least
+Operates ends.TurnLimit driven turns made stream before after left old new = AreServed driven stream before after old new × (made ≡ turns) × (made ≤ length stream)
+Operates ends.WriteFault driven turns made stream before after left old new = AreBrokenOff driven stream before after old new
+Operates other driven turns made stream before after left old new = ⊥
 
 -- no pass, and nothing is read or written
 pub record HasNoPass (streams : Streams) (end : SessionEnd) : Type 0 where
@@ -164,7 +165,10 @@ pub record HasOperated (driven : List DrivenSlave) (turns : ℕ) (streams : Stre
   pub pass : PassView
   pub stream : List ℕ
   pub read : Consumes streams.left streams.left_after stream
-  pub operated : Operates end driven turns stream (new_pass number 127) pass streams.left_after streams.written streams.written_after
+  -- how many reads were made
+  pub made : ℕ
+  pub most : made ≤ turns
+  pub operated : Operates end driven turns made stream (new_pass number 127) pass streams.left_after streams.written streams.written_after
 
 -- a session of an operator, of as many reads as this at most, with a line of which devices drive these slaves
 abbrev pub IsOperatorSession : List DrivenSlave → ℕ → Streams → SessionEnd → Type 0

@@ -79,24 +79,25 @@ pub record IsBrokenOff (master : ℕ) (stream : List ℕ) (before after : PassVi
   pub exchanged : AreExchanged master first receipts before after
   pub written : IsCutOff old new (map reply_in receipts)
 
--- a stream was read, with as many reads as this at most, and its frames were exchanged: how it ended says how far, and what is left to read
-abbrev pub Exchanges : SessionEnd → ℕ → ℕ → List ℕ → PassView → PassView → Option (List ℕ) → Option (List ℕ) → Option (List ℕ) → Type 0
-Exchanges ends.EndOfInput master turns stream before after left old new = IsServed master stream before after old new × IsAtEnd left
-Exchanges ends.ReadFault master turns stream before after left old new = IsServed master stream before after old new
--- each read gave an octet at least
-Exchanges ends.TurnLimit master turns stream before after left old new = IsServed master stream before after old new × (turns ≤ length stream)
-Exchanges ends.WriteFault master turns stream before after left old new = IsBrokenOff master stream before after old new
-Exchanges other master turns stream before after left old new = ⊥
+-- a stream was read, and its frames were exchanged: how the session ended says how far, how many reads it made of those that it may make,
+-- the first one being that of the address, and what is left to read
+abbrev pub Exchanges : SessionEnd → ℕ → ℕ → ℕ → List ℕ → PassView → PassView → Option (List ℕ) → Option (List ℕ) → Option (List ℕ) → Type 0
+Exchanges ends.EndOfInput master turns made stream before after left old new = IsServed master stream before after old new × IsAtEnd left
+Exchanges ends.ReadFault master turns made stream before after left old new = IsServed master stream before after old new
+-- as many reads as it may make were made, and each gave an octet at least
+Exchanges ends.TurnLimit master turns made stream before after left old new = IsServed master stream before after old new × (made ≡ turns) × (made ≤ length stream + 1)
+Exchanges ends.WriteFault master turns made stream before after left old new = IsBrokenOff master stream before after old new
+Exchanges other master turns made stream before after left old new = ⊥
 
 -- the octet that accepts a session: a short acknowledgement
 abbrev pub acceptance : List ℕ
 acceptance = 0xE5 ∷ []
 
 -- the acceptance can't be written, and nothing more is read; or it is written, and then the stream's frames are exchanged
-abbrev pub Accepts : SessionEnd → ℕ → ℕ → List ℕ → PassView → PassView → Option (List ℕ) → Option (List ℕ) → Option (List ℕ) → Type 0
-Accepts end master turns stream before after left old new =
+abbrev pub Accepts : SessionEnd → ℕ → ℕ → ℕ → List ℕ → PassView → PassView → Option (List ℕ) → Option (List ℕ) → Option (List ℕ) → Type 0
+Accepts end master turns made stream before after left old new =
     ((end ≡ ends.WriteFault) × (stream ≡ []) × (after ≡ before) × WritesPrefix old new acceptance)
-    ⊎ ((accepted : Option (List ℕ)) × Appends old accepted acceptance × Exchanges end master turns stream before after left accepted new)
+    ⊎ ((accepted : Option (List ℕ)) × Appends old accepted acceptance × Exchanges end master turns made stream before after left accepted new)
 
 -- ---- a session
 
@@ -107,7 +108,7 @@ pub record Streams : Type 0 where
   pub written : Option (List ℕ)
   pub written_after : Option (List ℕ)
 
--- no octet came: the reader ended at once, the read failed, or there may be none
+-- no octet came: the reader ended at once, the read failed, or no read may be made
 abbrev pub EndsAtOnce : SessionEnd → ℕ → Option (List ℕ) → Type 0
 EndsAtOnce ends.EndOfInput turns left = IsAtEnd left
 EndsAtOnce ends.ReadFault turns left = Unit {0}
@@ -141,12 +142,12 @@ pub record IsAccepted (masters : List ℕ) (turns : ℕ) (streams : Streams) (be
   pub read : Consumes streams.left streams.left_after (address ∷ stream)
   pub known : is_master_of masters address ≡ true
   pub freed : after ≡ released (claimed before address)
-  -- the first read gave the address
-  pub turns_left : ℕ
-  pub turns_are : turns ≡ turns_left + 1
+  -- how many reads were made
+  pub made : ℕ
+  pub most : made ≤ turns
   pub number : ℕ
   pub pass : PassView
-  pub accepted : Accepts end address turns_left stream (new_pass number address) pass streams.left_after streams.written streams.written_after
+  pub accepted : Accepts end address turns made stream (new_pass number address) pass streams.left_after streams.written streams.written_after
 
 -- a session with a line of these masters, of as many reads as this at most: of the seat that claims the address, before and after
 abbrev pub IsSession : List ℕ → ℕ → Streams → ClaimView → ClaimView → SessionEnd → Type 0

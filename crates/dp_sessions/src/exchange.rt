@@ -10,6 +10,7 @@ ghost use Rattle.dp_sessions.specs.Sessions.{Accepts, AreExchanged, Exchanges, I
 ghost use Rattle.dp_sessions.specs.SessionProgress.{IsBrokenIn, IsServedTo};
 
 use crate::gate::Gate;
+use crate::reads::Reads;
 use crate::session_end::SessionEnd;
 use dp_audit::Receipt;
 use dp_line::Outcome;
@@ -23,24 +24,21 @@ use std::sync::Wait;
 /// Octets that are read at once.
 const CHUNK: usize = 255;
 
-/// An accepted session: the pass of its master, the number of the line, and the octets that can't be judged
-/// yet.
+/// An accepted session: the pass of its master, and the octets that can't be judged yet.
 #[derive(Drop)]
 pub(crate) struct Session {
     pass: Pass,
-    line: u8,
     cutter: Cutter,
 }
 
 impl Session {
     /// A session by this pass, before anything of its stream came.
-    pub(crate) fn open(pass: Pass, line: u8) -> Session
+    pub(crate) fn open(pass: Pass) -> Session
         ensures pass { result.pass ≡ pass }
         ensures empty { result.cutter ≡ [] }
     {
         Session {
             pass,
-            line,
             cutter: Cutter::new(),
         }
     }
@@ -52,11 +50,12 @@ impl Session {
         self.pass
     }
 
-    /// Writes the acceptance, a short acknowledgement, and then reads so many times, and exchanges each frame that comes.
+    /// Writes the acceptance, a short acknowledgement, and then reads until so many reads were made, and exchanges
+    /// each frame that comes. The first read gave the address.
     pub(crate) fn accept<T: Wait, R: Read, W: Write, G: Gate>(
         &mut self,
         rt: &T,
-        reader: &mut R,
+        reader: &mut Reads<'_, R>,
         writer: &mut W,
         line: &Line,
         gate: &G,
@@ -65,9 +64,13 @@ impl Session {
         requires ours { self.old.pass.table ≡ table_of line.now }
         requires master { self.old.pass.view.address ≢ 127 }
         requires empty { self.old.cutter ≡ [] }
+        requires first { reader.old.made ≡ 1 }
+        requires turns { 1 ≤ turns }
         ensures ours { self.new.pass.table ≡ self.old.pass.table }
-        ensures accepted { (stream : List ℕ) × Consumes (R.remaining reader.old) (R.remaining reader.new) stream
-            × Accepts result self.old.pass.view.address turns stream self.old.pass.view self.new.pass.view (R.remaining reader.new) (W.contents writer.old) (W.contents writer.new) }
+        ensures same_reader { reader.new.reader.ghost_name ≡ reader.old.reader.ghost_name }
+        ensures most { reader.new.made ≤ turns }
+        ensures accepted { (stream : List ℕ) × Consumes (R.remaining reader.old.reader.now) (R.remaining reader.new.reader.now) stream
+            × Accepts result self.old.pass.view.address turns reader.new.made stream self.old.pass.view self.new.pass.view (R.remaining reader.new.reader.now) (W.contents writer.old) (W.contents writer.new) }
     {
         match write_whole(writer, &[SC]) {
             Ok(()) => self.run(rt, reader, writer, line, gate, turns),
@@ -75,11 +78,11 @@ impl Session {
         }
     }
 
-    /// Reads so many times, and exchanges each frame that comes.
+    /// Reads until so many reads were made, and exchanges each frame that comes.
     fn run<T: Wait, R: Read, W: Write, G: Gate>(
         &mut self,
         rt: &T,
-        reader: &mut R,
+        reader: &mut Reads<'_, R>,
         writer: &mut W,
         line: &Line,
         gate: &G,
@@ -88,15 +91,17 @@ impl Session {
         requires ours { self.old.pass.table ≡ table_of line.now }
         requires master { self.old.pass.view.address ≢ 127 }
         requires empty { self.old.cutter ≡ [] }
+        requires first { reader.old.made ≡ 1 }
+        requires turns { 1 ≤ turns }
         ensures ours { self.new.pass.table ≡ self.old.pass.table }
-        ensures exchanged { (stream : List ℕ) × Consumes (R.remaining reader.old) (R.remaining reader.new) stream
-            × Exchanges result self.old.pass.view.address turns stream self.old.pass.view self.new.pass.view (R.remaining reader.new) (W.contents writer.old) (W.contents writer.new) }
+        ensures same_reader { reader.new.reader.ghost_name ≡ reader.old.reader.ghost_name }
+        ensures most { reader.new.made ≤ turns }
+        ensures exchanged { (stream : List ℕ) × Consumes (R.remaining reader.old.reader.now) (R.remaining reader.new.reader.now) stream
+            × Exchanges result self.old.pass.view.address turns reader.new.made stream self.old.pass.view self.new.pass.view (R.remaining reader.new.reader.now) (W.contents writer.old) (W.contents writer.new) }
     {
         cut_and_computation_agree();
         let mut chunk = [0; CHUNK];
-        let mut reads = 0;
-        while reads < turns {
-            reads += 1;
+        while reader.made() < turns {
             match reader.read(&mut chunk) {
                 Ok(0) => return SessionEnd::EndOfInput,
                 Ok(count) => {
@@ -136,7 +141,7 @@ impl Session {
         loop {
             if let Some(piece) = self.cutter.front() {
                 let count = piece.size();
-                answer(rt, writer, line, gate, self.line, &mut self.pass, piece)?;
+                answer(rt, writer, line, gate, &mut self.pass, piece)?;
                 self.cutter.pass(count);
             } else if left.is_empty() {
                 return Ok(());
@@ -155,7 +160,6 @@ fn answer<T: Wait, W: Write, G: Gate>(
     writer: &mut W,
     line: &Line,
     gate: &G,
-    number: u8,
     pass: &mut Pass,
     piece: Piece<'_>,
 ) -> Result<(), WriteFault>
@@ -171,7 +175,7 @@ fn answer<T: Wait, W: Write, G: Gate>(
 {
     match piece {
         Piece::Frame(octets) => {
-            gate.enter(rt, number, pass.address());
+            gate.enter(rt, pass.line(), pass.address());
             let receipt = line.exchange_lent(rt, pass, octets);
             write_whole(writer, octets_in(&receipt.outcome))
         }

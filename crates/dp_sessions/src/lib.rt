@@ -12,6 +12,7 @@ mod operator_line;
 mod pool;
 mod pool_fault;
 mod port;
+mod reads;
 mod serving;
 mod session_end;
 pub mod sharing;

@@ -1,6 +1,6 @@
 //! Sessions of operators with a line.
 
-ghost use Rattle.std.specs.Prelude.{◌≡◌, ℕ, List, [], ◌∷◌, ◌++◌, OnErr, OnOk};
+ghost use Rattle.std.specs.Prelude.{◌≡◌, ◌≤◌, ℕ, List, [], ◌∷◌, ◌++◌, OnErr, OnOk};
 ghost use Rattle.std.specs.Io.KnownBytes.{Appends, Consumes};
 ghost use Rattle.dp_text.specs.Writes.{WritesPrefix};
 ghost use Rattle.dp_shared.specs.Passes.{line_of, table_of};
@@ -11,6 +11,7 @@ ghost use Rattle.dp_sessions.specs.Operating.{BreaksOff, GoesOn, kept};
 
 use crate::operator_line::{LONGEST_LINE, answer_line};
 use crate::port::Port;
+use crate::reads::Reads;
 use crate::session_end::SessionEnd;
 use arrayvec::ArrayVec;
 use dp_devices::{DrivenSlave, MOST_DRIVEN, driven_slaves};
@@ -63,7 +64,7 @@ pub fn serve_operator<T: Wait, R: Read, W: Write>(
         return SessionEnd::NoPass;
     };
     let mut session = OperatorSession::open(pass, line);
-    let end = session.run(rt, reader, writer, &port.line, turns);
+    let end = session.run(rt, &mut Reads::new(reader), writer, &port.line, turns);
     port.line.hand_back(rt, session.close());
     end
 }
@@ -98,11 +99,11 @@ impl OperatorSession {
         self.pass
     }
 
-    /// Reads so many times, and answers each line that ends.
+    /// Reads until so many reads were made, and answers each line that ends.
     fn run<T: Wait, R: Read, W: Write>(
         &mut self,
         rt: &T,
-        reader: &mut R,
+        reader: &mut Reads<'_, R>,
         writer: &mut W,
         line: &Line,
         turns: u32,
@@ -110,14 +111,15 @@ impl OperatorSession {
         requires ours { self.old.pass.table ≡ table_of line.now }
         requires operator { self.old.pass.view.address ≡ 127 }
         requires empty { self.old.begun.items ≡ [] }
+        requires unread { reader.old.made ≡ 0 }
         ensures ours { self.new.pass.table ≡ self.old.pass.table }
-        ensures operated { (stream : List ℕ) × Consumes (R.remaining reader.old) (R.remaining reader.new) stream
-            × Operates result self.old.driven.items turns stream self.old.pass.view self.new.pass.view (R.remaining reader.new) (W.contents writer.old) (W.contents writer.new) }
+        ensures same_reader { reader.new.reader.ghost_name ≡ reader.old.reader.ghost_name }
+        ensures most { reader.new.made ≤ turns }
+        ensures operated { (stream : List ℕ) × Consumes (R.remaining reader.old.reader.now) (R.remaining reader.new.reader.now) stream
+            × Operates result self.old.driven.items turns reader.new.made stream self.old.pass.view self.new.pass.view (R.remaining reader.new.reader.now) (W.contents writer.old) (W.contents writer.new) }
     {
         let mut chunk = [0; CHUNK];
-        let mut reads = 0;
-        while reads < turns {
-            reads += 1;
+        while reader.made() < turns {
             match reader.read(&mut chunk) {
                 Ok(0) => return SessionEnd::EndOfInput,
                 Ok(count) => {

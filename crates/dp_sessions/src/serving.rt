@@ -9,6 +9,7 @@ ghost use Rattle.dp_sessions.specs.Sessions.{EndsAtOnce, IsSession, Refuses, is_
 use crate::exchange::Session;
 use crate::gate::Gate;
 use crate::port::Port;
+use crate::reads::Reads;
 use crate::session_end::SessionEnd;
 use dp_shared::{ClaimFault, Claims, Pass, WorkerSeat};
 use dp_telegram::is_station;
@@ -46,7 +47,8 @@ pub fn serve<T: Wait, R: Read, W: Write, G: Gate>(
     if turns == 0 {
         return SessionEnd::TurnLimit;
     }
-    let address = match first_octet(reader) {
+    let mut reads = Reads::new(reader);
+    let address = match first_octet(&mut reads) {
         Ok(address) => address,
         Err(end) => return end,
     };
@@ -54,17 +56,20 @@ pub fn serve<T: Wait, R: Read, W: Write, G: Gate>(
         Ok(pass) => pass,
         Err(end) => return end,
     };
-    let mut session = Session::open(pass, port.line.number(rt));
-    let end = session.accept(rt, reader, writer, &port.line, gate, turns - 1);
+    let mut session = Session::open(pass);
+    let end = session.accept(rt, &mut reads, writer, &port.line, gate, turns);
     port.line.hand_back(rt, session.close());
     port.claims.release(seat);
     end
 }
 
 /// The first octet of a session, by one read; or how the session ends without one.
-fn first_octet<R: Read>(reader: &mut R) -> Result<u8, SessionEnd>
-    ensures ok { IfOk result (λ octet. Consumes (R.remaining reader.old) (R.remaining reader.new) (octet ∷ [])) }
-    ensures err { IfErr result (λ end. Keeps (R.remaining reader.old) (R.remaining reader.new) × ((turns : ℕ) → EndsAtOnce end turns (R.remaining reader.new))) }
+fn first_octet<R: Read>(reader: &mut Reads<'_, R>) -> Result<u8, SessionEnd>
+    requires { reader.old.made ≡ 0 }
+    ensures same_reader { reader.new.reader.ghost_name ≡ reader.old.reader.ghost_name }
+    ensures made { reader.new.made ≡ 1 }
+    ensures ok { IfOk result (λ octet. Consumes (R.remaining reader.old.reader.now) (R.remaining reader.new.reader.now) (octet ∷ [])) }
+    ensures err { IfErr result (λ end. Keeps (R.remaining reader.old.reader.now) (R.remaining reader.new.reader.now) × ((turns : ℕ) → EndsAtOnce end turns (R.remaining reader.new.reader.now))) }
 {
     let mut first = [0; 1];
     match reader.read(&mut first) {

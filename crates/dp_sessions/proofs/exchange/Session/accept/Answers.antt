@@ -7,4 +7,4 @@ returns-in-Ok-clause-accepted g c =
     (c.run.ensures.exchanged.0, c.run.ensures.exchanged.1, inr (g.W.Write.contents c.write_whole.new.writer, c.in-Ok.ensures.ok, c.run.ensures.exchanged.2))
 
 pub returns-in-Err-clause-accepted : goal.returns-in-Err-clause-accepted
-returns-in-Err-clause-accepted g c = ([], consumes_none (g.R.Read.remaining c.args.reader.now), inl (refl, refl, refl, c.in-Err.ensures.err))
+returns-in-Err-clause-accepted g c = ([], consumes_none (g.R.Read.remaining c.args.reader.now.reader.now), inl (refl, refl, refl, c.in-Err.ensures.err))
