@@ -100,26 +100,48 @@ sweep 'noise' 16 "$work/noise"
 sweep 'two files' 4 /dev/null run "$work/rack" "$work/script"
 sweep 'a check' 4 /dev/null check "$work/rack" "$work/audit"
 
+# ports that a rack is served at; while the program runs each of them is connected to once
+knocked=()
+
+# with_knocks INPUT COMMAND..: runs a command, and connects to the ports meanwhile
+with_knocks() {
+  local knocks= ended
+  if [ ${#knocked[@]} -gt 0 ]; then
+    "$top/tests/serve_client.py" knock "${knocked[@]}" &
+    knocks=$!
+  fi
+  "${@:2}" <"$1" >"$work/out" 2>"$work/err"
+  ended=$?
+  if [ "$knocks" ]; then
+    kill "$knocks" 2>/dev/null
+    wait "$knocks" 2>/dev/null
+  fi
+  return "$ended"
+}
+
 # in_turn NAME INPUT WORD..: makes each allocation of a run fail in turn, and no other. The program ends for want of
 # memory, or as it does without, where it can do without that memory.
 in_turn() {
-  local name=$1 input=$2 number=1 refused=0 wanted
+  local name=$1 input=$2 number=1 refused=0 behind=0 wanted
   shift 2
-  "$program" "$@" <"$input" >"$work/whole" 2>"$work/told"
+  with_knocks "$input" "$program" "$@"
   wanted=$?
+  mv "$work/out" "$work/whole"
+  mv "$work/err" "$work/told"
   while :; do
-    python3 "$top/tests/fail_allocation.py" "$number" "$program" "$@" <"$input" >"$work/out" 2>"$work/err"
+    with_knocks "$input" python3 "$top/tests/fail_allocation.py" "$number" "$program" "$@"
     status=$?
     if [ "$status" = 96 ]; then break; fi
     if is_refused; then
       refused=$((refused + 1))
+      if [ -s "$work/out" ]; then behind=$((behind + 1)); fi
     elif [ "$status" != "$wanted" ] || ! same out whole || ! same err told; then
       break
     fi
     number=$((number + 1))
   done
   if [ "$status" = 96 ] && [ "$refused" -gt 0 ]; then
-    pass "$name: each of $((number - 1)) allocations failed in turn, $refused times out of memory"
+    pass "$name: each of $((number - 1)) allocations failed in turn, $refused times out of memory, $behind behind some output"
   else
     fail "$name: with allocation $number failing alone status $status (wanted 3): $(head -c 200 "$work/err")"
   fi
@@ -149,6 +171,9 @@ else
   in_turn 'noise' "$work/noise"
   in_turn 'two files' /dev/null run "$work/rack" "$work/script"
   in_turn 'a check' /dev/null check "$work/rack" "$work/audit"
+  mapfile -t knocked < <("$top/tests/serve_client.py" ports 2)
+  sed "s/^number = 1$/&\nlisten = ${knocked[0]}\noperator = ${knocked[1]}/" "$work/rack" >"$work/served"
+  in_turn 'a rack that is served' /dev/null serve "$work/served" --sessions 1
 fi
 
 echo "$passed passed, $failed failed"

@@ -5,6 +5,7 @@ usage: serve_client.py ports COUNT
        serve_client.py hold PORT HEX COUNT
        serve_client.py fill PORT HEX
        serve_client.py crowd FIRST LAST ROUNDS PORT..
+       serve_client.py knock PORT..
 
 ports: writes COUNT free ports, one a line.
 hold: sends octets, writes the first COUNT octets of the answer as hex, and then holds the connection.
@@ -12,6 +13,7 @@ fill: sends the first octet of HEX once, and the others again and again, and rea
 for a while it writes 'full' and how often they were sent, and holds the connection.
 crowd: masters FIRST to LAST hold a session each at every port, and only when all of them are accepted each asks ROUNDS
 times for the diagnosis of slave 5, which nobody holds. It writes how many answers were right.
+knock: connects to each port once, as soon as it is listened at, and hangs up.
 
 A client that holds a connection ends after a minute, if it isn't killed before.
 """
@@ -116,6 +118,16 @@ def crowd(masters, rounds, at):
     print(sum(member.right for member in members))
 
 
+def knock(at):
+    for port in at:
+        for _ in range(int(PATIENCE / 0.01)):
+            try:
+                connected(port).close()
+                break
+            except OSError:
+                time.sleep(0.01)
+
+
 def main(words):
     # What the shell has open, other connections among it, isn't held here.
     os.closerange(3, 256)
@@ -129,6 +141,8 @@ def main(words):
     elif word == "crowd":
         first, last, rounds, *at = map(int, rest)
         crowd(range(first, last + 1), rounds, at)
+    elif word == "knock":
+        knock(map(int, rest))
 
 
 if __name__ == "__main__":
