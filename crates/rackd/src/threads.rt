@@ -55,9 +55,7 @@ pub(crate) fn accept_and_serve<H: Net + Threads + Wait + Clock + Sync>(
 {
     let Acceptors { masters, operators } = acceptors;
     let doors = Doors::closed();
-    accept_each(
-        rt, masters, operators, ports, seats, jobs, &doors, sessions,
-    )
+    accept_each(rt, masters, operators, ports, seats, jobs, &doors, sessions)
 }
 
 /// Starts and serves with acceptors of any type.
