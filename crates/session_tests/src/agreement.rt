@@ -1,6 +1,6 @@
 //! Whether receipts agree with the journal of a closed line.
 
-use crate::lines::{closed_desk, fresh_desk};
+use crate::lines::{ClosedDesk, closed_desk, fresh_desk};
 use crate::rows::{ARROW, is_told};
 use dp_audit::Receipt;
 use dp_line::Outcome;
@@ -61,7 +61,11 @@ fn agrees(alloc: Global, closed: &Closed, receipts: &[Receipt], row: &str) -> Re
 fn agreements<R: Wait>(rt: &R, alloc: Global, transcript: &str) -> Result<(), Fail> {
     let mut desk = fresh_desk(rt, alloc, 1000)?;
     desk.play_rows(rt, alloc, PLAYED)?;
-    let (closed, receipts) = closed_desk(alloc, desk)?;
+    let ClosedDesk {
+        closed,
+        receipts,
+        ..
+    } = closed_desk(rt, alloc, desk)?;
     let mut told = String::new(alloc);
     for row in transcript.lines() {
         if let Some((row, _)) = row.split_once(ARROW) {
@@ -94,6 +98,7 @@ fn agrees_refuses(rt: HostRuntime) -> Result<(), Fail> {
 1: 1 -> false
 1: 3 -> false
 1: 3 1 -> false
+1: 2 -> false
 127: -> false
 2: -> false
 2: ~2 -> false

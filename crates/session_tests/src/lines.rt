@@ -41,29 +41,17 @@ pub(crate) fn fresh_desk<R: Wait>(rt: &R, alloc: Global, places: u16) -> Result<
     })
 }
 
-/// These passes, in a list.
-pub(crate) fn listed(
-    alloc: Global,
-    first: Pass,
-    second: Pass,
-    third: Pass,
-) -> Result<Vec<Pass>, AllocError>
-    ensures { IfOk result (λ v. v.items ≡ first ∷ second ∷ third ∷ []) }
+/// This pass, in a list.
+fn listed(alloc: Global, pass: Pass) -> Result<Vec<Pass>, AllocError>
+    ensures { IfOk result (λ v. v.items ≡ pass ∷ []) }
 {
-    let mut passes = Vec::with_capacity(alloc, 3)?;
-    passes.push_reserved(first);
-    passes.push_reserved(second);
-    passes.push_reserved(third);
+    let mut passes = Vec::with_capacity(alloc, 1)?;
+    passes.push_reserved(pass);
     Ok(passes)
 }
 
 /// How many receipts with a place these passes have.
-pub(crate) fn made_by(
-    alloc: Global,
-    first: &Pass,
-    second: &Pass,
-    third: &Pass,
-) -> Result<String, AllocError> {
+fn made_by(alloc: Global, first: &Pass, second: &Pass, third: &Pass) -> Result<String, AllocError> {
     let (one, two, three) = (first.made(), second.made(), third.made());
     format!(in alloc; "made {one} {two} {three}")
 }
@@ -160,29 +148,55 @@ fn receipt_of(alloc: Global, receipt: &Receipt) -> Result<String, Fail> {
     Ok(format!(in alloc; "{told}")?)
 }
 
-/// The line of a desk, closed with its passes, and their receipts.
-pub(crate) fn closed_desk(alloc: Global, desk: Desk) -> Result<(Closed, Vec<Receipt>), Fail> {
+/// A line that is closed, its receipts, and how many entries it had before the masters' passes were handed back and
+/// behind that.
+#[derive(Drop)]
+pub(crate) struct ClosedDesk {
+    pub(crate) closed: Closed,
+    pub(crate) receipts: Vec<Receipt>,
+    before: u32,
+    after: u32,
+}
+
+/// Hands the masters' passes of a desk back, and closes its line with the operator's.
+pub(crate) fn closed_desk<R: Wait>(rt: &R, alloc: Global, desk: Desk) -> Result<ClosedDesk, Fail> {
     let Desk {
         line,
         first,
         second,
-        operator,
+        mut operator,
         receipts,
     } = desk;
-    match line.close(listed(alloc, first, second, operator)?) {
-        Ok(closed) => Ok((closed, receipts)),
+    let before = line.owned(rt, &mut operator, 1).count;
+    line.hand_back(rt, first);
+    line.hand_back(rt, second);
+    let after = line.owned(rt, &mut operator, 1).count;
+    match line.close(listed(alloc, operator)?) {
+        Ok(closed) => Ok(ClosedDesk {
+            closed,
+            receipts,
+            before,
+            after,
+        }),
         Err(_) => Err(Fail::new("a pass is out")),
     }
 }
 
 /// The transcript of a fresh line of so many places: events and looks, how many receipts with a place masters 1
-/// and 2 and the operator have, and the journal.
+/// and 2 and the operator have, how many entries there are before masters' passes are handed back and behind that,
+/// and the journal.
 fn lines_tell<R: Wait>(rt: &R, alloc: Global, places: u16, transcript: &str) -> Result<(), Fail> {
     let mut desk = fresh_desk(rt, alloc, places)?;
     let mut told = desk.play_rows(rt, alloc, transcript)?;
     let made = made_by(alloc, &desk.first, &desk.second, &desk.operator)?;
     told.push_str(&format!(in alloc; "{made}\n")?)?;
-    let (closed, _) = closed_desk(alloc, desk)?;
+    let ClosedDesk {
+        closed,
+        before,
+        after,
+        ..
+    } = closed_desk(rt, alloc, desk)?;
+    told.push_str(&format!(in alloc; "handed back: {before}, then {after} entries\n")?)?;
     told.push_str(&audit_of(alloc, closed.book())?)?;
     is_told(told, transcript)
 }
@@ -203,6 +217,7 @@ show 9 -> after 3: refused NoStation
 owned 9 -> after 3: owned
 in 9 - -> - in 9 - | none | refused NoStation
 made 1 0 2
+handed back: 3, then 3 entries
 rack-audit 1 line 1
 1 tick 1 | none | released
 2 in 5 aa55 | WaitPrm none | done
@@ -222,6 +237,7 @@ req 1 6805056885816d3c3eed16 -> 1 req 1 6805056885816d3c3eed16 | WaitPrm none | 
 req 1 6805056885816d3c3eed16 -> - req 1 6805056885816d3c3eed16 | none | silence Halted
 tick 1 -> - tick 1 | none | refused Halted
 made 1 0 0
+handed back: 2, then 2 entries
 rack-audit 1 line 1
 1 req 1 6805056885816d3c3eed16 | WaitPrm none | reply 680b0b688185083e3c020500ff80a1af16 Done
 2 halt | none | released

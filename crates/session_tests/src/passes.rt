@@ -123,26 +123,28 @@ fn close_succeeds(rt: HostRuntime) -> Result<(), Fail> {
     opens(&rt, rt.alloc(), 0, "127 -> pass 127\nrack-audit 1 line 1\n")
 }
 
-/// What a line of two passes tells that is closed with one of them, and then with both: how many came back, and
-/// its journal.
+/// What a line of two passes tells that is closed with one of them, and then with both: the fault, how many
+/// came back, and its journal.
 fn closed_late<R: Wait>(rt: &R, alloc: Global) -> Result<String, Fail> {
     let Desk { line, mut passes } = fresh_desk(rt, alloc, 2)?;
     let Some(last) = passes.pop() else {
         return Err(Fail::new("no pass"));
     };
-    let Err(CloseFault { line, mut passes }) = close(line, passes) else {
+    let Err(fault) = close(line, passes) else {
         return Err(Fail::new("closed with a pass out"));
     };
+    let code = fault.code();
+    let CloseFault::PassesOut { line, mut passes } = fault;
     let back = passes.len();
     passes.push(last)?;
     let journal = closed_with(alloc, line, passes)?;
-    Ok(format!(in alloc; "{back} back\n{journal}")?)
+    Ok(format!(in alloc; "fault {code}, {back} back\n{journal}")?)
 }
 
 #[test]
 fn passes_out(rt: HostRuntime) -> Result<(), Fail> {
     is_told(
         closed_late(&rt, rt.alloc())?,
-        "1 back\nrack-audit 1 line 1\n",
+        "fault 1, 1 back\nrack-audit 1 line 1\n",
     )
 }

@@ -1,6 +1,6 @@
 //! A port, and the seats of its workers.
 
-ghost use Rattle.std.specs.Prelude.{◌≡◌, ◌≤◌, IfOk, None};
+ghost use Rattle.std.specs.Prelude.{◌≡◌, ◌≤◌, [], ◌∷◌, true, IfOk, None};
 ghost use Rattle.dp_line.specs.World.{description_of, opening_fault};
 ghost use Rattle.dp_shared.specs.Passes.{line_of};
 ghost use Rattle.dp_sessions.specs.Pools.{IsSeatAt};
@@ -76,23 +76,56 @@ pub(crate) fn line_spec(
     let mut masters = ArrayVec::new();
     masters.push(1);
     masters.push(2);
-    let mut cfg = ArrayVec::new();
-    cfg.push(0x21);
-    cfg.push(0x11);
     let mut slaves = Vec::new(alloc);
-    slaves.push(SlaveSpec {
-        address: 5,
-        ident: 0x80A1,
-        cfg,
-        sync: true,
-        freeze: true,
-        user_max: 237,
-        device,
-    })?;
+    slaves.push(slave_at(5, device))?;
     Ok(LineSpec {
         number,
         capacity,
         masters,
         slaves,
     })
+}
+
+/// A line of 2,000 places with masters 0 to 15, and slaves 20 to 83 of two octets of inputs and of outputs.
+pub(crate) fn wide_line(alloc: Global) -> Result<LineSpec, Fail> {
+    let mut masters = ArrayVec::new();
+    for master in 0..16u8 {
+        masters.try_extend_from_slice(&[master])?;
+    }
+    let mut slaves = Vec::new(alloc);
+    for address in 20..84 {
+        slaves.push(slave_at(address, Device::Still))?;
+    }
+    Ok(LineSpec {
+        number: 1,
+        capacity: 2000,
+        masters,
+        slaves,
+    })
+}
+
+/// A slave of two octets of inputs and of outputs.
+fn slave_at(address: u8, device: Device) -> SlaveSpec
+    ensures { result ≡ record {
+      address = address;
+      ident = 0x80A1;
+      cfg = record { items = 0x21 ∷ 0x11 ∷ [] };
+      sync = true;
+      freeze = true;
+      user_max = 237;
+      device = device;
+    } }
+{
+    let mut cfg = ArrayVec::new();
+    cfg.push(0x21);
+    cfg.push(0x11);
+    SlaveSpec {
+        address,
+        ident: 0x80A1,
+        cfg,
+        sync: true,
+        freeze: true,
+        user_max: 237,
+        device,
+    }
 }

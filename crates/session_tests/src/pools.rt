@@ -13,10 +13,11 @@ use dp_telegram::Octets;
 use std::alloc::{AllocError, Global};
 use std::io::{ErrorKind, Read, Write};
 use std::net::{Net, Shutdown, TcpListener, TcpStream};
-use std::sync::Wait;
 use std::sync::atomic::AtomicU64;
 use std::sync::atomic::Ordering::SeqCst;
+use std::sync::{Mutex, Wait};
 use std::test::Fail;
+use std::thread;
 use std::thread::{Threads, yield_now};
 
 /// Master 1, and its request for the diagnosis of slave 5.
@@ -271,8 +272,35 @@ fn jobs_of_no_port_are_dropped(rt: HostRuntime) -> Result<(), Fail> {
     )
 }
 
-/// What comes back over TCP, as hex digits, to a client that sends these octets and ends, where a pool serves
-/// the connection at line 1; how many octets come behind as many as are expected; and what the pool tells.
+/// What a client heard that spoke while it was served.
+#[derive(Clone, Copy, Default)]
+struct Heard {
+    /// What came behind the address, before anything else was sent.
+    acceptance: [u8; 1],
+    /// What came behind the first request, before the second one was sent.
+    first: [u8; 17],
+    /// What came behind the second.
+    second: [u8; 17],
+    /// How many octets came behind these, after the client had ended.
+    behind: usize,
+}
+
+/// Sends the address of a master, and then a request twice, each once what is answered has come; then it ends.
+fn speak(client: &mut TcpStream, address: u8, request: &[u8]) -> std::io::Result<Heard> {
+    let mut heard = Heard::default();
+    client.write_all(&[address])?;
+    client.read_exact(&mut heard.acceptance)?;
+    client.write_all(request)?;
+    client.read_exact(&mut heard.first)?;
+    client.write_all(request)?;
+    client.read_exact(&mut heard.second)?;
+    client.shutdown(Shutdown::Write)?;
+    heard.behind = client.read(&mut [0; 1])?;
+    Ok(heard)
+}
+
+/// What a client over TCP tells that speaks and listens in a thread of its own, while a pool serves its connection at
+/// line 1; and what the pool tells.
 fn served_over_tcp<H: Net<Listener = TcpListener, Stream = TcpStream> + Threads + Wait + Sync>(
     rt: &H,
     alloc: Global,
@@ -280,27 +308,50 @@ fn served_over_tcp<H: Net<Listener = TcpListener, Stream = TcpStream> + Threads 
 ) -> Result<String, Fail> {
     let listener = TcpListener::bind(rt, "127.0.0.1:0")?;
     let mut client = TcpStream::connect(rt, listener.local_addr()?)?;
-    client.write_all(octets_of(asks)?.as_slice())?;
-    client.shutdown(Shutdown::Write)?;
     let (stream, _) = listener.accept()?;
+    let asks = octets_of(asks)?;
+    let asks = asks.as_slice();
+    let heard = Mutex::new(None);
+    let heard = &heard;
+    let pool = thread::scope(thread::scope_env(), rt, |scope| -> Result<String, Fail> {
+        let speaker = move || {
+            *heard.lock(rt) = speak(&mut client, 1, asks).ok();
+        };
+        if scope.spawn(speaker).is_err() {
+            return Err(Fail::new("no thread"));
+        }
+        serve_one(rt, alloc, stream)
+    })?;
+    let Some(heard) = *heard.lock(rt) else {
+        return Err(Fail::new("a session that broke off"));
+    };
+    let acceptance = hex_of(alloc, &heard.acceptance)?;
+    let (first, second) = (hex_of(alloc, &heard.first)?, hex_of(alloc, &heard.second)?);
+    Ok(format!(in alloc;
+        "{pool}, {acceptance}, {first}, {second}, {} behind",
+        heard.behind
+    )?)
+}
+
+/// What a pool tells that serves this connection at line 1.
+fn serve_one<H: Threads + Wait + Sync>(
+    rt: &H,
+    alloc: Global,
+    stream: TcpStream,
+) -> Result<String, Fail> {
     let mut jobs = Vec::new(alloc);
     jobs.push(Job {
         port: 0,
         reader: stream.try_clone()?,
         writer: stream,
     })?;
-    let pool = served(rt, alloc, jobs, &OpenGate)?;
-    let mut answer = [0; 18];
-    client.read_exact(&mut answer)?;
-    let answered = hex_of(alloc, &answer)?;
-    let behind = client.read(&mut answer)?;
-    Ok(format!(in alloc; "{pool}, {answered}, {behind} behind")?)
+    served(rt, alloc, jobs, &OpenGate)
 }
 
 #[test]
 fn tcp_session(rt: HostRuntime) -> Result<(), Fail> {
     is_told(
-        served_over_tcp(&rt, rt.alloc(), ASKS_1)?,
-        "1 served, free true, e5680b0b688185083e3c020500ff80a1af16, 0 behind",
+        served_over_tcp(&rt, rt.alloc(), "6805056885816d3c3eed16")?,
+        "1 served, free true, e5, 680b0b688185083e3c020500ff80a1af16, 680b0b688185083e3c020500ff80a1af16, 0 behind",
     )
 }

@@ -51,7 +51,7 @@ pub(crate) fn audit_of(alloc: Global, book: &Book) -> Result<String, Fail> {
 #[tactic(auto, using(std::proofs::lemmas::List::Elements::recursion_from_All))]
 pub(crate) fn close(line: Line, passes: Vec<Pass>) -> Result<Closed, CloseFault>
     requires { All (λ pass. pass.table ≡ table_of line) passes.items }
-    ensures { IfErr result (λ fault. (fault.line ≡ line) × (fault.passes ≡ passes)) }
+    ensures { IfErr result (λ fault. fault ≡ CloseFault.PassesOut line passes) }
 {
     line.close(passes)
 }

@@ -245,6 +245,7 @@ rack-audit 1 line 1
     )
 }
 
+/// Each read counts, whether it gives the address, one octet or two.
 #[test]
 fn turns(rt: HostRuntime) -> Result<(), Fail> {
     serves(
@@ -253,7 +254,14 @@ fn turns(rt: HostRuntime) -> Result<(), Fail> {
         "\
 01 turns=1 -> TurnLimit 6 e5
 01 -> EndOfInput 1 e5
+02100502495016 turns=3 by=2 -> TurnLimit 6 left 2 e5
+02100502495016 turns=4 by=2 -> TurnLimit 6 e5100205000716
+02100502495016 turns=5 by=2 -> EndOfInput 1 e5100205000716
+gate 1 2
+gate 1 2
 rack-audit 1 line 1
+1 req 2 100502495016 | WaitPrm none | reply 100205000716 Status
+2 req 2 100502495016 | WaitPrm none | reply 100205000716 Status
 ",
     )
 }

@@ -1,181 +1,286 @@
-//! A line whose passes are in threads of their own.
+//! Lines whose passes are in threads of their own.
 
-ghost use Rattle.std.specs.Prelude.{◌≡◌, ◌≢◌, IfOk};
+ghost use Rattle.std.specs.Prelude.{◌≡◌, ◌≢◌, All, IfOk};
 ghost use Rattle.dp_shared.specs.Passes.{table_of};
 
-use crate::lines::{listed, made_by};
-use crate::place::line_spec;
-use crate::rows::{is_told, octets_of};
+use crate::place::{line_spec, wide_line};
+use crate::rows::{close, is_told};
 use dp_audit::Receipt;
-use dp_line::{Device, Op};
-use dp_shared::{Line, Pass};
+use dp_line::{Device, Op, Outcome};
+use dp_shared::{Closed, Line, Pass};
 use dp_telegram::Octets;
 use std::alloc::Global;
-use std::sync::Wait;
+use std::sync::{Barrier, Mutex, Wait};
 use std::test::Fail;
-use std::thread::{Threads, join};
+use std::thread;
+use std::thread::Threads;
 
-/// What a thread does with the pass that it is handed. The line is a type parameter where threads start.
-trait Sends<T> {
+/// The first FC of a master that asks for a diagnosis, and one of a later request.
+const FIRST: u8 = 0x6D;
+
+const LATER: u8 = 0x4D;
+
+/// What a thread does with the sender that it is handed. The line is a type parameter where threads start.
+trait Sends<T, S> {
     ghost ours: { Self → T → Type 0 };
 
-    fn send<R: Wait>(&self, rt: &R, pass: T) -> T
-        requires { Self.ours self.now pass }
-        ensures { Self.ours self.now result };
+    fn send<R: Wait>(&self, rt: &R, sender: T) -> S
+        requires { Self.ours self.now sender };
 }
 
-/// A pass, what a master asks by it, and its receipts.
+/// A pass, what a master asks by it, how often it does, and room for its receipts.
 #[derive(Drop)]
 struct Sender {
     pass: Pass,
     request: Octets,
+    times: u32,
     receipts: Vec<Receipt>,
 }
 
-impl Sends<Sender> for Line {
+/// What came of a sender, whose pass is handed back.
+#[derive(Drop)]
+struct Sent {
+    address: u8,
+    made: u32,
+    receipts: Vec<Receipt>,
+}
+
+impl Sends<Sender, Sent> for Line {
     ghost ours = { λ line sender. sender.pass.table ≡ table_of line };
 
-    fn send<R: Wait>(&self, rt: &R, pass: Sender) -> Sender {
+    fn send<R: Wait>(&self, rt: &R, sender: Sender) -> Sent {
         let Sender {
             mut pass,
             request,
+            times,
             mut receipts,
-        } = pass;
-        if pass.address() == 127 {
+        } = sender;
+        let address = pass.address();
+        if address == 127 {
             let _ = receipts.push(self.operate(rt, &mut pass, Op::Tick(1)));
         } else {
-            send_ten(rt, self, &mut pass, &request, &mut receipts);
+            ask(rt, self, &mut pass, &request, times, &mut receipts);
         }
-        Sender {
-            pass,
-            request,
+        let made = pass.made();
+        self.hand_back(rt, pass);
+        Sent {
+            address,
+            made,
             receipts,
         }
     }
 }
 
-/// Sends a request ten times.
-fn send_ten<R: Wait>(
+/// Sends a request so many times.
+fn ask<R: Wait>(
     rt: &R,
     line: &Line,
     pass: &mut Pass,
     request: &Octets,
+    times: u32,
     receipts: &mut Vec<Receipt>,
 )
     requires ours { pass.old.table ≡ table_of line.now }
     requires master { pass.old.view.address ≢ 127 }
     ensures ours { pass.new.table ≡ pass.old.table }
-    ensures address { pass.new.view.address ≡ pass.old.view.address }
 {
-    for _ in 0..10 {
+    for _ in 0..times {
         let _ = receipts.push(line.exchange(rt, pass, request));
     }
 }
 
-/// Two threads, each with what it is handed.
-fn both_of<L: Sends<T> + Sync, T: Send + Drop, R: Threads + Wait + Sync>(
+/// Lets each sender send in a thread of its own, once all threads are there; what came of each is put into the
+/// list. False where a thread wasn't started.
+fn send_all<L: Sends<T, S> + Sync, T: Send + Drop, S: Send + Drop, R: Threads + Wait + Sync>(
     rt: &R,
     line: &L,
-    first: T,
-    second: T,
-) -> (T, T)
-    requires { L.ours line.now first × L.ours line.now second }
-    ensures { L.ours line.now result.0 × L.ours line.now result.1 }
+    senders: Vec<T>,
+    sent: &Mutex<Vec<S>>,
+) -> bool
+    requires { All (λ sender. L.ours line.now sender) senders.items }
 {
-    join(
+    let barrier = Barrier::new(senders.len());
+    let barrier = &barrier;
+    thread::scope(
+        thread::scope_env(),
         rt,
-        move || -> T
-            requires { L.ours line.now first }
-            ensures { L.ours line.entry.now result }
-        { line.send(rt, first) },
-        move || -> T
-            requires { L.ours line.now second }
-            ensures { L.ours line.entry.now result }
-        { line.send(rt, second) },
+        |scope| -> bool
+            requires { All (λ sender. L.ours line.now sender) senders.items }
+        {
+            for sender in senders {
+                let worker = move ||
+                    requires { L.ours line.now sender }
+                {
+                    barrier.wait(rt);
+                    let done = line.send(rt, sender);
+                    let _ = sent.lock(rt).push(done);
+                };
+                if scope.spawn(worker).is_err() {
+                    return false;
+                }
+            }
+            true
+        },
     )
 }
 
-/// Three threads, each with what it is handed.
-fn three_of<L: Sends<T> + Sync, T: Send + Drop, R: Threads + Wait + Sync>(
-    rt: &R,
-    line: &L,
-    first: T,
-    second: T,
-    third: T,
-) -> ((T, T), T)
-    requires { L.ours line.now first × L.ours line.now second × L.ours line.now third }
-    ensures { L.ours line.now result.0.0 × L.ours line.now result.0.1 × L.ours line.now result.1 }
-{
-    join(
-        rt,
-        move || -> (T, T)
-            requires { L.ours line.now first × L.ours line.now second }
-            ensures { L.ours line.entry.now result.0 × L.ours line.entry.now result.1 }
-        { both_of(rt, line, first, second) },
-        move || -> T
-            requires { L.ours line.now third }
-            ensures { L.ours line.entry.now result }
-        { line.send(rt, third) },
-    )
-}
-
-/// Three threads, each with a pass that was opened before.
-fn in_threads<R: Threads + Wait + Sync>(
+/// Lets each sender send at this line in a thread of its own.
+fn send_in_threads<R: Threads + Wait + Sync>(
     rt: &R,
     line: &Line,
-    first: Sender,
-    second: Sender,
-    third: Sender,
-) -> ((Sender, Sender), Sender)
-    requires { (first.pass.table ≡ table_of line.now) × (second.pass.table ≡ table_of line.now) × (third.pass.table ≡ table_of line.now) }
-    ensures { (result.0.0.pass.table ≡ table_of line.now) × (result.0.1.pass.table ≡ table_of line.now) × (result.1.pass.table ≡ table_of line.now) }
+    senders: Vec<Sender>,
+    sent: &Mutex<Vec<Sent>>,
+) -> bool
+    requires { All (λ sender. sender.pass.table ≡ table_of line.now) senders.items }
 {
-    three_of(rt, line, first, second, third)
+    send_all(rt, line, senders, sent)
 }
 
-/// A pass of this address with its request, and room for its receipts.
-fn opened_sender<R: Wait>(
+/// The request of a master for the diagnosis of a slave, by this FC.
+fn diagnosis_of(slave: u8, master: u8, fc: u8) -> Result<Octets, Fail> {
+    let (da, sa) = (slave | 0x80, master | 0x80);
+    let mut fcs: u8 = 0;
+    for octet in &[da, sa, fc, 0x3C, 0x3E] {
+        fcs = fcs.wrapping_add(*octet);
+    }
+    let mut octets = Octets::new();
+    octets.try_extend_from_slice(&[0x68, 5, 5, 0x68, da, sa, fc, 0x3C, 0x3E, fcs, 0x16])?;
+    Ok(octets)
+}
+
+/// A pass of this address, which sends a request so many times.
+fn sender_of<R: Wait>(
     rt: &R,
     alloc: Global,
     line: &Line,
     address: u8,
-    request: &str,
+    request: Octets,
+    times: u32,
 ) -> Result<Sender, Fail>
     ensures { IfOk result (λ sender. sender.pass.table ≡ table_of line.now) }
 {
     Ok(Sender {
         pass: line.open_pass(rt, address)?,
-        request: octets_of(request)?,
-        receipts: Vec::with_capacity(alloc, 10)?,
+        request,
+        times,
+        receipts: Vec::with_capacity(alloc, times as usize)?,
     })
 }
 
-/// What masters 1 and 2, who each ask ten times for the diagnosis of slave 5, and an operator of one tick tell:
-/// how many receipts with a place each has, how many entries there are, whether the receipts of each agree with
-/// them, and whether those of master 2 do as master 1's.
-fn sent_in_threads<R: Threads + Wait + Sync>(rt: &R, alloc: Global) -> Result<String, Fail> {
-    let line = Line::open(alloc, &line_spec(alloc, 1, 1000, Device::Still)?)?;
-    let first = opened_sender(rt, alloc, &line, 1, "6805056885816d3c3eed16")?;
-    let second = opened_sender(rt, alloc, &line, 2, "6805056885826d3c3eee16")?;
-    let operator = opened_sender(rt, alloc, &line, 127, "-")?;
-    let ((first, second), operator) = in_threads(rt, &line, first, second, operator);
-    let made = made_by(alloc, &first.pass, &second.pass, &operator.pass)?;
-    let passes = listed(alloc, first.pass, second.pass, operator.pass)?;
-    let Ok(closed) = line.close(passes) else {
-        return Err(Fail::new("a pass is out"));
-    };
-    let count = closed.book().count();
-    let one = closed.agrees(1, &first.receipts);
-    let two = closed.agrees(2, &second.receipts);
-    let three = closed.agrees(127, &operator.receipts);
-    let other = closed.agrees(1, &second.receipts);
-    Ok(format!(in alloc; "{made}, {count} entries, {one} {two} {three} {other}")?)
+/// Masters 1 and 2, which ask slave 5 so many times each.
+fn two_senders<R: Wait>(rt: &R, alloc: Global, line: &Line, times: u32) -> Result<Vec<Sender>, Fail>
+    ensures { IfOk result (λ v. All (λ sender. sender.pass.table ≡ table_of line.now) v.items) }
+{
+    let mut senders = Vec::new(alloc);
+    for master in 1..3 {
+        let request = diagnosis_of(5, master, FIRST)?;
+        senders.push(sender_of(rt, alloc, line, master, request, times)?)?;
+    }
+    Ok(senders)
 }
 
+/// Masters 0 to 15, each of which asks a slave of its own a hundred times.
+fn sixteen_senders<R: Wait>(rt: &R, alloc: Global, line: &Line) -> Result<Vec<Sender>, Fail>
+    ensures { IfOk result (λ v. All (λ sender. sender.pass.table ≡ table_of line.now) v.items) }
+{
+    let mut senders = Vec::new(alloc);
+    for master in 0..16 {
+        let request = diagnosis_of(20 + 4 * master, master, LATER)?;
+        senders.push(sender_of(rt, alloc, line, master, request, 100)?)?;
+    }
+    Ok(senders)
+}
+
+/// How many of these receipts have a reply.
+fn replies_in(receipts: &[Receipt]) -> u32 {
+    let mut count: u32 = 0;
+    for receipt in receipts {
+        if let Outcome::Reply { .. } = &receipt.outcome {
+            count = count.saturating_add(1);
+        }
+    }
+    count
+}
+
+/// How many entries the journal of a closed line has, how many receipts with a place the senders have in all, how
+/// many with a reply, and how many senders have receipts that agree with the journal.
+fn told_of(alloc: Global, closed: &Closed, sent: &[Sent]) -> Result<String, Fail> {
+    let (mut made, mut replies, mut agreeing): (u32, u32, u32) = (0, 0, 0);
+    for one in sent {
+        made = made.saturating_add(one.made);
+        replies = replies.saturating_add(replies_in(&one.receipts));
+        if closed.agrees(one.address, &one.receipts) {
+            agreeing = agreeing.saturating_add(1);
+        }
+    }
+    let count = closed.book().count();
+    Ok(format!(in alloc; "{count} entries, made {made}, {replies} replies, {agreeing} agree")?)
+}
+
+/// What these senders tell once their threads have ended: all passes are handed back, and the line is closed with none.
+fn senders_tell<R: Threads + Wait + Sync>(
+    rt: &R,
+    alloc: Global,
+    line: Line,
+    senders: Vec<Sender>,
+) -> Result<String, Fail>
+    requires { All (λ sender. sender.pass.table ≡ table_of line) senders.items }
+{
+    let sent = Mutex::new(Vec::new(alloc));
+    if !send_in_threads(rt, &line, senders, &sent) {
+        return Err(Fail::new("no thread"));
+    }
+    let sent = sent.into_inner();
+    match close(line, Vec::new(alloc)) {
+        Ok(closed) => told_of(alloc, &closed, &sent),
+        Err(_) => Err(Fail::new("a pass is out")),
+    }
+}
+
+/// What masters 1 and 2 tell that each ask slave 5 10,000 times, and the operator of one tick.
+fn two_and_a_tick_tell<R: Threads + Wait + Sync>(rt: &R, alloc: Global) -> Result<String, Fail> {
+    let line = Line::open(alloc, &line_spec(alloc, 1, 20_002, Device::Still)?)?;
+    let mut senders = two_senders(rt, alloc, &line, 10_000)?;
+    senders.push(sender_of(rt, alloc, &line, 127, Octets::new(), 1)?)?;
+    senders_tell(rt, alloc, line, senders)
+}
+
+/// Each master asks so often that some take of the lock is lost, and is tried again.
 #[test]
 fn two_masters(rt: HostRuntime) -> Result<(), Fail> {
     is_told(
-        sent_in_threads(&rt, rt.alloc())?,
-        "made 10 10 1, 21 entries, true true true false",
+        two_and_a_tick_tell(&rt, rt.alloc())?,
+        "20001 entries, made 20001, 20000 replies, 3 agree",
+    )
+}
+
+/// What masters 1 and 2 tell that each ask slave 5 ten times at a line of two places.
+fn two_at_the_end_tell<R: Threads + Wait + Sync>(rt: &R, alloc: Global) -> Result<String, Fail> {
+    let line = Line::open(alloc, &line_spec(alloc, 1, 2, Device::Still)?)?;
+    let senders = two_senders(rt, alloc, &line, 10)?;
+    senders_tell(rt, alloc, line, senders)
+}
+
+/// One request is recorded, whichever master's it is, and then the halt.
+#[test]
+fn full_race(rt: HostRuntime) -> Result<(), Fail> {
+    is_told(
+        two_at_the_end_tell(&rt, rt.alloc())?,
+        "2 entries, made 1, 1 replies, 2 agree",
+    )
+}
+
+/// What masters 0 to 15 tell that ask at one time.
+fn sixteen_tell<R: Threads + Wait + Sync>(rt: &R, alloc: Global) -> Result<String, Fail> {
+    let line = Line::open(alloc, &wide_line(alloc)?)?;
+    let senders = sixteen_senders(rt, alloc, &line)?;
+    senders_tell(rt, alloc, line, senders)
+}
+
+#[test]
+fn sixteen(rt: HostRuntime) -> Result<(), Fail> {
+    is_told(
+        sixteen_tell(&rt, rt.alloc())?,
+        "1600 entries, made 1600, 1600 replies, 16 agree",
     )
 }
