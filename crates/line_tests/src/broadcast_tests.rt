@@ -1,9 +1,10 @@
-//! A Global_Control to all stations. Both slaves have two octets of inputs and two of outputs.
+//! A Global_Control to all stations. All slaves have two octets of inputs and two of outputs.
 //!
 //! In these rows `68070768ff81463a3e20005e16` is Sync of master 1, the telegram that ends in `5f16` the
 //! same of master 2, and the one that ends in `6016` that of master 1 to the slaves of group 2;
-//! `8802050b80a101` are parameters that lock, `a000000b80a101` such that lock with Sync_Req and without a
-//! watchdog, and `40000000000000` such that unlock.
+//! `8802050b80a101` are parameters that lock, with a watchdog of 100 ms, `8002050b80a101` the same without a
+//! watchdog, `a000000b80a101` such that lock with Sync_Req and without a watchdog, and `40000000000000` such that
+//! unlock.
 
 use crate::rows::plays;
 use std::test::Fail;
@@ -39,6 +40,27 @@ req 1 68070768ff81463a3e20005e16 => 6 | none | spread 5:NotActive
 walk => 1
 req 2 68070768ff82463a3e20005f16 => 7 | none | spread
 walk => 0
+",
+    )
+}
+
+/// Three of four watchdogs run out, so the broadcast visits the slave that is left.
+#[test]
+fn one_of_four_locks_stays(rt: HostRuntime) -> Result<(), Fail> {
+    plays(
+        rt.alloc(),
+        "1000 2111 5 6 7 8",
+        "\
+ask 1 5 6d 61 8802050b80a101 => 1 | WaitPrm none | reply e5 Done
+ask 1 6 6d 61 8802050b80a101 => 2 | WaitPrm none | reply e5 Done
+ask 1 7 6d 61 8002050b80a101 => 3 | WaitPrm none | reply e5 Done
+ask 1 8 6d 61 8802050b80a101 => 4 | WaitPrm none | reply e5 Done
+owned 1 => owned 5 6 7 8
+tick 10 => 5 | none | released 5 6 8
+owned 1 => owned 7
+walk => 0
+req 1 68070768ff81463a3e20005e16 => 6 | none | spread 7:NotActive
+walk => 1
 ",
     )
 }

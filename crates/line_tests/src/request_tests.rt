@@ -159,6 +159,49 @@ ask 2 5 46 58 2000 => 7 | DataExch 1 | silence NotHolder
     )
 }
 
+/// Slave 5 of a line that answers these rows is in all the slave of one that answers the other rows.
+fn leave_one_slave(alloc: Global, rows: &str, other_rows: &str) -> Result<(), Fail> {
+    let mut state = opened(alloc, "1000 2111 5")?;
+    play(alloc, &mut state, rows)?;
+    let mut other = opened(alloc, "1000 2111 5")?;
+    play(alloc, &mut other, other_rows)?;
+    if state.view(5).ok_or("a slave")? == other.view(5).ok_or("a slave")? {
+        Ok(())
+    } else {
+        Err("another slave")?
+    }
+}
+
+/// The holder of a slave gets the same reply, and the slave is the same, with the requests of another master
+/// and without them.
+#[test]
+fn two_worlds(rt: HostRuntime) -> Result<(), Fail> {
+    leave_one_slave(
+        rt.alloc(),
+        "\
+in 5 aa55 => 1 | WaitPrm none | done
+req 1 6805056885816d3c3eed16 => 2 | WaitPrm none | reply 680b0b688185083e3c020500ff80a1af16 Done
+req 1 680c0c6885815d3d3e8802050b80a1019a16 => 3 | WaitPrm none | reply e5 Done
+req 1 6807076885817d3e3e21113116 => 4 | WaitCfg 1 | reply e5 Done
+req 1 6805056805015d1234a916 => 5 | DataExch 1 | reply 68050568010508aa550d16 Done
+tick 1 => 6 | none | released
+show 5 => show 5 DataExch 1 in aa55 out 1234 wd 9
+",
+        "\
+in 5 aa55 => 1 | WaitPrm none | done
+req 1 6805056885816d3c3eed16 => 2 | WaitPrm none | reply 680b0b688185083e3c020500ff80a1af16 Done
+req 1 680c0c6885815d3d3e8802050b80a1019a16 => 3 | WaitPrm none | reply e5 Done
+req 1 6807076885817d3e3e21113116 => 4 | WaitCfg 1 | reply e5 Done
+req 2 680c0c6885826d3d3e8802050b80a101ab16 => 5 | DataExch 1 | reply 100205030a16 NotHolder
+req 2 680c0c6885827d3d3e8802050b80a101bb16 => 6 | DataExch 1 | reply 100205030a16 Repeat
+req 2 6805056885825d3c3ede16 => 7 | DataExch 1 | reply 680b0b688285083e3c000c000180a1b716 Done
+req 1 6805056805015d1234a916 => 8 | DataExch 1 | reply 68050568010508aa550d16 Done
+tick 1 => 9 | none | released
+show 5 => show 5 DataExch 1 in aa55 out 1234 wd 9
+",
+    )
+}
+
 /// The events of a text, one in each line.
 fn events_of(alloc: Global, text: &str) -> Result<Vec<Event>, Fail> {
     let mut events = Vec::new(alloc);
