@@ -9,6 +9,8 @@ mod commands;
 #[cfg(test)]
 mod lines;
 #[cfg(test)]
+mod noise_tests;
+#[cfg(test)]
 mod operator_tests;
 #[cfg(test)]
 mod request_tests;

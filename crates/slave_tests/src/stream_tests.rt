@@ -1,20 +1,14 @@
 //! Streams of octets into frames.
 
-ghost use Rattle.std.specs.Prelude.{◌≡◌, ◌<◌, length, OnOk, OnSome};
+ghost use Rattle.std.specs.Prelude.{◌≡◌, OnSome};
 ghost use Rattle.dp_telegram.specs.Stream.{piece_of, left_of};
 
 use crate::rows::{Answers, play};
 use crate::telegram_tests::frame_text;
 use crate::words::{Words, hex_text, repeated, text};
 use dp_telegram::{Cut, Cutter, Piece};
-use std::alloc::{AllocError, Global};
+use std::alloc::Global;
 use std::test::Fail;
-
-/// How many frames and how many dropped pieces 100,000 pseudo-random octets have, as a program
-/// counted that was written from the printed rules and shares nothing with this crate.
-const FRAMES: usize = 686;
-
-const DROPPED: usize = 92_005;
 
 impl Answers for Cutter {
     /// Commands are `feed HEX`, `next`, `front`, `pass` as [`pass_front`] does, and `two` as
@@ -183,69 +177,4 @@ pass => Some(1)
 front => none
 ",
     )
-}
-
-/// Bits 16 to 23 of each state of a linear congruential generator.
-fn pseudo_random(alloc: Global, count: usize) -> Result<Vec<u8>, AllocError> {
-    let mut octets = Vec::new(alloc);
-    let mut state: u32 = 1;
-    for _ in 0..count {
-        octets.push((state >> 16 & 0xFF) as u8)?;
-        state = ((u64::from(state) * 1_103_515_245 + 12345) % 0x8000_0000) as u32;
-    }
-    Ok(octets)
-}
-
-/// Hands out all pieces that the octets held begin with.
-fn hand_out(cutter: &mut Cutter, cuts: &mut Vec<Cut>) -> Result<(), AllocError>
-    ensures { OnOk result (length cutter.new < 255) }
-{
-    while let Some(cut) = cutter.next() {
-        cuts.push(cut)?;
-    }
-    Ok(())
-}
-
-/// Feeds all octets, and hands out all pieces.
-fn pass(cutter: &mut Cutter, octets: &[u8], cuts: &mut Vec<Cut>) -> Result<(), AllocError>
-    requires { length cutter.old < 255 }
-    ensures { OnOk result (length cutter.new < 255) }
-{
-    let mut left = octets;
-    while !left.is_empty() {
-        let taken = cutter.feed(left);
-        left = &left[taken..];
-        hand_out(cutter, cuts)?;
-    }
-    Ok(())
-}
-
-/// The pieces of a stream that is fed in parts of this size.
-fn cuts(alloc: Global, stream: &[u8], size: usize) -> Result<Vec<Cut>, AllocError>
-    requires { 0 < size }
-{
-    let mut cutter = Cutter::new();
-    let mut cuts = Vec::new(alloc);
-    for part in stream.chunks(size) {
-        pass(&mut cutter, part, &mut cuts)?;
-    }
-    Ok(cuts)
-}
-
-/// How many of the pieces are frames.
-fn frame_count(cuts: &[Cut]) -> usize {
-    cuts.iter()
-        .filter(|cut| matches!(cut, Cut::Frame { .. }))
-        .count()
-}
-
-#[test]
-fn any_pieces_give_equal_cuts(rt: HostRuntime) -> Result<(), Fail> {
-    let stream = pseudo_random(rt.alloc(), 100_000)?;
-    let by_octet = cuts(rt.alloc(), &stream, 1)?;
-    assert_eq!(rt; frame_count(&by_octet), FRAMES);
-    assert_eq!(rt; by_octet.len(), FRAMES + DROPPED);
-    assert!(rt; cuts(rt.alloc(), &stream, 7)? == by_octet);
-    assert!(rt; cuts(rt.alloc(), &stream, 255)? == by_octet);
-    Ok(())
 }

@@ -1,5 +1,5 @@
 use Rattle.std.proofs.Common.{◌<◌, length}
-use Rattle.slave_tests.proofs.stream_tests.pass.Given as goal
+use Rattle.line_tests.proofs.noise_tests.pass.Given as goal
 
 abbrev pub invariant-loop-left : goal.invariant-loop-left
 invariant-loop-left l = length l.cutter < 255

@@ -1,5 +1,5 @@
 use Rattle.std.proofs.Common.{◌<◌, length}
-use Rattle.slave_tests.proofs.stream_tests.cuts.Given as goal
+use Rattle.line_tests.proofs.noise_tests.cuts.Given as goal
 
 abbrev pub invariant-loop-part : goal.invariant-loop-part
 invariant-loop-part l =
