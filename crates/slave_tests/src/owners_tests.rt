@@ -82,10 +82,10 @@ fn three_steps_along(hands: &Owners, cards: &[Card], player: usize) -> ([Option<
     ([first, second, third], cursor.visits())
 }
 
-/// A table at which each of 16 players has a hand of the cards, in the order in which they came.
+/// A table at which each of 16 players has a hand of the 64 cards, in the order in which they came.
 #[derive(Drop)]
 struct Table {
-    cards: [Card; 4],
+    cards: [Card; MOST_RECORDS],
     hands: Owners,
 }
 
@@ -103,12 +103,7 @@ impl Model for Table {
 impl Table {
     fn new() -> Table {
         Table {
-            cards: [
-                fresh_card(b'a'),
-                fresh_card(b'b'),
-                fresh_card(b'c'),
-                fresh_card(b'd'),
-            ],
+            cards: [fresh_card(b'c'); MOST_RECORDS],
             hands: Owners::new(),
         }
     }
@@ -116,7 +111,7 @@ impl Table {
     /// Gives a card to a player, where it is in no hand.
     fn give(&mut self, player: usize, card: usize) -> bool
         requires player { player < MOST_MASTERS }
-        requires card { card < 4 }
+        requires card { card < MOST_RECORDS }
     {
         match self.hands.owner_of(&self.cards, card) {
             Some(_) => false,
@@ -129,7 +124,7 @@ impl Table {
 
     /// Takes a card from the player who has it.
     fn take(&mut self, card: usize) -> Option<usize>
-        requires { card < 4 }
+        requires { card < MOST_RECORDS }
     {
         match self.hands.owner_of(&self.cards, card) {
             Some(player) => {
@@ -157,6 +152,28 @@ impl Table {
         )
     }
 
+    /// Gives four cards to each player in turn; how many were in no hand.
+    fn deal(&mut self) -> usize {
+        let mut given = 0usize;
+        for card in 0..MOST_RECORDS {
+            if self.give(card / 4, card) {
+                given = given.saturating_add(1);
+            }
+        }
+        given
+    }
+
+    /// Takes each card, in ascending order; how many were in a hand.
+    fn gather(&mut self) -> usize {
+        let mut taken = 0usize;
+        for card in 0..MOST_RECORDS {
+            if self.take(card).is_some() {
+                taken = taken.saturating_add(1);
+            }
+        }
+        taken
+    }
+
     /// The first and the last card of a player's hand.
     fn ends(&self, player: usize) -> (Option<u8>, Option<u8>)
         requires { player < MOST_MASTERS }
@@ -166,8 +183,8 @@ impl Table {
 }
 
 impl Answers for Table {
-    /// Commands are `give PLAYER CARD`, `take CARD`, `hand PLAYER`, `ends PLAYER`, `walk PLAYER`, `names` and
-    /// `six`, which has nothing to do with the table.
+    /// Commands are `give PLAYER CARD`, `take CARD`, `deal`, `gather`, `hand PLAYER`, `hands`, `ends PLAYER`,
+    /// `walk PLAYER` and `six`, which has nothing to do with the table.
     fn answer(&mut self, alloc: Global, command: &str) -> Result<String, Fail> {
         let mut words = Words::of(command);
         match words.word()? {
@@ -180,10 +197,12 @@ impl Answers for Table {
                 let card = card_in(&mut words)?;
                 Ok(format!(in alloc; "{:?}", self.take(card))?)
             }
+            "deal" => Ok(format!(in alloc; "{}", self.deal())?),
+            "gather" => Ok(format!(in alloc; "{}", self.gather())?),
+            "hands" => hands_text(alloc, self),
             "hand" => hand_text(alloc, self, player_in(&mut words)?),
             "ends" => ends_text(alloc, self, player_in(&mut words)?),
             "walk" => walk_text(alloc, self, player_in(&mut words)?),
-            "names" => Ok(format!(in alloc; "{:?}", self.cards.map(|card| card.name))?),
             "six" => six_text(alloc),
             _ => Err("a command")?,
         }
@@ -204,10 +223,10 @@ fn player_in(words: &mut Words<'_>) -> Result<usize, Fail>
 
 /// The next word, the number of a card.
 fn card_in(words: &mut Words<'_>) -> Result<usize, Fail>
-    ensures { IfOk result (λ card. card < 4) }
+    ensures { IfOk result (λ card. card < MOST_RECORDS) }
 {
     let card = usize::from(words.number()?);
-    if card < 4 { Ok(card) } else { Err("a card")? }
+    if card < MOST_RECORDS { Ok(card) } else { Err("a card")? }
 }
 
 /// A player's hand, and the same the other way round.
@@ -216,6 +235,18 @@ fn hand_text(alloc: Global, table: &Table, player: usize) -> Result<String, Fail
 {
     let (list, back) = table.hand(player);
     Ok(format!(in alloc; "{:?} {:?}", list.as_slice(), back.as_slice())?)
+}
+
+/// The hands of all players, one behind the other, and each of them the other way round.
+fn hands_text(alloc: Global, table: &Table) -> Result<String, Fail> {
+    let mut lists: Vec<u8> = Vec::new(alloc);
+    let mut backs: Vec<u8> = Vec::new(alloc);
+    for player in 0..MOST_MASTERS {
+        let (list, back) = table.hand(player);
+        lists.extend_from_slice(&list)?;
+        backs.extend_from_slice(&back)?;
+    }
+    Ok(format!(in alloc; "{:?} {:?}", lists.as_slice(), backs.as_slice())?)
 }
 
 /// The first and the last card of a player's hand.
@@ -234,7 +265,7 @@ fn walk_text(alloc: Global, table: &Table, player: usize) -> Result<String, Fail
     Ok(format!(in alloc; "{steps:?} {visits}")?)
 }
 
-/// What six calls leave of four cards.
+/// What six calls leave of four cards: a hand, and the names.
 fn six_text(alloc: Global) -> Result<String, Fail> {
     let mut cards = [
         fresh_card(b'a'),
@@ -242,7 +273,9 @@ fn six_text(alloc: Global) -> Result<String, Fail> {
         fresh_card(b'c'),
         fresh_card(b'd'),
     ];
-    Ok(format!(in alloc; "{:?}", six_calls(&mut cards).as_slice())?)
+    let hand = six_calls(&mut cards);
+    let names = cards.map(|card| card.name);
+    Ok(format!(in alloc; "{:?} {names:?}", hand.as_slice())?)
 }
 
 #[test]
@@ -298,12 +331,31 @@ give 1 2 => no
 take 1 => None
 take 2 => Some(0)
 give 1 2 => yes
-names => [97, 98, 99, 100]
 ",
     )
 }
 
 #[test]
 fn six_calls_in_a_row(rt: HostRuntime) -> Result<(), Fail> {
-    play(rt.alloc(), &mut Table::new(), "six => [0, 3]")
+    play(rt.alloc(), &mut Table::new(), "six => [0, 3] [97, 98, 99, 100]")
+}
+
+/// Sixteen players have four cards each; then all cards are taken, and all hands are empty both ways.
+#[test]
+fn all_cards_are_taken(rt: HostRuntime) -> Result<(), Fail> {
+    play(
+        rt.alloc(),
+        &mut Table::new(),
+        "\
+deal => 64
+hands => [0, 1, 2, 3, 4, 5, 6, 7, 8, 9, 10, 11, 12, 13, 14, 15, 16, 17, 18, 19, 20, 21, 22, 23, 24, 25, 26, \
+27, 28, 29, 30, 31, 32, 33, 34, 35, 36, 37, 38, 39, 40, 41, 42, 43, 44, 45, 46, 47, 48, 49, 50, 51, 52, 53, \
+54, 55, 56, 57, 58, 59, 60, 61, 62, 63] [3, 2, 1, 0, 7, 6, 5, 4, 11, 10, 9, 8, 15, 14, 13, 12, 19, 18, 17, 16, \
+23, 22, 21, 20, 27, 26, 25, 24, 31, 30, 29, 28, 35, 34, 33, 32, 39, 38, 37, 36, 43, 42, 41, 40, 47, 46, 45, \
+44, 51, 50, 49, 48, 55, 54, 53, 52, 59, 58, 57, 56, 63, 62, 61, 60]
+gather => 64
+hands => [] []
+gather => 0
+",
+    )
 }
