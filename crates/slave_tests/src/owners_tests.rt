@@ -226,7 +226,11 @@ fn card_in(words: &mut Words<'_>) -> Result<usize, Fail>
     ensures { IfOk result (λ card. card < MOST_RECORDS) }
 {
     let card = usize::from(words.number()?);
-    if card < MOST_RECORDS { Ok(card) } else { Err("a card")? }
+    if card < MOST_RECORDS {
+        Ok(card)
+    } else {
+        Err("a card")?
+    }
 }
 
 /// A player's hand, and the same the other way round.
@@ -337,7 +341,11 @@ give 1 2 => yes
 
 #[test]
 fn six_calls_in_a_row(rt: HostRuntime) -> Result<(), Fail> {
-    play(rt.alloc(), &mut Table::new(), "six => [0, 3] [97, 98, 99, 100]")
+    play(
+        rt.alloc(),
+        &mut Table::new(),
+        "six => [0, 3] [97, 98, 99, 100]",
+    )
 }
 
 /// Sixteen players have four cards each; then all cards are taken, and all hands are empty both ways.
