@@ -6,7 +6,7 @@ ghost use Rattle.dp_line.specs.World.{description_of, opening_fault};
 use crate::described::{is_told, line};
 use dp_audit::{Book, check_text, is_header_of};
 use dp_line::LineSpec;
-use std::alloc::Global;
+use std::alloc::{AllocError, Global};
 use std::test::Fail;
 
 /// A line of so many places that a book can be opened of, with masters 1 and 2 and slave 5.
@@ -52,6 +52,38 @@ rack-audit 1 line 1
 fn run_is_accepted(rt: HostRuntime) -> Result<(), Fail> {
     checks(rt.alloc(), 1000, RUN, "legal 5")?;
     checks(rt.alloc(), 1000, "rack-audit 1 line 1\n", "legal 0")
+}
+
+/// What is said of the beginning of a text that ends with this octet, behind so many whole rows.
+fn told_of_beginning(alloc: Global, last: u8, rows: u32) -> Result<String, AllocError> {
+    if last == b'\n' {
+        format!(in alloc; "legal {rows}")
+    } else {
+        format!(in alloc; "bad line {}, fault 2", rows.wrapping_add(1))
+    }
+}
+
+/// Each beginning of the text that ends with a row is accepted with the entries of that row and those above it; each
+/// other one is wrong in the row that it ends in.
+fn beginnings_check(alloc: Global, text: &str) -> Result<(), Fail> {
+    let octets = text.as_bytes();
+    let mut rows: u32 = 0;
+    for (index, last) in octets.iter().enumerate() {
+        let Some(beginning) = octets.get(..=index) else {
+            return Err(Fail::new("no beginning"));
+        };
+        let expected = told_of_beginning(alloc, *last, rows)?;
+        checks(alloc, 1000, std::str::from_utf8(beginning)?, expected.as_str())?;
+        if *last == b'\n' {
+            rows = rows.wrapping_add(1);
+        }
+    }
+    Ok(())
+}
+
+#[test]
+fn run_is_cut_after_each_octet(rt: HostRuntime) -> Result<(), Fail> {
+    beginnings_check(rt.alloc(), RUN)
 }
 
 #[test]

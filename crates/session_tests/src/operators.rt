@@ -329,3 +329,20 @@ rack-audit 1 line 1
 ",
     )
 }
+
+#[test]
+fn write_fails_at_once(rt: HostRuntime) -> Result<(), Fail> {
+    operates(
+        &rt,
+        rt.alloc(),
+        Device::Still,
+        "room=0",
+        b"tick 1\ntick 1\n",
+        "\
+WriteFault 3
+|
+rack-audit 1 line 1
+1 tick 1 | none | released
+",
+    )
+}
