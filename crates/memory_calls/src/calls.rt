@@ -1,0 +1,99 @@
+//! The calls that take memory, but for the pool.
+
+ghost use Rattle.std.specs.Prelude.{◌≡◌, None};
+ghost use Rattle.dp_line.specs.World.{description_of, opening_fault};
+
+use crate::answer::Answer;
+use crate::described::{ANSWERS, AUDIT, RACK, SCRIPT, VERDICT};
+use crate::expecting::{Expecting, Written};
+use dp_audit::{AuditFault, Book, check_text};
+use dp_line::{LineSpec, LineState, OpenFault};
+use dp_script::{RunFault, run_check, run_text};
+use dp_shared::{Claims, ClaimsFault, Line};
+use rack_file::{RackFault, read_rack};
+use std::alloc::Global;
+
+/// Makes the call of this word.
+pub(crate) fn made(alloc: Global, line: &LineSpec, word: &str) -> Answer
+    requires { opening_fault (description_of line.now) ≡ None }
+{
+    match word {
+        "line" => opened(LineState::open(alloc, line)),
+        "book" => opened(Book::open(alloc, line)),
+        "shared-line" => opened(Line::open(alloc, line)),
+        "claims" => claims(alloc, line),
+        "check-text" => text_checked(alloc, line),
+        "rack" => rack_read(alloc),
+        "script" => script_run(alloc),
+        "check" => check_run(alloc),
+        _ => Answer::NoCall,
+    }
+}
+
+/// What came of opening something.
+fn opened<T: Drop>(ended: Result<T, OpenFault>) -> Answer {
+    match ended {
+        Ok(_) => Answer::Whole,
+        Err(OpenFault::OutOfMemory) => Answer::Refused,
+        Err(_) => Answer::Other,
+    }
+}
+
+/// Opens the claims of a line, with seats for four workers.
+fn claims(alloc: Global, line: &LineSpec) -> Answer
+    requires { opening_fault (description_of line.now) ≡ None }
+{
+    match Claims::open(alloc, line, 4) {
+        Ok(_) => Answer::Whole,
+        Err(ClaimsFault::NoTable) => Answer::Refused,
+    }
+}
+
+/// Checks the audit text on a line.
+fn text_checked(alloc: Global, line: &LineSpec) -> Answer
+    requires { opening_fault (description_of line.now) ≡ None }
+{
+    match check_text(alloc, line, AUDIT) {
+        Ok(1) => Answer::Whole,
+        Err(AuditFault::OutOfMemory) => Answer::Refused,
+        _ => Answer::Other,
+    }
+}
+
+/// Reads the rack.
+fn rack_read(alloc: Global) -> Answer {
+    match read_rack(alloc, RACK) {
+        Ok(rack) if rack.lines.len() == 2 => Answer::Whole,
+        Err(RackFault::OutOfMemory) => Answer::Refused,
+        _ => Answer::Other,
+    }
+}
+
+/// Runs the script on the rack.
+fn script_run(alloc: Global) -> Answer {
+    let written = Written::nothing();
+    match run_text(alloc, RACK, SCRIPT, &mut Expecting::of(ANSWERS, &written)) {
+        Ok(()) if written.is_whole(ANSWERS) => Answer::Whole,
+        Err(RunFault::OutOfMemory) => refused(&written),
+        _ => Answer::Other,
+    }
+}
+
+/// Checks the audit text on the rack.
+fn check_run(alloc: Global) -> Answer {
+    let written = Written::nothing();
+    match run_check(alloc, RACK, AUDIT, &mut Expecting::of(VERDICT, &written)) {
+        Ok(0) if written.is_whole(VERDICT) => Answer::Whole,
+        Err(RunFault::OutOfMemory) => refused(&written),
+        _ => Answer::Other,
+    }
+}
+
+/// A call was refused that wrote this.
+pub(crate) fn refused(written: &Written) -> Answer {
+    if written.is_beginning() {
+        Answer::Refused
+    } else {
+        Answer::NoBeginning
+    }
+}
