@@ -1,11 +1,11 @@
 #!/usr/bin/env python3
 """Runs a program that gets no more than so many threads.
 
-usage: refuse_threads.py COUNT PROGRAM [WORD..]
+usage: refuse_threads.py COUNT[,REFUSED] PROGRAM [WORD..]
 
-The first COUNT threads that the program starts are as ever; the system refuses each further one. It ends as the program
-does, which becomes this process, or with 98 where Linux can't be asked for that. Linux on x86-64: a filter (seccomp) asks
-another process about each new thread.
+The first COUNT threads that the program starts are as ever; the system refuses the next REFUSED, or each further one
+where their number isn't given. It ends as the program does, which becomes this process, or with 98 where Linux can't be
+asked for that. Linux on x86-64: a filter (seccomp) asks another process about each new thread.
 """
 import ctypes
 import errno
@@ -55,27 +55,30 @@ def asked():
     sys.exit(98)
 
 
-def answer_all(questions, count):
-    """Lets so many threads start, and refuses the others, until the process that asks has ended."""
+def answer_all(questions, count, refused):
+    """Lets so many threads start, refuses so many behind them, and lets all others start, until the process has ended."""
+    asked_before = 0
     waiting = select.poll()
     waiting.register(questions, select.POLLIN)
     while not waiting.poll()[0][1] & select.POLLHUP:
         question = bytearray(QUESTION)
         fcntl.ioctl(questions, RECEIVE, question)
         number, = struct.unpack_from(NUMBER, question)
-        go_on = count > 0
-        count -= go_on
+        go_on = not count <= asked_before < count + refused
+        asked_before += 1
         fcntl.ioctl(questions, SEND, struct.pack(REPLY, number, 0, 0 if go_on else -errno.EAGAIN, go_on))
 
 
-def main(count, command):
+def main(numbers, command):
+    count, _, refused = numbers.partition(",")
+    count, refused = int(count), float(refused or "inf")
     here, there = socket.socketpair()
     if os.fork() == 0:
         os.close(1)
         here.close()
         _, questions, _, _ = socket.recv_fds(there, 1, 1)
         if questions:
-            answer_all(questions[0], count)
+            answer_all(questions[0], count, refused)
         return
     there.close()
     signal.signal(signal.SIGPIPE, signal.SIG_DFL)
@@ -85,4 +88,4 @@ def main(count, command):
 
 
 if __name__ == "__main__":
-    main(int(sys.argv[1]), sys.argv[2:])
+    main(sys.argv[1], sys.argv[2:])

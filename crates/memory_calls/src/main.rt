@@ -37,21 +37,20 @@ const NO_BEGINNING: u8 = 8;
 
 fn main(rt: HostRuntime) -> ExitCode {
     let alloc = rt.alloc();
-    let Ok(words) = std::env::args(&rt) else {
-        return ExitCode::from(UNPREPARED);
-    };
-    let words: Result<Vec<String>, _> = words.collect(alloc);
-    let Ok(words) = words else {
+    let Ok(mut words) = std::env::args(&rt) else {
         return ExitCode::from(UNPREPARED);
     };
     let Ok(line) = described(alloc) else {
         return ExitCode::from(UNPREPARED);
     };
-    match words.get(1).map(|word| word.as_str()) {
-        Some("pool") => ExitCode::from(pool::status(&rt, alloc, &line).unwrap_or(UNPREPARED)),
-        Some(word) => ExitCode::from(status_of(alloc, &line, word)),
-        None => ExitCode::from(NO_CALL),
-    }
+    let Some(word) = words.nth(1) else {
+        return ExitCode::from(NO_CALL);
+    };
+    let status = match word.as_str() {
+        "pool" => pool::status(&rt, alloc, &line).unwrap_or(UNPREPARED),
+        word => status_of(alloc, &line, word),
+    };
+    ExitCode::from(status)
 }
 
 /// Makes the call of this word, and where it was refused once more: the exit status.
