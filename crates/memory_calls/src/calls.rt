@@ -44,7 +44,7 @@ fn claims(alloc: Global, line: &LineSpec) -> Answer
     requires { opening_fault (description_of line.now) ≡ None }
 {
     match Claims::open(alloc, line, 4) {
-        Ok((_, seats)) if seats.len() == 4 => Answer::Whole,
+        Ok(opened) if opened.1.len() == 4 => Answer::Whole,
         Ok(_) => Answer::Other,
         Err(ClaimsFault::NoTable) => Answer::Refused,
     }
