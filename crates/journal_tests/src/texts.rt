@@ -73,7 +73,12 @@ fn beginnings_check(alloc: Global, text: &str) -> Result<(), Fail> {
             return Err(Fail::new("no beginning"));
         };
         let expected = told_of_beginning(alloc, *last, rows)?;
-        checks(alloc, 1000, std::str::from_utf8(beginning)?, expected.as_str())?;
+        checks(
+            alloc,
+            1000,
+            std::str::from_utf8(beginning)?,
+            expected.as_str(),
+        )?;
         if *last == b'\n' {
             rows = rows.wrapping_add(1);
         }
