@@ -1,5 +1,6 @@
 -- The access table of a slave, which point it opens in a state, and the busy marks of its rows.
-use Rattle.std.specs.Prelude.{ℕ, Bool, true, false, nat_eq, is_some, if◌then◌else◌, List, [], ◌∷◌, find, Option, Some, None}
+use Rattle.std.specs.Prelude.{ℕ, Bool, true, false, ◌&&◌, ◌||◌, ◌==◌, nat_eq, is_some, if◌then◌else◌, List, [], ◌∷◌, find, Option, Some, None}
+use Rattle.std.specs.List.{list_any}
 use Rattle.std.specs.Option.{option_eq, option_map, option_map_or, option_and_then}
 use Rattle.dp_sap.specs.declared.state.State.{State}
 use Rattle.dp_sap.specs.declared.state.State.TheVariants.{WaitPrm, WaitCfg, DataExch}
@@ -8,6 +9,7 @@ use Rattle.dp_sap.specs.declared.point.Access.TheVariants.{All, Only}
 use Rattle.dp_sap.specs.declared.point.Service.{Service}
 use Rattle.dp_sap.specs.declared.point.Service.TheVariants.{Srd, Sdn}
 use Rattle.dp_sap.specs.declared.point.Point.{Point}
+use Rattle.dp_sap.specs.declared.lists.Lists.{Lists}
 
 -- whom a row admits in one state: nobody, the holder alone, or every master (own)
 pub data Column : Type 0 where
@@ -91,12 +93,15 @@ pub record BusyMarks : Type 0 where
   pub set_prm : Bool
   pub chk_cfg : Bool
 
--- the points of a slave: its state, its holder, its output length and its busy marks (own)
+-- the points of a slave: its state, its holder, its output length, whether an empty Data_Exchange is accepted too, its busy marks and
+-- its lists of masters (own)
 pub record PointsView : Type 0 where
   pub state : State
   pub holder : Option ℕ
   pub out_len : ℕ
+  pub empty : Bool
   pub busy : BusyMarks
+  pub lists : Lists
 
 -- the same point (own)
 abbrev pub same_point : Option ℕ → Option ℕ → Bool
@@ -154,8 +159,15 @@ with_mark marks number busy = record {
 }
 
 -- the points of a slave none of which is busy (own)
-abbrev pub unmarked : State → Option ℕ → ℕ → PointsView
-unmarked state master out_len = record { state = state; holder = master; out_len = out_len; busy = no_marks }
+abbrev pub unmarked : State → Option ℕ → ℕ → Bool → Lists → PointsView
+unmarked state master out_len empty lists = record {
+  state = state;
+  holder = master;
+  out_len = out_len;
+  empty = empty;
+  busy = no_marks;
+  lists = lists;
+}
 
 -- the column of a state (own)
 abbrev pub column_in : State → Row → Column
@@ -169,7 +181,7 @@ admitted off master = None
 admitted holder master = option_map (λ address. Only address) master
 admitted all master = Some All
 
--- the point that a row is, where it is on (own)
+-- the point that a row is, where it is on; the default point alone may take no octets beside its length (own)
 abbrev pub point_of : PointsView → Row → Access → Point
 point_of points row access = record {
   active = true;
@@ -177,6 +189,7 @@ point_of points row access = record {
   service = row.service;
   least = row.least;
   most = row.most;
+  empty = same_point row.point data_exchange && points.empty;
   busy = is_busy points.busy row.point;
 }
 
@@ -187,3 +200,24 @@ opened points row = option_map (point_of points row) (admitted (column_in points
 -- the point of a number, as the access table has it in the state; none where it is off, and outside the table (own)
 abbrev pub access_row : PointsView → Option ℕ → Option Point
 access_row points number = option_and_then (opened points) (row_of points.out_len number)
+
+-- lists that name nobody in particular: every master may do what its point lets it (own)
+abbrev pub no_lists : Lists
+no_lists = record { lockers = None; readers = None }
+
+-- the sender may use Set_Prm: every master may where the slave has no list of lockers, and those on the list where it has one (own)
+abbrev pub may_lock : Lists → ℕ → Bool
+may_lock lists sender = option_map_or (λ masters. list_any (λ master. master == sender) masters.items) lists.lockers true
+
+-- the sender may read inputs and outputs: every master may where the slave has no list of readers, and those on the list where it has
+-- one (own)
+abbrev pub may_read : Lists → ℕ → Bool
+may_read lists sender = option_map_or (λ masters. list_any (λ master. master == sender) masters.items) lists.readers true
+
+-- the lists of the slave let the sender use the point: Set_Prm where it may lock; RD_Inp and RD_Outp where it may read or is the holder;
+-- each other point always (own)
+abbrev pub is_listed : PointsView → Option ℕ → ℕ → Bool
+is_listed points number sender =
+    if same_point number set_prm then may_lock points.lists sender
+    else if same_point number rd_inp || same_point number rd_outp then may_read points.lists sender || same_point points.holder (Some sender)
+    else true

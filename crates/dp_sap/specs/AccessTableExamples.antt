@@ -1,6 +1,7 @@
 -- Rows of the access table, worked.
-use Rattle.std.specs.Prelude.{◌≡◌, ℕ, Bool, true, false, Option, Some, None, refl}
-use Rattle.dp_sap.specs.AccessTable.{BusyMarks, PointsView, access_row, chk_cfg, data_exchange, get_cfg, global_control, is_busy, no_marks, rd_inp, rd_outp, set_prm, slave_diag, unmarked, with_mark}
+use Rattle.std.specs.Prelude.{◌≡◌, ℕ, Bool, true, false, [], ◌∷◌, Option, Some, None, refl}
+use Rattle.dp_sap.specs.declared.lists.Lists.{Lists}
+use Rattle.dp_sap.specs.AccessTable.{BusyMarks, PointsView, access_row, chk_cfg, data_exchange, get_cfg, global_control, is_busy, is_listed, no_lists, no_marks, rd_inp, rd_outp, set_prm, slave_diag, unmarked, with_mark}
 use Rattle.dp_sap.specs.declared.point.Access.{Access}
 use Rattle.dp_sap.specs.declared.point.Access.TheVariants.{All, Only}
 use Rattle.dp_sap.specs.declared.point.Point.{Point}
@@ -10,11 +11,11 @@ use Rattle.dp_sap.specs.declared.state.State.TheVariants.{WaitPrm, WaitCfg, Data
 
 -- a slave with two octets of outputs that waits for its parameters
 abbrev pub waiting : PointsView
-waiting = unmarked WaitPrm None 2
+waiting = unmarked WaitPrm None 2 false no_lists
 
 -- the same slave, held by master 1 and in data exchange
 abbrev pub exchanging : PointsView
-exchanging = unmarked DataExch (Some 1) 2
+exchanging = unmarked DataExch (Some 1) 2 false no_lists
 
 -- a point that is on and not busy
 abbrev pub idle_point : Access → Service → ℕ → ℕ → Option Point
@@ -24,6 +25,7 @@ idle_point access service least most = Some (record {
   service = service;
   least = least;
   most = most;
+  empty = false;
   busy = false;
 })
 
@@ -33,7 +35,7 @@ anyone_sends_parameters = refl
 pub nobody_configures_before_parameters : access_row waiting chk_cfg ≡ None
 nobody_configures_before_parameters = refl
 
-pub holder_configures : access_row (unmarked WaitCfg (Some 1) 2) chk_cfg ≡ idle_point (Only 1) Srd 0 244
+pub holder_configures : access_row (unmarked WaitCfg (Some 1) 2 false no_lists) chk_cfg ≡ idle_point (Only 1) Srd 0 244
 holder_configures = refl
 
 pub holder_exchanges_output_length : access_row exchanging data_exchange ≡ idle_point (Only 1) Srd 2 2
@@ -50,6 +52,38 @@ below_the_table = refl
 
 pub above_the_table : access_row exchanging (Some 63) ≡ None
 above_the_table = refl
+
+-- after Clear_Data on a fail-safe slave, none or both of its octets
+pub cleared_takes_none_too :
+    access_row (unmarked DataExch (Some 1) 2 true no_lists) data_exchange
+    ≡ Some (record { active = true; access = Only 1; service = Srd; least = 2; most = 2; empty = true; busy = false })
+cleared_takes_none_too = refl
+
+-- the other points take what they always take
+pub cleared_is_controlled : access_row (unmarked DataExch (Some 1) 2 true no_lists) global_control ≡ idle_point (Only 1) Sdn 2 2
+cleared_is_controlled = refl
+
+-- a slave that master 1 alone may lock, and that nobody but its holder may read
+abbrev pub one_locker : Lists
+one_locker = record { lockers = Some (record { items = 1 ∷ [] }); readers = Some (record { items = [] }) }
+
+pub locker_is_listed : is_listed (unmarked WaitPrm None 2 false one_locker) set_prm 1 ≡ true
+locker_is_listed = refl
+
+pub another_is_no_locker : is_listed (unmarked WaitPrm None 2 false one_locker) set_prm 2 ≡ false
+another_is_no_locker = refl
+
+pub another_is_no_reader : is_listed (unmarked DataExch (Some 1) 2 false one_locker) rd_inp 2 ≡ false
+another_is_no_reader = refl
+
+pub holder_reads_always : is_listed (unmarked DataExch (Some 1) 2 false one_locker) rd_outp 1 ≡ true
+holder_reads_always = refl
+
+pub diagnosis_has_no_list : is_listed (unmarked WaitPrm None 2 false one_locker) slave_diag 2 ≡ true
+diagnosis_has_no_list = refl
+
+pub without_lists_everybody_reads : is_listed exchanging rd_inp 2 ≡ true
+without_lists_everybody_reads = refl
 
 pub mark_of_get_cfg : with_mark no_marks get_cfg true ≡ record no_marks { get_cfg = true }
 mark_of_get_cfg = refl

@@ -2,18 +2,21 @@
 //! service and with how many data octets (IEC 61158-6-3, service access points), and which points
 //! are marked busy.
 //!
-//! [`Points`] holds what decides this: the slave's [`State`], its holder, its output length and
-//! the busy marks. [`Points::find`] tells the [`Point`] of a number, such as [`SLAVE_DIAG`].
+//! [`Points`] holds what decides this: the slave's [`State`], its holder, its output length, the
+//! busy marks and the [`Lists`] of masters. [`Points::find`] tells the [`Point`] of a number, such as
+//! [`SLAVE_DIAG`], and [`Points::listed`] whom the lists let use it.
 #![tactic(auto)]
 
 mod busy;
 mod fault;
 pub mod laws;
+mod lists;
 mod point;
 mod points;
 mod state;
 
 pub use fault::SapFault;
+pub use lists::{Lists, MOST_LISTED};
 pub use point::{
     Access, CHK_CFG, GET_CFG, GLOBAL_CONTROL, MOST_DATA, Point, RD_INP, RD_OUTP, SET_PRM,
     SLAVE_DIAG, Service, is_point,

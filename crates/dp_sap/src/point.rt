@@ -60,6 +60,8 @@ pub struct Point {
     pub least: u8,
     /// The greatest number of data octets of a request, 0 to 244.
     pub most: u8,
+    /// It takes a request without data octets too, whatever the least number is.
+    pub empty: bool,
     /// The point is marked busy.
     pub busy: bool,
 }

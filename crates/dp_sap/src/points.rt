@@ -2,10 +2,11 @@
 
 ghost use Rattle.std.specs.Prelude.{◌≡◌, ℕ, is_some, is_ok, IfSome, IfErr, OnOk, OnErr};
 ghost use Rattle.std.specs.Option.{option_and_then};
-ghost use Rattle.dp_sap.specs.AccessTable.{access_row, admitted, column_in, is_busy, is_in_table, row_of, unmarked, with_mark};
+ghost use Rattle.dp_sap.specs.AccessTable.{access_row, admitted, column_in, is_busy, is_in_table, is_listed, row_of, unmarked, with_mark};
 
 use crate::busy::BusyMarks;
 use crate::fault::SapFault;
+use crate::lists::Lists;
 use crate::point::{
     Access, CHK_CFG, GET_CFG, GLOBAL_CONTROL, MOST_DATA, Point, RD_INP, RD_OUTP, SET_PRM,
     SLAVE_DIAG, Service,
@@ -14,13 +15,16 @@ use crate::state::State;
 use std::marker::Model;
 
 /// The service access points of a slave: its state, its holder and its output length, which
-/// decide what is on, and a busy mark for each point of the access table (own).
+/// decide what is on, whether an empty Data_Exchange is accepted too, a busy mark for each point of
+/// the access table, and the lists of masters (own).
 #[derive(Debug, Drop)]
 pub struct Points {
     state: State,
     holder: Option<u8>,
     out_len: u8,
+    empty: bool,
     busy: BusyMarks,
+    lists: Lists,
 }
 
 impl Model for Points {
@@ -28,32 +32,50 @@ impl Model for Points {
 
     ghost Value = { PointsView };
 
-    ghost view = { λ p. record { state = p.state; holder = p.holder; out_len = p.out_len; busy = p.busy } };
+    ghost view = { λ p. record {
+      state = p.state;
+      holder = p.holder;
+      out_len = p.out_len;
+      empty = p.empty;
+      busy = p.busy;
+      lists = p.lists;
+    } };
 }
 
 impl Points {
     /// The points of a slave in this state, none of them busy. `holder` is the address of the
     /// master that holds it, 0 to 126, and `None` where nobody does; `out_len` is its output
-    /// length, 0 to 244 octets.
-    pub fn at_state(state: State, holder: Option<u8>, out_len: u8) -> Points
-        ensures { result ≡ unmarked state holder out_len }
+    /// length, 0 to 244 octets; with `empty` the default point takes none beside these. The lists
+    /// are copied.
+    pub fn at_state(
+        state: State,
+        holder: Option<u8>,
+        out_len: u8,
+        empty: bool,
+        lists: &Lists,
+    ) -> Points
+        ensures { result ≡ unmarked state holder out_len empty lists.now }
     {
         Points {
             state,
             holder,
             out_len,
+            empty,
             busy: BusyMarks::none(),
+            lists: lists.clone().unwrap(),
         }
     }
 
     /// The slave is in this state now, with this holder, 0 to 126 or `None`, and this output
-    /// length, 0 to 244 octets. The busy marks stay.
-    pub fn move_to(&mut self, state: State, holder: Option<u8>, out_len: u8)
-        ensures { self.new ≡ record self.old { state = state; holder = holder; out_len = out_len } }
+    /// length, 0 to 244 octets; with `empty` the default point takes none beside these. The busy
+    /// marks and the lists stay.
+    pub fn move_to(&mut self, state: State, holder: Option<u8>, out_len: u8, empty: bool)
+        ensures { self.new ≡ record self.old { state = state; holder = holder; out_len = out_len; empty = empty } }
     {
         self.state = state;
         self.holder = holder;
         self.out_len = out_len;
+        self.empty = empty;
     }
 
     /// The slave's state.
@@ -77,6 +99,27 @@ impl Points {
         self.out_len
     }
 
+    /// The default point takes no octets beside the output length.
+    pub const fn empty(&self) -> bool
+        ensures { result ≡ self.now.empty }
+    {
+        self.empty
+    }
+
+    /// The lists of the slave let the sender, 0 to 126, use the point of this number, which may be
+    /// any octet, `None` being the default point. False exactly at Set_Prm for a sender that a list
+    /// of lockers lacks, and at RD_Inp and RD_Outp for one that a list of readers lacks and that
+    /// isn't the holder; whether the point is on doesn't matter.
+    pub fn listed(&self, number: Option<u8>, sender: u8) -> bool
+        ensures { result ≡ is_listed self.now number sender }
+    {
+        match number {
+            Some(SET_PRM) => self.lists.let_lock(sender),
+            Some(RD_INP | RD_OUTP) => self.lists.let_read(sender) || self.holder == Some(sender),
+            _ => true,
+        }
+    }
+
     /// The point of this number, which may be any octet, `None` being the default point: its row
     /// of the access table with its busy mark. A number outside the table gives a point that is
     /// off and not busy.
@@ -95,6 +138,7 @@ impl Points {
             service,
             least,
             most,
+            empty: number.is_none() && self.empty,
             busy: self.busy.is_busy(number),
         }
     }
