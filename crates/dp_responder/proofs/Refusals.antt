@@ -7,7 +7,7 @@ use Rattle.dp_telegram.specs.declared.access.Parts.{Parts}
 use Rattle.dp_telegram.specs.declared.function_code.Function.{Function}
 use Rattle.dp_telegram.specs.declared.function_code.Function.TheVariants.{SdnLow, SdnHigh}
 use Rattle.dp_telegram.specs.FunctionCode.{function_of, asks_sdn, asks_srd, frame_count_bit, frame_count_is_valid}
-use Rattle.dp_sap.specs.AccessTable.{PointsView, access_row}
+use Rattle.dp_sap.specs.AccessTable.{PointsView, access_row, is_listed}
 use Rattle.dp_responder.specs.Memory.{Remembered, is_repeat, same_bit}
 use Rattle.dp_responder.specs.Rules.{first_row}
 use Rattle.dp_responder.specs.Judgement.{judged_by, judged_in_silence, judgement, judgement_rows, refusal_function, refusal_rows}
@@ -58,7 +58,7 @@ pub passes : (points : PointsView) (last : Option Remembered) (sender fc : ℕ) 
     → (judgement points last sender fc parts ≡ verdicts.Pass) ↔ (list_any (λ row. row.0) (judgement_rows points last sender fc parts) ≡ false)
 passes points last sender fc parts = (
   λ pass. done_applies (judgement_rows points last sender fc parts)
-      (λ e. absurd cc, (λ e. absurd cc, (λ e. absurd cc, (λ e. absurd cc, (λ e. absurd cc, (λ e. absurd cc, tt))))))
+      (λ e. absurd cc, (λ e. absurd cc, (λ e. absurd cc, (λ e. absurd cc, (λ e. absurd cc, (λ e. absurd cc, (λ e. absurd cc, tt)))))))
       (passes_by last fc (first_row (judgement_rows points last sender fc parts)) pass),
   λ none. ap (judged_by last fc) (none_applies (judgement_rows points last sender fc parts) none),
 )
@@ -81,9 +81,9 @@ no_repeat None fc none = refl
 no_repeat (Some last) fc none = ap (λ b. b && frame_count_is_valid fc && same_bit last.fcb (frame_count_bit fc)) none
 
 sdn_rule : (points : PointsView) (last : Option Remembered) (sender fc : ℕ) (parts : Parts) → asks_sdn (function_of fc) ≡ true
-    → first_row (judgement_rows points last sender fc parts) ≡ first_row (refusal_rows (access_row points parts.dsap) sender fc parts.payload.items)
+    → first_row (judgement_rows points last sender fc parts) ≡ first_row (refusal_rows (access_row points parts.dsap) (is_listed points parts.dsap sender) sender fc parts.payload.items)
 sdn_rule points last sender fc parts sdn =
-    ap (λ b. cond b rules.Repeat (first_row (refusal_rows (access_row points parts.dsap) sender fc parts.payload.items))) (no_repeat last fc (sdn_no_srd (function_of fc) sdn))
+    ap (λ b. cond b rules.Repeat (first_row (refusal_rows (access_row points parts.dsap) (is_listed points parts.dsap sender) sender fc parts.payload.items))) (no_repeat last fc (sdn_no_srd (function_of fc) sdn))
 
 silenced : (last : Option Remembered) (fc : ℕ) (rule : Rule) → asks_sdn (function_of fc) ≡ true → rule ≢ rules.Repeat → judged_by last fc rule ≡ judged_in_silence rule
 silenced last fc rules.Done sdn other = refl
@@ -91,6 +91,6 @@ silenced last fc rules.Repeat sdn other = absurd (other refl)
 silenced last fc rule sdn other = cond-true (asks_sdn (function_of fc)) (verdicts.Silent rule) (verdicts.Refuse (refusal_function rule) rule) sdn
 
 pub sdn_judged : (points : PointsView) (last : Option Remembered) (sender fc : ℕ) (parts : Parts) (rule : Rule) → asks_sdn (function_of fc) ≡ true → rule ≢ rules.Repeat
-    → rule ≡ first_row (refusal_rows (access_row points parts.dsap) sender fc parts.payload.items) → judgement points last sender fc parts ≡ judged_in_silence rule
+    → rule ≡ first_row (refusal_rows (access_row points parts.dsap) (is_listed points parts.dsap sender) sender fc parts.payload.items) → judgement points last sender fc parts ≡ judged_in_silence rule
 sdn_judged points last sender fc parts rule sdn other is =
     ap (judged_by last fc) (sdn_rule points last sender fc parts sdn ∙ sym is) ∙ silenced last fc rule sdn other

@@ -1,9 +1,9 @@
 -- The verdict of a slave on a request, from the repeat to the length (own order).
-use Rattle.std.specs.Prelude.{ℕ, Bool, true, false, not, ◌&&◌, ◌==◌, nat_le, if◌then◌else◌, List, [], ◌∷◌, length, Option, is_none}
+use Rattle.std.specs.Prelude.{ℕ, Bool, true, false, not, ◌&&◌, ◌||◌, ◌==◌, nat_le, if◌then◌else◌, List, [], ◌∷◌, length, Option, is_none}
 use Rattle.std.specs.Option.{option_map_or}
 use Rattle.dp_telegram.specs.FunctionCode.{function_of, asks_srd, asks_sdn, not_activated, no_resource, user_error}
 use Rattle.dp_telegram.specs.declared.access.Parts.{Parts}
-use Rattle.dp_sap.specs.AccessTable.{PointsView, access_row}
+use Rattle.dp_sap.specs.AccessTable.{PointsView, access_row, is_listed}
 use Rattle.dp_sap.specs.declared.point.Point.{Point}
 use Rattle.dp_sap.specs.declared.point.Access.{Access}
 use Rattle.dp_sap.specs.declared.point.Access.TheVariants.{All, Only}
@@ -30,9 +30,9 @@ abbrev pub uses : ℕ → Service → Bool
 uses fc Srd = asks_srd (function_of fc)
 uses fc Sdn = asks_sdn (function_of fc)
 
--- the point takes so many octets
+-- the point takes so many octets: as many as its row has, or none where it may be empty
 abbrev pub takes_length : ℕ → Point → Bool
-takes_length count point = nat_le point.least count && nat_le count point.most
+takes_length count point = nat_le point.least count && nat_le count point.most || point.empty && count == 0
 
 -- the function of the reply without data by which a rule refuses an SRD, an SDA, or a request for ident or for LSAP status: no resource
 -- where the point is busy, user error for a wrong length, and by every other rule that the service is not activated (IEC 61158-4-3,
@@ -43,18 +43,20 @@ refusal_function rules.Length = user_error
 refusal_function other = not_activated
 
 -- the rows by which a request is refused, by their places in the table of the verdict (docs/POLICY.md): the point is the one that it
--- names, None where that is off
-abbrev pub refusal_rows : Option Point → ℕ → ℕ → List ℕ → List (Bool × Rule)
-refusal_rows point sender fc payload =
+-- names, None where that is off, and listed tells whether the slave's lists let the sender use it
+abbrev pub refusal_rows : Option Point → Bool → ℕ → ℕ → List ℕ → List (Bool × Rule)
+refusal_rows point listed sender fc payload =
     -- 14: the point is off
     (is_none point, rules.NotActive)
     -- 15: the point is for the holder, and the sender is another master
     ∷ (point_has (λ p. not (admits sender p.access)) point, rules.NotHolder)
-    -- 16: the point takes the other service
+    -- 16: a list of the slave doesn't name the sender
+    ∷ (not listed, rules.NotListed)
+    -- 17: the point takes the other service
     ∷ (point_has (λ p. not (uses fc p.service)) point, rules.NoService)
-    -- 17: the point is marked busy
+    -- 18: the point is marked busy
     ∷ (point_has (λ p. p.busy) point, rules.Busy)
-    -- 18: the point takes fewer or more octets
+    -- 19: the point doesn't take so many octets
     ∷ (point_has (λ p. not (takes_length (length payload) p)) point, rules.Length)
     ∷ []
 
@@ -63,7 +65,7 @@ abbrev pub judgement_rows : PointsView → Option Remembered → ℕ → ℕ →
 judgement_rows points last sender fc parts =
     -- 13: an SRD with FCV 1, and its FCB is the remembered one
     (is_repeat last fc, rules.Repeat)
-    ∷ refusal_rows (access_row points parts.dsap) sender fc parts.payload.items
+    ∷ refusal_rows (access_row points parts.dsap) (is_listed points parts.dsap sender) sender fc parts.payload.items
 
 -- what comes of a request by the rule of these rows: by Done it passes, a repeat gets the reply that is kept, and every other rule
 -- refuses it, an SDN in silence

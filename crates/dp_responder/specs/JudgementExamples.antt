@@ -2,7 +2,8 @@
 use Rattle.std.specs.Prelude.{◌≡◌, ℕ, List, [], ◌∷◌, true, false, Option, Some, None, refl}
 use Rattle.dp_telegram.specs.declared.access.Parts.{Parts}
 use Rattle.dp_telegram.specs.FunctionCode.{not_activated, no_resource, user_error}
-use Rattle.dp_sap.specs.AccessTable.{PointsView, unmarked, with_mark, set_prm, slave_diag, global_control, data_exchange}
+use Rattle.dp_sap.specs.AccessTable.{PointsView, no_lists, unmarked, with_mark, rd_inp, rd_outp, set_prm, slave_diag, global_control, data_exchange}
+use Rattle.dp_sap.specs.declared.lists.Lists.{Lists}
 use Rattle.dp_sap.specs.declared.state.State.TheVariants.{WaitPrm, DataExch}
 use Rattle.dp_responder.specs.declared.rule.Rule.TheVariants as rules
 use Rattle.dp_responder.specs.declared.judgement.Judged.TheVariants.{Pass, Repeat, Refuse, Silent}
@@ -10,7 +11,7 @@ use Rattle.dp_responder.specs.Memory.{MasterMemory, no_memory, remembered_of, wi
 use Rattle.dp_responder.specs.Judgement.{judgement}
 
 abbrev pub exchanging : PointsView
-exchanging = unmarked DataExch (Some 1) 2
+exchanging = unmarked DataExch (Some 1) 2 false no_lists
 
 -- a request to a point, with these octets
 abbrev pub request_to : Option ℕ → List ℕ → Parts
@@ -49,7 +50,7 @@ pub wrong_length : judgement exchanging None 1 0x7D (request_to data_exchange (0
 wrong_length = refl
 
 -- a point that is off, and a point of the other service, by SRD: RS
-pub point_is_off : judgement (unmarked WaitPrm None 2) None 1 0x6D (request_to data_exchange (0x12 ∷ 0x34 ∷ [])) ≡ Refuse not_activated rules.NotActive
+pub point_is_off : judgement (unmarked WaitPrm None 2 false no_lists) None 1 0x6D (request_to data_exchange (0x12 ∷ 0x34 ∷ [])) ≡ Refuse not_activated rules.NotActive
 point_is_off = refl
 
 pub other_service : judgement exchanging None 1 0x7D (request_to global_control (0 ∷ 0 ∷ [])) ≡ Refuse not_activated rules.NoService
@@ -58,6 +59,44 @@ other_service = refl
 -- the same by SDN: nothing is replied
 pub unacknowledged : judgement exchanging None 1 0x46 (request_to slave_diag []) ≡ Silent rules.NoService
 unacknowledged = refl
+
+-- a slave that master 1 alone may lock and that no list lets read: the other's Set_Prm is RS before the lock by the list, behind it by
+-- the holder, whatever service it asks for; the holder reads
+abbrev pub one_locker : Lists
+one_locker = record { lockers = Some (record { items = 1 ∷ [] }); readers = Some (record { items = [] }) }
+
+pub stranger_is_not_listed : judgement (unmarked WaitPrm None 2 false one_locker) None 2 0x6D (request_to set_prm []) ≡ Refuse not_activated rules.NotListed
+stranger_is_not_listed = refl
+
+pub holder_comes_before_the_list : judgement (unmarked DataExch (Some 1) 2 false one_locker) None 2 0x6D (request_to set_prm []) ≡ Refuse not_activated rules.NotHolder
+holder_comes_before_the_list = refl
+
+pub list_comes_before_the_service : judgement (unmarked WaitPrm None 2 false one_locker) None 2 0x46 (request_to set_prm []) ≡ Silent rules.NotListed
+list_comes_before_the_service = refl
+
+pub stranger_may_not_read : judgement (unmarked DataExch (Some 1) 2 false one_locker) None 2 0x6D (request_to rd_inp []) ≡ Refuse not_activated rules.NotListed
+stranger_may_not_read = refl
+
+pub holder_may_read : judgement (unmarked DataExch (Some 1) 2 false one_locker) None 1 0x7D (request_to rd_outp []) ≡ Pass
+holder_may_read = refl
+
+-- a point that is off is NotActive, whoever is on a list
+pub off_comes_before_the_list : judgement (unmarked WaitPrm None 2 false one_locker) None 2 0x6D (request_to rd_inp []) ≡ Refuse not_activated rules.NotActive
+off_comes_before_the_list = refl
+
+-- where the default point takes none beside its two octets: none, two, and one
+pub empty_passes : judgement (unmarked DataExch (Some 1) 2 true no_lists) None 1 0x7D (request_to data_exchange []) ≡ Pass
+empty_passes = refl
+
+pub whole_passes : judgement (unmarked DataExch (Some 1) 2 true no_lists) None 1 0x7D (request_to data_exchange (0x12 ∷ 0x34 ∷ [])) ≡ Pass
+whole_passes = refl
+
+pub one_is_a_wrong_length : judgement (unmarked DataExch (Some 1) 2 true no_lists) None 1 0x7D (request_to data_exchange (0x12 ∷ [])) ≡ Refuse user_error rules.Length
+one_is_a_wrong_length = refl
+
+-- and an empty one else
+pub empty_is_a_wrong_length : judgement exchanging None 1 0x7D (request_to data_exchange []) ≡ Refuse user_error rules.Length
+empty_is_a_wrong_length = refl
 
 -- SRD with FCV 0 and FCB 1 is remembered; with FCV 0 and FCB 0 it empties the memory; SDN leaves it alone
 pub first_is_remembered : remembered_of (with_remembered no_requests 1 0x6D (0xE5 ∷ [])) 1 ≡ Some (record { fcb = true; reply = 0xE5 ∷ [] })

@@ -3,7 +3,7 @@ use Rattle.std.specs.Prelude.{ℕ, codes, Bool, if◌then◌else◌, List, [], �
 use Rattle.dp_responder.specs.declared.rule.Rule.{Rule}
 use Rattle.dp_responder.specs.declared.rule.Rule.TheVariants as rules
 
--- the rules in the order of the verdict
+-- the rules in the order of the verdict; the number of NotListed, which stands behind NotHolder there, came last
 abbrev pub rule_code : Rule → ℕ
 rule_code rules.Halted = 1
 rule_code rules.NoFrame = 2
@@ -24,6 +24,7 @@ rule_code rules.Busy = 16
 rule_code rules.Length = 17
 rule_code rules.NotSelected = 18
 rule_code rules.Done = 19
+rule_code rules.NotListed = 20
 
 abbrev pub rule_name : Rule → List ℕ
 rule_name rules.Halted = codes "Halted"
@@ -45,6 +46,7 @@ rule_name rules.Busy = codes "Busy"
 rule_name rules.Length = codes "Length"
 rule_name rules.NotSelected = codes "NotSelected"
 rule_name rules.Done = codes "Done"
+rule_name rules.NotListed = codes "NotListed"
 
 -- the rule of the first row whose condition holds, and Done where there is none
 abbrev pub first_row : List (Bool × Rule) → Rule

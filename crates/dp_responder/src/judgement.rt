@@ -2,7 +2,7 @@
 
 ghost use Rattle.std.specs.Prelude.{◌≡◌, ◌≢◌, ◌≤◌, Option, Some, length, true};
 ghost use Rattle.dp_telegram.specs.FunctionCode.{asks_sdn, function_of};
-ghost use Rattle.dp_sap.specs.AccessTable.{access_row};
+ghost use Rattle.dp_sap.specs.AccessTable.{access_row, is_listed};
 ghost use Rattle.dp_responder.specs.declared.judgement.Judged.TheVariants as verdicts;
 ghost use Rattle.dp_responder.specs.declared.rule.Rule.TheVariants as rules;
 ghost use Rattle.dp_responder.specs.Rules.{first_row};
@@ -30,7 +30,7 @@ pub enum Judged {
 }
 
 /// Judges a request by the rows of the verdict from the repeat to the length (own order): repeat,
-/// point off, sender not admitted, another service, point busy, length.
+/// point off, sender not admitted, sender not listed, another service, point busy, length.
 ///
 /// `sender` is a master of the line, `fc` the function code of an SRD or an SDN, 0 to 255, and `parts`
 /// what the request says. The first row that applies decides.
@@ -45,7 +45,7 @@ pub fn judge(points: &Points, memory: &FrameMemory, sender: u8, fc: u8, parts: &
 
 /// Judges a request that is no repeat.
 fn judge_anew(points: &Points, sender: u8, fc: u8, parts: &Parts) -> Judged
-    ensures { (last : Option Remembered) → result ≡ judged_by last fc (first_row (refusal_rows (access_row points.now parts.now.dsap) sender fc parts.now.payload.items)) }
+    ensures { (last : Option Remembered) → result ≡ judged_by last fc (first_row (refusal_rows (access_row points.now parts.now.dsap) (is_listed points.now parts.now.dsap sender) sender fc parts.now.payload.items)) }
 {
     by_rule(refusal(points, sender, fc, parts), fc)
 }
@@ -85,15 +85,17 @@ fn open_point(points: &Points, number: Option<u8>) -> Option<Point>
 
 /// The rule that refuses a request which is no repeat; [`Rule::Done`] where none does.
 fn refusal(points: &Points, sender: u8, fc: u8, parts: &Parts) -> Rule
-    ensures rule { result ≡ first_row (refusal_rows (access_row points.now parts.now.dsap) sender fc parts.now.payload.items) }
+    ensures rule { result ≡ first_row (refusal_rows (access_row points.now parts.now.dsap) (is_listed points.now parts.now.dsap sender) sender fc parts.now.payload.items) }
     ensures repeat { result ≢ rules.Repeat }
 {
-    refusal_at(open_point(points, parts.dsap), sender, fc, &parts.payload)
+    let listed = points.listed(parts.dsap, sender);
+    refusal_at(open_point(points, parts.dsap), listed, sender, fc, &parts.payload)
 }
 
-/// The rule that refuses a request at this point, None where it is off; [`Rule::Done`] where none does.
-fn refusal_at(point: Option<Point>, sender: u8, fc: u8, payload: &[u8]) -> Rule
-    ensures rule { result ≡ first_row (refusal_rows point sender fc payload.now) }
+/// The rule that refuses a request at this point, None where it is off, which the slave's lists let
+/// the sender use or not; [`Rule::Done`] where none does.
+fn refusal_at(point: Option<Point>, listed: bool, sender: u8, fc: u8, payload: &[u8]) -> Rule
+    ensures rule { result ≡ first_row (refusal_rows point listed sender fc payload.now) }
     ensures repeat { result ≢ rules.Repeat }
 {
     let Some(point) = point else {
@@ -101,6 +103,9 @@ fn refusal_at(point: Option<Point>, sender: u8, fc: u8, payload: &[u8]) -> Rule
     };
     if !admits(point.access, sender) {
         return Rule::NotHolder;
+    }
+    if !listed {
+        return Rule::NotListed;
     }
     if !uses(fc, point.service) {
         return Rule::NoService;
@@ -162,4 +167,5 @@ fn takes_length(point: &Point, count: usize) -> bool
     ensures { result ≡ is_taken count point.now }
 {
     usize::from(point.least) <= count && count <= usize::from(point.most)
+        || point.empty && count == 0
 }

@@ -48,10 +48,13 @@ pub enum Rule {
     NotSelected,
     /// The service is done.
     Done,
+    /// A list of the slave doesn't name the sender: RS. It stands behind [`Rule::NotHolder`] in the
+    /// verdict.
+    NotListed,
 }
 
 impl Rule {
-    /// The number of the rule, 1 to 19 in the order of the verdict (own).
+    /// The number of the rule, 1 to 20 (own): up to 19 in the order of the verdict.
     pub const fn code(self) -> u8
         ensures { result ≡ rule_code self }
     {
@@ -75,6 +78,7 @@ impl Rule {
             Rule::Length => 17,
             Rule::NotSelected => 18,
             Rule::Done => 19,
+            Rule::NotListed => 20,
         }
     }
 
@@ -102,6 +106,7 @@ impl Rule {
             Rule::Length => "Length",
             Rule::NotSelected => "NotSelected",
             Rule::Done => "Done",
+            Rule::NotListed => "NotListed",
         }
     }
 }
