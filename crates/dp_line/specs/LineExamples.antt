@@ -1,6 +1,7 @@
 -- A line with masters 1 and 2 and slave 5, ident number 80A1, two octets of inputs and two of outputs, from its start: the answers to
 -- requests one after another.
 use Rattle.std.specs.Prelude.{◌≡◌, ⊤, ℕ, Some, None, List, [], ◌∷◌, true, false, map, refl}
+use Rattle.dp_sap.specs.AccessTable.{no_lists}
 use Rattle.dp_slave.specs.declared.description.SlaveSpec.{SlaveSpec}
 use Rattle.dp_slave.specs.declared.description.Device.TheVariants.{Still}
 use Rattle.dp_slave.specs.SlaveRecord.{released, starting_slave}
@@ -33,6 +34,7 @@ slave_5 = record {
   freeze = true;
   user_max = 237;
   device = Still;
+  lists = no_lists;
 }
 
 -- the line

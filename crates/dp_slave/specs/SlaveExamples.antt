@@ -2,7 +2,7 @@
 use Rattle.std.specs.Prelude.{◌≡◌, ℕ, List, [], ◌∷◌, true, false, Option, Some, None, refl}
 use Rattle.dp_telegram.specs.FunctionCode.{user_error}
 use Rattle.dp_sap.specs.declared.state.State.TheVariants.{WaitPrm, WaitCfg, DataExch}
-use Rattle.dp_sap.specs.AccessTable.{data_exchange, rd_outp, slave_diag, set_prm, chk_cfg, global_control}
+use Rattle.dp_sap.specs.AccessTable.{no_lists, data_exchange, rd_outp, slave_diag, set_prm, chk_cfg, global_control}
 use Rattle.dp_responder.specs.declared.rule.Rule.TheVariants.{Length}
 use Rattle.dp_responder.specs.declared.judgement.Judged.TheVariants.{Refuse}
 use Rattle.dp_responder.specs.Judgement.{judgement}
@@ -23,6 +23,7 @@ slave_5 = record {
   freeze = true;
   user_max = 237;
   device = Still;
+  lists = no_lists;
 }
 
 -- a request of a master to a point, at this place of the journal

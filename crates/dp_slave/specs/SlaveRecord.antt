@@ -50,9 +50,16 @@ output_length slave = output_octets slave.description.cfg.items
 abbrev pub zeros : ℕ → List ℕ
 zeros count = replicate count 0
 
--- its points: state, holder and output length, which decide what is on, and the busy marks (own)
+-- its points: state, holder and output length, which decide what is on, the busy marks and the lists (own)
 abbrev pub points_of : SlaveRecord → PointsView
-points_of slave = record { state = slave.state; holder = slave.holder; out_len = output_length slave; busy = slave.busy }
+points_of slave = record {
+  state = slave.state;
+  holder = slave.holder;
+  out_len = output_length slave;
+  empty = false;
+  busy = slave.busy;
+  lists = slave.description.lists;
+}
 
 -- what it takes of parameters (IEC 61158-6-3, Set_Prm request)
 abbrev pub limits_of : SlaveRecord → Limits

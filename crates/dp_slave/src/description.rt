@@ -2,6 +2,7 @@
 
 use arrayvec::ArrayVec;
 use dp_cfg::MOST_OCTETS;
+use dp_sap::Lists;
 
 /// What feeds a slave's inputs (own).
 #[derive(Clone, Copy, Debug, PartialEq, Eq)]
@@ -31,4 +32,6 @@ pub struct SlaveSpec {
     pub user_max: u8,
     /// What feeds its inputs.
     pub device: Device,
+    /// Which masters may set its parameters, and which may read its inputs and outputs.
+    pub lists: Lists,
 }

@@ -58,7 +58,7 @@ impl Slave {
             self.since = number;
         }
         let out_len = self.points.out_len();
-        self.points.move_to(State::WaitCfg, Some(sender), out_len);
+        self.points.move_to(State::WaitCfg, Some(sender), out_len, false);
         if prm.min_tsdr != 0 {
             self.min_tsdr = prm.min_tsdr;
         }
@@ -131,7 +131,7 @@ impl Slave {
         ensures { self.new ≡ with_slave self.old (acted self.old.slave (configures its_cfg)) }
     {
         let (holder, out_len) = (self.points.holder(), self.points.out_len());
-        self.points.move_to(State::DataExch, holder, out_len);
+        self.points.move_to(State::DataExch, holder, out_len, false);
         self.cfg = Some(ITS_CFG);
         self.diag.cfg_fault = false;
         self.left = self.left_again();
@@ -227,7 +227,7 @@ impl Slave {
         ensures { self.new ≡ with_slave self.old (released self.old.slave) }
     {
         let out_len = self.points.out_len();
-        self.points.move_to(State::WaitPrm, None, out_len);
+        self.points.move_to(State::WaitPrm, None, out_len, false);
         self.since = 0;
         self.prm = None;
         self.cfg = None;

@@ -45,7 +45,7 @@ pub struct Slave {
 }
 
 impl Model for Slave {
-    ghost use Rattle.std.specs.Prelude.{◌≡◌};
+    ghost use Rattle.std.specs.Prelude.{◌≡◌, false};
     ghost use Rattle.dp_cfg.specs.Reading.{output_octets};
     ghost use Rattle.dp_slave.specs.SlaveParts.{SlaveParts};
     ghost use Rattle.dp_slave.specs.SlaveLengths.{HaveLengths};
@@ -76,7 +76,9 @@ impl Model for Slave {
     } };
 
     ghost invariant = { λ s. HaveLengths s.description.cfg.items s.inputs s.copy s.outputs s.latest
-        × (s.points.out_len ≡ output_octets s.description.cfg.items) };
+        × (s.points.out_len ≡ output_octets s.description.cfg.items)
+        × (s.points.empty ≡ false)
+        × (s.points.lists ≡ s.description.lists) };
 }
 
 impl Slave {
@@ -90,7 +92,7 @@ impl Slave {
         let (input_length, output_length) = data_lengths(&description.cfg);
         Slave {
             description: copied(description),
-            points: Points::at_state(State::WaitPrm, None, output_length),
+            points: Points::at_state(State::WaitPrm, None, output_length, false, &description.lists),
             since: 0,
             min_tsdr: FIRST_MIN_TSDR,
             prm: None,
