@@ -1,10 +1,11 @@
 -- Each slave of a line has lived through acts that fit, one after another.
 use Rattle.std.proofs.Common.{◌≡◌, ℕ, ◌+◌, ◌≤◌, Bool, true, false, not, cond, eqb, leb, List, [], ◌∷◌, ◌++◌, length, map, Option, Some, None, refl, sym, ap, subst, ◌∙◌, arith}
-use Rattle.std.specs.Prelude.{◌&&◌, is_none}
+use Rattle.std.specs.Prelude.{◌&&◌, ◌||◌, is_none}
 use Rattle.std.specs.List.{AllByRecursion}
 use Rattle.std.proofs.lemmas.Bool.{and_parts, both_ways, eqb-true, leb-true, eq-eqb}
 use Rattle.dp_telegram.specs.declared.frame.Telegram.{Telegram}
 use Rattle.dp_telegram.specs.declared.access.Parts.{Parts}
+use Rattle.dp_sap.specs.declared.lists.Lists.{Lists}
 use Rattle.dp_sap.specs.declared.state.State.{State}
 use Rattle.dp_sap.specs.declared.state.State.TheVariants.{WaitPrm, WaitCfg, DataExch}
 use Rattle.dp_sap.specs.AccessTable.{BusyMarks, access_row, chk_cfg, global_control}
@@ -37,32 +38,36 @@ use Rattle.dp_line.proofs.BusVerdict.{not_false, passed}
 use Rattle.dp_line.proofs.BusSteps.{IsWay, leaves, reaches, operates, Keeps, all_start, ascend_kept, ascend_start, kept_run, way}
 
 -- a point that is on shows in which state the slave is: the default point, Global_Control and Chk_Cfg
-same_long : (count long : ℕ) → not (leb count long && leb long count) ≡ false → eqb long count ≡ true
+or_none : (b : Bool) → (b || false) ≡ true → b ≡ true
+or_none true e = refl
+or_none false e = absurd cc
+
+same_long : (count long : ℕ) → not (leb count long && leb long count || false) ≡ false → eqb long count ≡ true
 same_long count long e =
-    let (least, most) = and_parts (leb count long) (leb long count) (not_false _ e) in
+    let (least, most) = and_parts (leb count long) (leb long count) (or_none _ (not_false _ e)) in
     let low = leb-true count long least in
     let high = leb-true long count most in
     eq-eqb long count (omega arith)
 
-exchange_on : (state : State) (holder : Option ℕ) (count long : ℕ) (busy : BusyMarks) → is_none (access_row (record { state = state; holder = holder; out_len = count; busy = busy }) None) ≡ false
-    → point_has (λ p. not (takes_length long p)) (access_row (record { state = state; holder = holder; out_len = count; busy = busy }) None) ≡ false
+exchange_on : (state : State) (holder : Option ℕ) (count long : ℕ) (busy : BusyMarks) (lists : Lists) → is_none (access_row (record { state = state; holder = holder; out_len = count; empty = false; busy = busy; lists = lists }) None) ≡ false
+    → point_has (λ p. not (takes_length long p)) (access_row (record { state = state; holder = holder; out_len = count; empty = false; busy = busy; lists = lists }) None) ≡ false
     → (is_in_data_exch state && eqb long count) ≡ true
-exchange_on WaitPrm holder count long busy on takes = absurd cc
-exchange_on WaitCfg holder count long busy on takes = absurd cc
-exchange_on DataExch None count long busy on takes = absurd cc
-exchange_on DataExch (Some master) count long busy on takes = same_long count long takes
+exchange_on WaitPrm holder count long busy lists on takes = absurd cc
+exchange_on WaitCfg holder count long busy lists on takes = absurd cc
+exchange_on DataExch None count long busy lists on takes = absurd cc
+exchange_on DataExch (Some master) count long busy lists on takes = same_long count long takes
 
-control_on : (state : State) (holder : Option ℕ) (count : ℕ) (busy : BusyMarks) → is_none (access_row (record { state = state; holder = holder; out_len = count; busy = busy }) global_control) ≡ false
+control_on : (state : State) (holder : Option ℕ) (count : ℕ) (empty : Bool) (busy : BusyMarks) (lists : Lists) → is_none (access_row (record { state = state; holder = holder; out_len = count; empty = empty; busy = busy; lists = lists }) global_control) ≡ false
     → is_in_data_exch state ≡ true
-control_on WaitPrm holder count busy on = absurd cc
-control_on WaitCfg holder count busy on = absurd cc
-control_on DataExch holder count busy on = refl
+control_on WaitPrm holder count empty busy lists on = absurd cc
+control_on WaitCfg holder count empty busy lists on = absurd cc
+control_on DataExch holder count empty busy lists on = refl
 
-cfg_on : (state : State) (holder : Option ℕ) (count : ℕ) (busy : BusyMarks) → is_none (access_row (record { state = state; holder = holder; out_len = count; busy = busy }) chk_cfg) ≡ false
+cfg_on : (state : State) (holder : Option ℕ) (count : ℕ) (empty : Bool) (busy : BusyMarks) (lists : Lists) → is_none (access_row (record { state = state; holder = holder; out_len = count; empty = empty; busy = busy; lists = lists }) chk_cfg) ≡ false
     → not (is_in_wait_prm state) ≡ true
-cfg_on WaitPrm holder count busy on = absurd cc
-cfg_on WaitCfg holder count busy on = refl
-cfg_on DataExch holder count busy on = refl
+cfg_on WaitPrm holder count empty busy lists on = absurd cc
+cfg_on WaitCfg holder count empty busy lists on = refl
+cfg_on DataExch holder count empty busy lists on = refl
 
 -- so each service that is done fits
 prm_fits : (slave : SlaveRecord) (sender place : ℕ) (verdict : PrmVerdict) → fits slave (prm_act sender place verdict) ≡ true
@@ -79,18 +84,18 @@ number_fits : (slave : SlaveRecord) (sender place number : ℕ) (octets : List �
     → is_none (access_row (points_of slave) (Some number)) ≡ false
     → fits slave (cond control (is_controlled (control_of octets)) (cond diag (tells_diagnosis sender) (cond prm (set_prm_act slave sender place octets) (cond cfg (chk_cfg_act slave octets) is_read)))) ≡ true
 number_fits slave sender place number octets true diag prm cfg control checked on =
-    control_on slave.state slave.holder (output_length slave) slave.busy (subst (λ (n : ℕ). is_none (access_row (points_of slave) (Some n)) ≡ false) (eqb-true number 58 control) on)
+    control_on slave.state slave.holder (output_length slave) (points_of slave).empty slave.busy slave.description.lists (subst (λ (n : ℕ). is_none (access_row (points_of slave) (Some n)) ≡ false) (eqb-true number 58 control) on)
 number_fits slave sender place number octets false true prm cfg control checked on = refl
 number_fits slave sender place number octets false false true cfg control checked on = prm_fits slave sender place (meaning_of octets (limits_of slave))
 number_fits slave sender place number octets false false false true control checked on =
     cfg_fits slave (same_octets slave.description.cfg.items octets)
-    (cfg_on slave.state slave.holder (output_length slave) slave.busy (subst (λ (n : ℕ). is_none (access_row (points_of slave) (Some n)) ≡ false) (eqb-true number 62 checked) on))
+    (cfg_on slave.state slave.holder (output_length slave) (points_of slave).empty slave.busy slave.description.lists (subst (λ (n : ℕ). is_none (access_row (points_of slave) (Some n)) ≡ false) (eqb-true number 62 checked) on))
 number_fits slave sender place number octets false false false false control checked on = refl
 
 service_fits : (slave : SlaveRecord) (sender place : ℕ) (point : Option ℕ) (octets : List ℕ) → is_none (access_row (points_of slave) point) ≡ false
     → point_has (λ p. not (takes_length (length octets) p)) (access_row (points_of slave) point) ≡ false
     → fits slave (service_act slave sender place point octets) ≡ true
-service_fits slave sender place None octets on long = exchange_on slave.state slave.holder (output_length slave) (length octets) slave.busy on long
+service_fits slave sender place None octets on long = exchange_on slave.state slave.holder (output_length slave) (length octets) slave.busy slave.description.lists on long
 service_fits slave sender place (Some number) octets on long =
     number_fits slave sender place number octets (eqb number 58) (eqb number 60) (eqb number 61) (eqb number 62) refl refl on
 

@@ -3,6 +3,7 @@ use Rattle.std.proofs.Common.{◌≡◌, ◌≢◌, ℕ, Bool, true, false, cond
 use Rattle.std.specs.Prelude.{find, is_none, not}
 use Rattle.std.specs.Option.{option_map_or}
 use Rattle.std.proofs.lemmas.Bool.{eqb-true}
+use Rattle.dp_sap.specs.declared.lists.Lists.{Lists}
 use Rattle.dp_sap.specs.declared.state.State.{State}
 use Rattle.dp_sap.specs.declared.state.State.TheVariants.{WaitPrm, WaitCfg, DataExch}
 use Rattle.dp_sap.specs.declared.point.Point.{Point}
@@ -49,29 +50,29 @@ reply_memory master stranger slave telegram other (Some reply) apart = other_mem
 abbrev LetsIn : Option Point → ℕ → Type 0
 LetsIn point sender = (is_none point ≡ false) × (point_has (λ p. not (admits sender p.access)) point ≡ false)
 
-abbrev held_points : State → ℕ → ℕ → BusyMarks → PointsView
-held_points state master long marks = record { state = state; holder = Some master; out_len = long; busy = marks }
+abbrev held_points : State → ℕ → ℕ → Bool → BusyMarks → Lists → PointsView
+held_points state master long empty marks lists = record { state = state; holder = Some master; out_len = long; empty = empty; busy = marks; lists = lists }
 
 -- the points that are on for the holder alone
-shut_exchange : (state : State) (master stranger long : ℕ) (marks : BusyMarks) → state ≢ WaitPrm → eqb master stranger ≡ false → LetsIn (access_row (held_points state master long marks) data_exchange) stranger → ⊥
-shut_exchange WaitPrm master stranger long marks left apart on = left refl
-shut_exchange WaitCfg master stranger long marks left apart on = absurd (let off : true ≡ false = on.0 in cc)
-shut_exchange DataExch master stranger long marks left apart on = absurd (let same : true ≡ false = ap not (sym apart) ∙ on.1 in cc)
+shut_exchange : (state : State) (master stranger long : ℕ) (empty : Bool) (marks : BusyMarks) (lists : Lists) → state ≢ WaitPrm → eqb master stranger ≡ false → LetsIn (access_row (held_points state master long empty marks lists) data_exchange) stranger → ⊥
+shut_exchange WaitPrm master stranger long empty marks lists left apart on = left refl
+shut_exchange WaitCfg master stranger long empty marks lists left apart on = absurd (let off : true ≡ false = on.0 in cc)
+shut_exchange DataExch master stranger long empty marks lists left apart on = absurd (let same : true ≡ false = ap not (sym apart) ∙ on.1 in cc)
 
-shut_control : (state : State) (master stranger long : ℕ) (marks : BusyMarks) → state ≢ WaitPrm → eqb master stranger ≡ false → LetsIn (access_row (held_points state master long marks) global_control) stranger → ⊥
-shut_control WaitPrm master stranger long marks left apart on = left refl
-shut_control WaitCfg master stranger long marks left apart on = absurd (let off : true ≡ false = on.0 in cc)
-shut_control DataExch master stranger long marks left apart on = absurd (let same : true ≡ false = ap not (sym apart) ∙ on.1 in cc)
+shut_control : (state : State) (master stranger long : ℕ) (empty : Bool) (marks : BusyMarks) (lists : Lists) → state ≢ WaitPrm → eqb master stranger ≡ false → LetsIn (access_row (held_points state master long empty marks lists) global_control) stranger → ⊥
+shut_control WaitPrm master stranger long empty marks lists left apart on = left refl
+shut_control WaitCfg master stranger long empty marks lists left apart on = absurd (let off : true ≡ false = on.0 in cc)
+shut_control DataExch master stranger long empty marks lists left apart on = absurd (let same : true ≡ false = ap not (sym apart) ∙ on.1 in cc)
 
-shut_prm : (state : State) (master stranger long : ℕ) (marks : BusyMarks) → state ≢ WaitPrm → eqb master stranger ≡ false → LetsIn (access_row (held_points state master long marks) set_prm) stranger → ⊥
-shut_prm WaitPrm master stranger long marks left apart on = left refl
-shut_prm WaitCfg master stranger long marks left apart on = absurd (let same : true ≡ false = ap not (sym apart) ∙ on.1 in cc)
-shut_prm DataExch master stranger long marks left apart on = absurd (let same : true ≡ false = ap not (sym apart) ∙ on.1 in cc)
+shut_prm : (state : State) (master stranger long : ℕ) (empty : Bool) (marks : BusyMarks) (lists : Lists) → state ≢ WaitPrm → eqb master stranger ≡ false → LetsIn (access_row (held_points state master long empty marks lists) set_prm) stranger → ⊥
+shut_prm WaitPrm master stranger long empty marks lists left apart on = left refl
+shut_prm WaitCfg master stranger long empty marks lists left apart on = absurd (let same : true ≡ false = ap not (sym apart) ∙ on.1 in cc)
+shut_prm DataExch master stranger long empty marks lists left apart on = absurd (let same : true ≡ false = ap not (sym apart) ∙ on.1 in cc)
 
-shut_cfg : (state : State) (master stranger long : ℕ) (marks : BusyMarks) → state ≢ WaitPrm → eqb master stranger ≡ false → LetsIn (access_row (held_points state master long marks) chk_cfg) stranger → ⊥
-shut_cfg WaitPrm master stranger long marks left apart on = left refl
-shut_cfg WaitCfg master stranger long marks left apart on = absurd (let same : true ≡ false = ap not (sym apart) ∙ on.1 in cc)
-shut_cfg DataExch master stranger long marks left apart on = absurd (let same : true ≡ false = ap not (sym apart) ∙ on.1 in cc)
+shut_cfg : (state : State) (master stranger long : ℕ) (empty : Bool) (marks : BusyMarks) (lists : Lists) → state ≢ WaitPrm → eqb master stranger ≡ false → LetsIn (access_row (held_points state master long empty marks lists) chk_cfg) stranger → ⊥
+shut_cfg WaitPrm master stranger long empty marks lists left apart on = left refl
+shut_cfg WaitCfg master stranger long empty marks lists left apart on = absurd (let same : true ≡ false = ap not (sym apart) ∙ on.1 in cc)
+shut_cfg DataExch master stranger long empty marks lists left apart on = absurd (let same : true ≡ false = ap not (sym apart) ∙ on.1 in cc)
 
 -- a slave that this master holds
 pub record IsHeld (master : ℕ) (slave : SlaveRecord) : Type 0 where
@@ -92,9 +93,9 @@ shut_at : (slave : SlaveRecord) (stranger : ℕ) (point number : Option ℕ) →
 shut_at slave stranger point number on shut same = shut (subst (λ (n : Option ℕ). LetsIn (access_row (points_of slave) n) stranger) (same_numbers point number same) on)
 
 held_shut : (slave : SlaveRecord) (master stranger : ℕ) (point : Option ℕ) → slave.holder ≡ Some master
-    → (LetsIn (access_row (held_points slave.state master (output_length slave) slave.busy) point) stranger → ⊥) → Shut slave stranger point
+    → (LetsIn (access_row (held_points slave.state master (output_length slave) (points_of slave).empty slave.busy slave.description.lists) point) stranger → ⊥) → Shut slave stranger point
 held_shut slave master stranger point held shut on =
-    shut (subst (λ (holder : Option ℕ). LetsIn (access_row (record { state = slave.state; holder = holder; out_len = output_length slave; busy = slave.busy }) point) stranger) held on)
+    shut (subst (λ (holder : Option ℕ). LetsIn (access_row (record { state = slave.state; holder = holder; out_len = output_length slave; empty = (points_of slave).empty; busy = slave.busy; lists = slave.description.lists }) point) stranger) held on)
 
 abbrev KeepsCore : SlaveRecord → Act → Type 0
 KeepsCore slave act = core_of (acted slave act) ≡ core_of slave
@@ -117,15 +118,15 @@ act_kept slave master stranger place point octets held apart on =
     let long = output_length slave in
     let shuts = λ (number : Option ℕ). held_shut slave master stranger number held.holder in
     unless_shut slave (same_point point data_exchange) (exchanges octets) _
-    (λ same. absurd (shut_at slave stranger point data_exchange on (shuts data_exchange (shut_exchange slave.state master stranger long slave.busy held.waits_no_more apart)) same))
+    (λ same. absurd (shut_at slave stranger point data_exchange on (shuts data_exchange (shut_exchange slave.state master stranger long (points_of slave).empty slave.busy slave.description.lists held.waits_no_more apart)) same))
     (unless_shut slave (same_point point global_control) (is_controlled (control_of octets)) _
-    (λ same. absurd (shut_at slave stranger point global_control on (shuts global_control (shut_control slave.state master stranger long slave.busy held.waits_no_more apart)) same))
+    (λ same. absurd (shut_at slave stranger point global_control on (shuts global_control (shut_control slave.state master stranger long (points_of slave).empty slave.busy slave.description.lists held.waits_no_more apart)) same))
     (unless_shut slave (same_point point slave_diag) (tells_diagnosis stranger) _
     (λ same. told_kept slave stranger (ap (λ (holder : Option ℕ). option_map_or (λ h. eqb h stranger) holder false) held.holder ∙ apart))
     (unless_shut slave (same_point point set_prm) (set_prm_act slave stranger place octets) _
-    (λ same. absurd (shut_at slave stranger point set_prm on (shuts set_prm (shut_prm slave.state master stranger long slave.busy held.waits_no_more apart)) same))
+    (λ same. absurd (shut_at slave stranger point set_prm on (shuts set_prm (shut_prm slave.state master stranger long (points_of slave).empty slave.busy slave.description.lists held.waits_no_more apart)) same))
     (unless_shut slave (same_point point chk_cfg) (chk_cfg_act slave octets) is_read
-    (λ same. absurd (shut_at slave stranger point chk_cfg on (shuts chk_cfg (shut_cfg slave.state master stranger long slave.busy held.waits_no_more apart)) same))
+    (λ same. absurd (shut_at slave stranger point chk_cfg on (shuts chk_cfg (shut_cfg slave.state master stranger long (points_of slave).empty slave.busy slave.description.lists held.waits_no_more apart)) same))
     (read_kept slave)))))
 
 -- a request that is done was let in

@@ -1,6 +1,6 @@
 -- What is known of a request that no row of its slave refuses, and what comes of it.
-use Rattle.std.proofs.Common.{◌≡◌, ◌≢◌, ℕ, Bool, true, false, not, cond, leb, List, length, Option, Some, None, refl, sym, ap, subst, ◌∙◌, arith}
-use Rattle.std.specs.Prelude.{is_none, IfSome, ◌&&◌}
+use Rattle.std.proofs.Common.{◌≡◌, ◌≢◌, ℕ, Bool, true, false, not, cond, eqb, leb, List, length, ◌≤◌, Option, Some, None, refl, sym, ap, subst, ◌∙◌, arith}
+use Rattle.std.specs.Prelude.{is_none, IfSome, ◌&&◌, ◌||◌}
 use Rattle.std.specs.Option.{option_map, option_and_then}
 use Rattle.std.proofs.lemmas.Bool.{ne_eqb, leb-true}
 use Rattle.dp_telegram.specs.declared.frame.Telegram.{Telegram}
@@ -11,7 +11,7 @@ use Rattle.dp_telegram.specs.FunctionCode.{function_of, asks_sdn, asks_srd, not_
 use Rattle.dp_sap.specs.declared.point.Access.{Access}
 use Rattle.dp_sap.specs.declared.point.Service.TheVariants.{Srd, Sdn}
 use Rattle.dp_sap.specs.AccessTable as table
-use Rattle.dp_sap.specs.AccessTable.{PointsView, Row, access_row, admitted, column_in, opened, point_of, row_of, table_row, all, same_point, data_exchange, rd_inp, rd_outp, global_control, get_cfg, slave_diag, set_prm, chk_cfg, most_data}
+use Rattle.dp_sap.specs.AccessTable.{PointsView, Row, access_row, is_listed, admitted, column_in, opened, point_of, row_of, table_row, all, same_point, data_exchange, rd_inp, rd_outp, global_control, get_cfg, slave_diag, set_prm, chk_cfg, most_data}
 use Rattle.dp_responder.specs.declared.rule.Rule.{Rule}
 use Rattle.dp_responder.specs.declared.rule.Rule.TheVariants as rules
 use Rattle.dp_responder.specs.declared.judgement.Judged.TheVariants as verdicts
@@ -42,19 +42,21 @@ record RowsOff (off other long : Bool) : Type 0 where
   fits : long ≡ false
 
 -- of a request that passes no row applies
-rows_off : (last : Option Remembered) (fc : ℕ) (repeat off stranger other busy long : Bool)
-    → judged_by last fc (first_row (rows_by repeat off stranger other busy long)) ≡ verdicts.Pass → RowsOff off other long
-rows_off last fc true off stranger other busy long e = absurd cc
-rows_off last fc false true stranger other busy long e = absurd (not_pass (asks_sdn (function_of fc)) rules.NotActive not_activated e)
-rows_off last fc false false true other busy long e = absurd (not_pass (asks_sdn (function_of fc)) rules.NotHolder not_activated e)
-rows_off last fc false false false true busy long e = absurd (not_pass (asks_sdn (function_of fc)) rules.NoService not_activated e)
-rows_off last fc false false false false true long e = absurd (not_pass (asks_sdn (function_of fc)) rules.Busy no_resource e)
-rows_off last fc false false false false false true e = absurd (not_pass (asks_sdn (function_of fc)) rules.Length user_error e)
-rows_off last fc false false false false false false e = record { is_on = refl; is_its = refl; fits = refl }
+rows_off : (last : Option Remembered) (fc : ℕ) (repeat off stranger unlisted other busy long : Bool)
+    → judged_by last fc (first_row (rows_by repeat off stranger unlisted other busy long)) ≡ verdicts.Pass → RowsOff off other long
+rows_off last fc true off stranger unlisted other busy long e = absurd cc
+rows_off last fc false true stranger unlisted other busy long e = absurd (not_pass (asks_sdn (function_of fc)) rules.NotActive not_activated e)
+rows_off last fc false false true unlisted other busy long e = absurd (not_pass (asks_sdn (function_of fc)) rules.NotHolder not_activated e)
+rows_off last fc false false false true other busy long e = absurd (not_pass (asks_sdn (function_of fc)) rules.NotListed not_activated e)
+rows_off last fc false false false false true busy long e = absurd (not_pass (asks_sdn (function_of fc)) rules.NoService not_activated e)
+rows_off last fc false false false false false true long e = absurd (not_pass (asks_sdn (function_of fc)) rules.Busy no_resource e)
+rows_off last fc false false false false false false true e = absurd (not_pass (asks_sdn (function_of fc)) rules.Length user_error e)
+rows_off last fc false false false false false false false e = record { is_on = refl; is_its = refl; fits = refl }
 
--- the row of the access table takes the request
-abbrev TakenBy : ℕ → ℕ → Row → Type 0
-TakenBy fc count row = (uses fc row.service ≡ true) × ((leb row.least count && leb count row.most) ≡ true)
+-- the row of the access table takes the request, of a slave that an empty Data_Exchange may come to or not
+abbrev TakenBy : Bool → ℕ → ℕ → Row → Type 0
+TakenBy empty fc count row =
+    (uses fc row.service ≡ true) × ((leb row.least count && leb count row.most || (same_point row.point data_exchange && empty) && eqb count 0) ≡ true)
 
 not_false : (b : Bool) → not b ≡ false → b ≡ true
 not_false true e = refl
@@ -64,26 +66,26 @@ taken_by : (points : PointsView) (fc count : ℕ) (row : Row) (access : Option A
     → is_none (option_map (point_of points row) access) ≡ false
     → point_has (λ p. not (uses fc p.service)) (option_map (point_of points row) access) ≡ false
     → point_has (λ p. not (takes_length count p)) (option_map (point_of points row) access) ≡ false
-    → TakenBy fc count row
+    → TakenBy points.empty fc count row
 taken_by points fc count row None is_on its fits = absurd cc
-taken_by points fc count row (Some access) is_on its fits = (not_false (uses fc row.service) its, not_false (leb row.least count && leb count row.most) fits)
+taken_by points fc count row (Some access) is_on its fits = (not_false (uses fc row.service) its, not_false (leb row.least count && leb count row.most || (same_point row.point data_exchange && points.empty) && eqb count 0) fits)
 
 taken_in : (points : PointsView) (fc count : ℕ) (row : Option Row)
     → is_none (option_and_then (opened points) row) ≡ false
     → point_has (λ p. not (uses fc p.service)) (option_and_then (opened points) row) ≡ false
     → point_has (λ p. not (takes_length count p)) (option_and_then (opened points) row) ≡ false
-    → IfSome row (TakenBy fc count)
+    → IfSome row (TakenBy points.empty fc count)
 taken_in points fc count None is_on its fits = tt
 taken_in points fc count (Some row) is_on its fits = taken_by points fc count row (admitted (column_in points.state row) points.holder) is_on its fits
 
 -- a request passes where its point's row of the access table takes it
 pub taken : (slave : SlaveRecord) (sender : ℕ) (telegram : Telegram) (parts : Parts)
     → judgement (points_of slave) (remembered_of slave.memory sender) sender telegram.fc parts ≡ verdicts.Pass
-    → IfSome (row_of (output_length slave) parts.dsap) (TakenBy telegram.fc (length parts.payload.items))
+    → IfSome (row_of (output_length slave) parts.dsap) (TakenBy (points_of slave).empty telegram.fc (length parts.payload.items))
 taken slave sender telegram parts passes =
     let point = access_row (points_of slave) parts.dsap in
     let rows = rows_off (remembered_of slave.memory sender) telegram.fc (is_repeat (remembered_of slave.memory sender) telegram.fc) (is_none point)
-    (point_has (λ p. not (admits sender p.access)) point) (point_has (λ p. not (uses telegram.fc p.service)) point) (point_has (λ p. p.busy) point)
+    (point_has (λ p. not (admits sender p.access)) point) (not (is_listed (points_of slave) parts.dsap sender)) (point_has (λ p. not (uses telegram.fc p.service)) point) (point_has (λ p. p.busy) point)
     (point_has (λ p. not (takes_length (length parts.payload.items) p)) point) passes in
     taken_in (points_of slave) telegram.fc (length parts.payload.items) (row_of (output_length slave) parts.dsap) rows.is_on rows.is_its rows.fits
 
@@ -92,9 +94,13 @@ both true true e = (refl, refl)
 both true false e = absurd cc
 both false b e = absurd cc
 
-just : (count length : ℕ) → (leb count length && leb length count) ≡ true → length ≡ count
+or_none : (b : Bool) → (b || false) ≡ true → b ≡ true
+or_none true e = refl
+or_none false e = absurd cc
+
+just : (count length : ℕ) → (leb count length && leb length count || false) ≡ true → length ≡ count
 just count length e =
-    let two = both (leb count length) (leb length count) e in
+    let two = both (leb count length) (leb length count) (or_none _ e) in
     omega (arith, leb-true count length two.0, leb-true length count two.1)
 
 -- Data_Exchange takes as many octets as the slave has outputs, and Global_Control two
@@ -102,19 +108,27 @@ pub exchanged_length : (slave : SlaveRecord) (sender : ℕ) (telegram : Telegram
     → judgement (points_of slave) (remembered_of slave.memory sender) sender telegram.fc parts ≡ verdicts.Pass → parts.dsap ≡ data_exchange
     → length parts.payload.items ≡ output_length slave
 exchanged_length slave sender telegram parts passes point =
-    let row = subst (λ d. IfSome (row_of (output_length slave) d) (TakenBy telegram.fc (length parts.payload.items))) point (taken slave sender telegram parts passes) in
+    let row = subst (λ d. IfSome (row_of (output_length slave) d) (TakenBy (points_of slave).empty telegram.fc (length parts.payload.items))) point (taken slave sender telegram parts passes) in
     just (output_length slave) (length parts.payload.items) row.1
 
 controlled_row : (slave : SlaveRecord) (sender : ℕ) (telegram : Telegram) (parts : Parts)
     → judgement (points_of slave) (remembered_of slave.memory sender) sender telegram.fc parts ≡ verdicts.Pass → parts.dsap ≡ global_control
-    → (asks_sdn (function_of telegram.fc) ≡ true) × ((leb 2 (length parts.payload.items) && leb (length parts.payload.items) 2) ≡ true)
+    → (asks_sdn (function_of telegram.fc) ≡ true) × ((leb 2 (length parts.payload.items) && leb (length parts.payload.items) 2 || false) ≡ true)
 controlled_row slave sender telegram parts passes point =
-    subst (λ d. IfSome (row_of (output_length slave) d) (TakenBy telegram.fc (length parts.payload.items))) point (taken slave sender telegram parts passes)
+    subst (λ d. IfSome (row_of (output_length slave) d) (TakenBy (points_of slave).empty telegram.fc (length parts.payload.items))) point (taken slave sender telegram parts passes)
 
 pub controlled_length : (slave : SlaveRecord) (sender : ℕ) (telegram : Telegram) (parts : Parts)
     → judgement (points_of slave) (remembered_of slave.memory sender) sender telegram.fc parts ≡ verdicts.Pass → parts.dsap ≡ global_control
     → length parts.payload.items ≡ 2
 controlled_length slave sender telegram parts passes point = just 2 (length parts.payload.items) (controlled_row slave sender telegram parts passes point).1
+
+-- Set_Prm takes no more than the most data octets
+pub parameters_length : (slave : SlaveRecord) (sender : ℕ) (telegram : Telegram) (parts : Parts) (number : ℕ)
+    → judgement (points_of slave) (remembered_of slave.memory sender) sender telegram.fc parts ≡ verdicts.Pass → parts.dsap ≡ Some number → number ≡ 61
+    → length parts.payload.items ≤ most_data
+parameters_length slave sender telegram parts number passes point is =
+    let row = subst (λ d. IfSome (row_of (output_length slave) d) (TakenBy (points_of slave).empty telegram.fc (length parts.payload.items))) (point ∙ ap (λ (k : ℕ). Some k) is) (taken slave sender telegram parts passes) in
+    leb-true (length parts.payload.items) most_data (both (leb 0 (length parts.payload.items)) (leb (length parts.payload.items) most_data) (or_none _ row.1)).1
 
 srd_no_sdn : (function : Function) → asks_srd function ≡ true → asks_sdn function ≡ false
 srd_no_sdn SrdLow e = refl
@@ -151,9 +165,9 @@ srd_row out_len number other =
     srd_by out_len (same_point number data_exchange) (same_point number rd_inp) (same_point number rd_outp) (same_point number global_control)
     (same_point number get_cfg) (same_point number slave_diag) (same_point number set_prm) (same_point number chk_cfg) other
 
-no_sdn_by : (fc count : ℕ) (row : Option Row) → is_none row ≡ false → IfSome row (TakenBy fc count) → IfSome row (λ row. row.service ≡ Srd) → asks_sdn (function_of fc) ≡ false
-no_sdn_by fc count None some taken srd = absurd cc
-no_sdn_by fc count (Some row) some taken srd =
+no_sdn_by : (empty : Bool) (fc count : ℕ) (row : Option Row) → is_none row ≡ false → IfSome row (TakenBy empty fc count) → IfSome row (λ row. row.service ≡ Srd) → asks_sdn (function_of fc) ≡ false
+no_sdn_by empty fc count None some taken srd = absurd cc
+no_sdn_by empty fc count (Some row) some taken srd =
     srd_no_sdn (function_of fc) (subst (λ service. uses fc service ≡ true) srd taken.0)
 
 -- a point that is in no row is off
@@ -167,9 +181,9 @@ pub no_sdn : (slave : SlaveRecord) (sender : ℕ) (telegram : Telegram) (parts :
 no_sdn slave sender telegram parts passes other =
     let point = access_row (points_of slave) parts.dsap in
     let rows = rows_off (remembered_of slave.memory sender) telegram.fc (is_repeat (remembered_of slave.memory sender) telegram.fc) (is_none point)
-    (point_has (λ p. not (admits sender p.access)) point) (point_has (λ p. not (uses telegram.fc p.service)) point) (point_has (λ p. p.busy) point)
+    (point_has (λ p. not (admits sender p.access)) point) (not (is_listed (points_of slave) parts.dsap sender)) (point_has (λ p. not (uses telegram.fc p.service)) point) (point_has (λ p. p.busy) point)
     (point_has (λ p. not (takes_length (length parts.payload.items) p)) point) passes in
-    no_sdn_by telegram.fc (length parts.payload.items) (row_of (output_length slave) parts.dsap)
+    no_sdn_by (points_of slave).empty telegram.fc (length parts.payload.items) (row_of (output_length slave) parts.dsap)
     (row_some (points_of slave) (row_of (output_length slave) parts.dsap) rows.is_on)
     (taken slave sender telegram parts passes) (srd_row (output_length slave) parts.dsap other)
 

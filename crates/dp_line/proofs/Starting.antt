@@ -12,8 +12,8 @@ use Rattle.dp_owners.specs.Chain.{HaveNoLinks}
 use Rattle.dp_slave.specs.declared.description.SlaveSpec.{SlaveSpec}
 use Rattle.dp_slave.specs.SlaveRecord.{SlaveRecord, released, starting_slave}
 use Rattle.dp_slave.specs.SlaveParts.{SlaveParts}
-use Rattle.dp_line.specs.declared.fault.OpenFault.TheVariants.{TwiceAddress, Limit, BadCfg}
-use Rattle.dp_line.specs.World.{AreAbove, Ascend, Description, HaveMasters, address_of_slave, described_at, ascending, has_configuration, is_within_limits, opening_fault, station_addresses, has_twice, slave_is_within_limits}
+use Rattle.dp_line.specs.declared.fault.OpenFault.TheVariants.{TwiceAddress, Limit, BadCfg, UnknownListed}
+use Rattle.dp_line.specs.World.{AreAbove, Ascend, Description, HaveMasters, address_of_slave, described_at, ascending, has_configuration, is_within_limits, lists_masters, opening_fault, station_addresses, has_twice, slave_is_within_limits}
 use Rattle.dp_line.specs.Owned.{in_order}
 use Rattle.dp_line.specs.Stations.{AreEmpty, AreStations, HaveNoOwner, Placed, StationsView, fresh_slave, freed, index_of, indices_where, is_of, links_of, lists_of, master_index, placed, slaves_of}
 
@@ -111,27 +111,32 @@ limits_by true true true true true false b7 b8 e = absurd cc
 limits_by true true true true true true false b8 e = absurd cc
 limits_by true true true true true true true false e = absurd cc
 
-faults_by : (a b c : Bool) → cond (not a) (Some Limit) (cond b (Some TwiceAddress) (cond (not c) (Some BadCfg) None)) ≡ None → (a ≡ true) × (c ≡ true)
-faults_by true false true e = (refl, refl)
-faults_by false b c e = absurd cc
-faults_by true true c e = absurd cc
-faults_by true false false e = absurd cc
+faults_by : (a b l c : Bool) → cond (not a) (Some Limit) (cond b (Some TwiceAddress) (cond (not l) (Some UnknownListed) (cond (not c) (Some BadCfg) None))) ≡ None
+    → (a ≡ true) × (l ≡ true) × (c ≡ true)
+faults_by true false true true e = (refl, refl, refl)
+faults_by false b l c e = absurd cc
+faults_by true true l c e = absurd cc
+faults_by true false false c e = absurd cc
+faults_by true false true false e = absurd cc
 
 pub record IsOpened (line : Description) : Type 0 where
   pub two_places : 2 ≤ line.capacity
   pub few_masters : length line.masters ≤ 16
   pub few_slaves : length line.slaves ≤ 64
+  pub listed : list_all (lists_masters line.masters) line.slaves ≡ true
   pub configured : list_all has_configuration line.slaves ≡ true
 
 pub opened : (line : Description) → opening_fault line ≡ None → IsOpened line
 opened line e =
-    let (within, configured) = faults_by (is_within_limits line) (has_twice (station_addresses line)) (list_all has_configuration line.slaves) e in
+    let (within, listed, configured) =
+    faults_by (is_within_limits line) (has_twice (station_addresses line)) (list_all (lists_masters line.masters) line.slaves) (list_all has_configuration line.slaves) e in
     let limits = limits_by (nat_le 2 line.capacity) (nat_le line.capacity 65536) (nat_le 1 (length line.masters)) (nat_le (length line.masters) 16)
     (nat_le 1 (length line.slaves)) (nat_le (length line.slaves) 64) (list_all is_station line.masters) (list_all slave_is_within_limits line.slaves) within in
     record {
       two_places = leb-true 2 line.capacity limits.0;
       few_masters = leb-true (length line.masters) 16 limits.1;
       few_slaves = leb-true (length line.slaves) 64 limits.2;
+      listed = listed;
       configured = configured;
     }
 

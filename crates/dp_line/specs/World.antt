@@ -1,13 +1,15 @@
 -- What a line is at one moment, and at its start.
 use Rattle.std.specs.Prelude.{◌≡◌, ℕ, ◌+◌, ◌<◌, Bool, true, false, not, ◌&&◌, ◌||◌, ◌==◌, nat_le, if◌then◌else◌, List, [], ◌∷◌, ◌++◌, length, map, find, Option, Some, None, IfSome, is_ok}
 use Rattle.std.specs.List.{AllByRecursion, list_all, list_any, filter_map, range_with_len}
+use Rattle.std.specs.Option.{option_map_or}
 use Rattle.dp_telegram.specs.Access.{global_address, is_station}
 use Rattle.dp_cfg.specs.Reading.{reading_of}
+use Rattle.dp_sap.specs.declared.lists.Lists.{Lists}
 use Rattle.dp_slave.specs.declared.description.SlaveSpec.{SlaveSpec}
 use Rattle.dp_slave.specs.SlaveRecord.{SlaveRecord, starting_slave}
 use Rattle.dp_line.specs.declared.description.LineSpec.{LineSpec}
 use Rattle.dp_line.specs.declared.fault.OpenFault.{OpenFault}
-use Rattle.dp_line.specs.declared.fault.OpenFault.TheVariants.{TwiceAddress, Limit, BadCfg}
+use Rattle.dp_line.specs.declared.fault.OpenFault.TheVariants.{TwiceAddress, Limit, BadCfg, UnknownListed}
 
 -- a line: its masters, the places of its journal and how many are taken, whether it is halted, and its
 -- slaves in ascending order of address (own)
@@ -91,11 +93,27 @@ station_addresses line = line.masters ++ map (λ slave. slave.address) line.slav
 abbrev pub has_configuration : SlaveSpec → Bool
 has_configuration slave = is_ok (reading_of slave.cfg.items)
 
--- why a description isn't opened: limits first, then addresses, then configurations
+-- the addresses that a slave's lists name, those of the lockers and of the readers; none where it has no list
+abbrev pub lockers_of : Lists → List ℕ
+lockers_of lists = option_map_or (λ masters. masters.items) lists.lockers []
+
+abbrev pub readers_of : Lists → List ℕ
+readers_of lists = option_map_or (λ masters. masters.items) lists.readers []
+
+-- each address of a list is that of one of these masters; how often it is listed doesn't matter
+abbrev pub are_masters : List ℕ → List ℕ → Bool
+are_masters masters listed = list_all (λ address. list_any (λ master. address == master) masters) listed
+
+-- the slave's lists name masters of the line alone
+abbrev pub lists_masters : List ℕ → SlaveSpec → Bool
+lists_masters masters slave = are_masters masters (lockers_of slave.lists) && are_masters masters (readers_of slave.lists)
+
+-- why a description isn't opened: limits first, then addresses, then lists, then configurations
 abbrev pub opening_fault : Description → Option OpenFault
 opening_fault line =
     if not (is_within_limits line) then Some Limit
     else if has_twice (station_addresses line) then Some TwiceAddress
+    else if not (list_all (lists_masters line.masters) line.slaves) then Some UnknownListed
     else if not (list_all has_configuration line.slaves) then Some BadCfg
     else None
 

@@ -7,7 +7,7 @@ ghost use Rattle.dp_line.specs.Names.{open_fault_name, operator_fault_name};
 use thiserror::Error;
 
 /// Why a line isn't opened. The first that applies is reported: `Limit`, `TwiceAddress`,
-/// `BadCfg`, `OutOfMemory`.
+/// `UnknownListed`, `BadCfg`, `OutOfMemory`.
 #[derive(Clone, Copy, Debug, PartialEq, Eq, Error)]
 #[error("{}", self.name())]
 pub enum OpenFault {
@@ -21,10 +21,12 @@ pub enum OpenFault {
     /// The configuration of a slave ends within an identifier, or has more than 244 octets of inputs
     /// or of outputs.
     BadCfg,
+    /// A list of a slave names an address that no master of the line has.
+    UnknownListed,
 }
 
 impl OpenFault {
-    /// The number of the fault, 1 to 4 (own).
+    /// The number of the fault, 1 to 5 (own).
     pub const fn code(self) -> u8
         ensures { result ≡ open_fault_code self }
     {
@@ -33,6 +35,7 @@ impl OpenFault {
             OpenFault::TwiceAddress => 2,
             OpenFault::Limit => 3,
             OpenFault::BadCfg => 4,
+            OpenFault::UnknownListed => 5,
         }
     }
 
@@ -45,6 +48,7 @@ impl OpenFault {
             OpenFault::TwiceAddress => "TwiceAddress",
             OpenFault::Limit => "Limit",
             OpenFault::BadCfg => "BadCfg",
+            OpenFault::UnknownListed => "UnknownListed",
         }
     }
 }

@@ -1,15 +1,16 @@
 //! What a description of a line may say.
 
-ghost use Rattle.std.specs.Prelude.{◌≡◌, ◌≤◌, ◌++◌, length, map};
-ghost use Rattle.std.specs.List.{list_all};
+ghost use Rattle.std.specs.Prelude.{◌≡◌, ◌≤◌, ◌++◌, ◌==◌, length, map};
+ghost use Rattle.std.specs.List.{list_all, list_any};
 ghost use Rattle.dp_telegram.specs.Access.{is_station as is_station_address};
-ghost use Rattle.dp_line.specs.World.{is_within_limits, slave_is_within_limits, station_addresses as addresses_of, has_twice, has_configuration, opening_fault, description_of};
+ghost use Rattle.dp_line.specs.World.{is_within_limits, slave_is_within_limits, station_addresses as addresses_of, has_twice, has_configuration, opening_fault, description_of, are_masters as are_masters_of, lists_masters, lockers_of, readers_of};
 
 use crate::description::LineSpec;
 use crate::fault::OpenFault;
 use arrayvec::ArrayVec;
 use dp_cfg::CfgIds;
 use dp_prm::MOST_USER_PARAMETERS;
+use dp_sap::Lists;
 use dp_slave::SlaveSpec;
 use dp_telegram::is_station;
 
@@ -23,8 +24,9 @@ const MOST_PLACES: u32 = 65_536;
 
 impl LineSpec {
     /// Why no line is opened from the description: `Limit` where a number is outside its limits, else
-    /// `TwiceAddress` where two stations have one address, else `BadCfg` where the `cfg` of a slave
-    /// is no configuration; None where a line is opened.
+    /// `TwiceAddress` where two stations have one address, else `UnknownListed` where a list of a
+    /// slave names an address that no master has, else `BadCfg` where the `cfg` of a slave is no
+    /// configuration; None where a line is opened.
     pub fn fault(&self) -> Option<OpenFault>
         ensures { result ≡ opening_fault (description_of self.now) }
     {
@@ -33,6 +35,9 @@ impl LineSpec {
         }
         if stands_twice(&station_addresses(self)) {
             return Some(OpenFault::TwiceAddress);
+        }
+        if !list_masters(&self.slaves, &self.masters) {
+            return Some(OpenFault::UnknownListed);
         }
         if !have_configurations(&self.slaves) {
             return Some(OpenFault::BadCfg);
@@ -94,6 +99,49 @@ fn stands_twice(addresses: &[u8]) -> bool
         [] => false,
         [first, others @ ..] => others.contains(first) || stands_twice(others),
     }
+}
+
+fn list_masters(slaves: &[SlaveSpec], masters: &[u8]) -> bool
+    ensures { result ≡ list_all (lists_masters masters.now) slaves.now }
+{
+    slaves.iter().all(|slave| lists_are_masters(slave, masters))
+}
+
+fn lists_are_masters(slave: &SlaveSpec, masters: &[u8]) -> bool
+    ensures { result ≡ lists_masters masters.now slave.now }
+{
+    lockers_are_masters(&slave.lists, masters) && readers_are_masters(&slave.lists, masters)
+}
+
+fn lockers_are_masters(lists: &Lists, masters: &[u8]) -> bool
+    ensures { result ≡ are_masters_of masters.now (lockers_of lists.now) }
+{
+    match &lists.lockers {
+        Some(listed) => are_masters(listed, masters),
+        None => true,
+    }
+}
+
+fn readers_are_masters(lists: &Lists, masters: &[u8]) -> bool
+    ensures { result ≡ are_masters_of masters.now (readers_of lists.now) }
+{
+    match &lists.readers {
+        Some(listed) => are_masters(listed, masters),
+        None => true,
+    }
+}
+
+/// Each of these addresses is a master's.
+fn are_masters(listed: &[u8], masters: &[u8]) -> bool
+    ensures { result ≡ are_masters_of masters.now listed.now }
+{
+    listed.iter().all(|address| is_master(*address, masters))
+}
+
+fn is_master(address: u8, masters: &[u8]) -> bool
+    ensures { result ≡ list_any (λ master. address == master) masters.now }
+{
+    masters.contains(&address)
 }
 
 fn have_configurations(slaves: &[SlaveSpec]) -> bool
