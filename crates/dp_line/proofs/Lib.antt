@@ -43,6 +43,7 @@ pub mod BusAnswers
 pub mod BusOutcomes
 pub mod BusReasons
 pub mod BusRows
+pub mod ListedMasters
 pub mod Facts
 pub mod BusEach
 pub mod BusRepeats

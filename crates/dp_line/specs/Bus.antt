@@ -1,18 +1,18 @@
 -- Words of the laws of a line in the bus's own words.
-use Rattle.std.specs.Prelude.{◌≡◌, ◌≢◌, ℕ, ◌≤◌, Bool, true, false, List, [], ◌∷◌, Option, Some, None, length, slice_index}
+use Rattle.std.specs.Prelude.{◌≡◌, ◌≢◌, ℕ, ◌≤◌, Bool, true, false, not, ◌||◌, List, [], ◌∷◌, Option, Some, None, IfSome, length, slice_index}
 use Rattle.arrayvec.specs.ArrayVec.{ArrayVec}
 use Rattle.dp_telegram.specs.declared.frame.Telegram.{Telegram}
 use Rattle.dp_telegram.specs.declared.frame.Frame.TheVariants as frames
 use Rattle.dp_telegram.specs.FrameText.{Spells}
 use Rattle.dp_telegram.specs.Access.{address_of, global_address}
 use Rattle.dp_telegram.specs.FunctionCode.{asks_sdn, function_of, is_request, is_set}
-use Rattle.dp_sap.specs.AccessTable.{most_data}
+use Rattle.dp_sap.specs.AccessTable.{may_lock, may_read, most_data, rd_inp, rd_outp, same_point}
 use Rattle.dp_diag.specs.Diagnosis.{most_extended}
 use Rattle.dp_diag.specs.DiagnosisText.{diagnosis_text}
 use Rattle.dp_responder.specs.declared.rule.Rule.{Rule}
 use Rattle.dp_responder.specs.declared.rule.Rule.TheVariants as rules
 use Rattle.dp_slave.specs.declared.description.SlaveSpec.{SlaveSpec}
-use Rattle.dp_slave.specs.SlaveRecord.{SlaveRecord, diag_facts}
+use Rattle.dp_slave.specs.SlaveRecord.{SlaveRecord, diag_facts, is_held_by}
 use Rattle.dp_line.specs.declared.event.Event.{Event}
 use Rattle.dp_line.specs.declared.event.Event.TheVariants.{Request, Operator}
 use Rattle.dp_line.specs.declared.event.Op.TheVariants.{Diag}
@@ -98,3 +98,19 @@ pub data IsFirst : List (Bool × Rule) → Rule → Type 0 where
   here : {rule : Rule} {rows : List (Bool × Rule)} → IsFirst ((true, rule) ∷ rows) rule
   later : {rule given : Rule} {rows : List (Bool × Rule)} → IsFirst rows given → IsFirst ((false, rule) ∷ rows) given
   none_applies : IsFirst [] rules.Done
+
+-- nobody holds the slave but a master that its lists let lock it (own)
+abbrev pub IsHeldByLocker : SlaveRecord → Type 0
+IsHeldByLocker slave = IfSome slave.holder (λ holder. may_lock slave.description.lists holder ≡ true)
+
+-- the points by which inputs and outputs are read (IEC 61158-6-3, service access points)
+abbrev pub reads_data : Option ℕ → Bool
+reads_data point = same_point point rd_inp || same_point point rd_outp
+
+-- the master is no reader of the slave, and doesn't hold it (own)
+abbrev pub is_no_reader : ℕ → SlaveRecord → Bool
+is_no_reader master slave = not (may_read slave.description.lists master || is_held_by master slave)
+
+-- a reply that has no octet of data: six octets, SD1 (IEC 61158-4-3, response telegrams)
+abbrev pub HasNoData : List ℕ → Type 0
+HasNoData reply = length reply ≡ 6

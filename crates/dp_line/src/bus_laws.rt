@@ -3,6 +3,7 @@
 ghost use Rattle.std.specs.Prelude.{◌≡◌, ◌≢◌, ℕ, List, None, Some, is_some, true};
 ghost use Rattle.std.specs.List.{AllByRecursion};
 ghost use Rattle.arrayvec.specs.ArrayVec.{ArrayVec};
+ghost use Rattle.dp_telegram.specs.declared.access.Parts.{Parts};
 ghost use Rattle.dp_telegram.specs.declared.frame.Frame.{Frame as Frames};
 ghost use Rattle.dp_telegram.specs.FrameText.{Spells};
 ghost use Rattle.dp_responder.specs.declared.rule.Rule.{Rule as Rules};
@@ -16,7 +17,7 @@ ghost use Rattle.dp_line.specs.Verdict.{verdict_of, verdict_rows};
 ghost use Rattle.dp_line.specs.Effects.{slave_after};
 ghost use Rattle.dp_line.specs.Steps.{run, step};
 ghost use Rattle.dp_line.specs.Isolation.{frame_memory};
-ghost use Rattle.dp_line.specs.Bus.{AreTurnedAway, HasPlace, HasReason, HasShortConfiguration, HasShortReport, IsAnswered, IsFirst, IsHeldFrom, tells_watchdog};
+ghost use Rattle.dp_line.specs.Bus.{AreTurnedAway, HasNoData, HasPlace, HasReason, HasShortConfiguration, HasShortReport, IsAnswered, IsFirst, IsHeldByLocker, IsHeldFrom, is_no_reader, reads_data, tells_watchdog};
 
 /// Whatever came to a line since its start, each of its slaves is sound: outside Data_Exch outputs and
 /// latest data are zero and neither mode is on; it is in Wait_Prm exactly where nobody holds it, and has
@@ -77,6 +78,27 @@ pub fn a_lock_keeps_its_place()
 {
     dp_slave::laws::a_slave_stays_sound();
 }
+
+/// Whatever came to a line since its start, nobody holds a slave that has a list of lockers but a master
+/// of the list.
+pub fn lockers_alone_hold()
+    ensures { (line : Description) (events : List Events)
+        → AllByRecursion IsHeldByLocker (run (start_of line) events).world.slaves }
+{}
+
+/// A master that is none of a slave's readers and doesn't hold the slave reads none of its inputs and
+/// outputs: what it asks RD_Inp or RD_Outp for is never done, and the reply that it gets has no octet of
+/// data. Where it repeats a request, it gets the reply that it got already.
+pub fn readers_alone_read()
+    ensures { (world : World) (master : ℕ) (octets reply : ArrayVec ℕ) (rule : Rules) (parts : Parts) (slave : SlaveRecord)
+        → (heard world master octets.items).parts ≡ Some parts
+        → (heard world master octets.items).slave ≡ Some slave
+        → reads_data parts.dsap ≡ true
+        → is_no_reader master slave ≡ true
+        → (step world (Events.Request master octets)).answer.outcome ≡ Answered.Reply reply rule
+        → rule ≢ Rules.Repeat
+        → (rule ≢ Rules.Done) × HasNoData reply.items }
+{}
 
 /// While a master holds a slave, a request of another one changes no field of the slave but its frame
 /// memory, and of that only what it remembers of the sender.
