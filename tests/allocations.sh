@@ -87,7 +87,7 @@ rack() {
 printf 'what is no rack' >"$work/bad"
 rack 1 1 1 >"$work/rack"
 printf 'm 100 68 05 05 68 81 E4 6D 3C 3E 4C 16\njournal\n' >"$work/script"
-printf 'rack-audit 1 line 1\n' >"$work/audit"
+printf 'rack-audit 2 line 1\n' >"$work/audit"
 
 sweep 'help' 4 /dev/null --help
 sweep 'version' 4 /dev/null --version

@@ -145,7 +145,7 @@ printf "$slave_diag\nx\n" >"$work/wrong"
 printf '\xff\n' >"$work/latin"
 : >"$work/empty"
 entry="1 req 1 6805056885816d3c3eed16 | WaitPrm none | reply ${reply#1: reply }"
-printf 'rack-audit 1 line 1\n%s\n' "$entry" >"$work/audit"
+printf 'rack-audit 2 line 1\n%s\n' "$entry" >"$work/audit"
 
 run '' run "$work/rack" "$work/script"; expect 'a rack and a script in files' 0 "$reply" ''
 run 'x' run "$work/rack" "$work/script"; expect 'standard input is left' 0 "$reply" ''
@@ -159,13 +159,13 @@ run '' run "$work/rack" "$work/mark"; expect 'two percent signs in a script file
 run '' check "$work/rack" "$work/audit"; expect 'a legal audit text' 0 'legal 1' ''
 run 'x' check "$work/rack" "$work/audit"; expect 'a check leaves standard input' 0 'legal 1' ''
 run '' check "$work/rack" "$work/empty"; expect 'an empty audit text' 1 'bad line 1' ''
-printf 'rack-audit 1 line 2\n%s\n' "$entry" >"$work/other"
+printf 'rack-audit 2 line 2\n%s\n' "$entry" >"$work/other"
 run '' check "$work/rack" "$work/other"; expect 'an audit text of another line' 1 'bad line 1' ''
-printf 'rack-audit 1 line 1\n%s' "$entry" >"$work/short"
+printf 'rack-audit 2 line 1\n%s' "$entry" >"$work/short"
 run '' check "$work/rack" "$work/short"; expect 'an audit text without its last LF' 1 'bad line 2' ''
-printf 'rack-audit 1 line 1\r\n%s\r\n' "$entry" >"$work/crlf"
+printf 'rack-audit 2 line 1\r\n%s\r\n' "$entry" >"$work/crlf"
 run '' check "$work/rack" "$work/crlf"; expect 'an audit text with CR LF' 1 'bad line 1' ''
-printf 'rack-audit 1 line 1\n%s\n' "${entry/WaitPrm/WaitCfg}" >"$work/facts"
+printf 'rack-audit 2 line 1\n%s\n' "${entry/WaitPrm/WaitCfg}" >"$work/facts"
 run '' check "$work/rack" "$work/facts"; expect 'other facts' 1 'not the policy 2' ''
 run '' check "$work/script" "$work/audit"; expect 'a check on a file that is no rack' 2 '' 'rackd: rack NotToml'
 run '' check "$work/script" "$work/empty"; expect 'the rack comes before the audit text' 2 '' 'rackd: rack NotToml'

@@ -138,7 +138,7 @@ audits() {
   while [ $# -gt 0 ]; do
     index=$((index + 1))
     touch "$work/audit-$index"
-    expect "$name: text $index is of line $1" "rack-audit 1 line $1" "$(head -n 1 "$work/audit-$index")"
+    expect "$name: text $index is of line $1" "rack-audit 2 line $1" "$(head -n 1 "$work/audit-$index")"
     expect "$name: the journal of line $1" "legal $2" "$("$program" check "$rack" "$work/audit-$index" 2>&1)"
     shift 2
   done
@@ -350,7 +350,7 @@ orders 'nothing comes after it' "$second" 'tick 1' 'refused Halted'
 for fd in "$second" "$one" "$two" "$three"; do hang_up "$fd"; done
 finish 'two lines' "$masters" "$operators" "$masters_2" "$operators_2"
 audits 'two lines' 1 19 2 1
-expect 'the journal of line 1' "rack-audit 1 line 1
+expect 'the journal of line 1' "rack-audit 2 line 1
 1 req 1 $diag_1 | WaitPrm none | reply $fresh_1 Done
 2 in 5 aa55 | WaitPrm none | done
 3 req 1 $lock_1 | WaitPrm none | reply e5 Done

@@ -1,7 +1,7 @@
 //! A line of slaves under a load of Slave_Diag requests.
 
 use arrayvec::ArrayVec;
-use dp_line::{Device, Event, LineSpec, LineState, OpenFault, Outcome, SlaveSpec};
+use dp_line::{Device, Event, LineSpec, LineState, Lists, OpenFault, Outcome, SlaveSpec};
 use std::alloc::Global;
 
 /// Requests of one measurement.
@@ -21,6 +21,10 @@ pub fn opened(alloc: Global, slaves: u8) -> Result<LineState, OpenFault> {
             freeze: false,
             user_max: 237,
             device: Device::Still,
+            lists: Lists {
+                lockers: None,
+                readers: None,
+            },
         };
         described.push(slave).map_err(|_| OpenFault::OutOfMemory)?;
     }

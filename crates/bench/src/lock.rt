@@ -5,7 +5,7 @@ ghost use Rattle.dp_shared.specs.Passes.{table_of};
 
 use arrayvec::ArrayVec;
 use dp_audit::{Book, Receipt};
-use dp_line::{Device, Event, LineSpec, OpenFault, Outcome, SlaveSpec};
+use dp_line::{Device, Event, LineSpec, Lists, OpenFault, Outcome, SlaveSpec};
 use dp_shared::{Line, Pass};
 use dp_telegram::{GLOBAL_ADDRESS, Octets};
 use std::alloc::Global;
@@ -33,6 +33,10 @@ pub(crate) fn described(alloc: Global, requests: u32) -> Result<LineSpec, OpenFa
         freeze: false,
         user_max: 237,
         device: Device::Still,
+        lists: Lists {
+            lockers: None,
+            readers: None,
+        },
     };
     slaves.push(slave).map_err(|_| OpenFault::OutOfMemory)?;
     Ok(LineSpec {

@@ -5,7 +5,7 @@ ghost use Rattle.std.specs.Prelude.{◌≡◌};
 use crate::ROUNDS;
 use crate::sockets::{Bare, Connection, Served, ask_all, connect};
 use arrayvec::ArrayVec;
-use dp_line::{Device, LineSpec, OpenFault, SlaveSpec};
+use dp_line::{Device, LineSpec, Lists, OpenFault, SlaveSpec};
 use dp_sessions::Port;
 use dp_shared::{Claims, Line, WorkerSeat};
 use std::alloc::Global;
@@ -104,6 +104,10 @@ fn described(alloc: Global, requests: u32) -> io::Result<LineSpec> {
         freeze: false,
         user_max: 237,
         device: Device::Still,
+        lists: Lists {
+            lockers: None,
+            readers: None,
+        },
     })?;
     Ok(LineSpec {
         number: 1,

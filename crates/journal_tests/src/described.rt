@@ -1,7 +1,7 @@
 //! The lines of the tests, and how a test compares what it was told.
 
 use arrayvec::ArrayVec;
-use dp_line::{Device, LineSpec, SlaveSpec};
+use dp_line::{Device, LineSpec, Lists, SlaveSpec};
 use std::alloc::Global;
 use std::test::Fail;
 
@@ -44,5 +44,9 @@ fn slave(address: u8) -> Result<SlaveSpec, Fail> {
         freeze: true,
         user_max: 237,
         device: Device::Still,
+        lists: Lists {
+            lockers: None,
+            readers: None,
+        },
     })
 }

@@ -40,7 +40,7 @@ fn all_check(alloc: Global, texts: &[&str], expected: &str) -> Result<(), Fail> 
 
 /// The run of a master that locks the slave at address 5, configures it and exchanges data once.
 const RUN: &str = "\
-rack-audit 1 line 1
+rack-audit 2 line 1
 1 in 5 aa55 | WaitPrm none | done
 2 req 1 6805056885816d3c3eed16 | WaitPrm none | reply 680b0b688185083e3c020500ff80a1af16 Done
 3 req 1 680c0c6885815d3d3e8802050b80a1019a16 | WaitPrm none | reply e5 Done
@@ -51,7 +51,7 @@ rack-audit 1 line 1
 #[test]
 fn run_is_accepted(rt: HostRuntime) -> Result<(), Fail> {
     checks(rt.alloc(), 1000, RUN, "legal 5")?;
-    checks(rt.alloc(), 1000, "rack-audit 1 line 1\n", "legal 0")
+    checks(rt.alloc(), 1000, "rack-audit 2 line 1\n", "legal 0")
 }
 
 /// What is said of the beginning of a text that ends with this octet, behind so many whole rows.
@@ -97,10 +97,10 @@ fn header_is_wrong(rt: HostRuntime) -> Result<(), Fail> {
         rt.alloc(),
         &[
             "",
-            "rack-audit 1 line 1",
-            "rack-audit 1 line 2\n",
-            "rack-audit 2 line 1\n",
-            "rack-audit 1 line 01\n",
+            "rack-audit 2 line 1",
+            "rack-audit 2 line 2\n",
+            "rack-audit 3 line 1\n",
+            "rack-audit 2 line 01\n",
         ],
         "bad line 1, fault 2",
     )
@@ -111,12 +111,12 @@ fn first_entry_is_badly_formed(rt: HostRuntime) -> Result<(), Fail> {
     all_check(
         rt.alloc(),
         &[
-            "rack-audit 1 line 1\n1 in 5 AA55 | WaitPrm none | done\n",
-            "rack-audit 1 line 1\n1 in 5 aa55 | WaitPrm none | done | done\n",
-            "rack-audit 1 line 1\n1 in 5 aa55 | WaitPrm none\n",
-            "rack-audit 1 line 1\n01 in 5 aa55 | WaitPrm none | done\n",
-            "rack-audit 1 line 1\n1 in 5 aa55 | WaitPrm none | done",
-            "rack-audit 1 line 1\n\n",
+            "rack-audit 2 line 1\n1 in 5 AA55 | WaitPrm none | done\n",
+            "rack-audit 2 line 1\n1 in 5 aa55 | WaitPrm none | done | done\n",
+            "rack-audit 2 line 1\n1 in 5 aa55 | WaitPrm none\n",
+            "rack-audit 2 line 1\n01 in 5 aa55 | WaitPrm none | done\n",
+            "rack-audit 2 line 1\n1 in 5 aa55 | WaitPrm none | done",
+            "rack-audit 2 line 1\n\n",
         ],
         "bad line 2, fault 2",
     )
@@ -127,11 +127,11 @@ fn first_entry_is_not_the_policy(rt: HostRuntime) -> Result<(), Fail> {
     all_check(
         rt.alloc(),
         &[
-            "rack-audit 1 line 1\n2 in 5 aa55 | WaitPrm none | done\n",
-            "rack-audit 1 line 1\n1 in 5 aa | WaitPrm none | refused WrongLength\n",
-            "rack-audit 1 line 1\n1 in 5 aa55 | WaitCfg none | done\n",
-            "rack-audit 1 line 1\n1 in 5 aa55 | WaitPrm none | Done\n",
-            "rack-audit 1 line 1\n1 req 1 6805056885816d3c3eed16 | WaitPrm none | reply 680b0b688185083e3c020500ff80a1ae16 Done\n",
+            "rack-audit 2 line 1\n2 in 5 aa55 | WaitPrm none | done\n",
+            "rack-audit 2 line 1\n1 in 5 aa | WaitPrm none | refused WrongLength\n",
+            "rack-audit 2 line 1\n1 in 5 aa55 | WaitCfg none | done\n",
+            "rack-audit 2 line 1\n1 in 5 aa55 | WaitPrm none | Done\n",
+            "rack-audit 2 line 1\n1 req 1 6805056885816d3c3eed16 | WaitPrm none | reply 680b0b688185083e3c020500ff80a1ae16 Done\n",
         ],
         "not the policy 2, fault 3",
     )
@@ -142,19 +142,19 @@ fn later_line_is_wrong(rt: HostRuntime) -> Result<(), Fail> {
     checks(
         rt.alloc(),
         1000,
-        "rack-audit 1 line 1\n1 tick 1 | none | released\n2 tick 1 | none | released\n2 tick 1 | none | released\n",
+        "rack-audit 2 line 1\n1 tick 1 | none | released\n2 tick 1 | none | released\n2 tick 1 | none | released\n",
         "not the policy 4, fault 3",
     )?;
     checks(
         rt.alloc(),
         1000,
-        "rack-audit 1 line 1\n1 tick 1 | none | released\n2 tick 1 | none | released",
+        "rack-audit 2 line 1\n1 tick 1 | none | released\n2 tick 1 | none | released",
         "bad line 3, fault 2",
     )?;
     checks(
         rt.alloc(),
         1000,
-        "rack-audit 1 line 1\n1 halt | none | released\n2 tick 1 | none | released\n",
+        "rack-audit 2 line 1\n1 halt | none | released\n2 tick 1 | none | released\n",
         "not the policy 3, fault 3",
     )
 }
@@ -164,13 +164,13 @@ fn halt_at_last_place(rt: HostRuntime) -> Result<(), Fail> {
     checks(
         rt.alloc(),
         2,
-        "rack-audit 1 line 1\n1 tick 1 | none | released\n2 halt | none | released\n",
+        "rack-audit 2 line 1\n1 tick 1 | none | released\n2 halt | none | released\n",
         "legal 2",
     )?;
     checks(
         rt.alloc(),
         2,
-        "rack-audit 1 line 1\n1 tick 1 | none | released\n2 tick 1 | none | released\n",
+        "rack-audit 2 line 1\n1 tick 1 | none | released\n2 tick 1 | none | released\n",
         "not the policy 3, fault 3",
     )
 }
@@ -182,7 +182,7 @@ fn halt_releases(rt: HostRuntime) -> Result<(), Fail> {
         rt.alloc(),
         2,
         "\
-rack-audit 1 line 1
+rack-audit 2 line 1
 1 req 1 680c0c6885815d3d3e8802050b80a1019a16 | WaitPrm none | reply e5 Done
 2 halt | none | released 5
 ",
@@ -192,7 +192,7 @@ rack-audit 1 line 1
         rt.alloc(),
         2,
         "\
-rack-audit 1 line 1
+rack-audit 2 line 1
 1 req 1 100501494f16 | WaitPrm none | reply 100105000616 Status
 2 halt | none | released
 ",
@@ -211,5 +211,5 @@ fn heads(alloc: Global, row: &str, expected: &str) -> Result<(), Fail> {
 
 #[test]
 fn headers(rt: HostRuntime) -> Result<(), Fail> {
-    heads(rt.alloc(), "rack-audit 1 line 1", "true false")
+    heads(rt.alloc(), "rack-audit 2 line 1", "true false")
 }

@@ -87,7 +87,7 @@ fn text_of_a_full_book(rt: HostRuntime) -> Result<(), Fail> {
         2,
         "req 1 100501494f16\nreq 1 100501494f16\n",
         "\
-rack-audit 1 line 1
+rack-audit 2 line 1
 1 req 1 100501494f16 | WaitPrm none | reply 100105000616 Status
 2 halt | none | released
 ",
@@ -105,7 +105,7 @@ fn journal_is_written(rt: HostRuntime) -> Result<(), Fail> {
         1000,
         HALTED,
         "\
-rack-audit 1 line 7
+rack-audit 2 line 7
 1 tick 10 | none | released
 2 req 1 680c0c6885815d3d3e8802050b80a1019a16 | WaitPrm none | reply e5 Done
 3 halt | none | released 5
@@ -120,7 +120,7 @@ fn journal_is_cut_short(rt: HostRuntime) -> Result<(), Fail> {
         30,
         false,
         HALTED,
-        "rack-audit 1 line 7\n1 tick 10 |cannot write 1",
+        "rack-audit 2 line 7\n1 tick 10 |cannot write 1",
     )
 }
 

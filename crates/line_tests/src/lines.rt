@@ -1,7 +1,7 @@
 //! Lines from their texts.
 
 use arrayvec::ArrayVec;
-use dp_line::{Device, LineSpec, LineState, SlaveSpec};
+use dp_line::{Device, LineSpec, LineState, Lists, SlaveSpec};
 use dp_telegram::Octets;
 use dp_text::{Words, number_in, octet_in, octets_in};
 use std::alloc::Global;
@@ -27,6 +27,10 @@ fn slave(address: u8, configuration: &[u8]) -> Result<SlaveSpec, Fail> {
         freeze: true,
         user_max: 237,
         device: Device::Still,
+        lists: Lists {
+            lockers: None,
+            readers: None,
+        },
     })
 }
 

@@ -2,9 +2,10 @@
 
 ghost use Rattle.std.specs.Prelude.{◌≡◌, [], ◌∷◌, true, IfOk, None};
 ghost use Rattle.dp_line.specs.World.{description_of, opening_fault};
+ghost use Rattle.dp_sap.specs.AccessTable.{no_lists};
 
 use arrayvec::ArrayVec;
-use dp_line::{Device, LineSpec, SlaveSpec};
+use dp_line::{Device, LineSpec, Lists, SlaveSpec};
 use std::alloc::{AllocError, Global};
 
 /// A rack of two lines.
@@ -37,13 +38,13 @@ journal
 /// What this script writes.
 pub(crate) const ANSWERS: &[u8] = b"\
 1: reply 680b0b688185083e3c020500ff80a1af16 Done
-rack-audit 1 line 1
+rack-audit 2 line 1
 1 req 1 6805056885816d3c3eed16 | WaitPrm none | reply 680b0b688185083e3c020500ff80a1af16 Done
 ";
 
 /// An audit text of line 1, with one entry.
 pub(crate) const AUDIT: &str = "\
-rack-audit 1 line 1
+rack-audit 2 line 1
 1 req 1 6805056885816d3c3eed16 | WaitPrm none | reply 680b0b688185083e3c020500ff80a1af16 Done
 ";
 
@@ -77,6 +78,7 @@ fn slave() -> SlaveSpec
       freeze = true;
       user_max = 237;
       device = Device.Still;
+      lists = no_lists;
     } }
 {
     let mut cfg = ArrayVec::new();
@@ -90,5 +92,9 @@ fn slave() -> SlaveSpec
         freeze: true,
         user_max: 237,
         device: Device::Still,
+        lists: Lists {
+            lockers: None,
+            readers: None,
+        },
     }
 }

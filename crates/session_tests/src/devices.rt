@@ -3,7 +3,7 @@
 use crate::rows::{hex_of, is_told, octets_of};
 use arrayvec::ArrayVec;
 use dp_devices::driven_slaves;
-use dp_line::{Device, LineSpec, SlaveSpec};
+use dp_line::{Device, LineSpec, Lists, SlaveSpec};
 use dp_sap::MOST_DATA;
 use dp_sessions::next_inputs;
 use std::alloc::{AllocError, Global};
@@ -65,6 +65,10 @@ fn slave(address: u8, device: Device) -> SlaveSpec {
         freeze: false,
         user_max: 0,
         device,
+        lists: Lists {
+            lockers: None,
+            readers: None,
+        },
     }
 }
 

@@ -218,7 +218,7 @@ owned 9 -> after 3: owned
 in 9 - -> - in 9 - | none | refused NoStation
 made 1 0 2
 handed back: 3, then 3 entries
-rack-audit 1 line 1
+rack-audit 2 line 1
 1 tick 1 | none | released
 2 in 5 aa55 | WaitPrm none | done
 3 req 1 680c0c6885816d3d3e8802050b80a101aa16 | WaitPrm none | reply e5 Done
@@ -238,7 +238,7 @@ req 1 6805056885816d3c3eed16 -> - req 1 6805056885816d3c3eed16 | none | silence 
 tick 1 -> - tick 1 | none | refused Halted
 made 1 0 0
 handed back: 2, then 2 entries
-rack-audit 1 line 1
+rack-audit 2 line 1
 1 req 1 6805056885816d3c3eed16 | WaitPrm none | reply 680b0b688185083e3c020500ff80a1af16 Done
 2 halt | none | released
 ",

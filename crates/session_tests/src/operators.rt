@@ -74,7 +74,7 @@ released
 fault NotACommand
 owned
 |
-rack-audit 1 line 1
+rack-audit 2 line 1
 1 tick 1 | none | released
 ",
     )
@@ -95,7 +95,7 @@ refused NoStation
 done
 show 5 WaitPrm none in aa55 out 0000 wd off
 |
-rack-audit 1 line 1
+rack-audit 2 line 1
 1 in 5 aa55 | WaitPrm none | done
 ",
     )
@@ -116,7 +116,7 @@ done
 stepped 1
 show 5 WaitPrm none in 0100 out 0000 wd off
 |
-rack-audit 1 line 1
+rack-audit 2 line 1
 1 in 5 0001 | WaitPrm none | done
 2 in 5 00ff | WaitPrm none | done
 3 in 5 0100 | WaitPrm none | done
@@ -136,7 +136,7 @@ fn still_devices_do_not_step(rt: HostRuntime) -> Result<(), Fail> {
 EndOfInput 1
 stepped 0
 |
-rack-audit 1 line 1
+rack-audit 2 line 1
 ",
     )
 }
@@ -155,7 +155,7 @@ released
 stepped 0
 refused Halted
 |
-rack-audit 1 line 1
+rack-audit 2 line 1
 1 halt | none | released
 ",
     )
@@ -173,7 +173,7 @@ EndOfInput 1
 fault TooLong
 owned
 |
-rack-audit 1 line 1
+rack-audit 2 line 1
 ",
     )
 }
@@ -188,7 +188,7 @@ fn longest_line(rt: HostRuntime) -> Result<(), Fail> {
         "\
 EndOfInput 1
 |
-rack-audit 1 line 1
+rack-audit 2 line 1
 ",
     )
 }
@@ -204,7 +204,7 @@ fn far_too_long(rt: HostRuntime) -> Result<(), Fail> {
 EndOfInput 1
 fault TooLong
 |
-rack-audit 1 line 1
+rack-audit 2 line 1
 ",
     )
 }
@@ -221,7 +221,7 @@ fn last_line_without_an_end(rt: HostRuntime) -> Result<(), Fail> {
 EndOfInput 1
 owned
 |
-rack-audit 1 line 1
+rack-audit 2 line 1
 ",
     )
 }
@@ -240,7 +240,7 @@ fault NotACommand
 fault NotACommand
 fault NotACommand
 |
-rack-audit 1 line 1
+rack-audit 2 line 1
 ",
     )
 }
@@ -257,7 +257,7 @@ fn no_pass(rt: HostRuntime) -> Result<(), Fail> {
         "\
 NoPass 7 left 7
 |
-rack-audit 1 line 1
+rack-audit 2 line 1
 ",
     )
 }
@@ -273,7 +273,7 @@ fn no_turn(rt: HostRuntime) -> Result<(), Fail> {
         "\
 TurnLimit 6 left 8
 |
-rack-audit 1 line 1
+rack-audit 2 line 1
 ",
     )
 }
@@ -290,7 +290,7 @@ fn turns(rt: HostRuntime) -> Result<(), Fail> {
 TurnLimit 6
 owned
 |
-rack-audit 1 line 1
+rack-audit 2 line 1
 ",
     )
 }
@@ -307,7 +307,7 @@ fn read_fails(rt: HostRuntime) -> Result<(), Fail> {
 ReadFault 2
 owned
 |
-rack-audit 1 line 1
+rack-audit 2 line 1
 ",
     )
 }
@@ -324,7 +324,7 @@ fn write_fails(rt: HostRuntime) -> Result<(), Fail> {
 WriteFault 3
 owned
 re|
-rack-audit 1 line 1
+rack-audit 2 line 1
 1 tick 1 | none | released
 ",
     )
@@ -341,7 +341,7 @@ fn write_fails_at_once(rt: HostRuntime) -> Result<(), Fail> {
         "\
 WriteFault 3
 |
-rack-audit 1 line 1
+rack-audit 2 line 1
 1 tick 1 | none | released
 ",
     )

@@ -112,15 +112,15 @@ fn pass_65(rt: HostRuntime) -> Result<(), Fail> {
 back -> 63 left
 2 -> pass 2
 1 -> too many passes 2
-rack-audit 1 line 1
+rack-audit 2 line 1
 ",
     )
 }
 
 #[test]
 fn close_succeeds(rt: HostRuntime) -> Result<(), Fail> {
-    opens(&rt, rt.alloc(), 0, "rack-audit 1 line 1\n")?;
-    opens(&rt, rt.alloc(), 0, "127 -> pass 127\nrack-audit 1 line 1\n")
+    opens(&rt, rt.alloc(), 0, "rack-audit 2 line 1\n")?;
+    opens(&rt, rt.alloc(), 0, "127 -> pass 127\nrack-audit 2 line 1\n")
 }
 
 /// What a line of two passes tells that is closed with one of them, and then with both: the fault, how many
@@ -145,6 +145,6 @@ fn closed_late<R: Wait>(rt: &R, alloc: Global) -> Result<String, Fail> {
 fn passes_out(rt: HostRuntime) -> Result<(), Fail> {
     is_told(
         closed_late(&rt, rt.alloc())?,
-        "fault 1, 1 back\nrack-audit 1 line 1\n",
+        "fault 1, 1 back\nrack-audit 2 line 1\n",
     )
 }

@@ -2,11 +2,12 @@
 
 ghost use Rattle.std.specs.Prelude.{◌≡◌, ◌≤◌, [], ◌∷◌, true, IfOk, None};
 ghost use Rattle.dp_line.specs.World.{description_of, opening_fault};
+ghost use Rattle.dp_sap.specs.AccessTable.{no_lists};
 ghost use Rattle.dp_shared.specs.Passes.{line_of};
 ghost use Rattle.dp_sessions.specs.Pools.{IsSeatAt};
 
 use arrayvec::ArrayVec;
-use dp_line::{Device, LineSpec, SlaveSpec};
+use dp_line::{Device, LineSpec, Lists, SlaveSpec};
 use dp_sessions::Port;
 use dp_shared::{Claims, Line, WorkerSeat};
 use std::alloc::{AllocError, Global};
@@ -114,6 +115,7 @@ fn slave_at(address: u8, device: Device) -> SlaveSpec
       freeze = true;
       user_max = 237;
       device = device;
+      lists = no_lists;
     } }
 {
     let mut cfg = ArrayVec::new();
@@ -127,5 +129,9 @@ fn slave_at(address: u8, device: Device) -> SlaveSpec
         freeze: true,
         user_max: 237,
         device,
+        lists: Lists {
+            lockers: None,
+            readers: None,
+        },
     }
 }

@@ -205,7 +205,7 @@ fn serve_answers(rt: HostRuntime) -> Result<(), Fail> {
 gate 1 1
 gate 1 2
 gate 1 2
-rack-audit 1 line 1
+rack-audit 2 line 1
 1 req 1 6805056885816d3c3eed16 | WaitPrm none | reply 680b0b688185083e3c020500ff80a1af16 Done
 2 req 2 100902495416 | none | silence NoStation
 3 req 2 100502495016 | WaitPrm none | reply 100205000716 Status
@@ -223,7 +223,7 @@ fn octet_by_octet(rt: HostRuntime) -> Result<(), Fail> {
 0233100902495416100502495016 by=1 -> EndOfInput 1 e5100205000716
 gate 1 2
 gate 1 2
-rack-audit 1 line 1
+rack-audit 2 line 1
 1 req 2 100902495416 | none | silence NoStation
 2 req 2 100502495016 | WaitPrm none | reply 100205000716 Status
 ",
@@ -240,7 +240,7 @@ fn nothing_comes(rt: HostRuntime) -> Result<(), Fail> {
 - fails -> ReadFault 2 -
 01 fails turns=0 -> TurnLimit 6 left 1 -
 01 -> EndOfInput 1 e5
-rack-audit 1 line 1
+rack-audit 2 line 1
 ",
     )
 }
@@ -259,7 +259,7 @@ fn turns(rt: HostRuntime) -> Result<(), Fail> {
 02100502495016 turns=5 by=2 -> EndOfInput 1 e5100205000716
 gate 1 2
 gate 1 2
-rack-audit 1 line 1
+rack-audit 2 line 1
 1 req 2 100502495016 | WaitPrm none | reply 100205000716 Status
 2 req 2 100502495016 | WaitPrm none | reply 100205000716 Status
 ",
@@ -277,7 +277,7 @@ fn held_address(rt: HostRuntime) -> Result<(), Fail> {
 gate 1 1
 01 => AddressHeld 4 -
 07 => UnknownMaster 5 -
-rack-audit 1 line 1
+rack-audit 2 line 1
 1 req 1 6805056885816d3c3eed16 | WaitPrm none | reply 680b0b688185083e3c020500ff80a1af16 Done
 ",
     )
@@ -291,7 +291,7 @@ fn no_pass(rt: HostRuntime) -> Result<(), Fail> {
         64,
         "\
 01 -> NoPass 7 -
-rack-audit 1 line 1
+rack-audit 2 line 1
 ",
     )
 }
@@ -304,7 +304,7 @@ fn read_fails(rt: HostRuntime) -> Result<(), Fail> {
         "\
 016805056885 fails -> ReadFault 2 e5
 01 -> EndOfInput 1 e5
-rack-audit 1 line 1
+rack-audit 2 line 1
 ",
     )
 }
@@ -318,7 +318,7 @@ fn write_fails_in_a_reply(rt: HostRuntime) -> Result<(), Fail> {
 016805056885816d3c3eed16 room=4 -> WriteFault 3 e5680b0b
 01 -> EndOfInput 1 e5
 gate 1 1
-rack-audit 1 line 1
+rack-audit 2 line 1
 1 req 1 6805056885816d3c3eed16 | WaitPrm none | reply 680b0b688185083e3c020500ff80a1af16 Done
 ",
     )
@@ -332,7 +332,7 @@ fn write_fails_at_once(rt: HostRuntime) -> Result<(), Fail> {
         "\
 016805056885816d3c3eed16 room=0 -> WriteFault 3 left 11 -
 01 -> EndOfInput 1 e5
-rack-audit 1 line 1
+rack-audit 2 line 1
 ",
     )
 }
@@ -345,7 +345,7 @@ fn input_ends_in_a_frame(rt: HostRuntime) -> Result<(), Fail> {
         "\
 016805056885 -> EndOfInput 1 e5
 01 -> EndOfInput 1 e5
-rack-audit 1 line 1
+rack-audit 2 line 1
 ",
     )
 }

@@ -1,11 +1,11 @@
 //! What comes of a request, before it is served.
 
 use crate::rows::{Answers, play};
-use crate::sap_tests::marked_text;
+use crate::sap_tests::{lists_of, marked_text, no_lists};
 use crate::words::{Words, hex_text, repeated, text};
 use arrayvec::ArrayVec;
 use dp_responder::{FrameMemory, Judged, Rule, judge, judge_sdn};
-use dp_sap::{Points, State};
+use dp_sap::{Lists, Points, State};
 use dp_telegram::{Function, Parts};
 use std::alloc::Global;
 use std::test::Fail;
@@ -18,11 +18,16 @@ struct Exchanging {
 }
 
 fn in_exchange() -> Exchanging {
+    in_state(State::DataExch, Some(1), false, &no_lists())
+}
+
+/// A slave with two octets of outputs; masters 1 and 2 have sent nothing yet.
+fn in_state(state: State, holder: Option<u8>, empty: bool, lists: &Lists) -> Exchanging {
     let mut masters = ArrayVec::new();
     masters.push(1);
     masters.push(2);
     Exchanging {
-        points: Points::at_state(State::DataExch, Some(1), 2),
+        points: Points::at_state(state, holder, 2, empty, lists),
         memory: FrameMemory::new(&masters),
     }
 }
@@ -124,6 +129,8 @@ fn busy_point(rt: HostRuntime) -> Result<(), Fail> {
         "\
 busy 61 on => done
 judge 1 7d 61 8802050b80a101 => refuse 02 Busy
+busy 58 on => done
+judge 1 7d 58 2000 => refuse 03 NoService
 ",
     )
 }
@@ -178,6 +185,57 @@ judge 1 44 55 - => silent NotActive
 }
 
 #[test]
+fn not_listed(rt: HostRuntime) -> Result<(), Fail> {
+    let lists = lists_of(&[1], &[])?;
+    play(
+        rt.alloc(),
+        &mut in_state(State::DataExch, Some(1), false, &lists),
+        "\
+judge 2 6d 61 8802050b80a101 => refuse 03 NotHolder
+judge 2 6d 56 - => refuse 03 NotListed
+judge 2 6d 57 - => refuse 03 NotListed
+judge 2 46 57 - => silent NotListed
+judge 1 7d 57 - => pass
+judge 2 5d 60 - => pass
+busy 57 on => done
+judge 2 6d 57 - => refuse 03 NotListed
+sdn 2 46 56 - => NotListed
+",
+    )
+}
+
+#[test]
+fn nobody_locks_but_a_locker(rt: HostRuntime) -> Result<(), Fail> {
+    let lists = lists_of(&[1], &[])?;
+    play(
+        rt.alloc(),
+        &mut in_state(State::WaitPrm, None, false, &lists),
+        "\
+judge 2 6d 61 8802050b80a101 => refuse 03 NotListed
+judge 2 6d 61 - => refuse 03 NotListed
+judge 1 6d 61 8802050b80a101 => pass
+judge 2 6d 56 - => refuse 03 NotActive
+",
+    )
+}
+
+#[test]
+fn none_are_accepted_too(rt: HostRuntime) -> Result<(), Fail> {
+    play(
+        rt.alloc(),
+        &mut in_state(State::DataExch, Some(1), true, &no_lists()),
+        "\
+judge 1 7d none - => pass
+judge 1 7d none 1234 => pass
+judge 1 7d none 12 => refuse 01 Length
+judge 1 7d none 123456 => refuse 01 Length
+judge 1 7d 56 00 => refuse 01 Length
+judge 1 46 58 - => silent Length
+",
+    )
+}
+
+#[test]
 fn sdn_is_refused_in_silence(rt: HostRuntime) -> Result<(), Fail> {
     play(
         rt.alloc(),
@@ -190,7 +248,7 @@ sdn 2 46 58 2000 => NotHolder
 }
 
 /// Every rule.
-const EVERY_RULE: [Rule; 19] = [
+const EVERY_RULE: [Rule; 20] = [
     Rule::Halted,
     Rule::NoFrame,
     Rule::NoMaster,
@@ -210,6 +268,7 @@ const EVERY_RULE: [Rule; 19] = [
     Rule::Length,
     Rule::NotSelected,
     Rule::Done,
+    Rule::NotListed,
 ];
 
 /// The rules in the order of their variants.
@@ -250,6 +309,7 @@ fn rules_have_numbers_and_names(rt: HostRuntime) -> Result<(), Fail> {
 16 => Length 17 Length
 17 => NotSelected 18 NotSelected
 18 => Done 19 Done
+19 => NotListed 20 NotListed
 ",
     )
 }

@@ -5,8 +5,9 @@ ghost use Rattle.dp_sap.specs.AccessTable.{is_in_table};
 
 use crate::rows::{Answers, play};
 use crate::words::{Words, flag, text};
+use arrayvec::ArrayVec;
 use dp_sap::{
-    CHK_CFG, GET_CFG, GLOBAL_CONTROL, MOST_DATA, Point, Points, RD_INP, RD_OUTP, SET_PRM,
+    CHK_CFG, GET_CFG, GLOBAL_CONTROL, Lists, MOST_DATA, Point, Points, RD_INP, RD_OUTP, SET_PRM,
     SLAVE_DIAG, SapFault, State, is_point, laws,
 };
 use std::alloc::Global;
@@ -24,14 +25,39 @@ const TABLE: [Option<u8>; 8] = [
     Some(62),
 ];
 
+/// Lists that let every master do what it may do without them.
+pub(crate) fn no_lists() -> Lists {
+    Lists {
+        lockers: None,
+        readers: None,
+    }
+}
+
+/// Lists that let these masters alone set parameters, and those alone read.
+pub(crate) fn lists_of(lockers: &[u8], readers: &[u8]) -> Result<Lists, Fail> {
+    let (mut locking, mut reading) = (ArrayVec::new(), ArrayVec::new());
+    locking.try_extend_from_slice(lockers)?;
+    reading.try_extend_from_slice(readers)?;
+    Ok(Lists {
+        lockers: Some(locking),
+        readers: Some(reading),
+    })
+}
+
 /// The points of a slave in this state that has five octets of outputs; master 3 holds it, if it is held.
 fn points(state: State, holder: Option<u8>) -> Points {
-    Points::at_state(state, holder, 5)
+    Points::at_state(state, holder, 5, false, &no_lists())
+}
+
+/// The same points, of a slave that masters 1 and 3 alone may lock, and that no list lets read.
+fn listed_points(state: State, holder: Option<u8>) -> Result<Points, Fail> {
+    let lists = lists_of(&[1, 3], &[])?;
+    Ok(Points::at_state(state, holder, 5, false, &lists))
 }
 
 impl Answers for Points {
-    /// Commands are `now`, `move STATE HOLDER LENGTH`, `states POINT`, `find POINT`, `busy POINT on` or
-    /// `off`, `marks`, `table POINT`, `names`, `marked` and `marked_so POINT on` or `off`. A point is a
+    /// Commands are `now`, `move STATE HOLDER LENGTH EMPTY`, `states POINT`, `find POINT`, `listed POINT
+    /// SENDER`, `busy POINT on` or `off`, `marks`, `table POINT`, `names`, `marked` and `marked_so POINT on` or `off`. A point is a
     /// number, or `none` for the default one.
     fn answer(&mut self, alloc: Global, command: &str) -> Result<String, Fail> {
         let mut words = Words::of(command);
@@ -39,11 +65,16 @@ impl Answers for Points {
             "now" => now_text(alloc, self),
             "move" => {
                 let state = state_of(words.word()?)?;
-                self.move_to(state, words.number_or_none()?, words.number()?);
+                let (holder, length) = (words.number_or_none()?, words.number()?);
+                self.move_to(state, holder, length, words.is_on()?);
                 now_text(alloc, self)
             }
             "states" => states_text(alloc, words.number_or_none()?),
             "find" => point_text(alloc, self.find(words.number_or_none()?)),
+            "listed" => {
+                let listed = self.listed(words.number_or_none()?, words.number()?);
+                Ok(format!(in alloc; "{listed}")?)
+            }
             "busy" => {
                 let number = words.number_or_none()?;
                 marked_text(alloc, self.set_busy(number, words.is_on()?))
@@ -71,25 +102,28 @@ fn state_of(name: &str) -> Result<State, Fail> {
     }
 }
 
-/// State, holder and output length.
+/// State, holder and output length, and ` or none` where none are accepted too.
 fn now_text(alloc: Global, points: &Points) -> Result<String, Fail> {
+    let none = flag(points.empty(), " or none");
     Ok(format!(in alloc;
-        "{:?} {:?} {}",
+        "{:?} {:?} {}{none}",
         points.state(),
         points.holder(),
         points.out_len()
     )?)
 }
 
-/// `off`, or whose requests it takes, the service, and the least and the most octets; and ` busy`.
+/// `off`, or whose requests it takes, the service, and the least and the most octets, ` or none`
+/// where none are accepted too; and ` busy`.
 pub(crate) fn point_text(alloc: Global, point: Point) -> Result<String, Fail> {
     let busy = flag(point.busy, " busy");
     if !point.active {
         return Ok(format!(in alloc; "off{busy}")?);
     }
     let (access, service) = (point.access, point.service);
+    let none = flag(point.empty, " or none");
     Ok(format!(in alloc;
-        "{access:?} {service:?} {} to {}{busy}",
+        "{access:?} {service:?} {} to {}{none}{busy}",
         point.least, point.most
     )?)
 }
@@ -200,7 +234,7 @@ fn a_mark_stays_until_taken_away(rt: HostRuntime) -> Result<(), Fail> {
         "\
 busy none on => done
 busy 60 on => done
-move DataExch 3 5 => DataExch Some(3) 5
+move DataExch 3 5 off => DataExch Some(3) 5
 find none => Only(3) Srd 5 to 5 busy
 find 56 => All Srd 0 to 0
 find 57 => All Srd 0 to 0
@@ -257,7 +291,63 @@ fn state_holder_and_output_length(rt: HostRuntime) -> Result<(), Fail> {
         &mut points(State::WaitPrm, None),
         "\
 now => WaitPrm None 5
-move WaitCfg 126 244 => WaitCfg Some(126) 244
+move WaitCfg 126 244 off => WaitCfg Some(126) 244
+",
+    )
+}
+
+#[test]
+fn none_beside_the_length(rt: HostRuntime) -> Result<(), Fail> {
+    play(
+        rt.alloc(),
+        &mut points(State::WaitPrm, None),
+        "\
+move DataExch 3 5 on => DataExch Some(3) 5 or none
+find none => Only(3) Srd 5 to 5 or none
+find 56 => All Srd 0 to 0
+find 58 => Only(3) Sdn 2 to 2
+find 62 => Only(3) Srd 0 to 244
+move DataExch 3 4 off => DataExch Some(3) 4
+find none => Only(3) Srd 4 to 4
+",
+    )
+}
+
+#[test]
+fn lists_name_lockers_and_readers(rt: HostRuntime) -> Result<(), Fail> {
+    play(
+        rt.alloc(),
+        &mut listed_points(State::DataExch, Some(3))?,
+        "\
+listed 61 1 => true
+listed 61 2 => false
+listed 61 3 => true
+listed 56 3 => true
+listed 57 3 => true
+listed 56 1 => false
+listed 57 1 => false
+listed none 2 => true
+listed 58 2 => true
+listed 59 2 => true
+listed 60 2 => true
+listed 62 2 => true
+move WaitPrm none 5 off => WaitPrm None 5
+listed 56 3 => false
+listed 61 3 => true
+listed 61 2 => false
+",
+    )
+}
+
+#[test]
+fn without_lists_everybody_is_listed(rt: HostRuntime) -> Result<(), Fail> {
+    play(
+        rt.alloc(),
+        &mut points(State::DataExch, Some(3)),
+        "\
+listed 61 126 => true
+listed 56 0 => true
+listed 57 1 => true
 ",
     )
 }

@@ -2,7 +2,7 @@
 
 use crate::responder_tests::judged_text;
 use crate::rows::Answers;
-use crate::sap_tests::{marked_text, point_text};
+use crate::sap_tests::{marked_text, no_lists, point_text};
 use crate::words::{Words, flag, hex_text, text};
 use arrayvec::ArrayVec;
 use dp_globalctl::Command;
@@ -27,6 +27,7 @@ pub(crate) fn slave() -> Slave {
         freeze: true,
         user_max: 237,
         device: Device::Still,
+        lists: no_lists(),
     };
     let mut masters = ArrayVec::new();
     masters.push(1);

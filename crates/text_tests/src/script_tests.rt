@@ -62,12 +62,12 @@ fn ends_at_a_line_that_is_no_command(rt: HostRuntime) -> Result<(), Fail> {
 
 #[test]
 fn checks_audit_texts(rt: HostRuntime) -> Result<(), Fail> {
-    checks(rt.alloc(), RACK, "rack-audit 1 line 1\n", "Ok(0) legal 0\n")?;
+    checks(rt.alloc(), RACK, "rack-audit 2 line 1\n", "Ok(0) legal 0\n")?;
     checks(rt.alloc(), RACK, "", "Ok(1) bad line 1\n")?;
     checks(
         rt.alloc(),
         "x",
-        "rack-audit 1 line 1\n",
+        "rack-audit 2 line 1\n",
         "Err(Rack(NotToml)) ",
     )
 }
