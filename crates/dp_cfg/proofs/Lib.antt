@@ -1,3 +1,4 @@
 pub mod Splits
 pub mod RunningSums
 pub mod Readings
+pub mod Choices

@@ -1,5 +1,7 @@
 pub mod Identifiers
 pub mod IdentifierExamples
+pub mod Choosing
+pub mod ChoosingExamples
 pub mod PrivateWords
 pub mod Reading
 pub mod Names

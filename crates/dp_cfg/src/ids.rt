@@ -1,6 +1,7 @@
 //! A configuration that has been read.
 
 ghost use Rattle.std.specs.Prelude.{◌≡◌, ◌≤◌, ◌<◌, ◌⊎◌, ◌↔◌, List, length, IsTrue, IsOk, IfOk, IsErrOf};
+ghost use Rattle.dp_cfg.specs.Choosing.{same_octets};
 ghost use Rattle.dp_cfg.specs.Identifiers.{Identifier, IsSplit, input_sum, output_sum, most_octets};
 ghost use Rattle.dp_cfg.specs.Reading.{reading_of, input_octets, output_octets};
 ghost use Rattle.dp_cfg.specs.declared.fault.CfgFault.TheVariants.{Cut, TooLong};
@@ -12,8 +13,8 @@ use std::marker::Model;
 
 /// The configuration identifiers of a slave: octets that split into identifiers, whose inputs and
 /// outputs are at most 244 octets each (IEC 61158-6-3, configuration identifiers). Contracts see
-/// the octets.
-#[derive(Debug, Drop)]
+/// the octets. The default, of no octets, only fills the free cells of an `ArrayVec`.
+#[derive(Debug, Default, Drop)]
 pub struct CfgIds {
     octets: ArrayVec<u8, MOST_OCTETS>,
     inputs: u8,
@@ -85,7 +86,8 @@ impl CfgIds {
     /// Whether these octets are the configuration's, octet by octet (IEC 61158-6-3, Chk_Cfg
     /// request).
     pub fn equals(&self, octets: &[u8]) -> bool
-        ensures { IsTrue result ↔ (self.now ≡ octets.now) }
+        ensures equal { IsTrue result ↔ (self.now ≡ octets.now) }
+        ensures computed { result ≡ same_octets self.now octets.now }
     {
         self.octets() == octets
     }

@@ -1,6 +1,7 @@
 //! What holds of every configuration, as contracts of functions that do nothing.
 
-ghost use Rattle.std.specs.Prelude.{◌≡◌, ℕ, List, Some, ◌↔◌};
+ghost use Rattle.std.specs.Prelude.{◌≡◌, ◌≢◌, ℕ, ◌<◌, List, Some, None, ◌↔◌, slice_get};
+ghost use Rattle.dp_cfg.specs.Choosing.{chosen};
 ghost use Rattle.dp_cfg.specs.Identifiers.{Identifier, IsSplit, input_sum, output_sum};
 ghost use Rattle.dp_cfg.specs.Reading.{split_of, input_octets, output_octets};
 
@@ -22,4 +23,14 @@ pub fn lengths_are_sums()
         → IsSplit octets identifiers → input_octets octets ≡ input_sum identifiers }
     ensures outputs { (octets : List ℕ) (identifiers : List Identifier)
         → IsSplit octets identifiers → output_octets octets ≡ output_sum identifiers }
+{}
+
+/// The number that is chosen is that of the first configuration with the octets, and none is chosen exactly where
+/// none has them (IEC 61158-6-3, Chk_Cfg request).
+pub fn the_first_equal_one_is_chosen()
+    ensures first { (configurations : List (List ℕ)) (octets : List ℕ) (number : ℕ)
+        → (chosen configurations octets ≡ Some number) ↔ ((slice_get configurations number ≡ Some octets)
+        × ((earlier : ℕ) → earlier < number → slice_get configurations earlier ≢ Some octets)) }
+    ensures none { (configurations : List (List ℕ)) (octets : List ℕ)
+        → (chosen configurations octets ≡ None) ↔ ((number : ℕ) → slice_get configurations number ≢ Some octets) }
 {}

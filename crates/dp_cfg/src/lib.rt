@@ -5,12 +5,14 @@
 //! special format with length octets and octets of the maker. [`CfgIds::parse`] reads one.
 #![tactic(auto)]
 
+mod choosing;
 mod fault;
 mod identifier;
 mod ids;
 pub mod laws;
 mod sums;
 
+pub use choosing::choose;
 pub use fault::CfgFault;
 pub use ids::CfgIds;
 pub use sums::MOST_OCTETS;

@@ -1,2 +1,2 @@
-pub mod Octets
+pub mod Lengths
 pub mod Lives

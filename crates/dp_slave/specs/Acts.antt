@@ -18,11 +18,12 @@ pub data Act : Type 0 where
   faults : (not_supported : Bool) → Act
   unlocks : Act
   sets_min_tsdr : (sender octet : ℕ) → Act
-  -- Chk_Cfg: the octets are the configuration of this number, or another one
+  -- Chk_Cfg: the octets are the configuration of this number, or no configuration of the slave
   configures : (number : ℕ) → Act
   misconfigures : Act
-  -- Data_Exchange
+  -- Data_Exchange, of the whole length, and an empty one of a cleared slave
   exchanges : (octets : List ℕ) → Act
+  exchanges_none : Act
   -- Slave_Diag
   tells_diagnosis : (sender : ℕ) → Act
   -- RD_Inp, RD_Outp and Get_Cfg
@@ -58,6 +59,7 @@ abbrev pub retriggers : SlaveRecord → Act → Bool
 retriggers slave (sets_min_tsdr sender octet) = is_held_by sender slave
 retriggers slave (configures number) = true
 retriggers slave (exchanges octets) = true
+retriggers slave exchanges_none = true
 retriggers slave (tells_diagnosis sender) = is_held_by sender slave
 retriggers slave (is_controlled control) = true
 retriggers slave act = false

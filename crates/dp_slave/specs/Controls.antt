@@ -1,11 +1,15 @@
 -- The parts of a Global_Control, each by itself (IEC 61158-6-3, Global_Control request).
-use Rattle.std.specs.Prelude.{true, false, if◌then◌else◌}
+use Rattle.std.specs.Prelude.{true, false, ◌||◌, if◌then◌else◌}
 use Rattle.dp_slave.specs.SlaveRecord.{SlaveRecord, output_length, zeros}
 use Rattle.dp_slave.specs.Fields.{freeze_is_asked, left_again, sync_is_asked}
 
--- Clear_Data makes outputs and latest data zero
-abbrev pub cleared : SlaveRecord → SlaveRecord
-cleared slave = record slave { outputs = zeros (output_length slave); latest = zeros (output_length slave) }
+-- Clear_Data makes outputs and latest data zero, and a fail-safe slave cleared
+abbrev pub emptied : SlaveRecord → SlaveRecord
+emptied slave = record slave {
+  outputs = zeros (output_length slave);
+  latest = zeros (output_length slave);
+  cleared = slave.description.failsafe || slave.cleared;
+}
 
 -- Unsync ends sync mode and puts the latest data out
 abbrev pub unsynced : SlaveRecord → SlaveRecord

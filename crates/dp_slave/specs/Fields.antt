@@ -9,8 +9,8 @@ use Rattle.dp_sap.specs.AccessTable.{BusyMarks, with_mark}
 use Rattle.dp_prm.specs.declared.prm.Prm.{Prm}
 use Rattle.dp_diag.specs.declared.diag.Diag.{Diag}
 use Rattle.dp_diag.specs.Diagnosis.{reported}
-use Rattle.dp_slave.specs.SlaveRecord.{SlaveRecord, full_time, is_held_by, output_length, zeros}
-use Rattle.dp_slave.specs.Acts.{Act, locks, faults, sets_min_tsdr, configures, misconfigures, exchanges, tells_diagnosis, is_controlled, is_fed, reports, is_marked, ticks, Control, releases, retriggers}
+use Rattle.dp_slave.specs.SlaveRecord.{SlaveRecord, cut_or_filled, full_time, inputs_of, is_held_by, output_length, outputs_of, zeros}
+use Rattle.dp_slave.specs.Acts.{Act, locks, faults, sets_min_tsdr, configures, misconfigures, exchanges, exchanges_none, tells_diagnosis, is_controlled, is_fed, reports, is_marked, ticks, Control, releases, retriggers}
 
 -- a lock waits for the configuration, and a good one begins data exchange (IEC 61158-6-3, slave state machine)
 abbrev pub state_after : SlaveRecord → Act → State
@@ -43,15 +43,26 @@ abbrev pub prm_after : SlaveRecord → Act → Option Prm
 prm_after slave (locks sender place prm) = Some prm
 prm_after slave act = if releases slave act then None else slave.prm
 
+-- a good configuration is of the shape in force; each other one changes the shape, and with it lengths and data (own)
+abbrev pub keeps_shape : SlaveRecord → ℕ → Bool
+keeps_shape slave number = number == slave.shape
+
+-- a good configuration alone changes the shape: releases and locks keep it (own)
+abbrev pub shape_after : SlaveRecord → Act → ℕ
+shape_after slave (configures number) = number
+shape_after slave act = slave.shape
+
 -- a lock has no configuration yet, and a good one is that of its number (IEC 61158-6-3, Chk_Cfg request)
 abbrev pub cfg_after : SlaveRecord → Act → Option ℕ
 cfg_after slave (locks sender place prm) = None
 cfg_after slave (configures number) = Some number
 cfg_after slave act = if releases slave act then None else slave.cfg
 
--- the device sets the inputs, whatever the state (own)
+-- the device sets the inputs, whatever the state; another shape cuts them or fills them with zeros (own)
 abbrev pub inputs_after : SlaveRecord → Act → List ℕ
 inputs_after slave (is_fed octets) = octets
+inputs_after slave (configures number) =
+    if keeps_shape slave number then slave.inputs else cut_or_filled (inputs_of slave.description number) slave.inputs
 inputs_after slave act = slave.inputs
 
 -- Sync_Req or Freeze_Req was set by the parameters in force (IEC 61158-6-3, Set_Prm request)
@@ -68,20 +79,24 @@ is_frozen_by slave control = not control.unfreeze && control.freeze && freeze_is
 abbrev pub is_synced_by : SlaveRecord → Control → Bool
 is_synced_by slave control = not control.unsync && control.sync && sync_is_asked slave
 
--- Freeze copies the inputs (IEC 61158-6-3, Global_Control request)
+-- Freeze copies the inputs (IEC 61158-6-3, Global_Control request); another shape cuts or fills the copy as it does the inputs (own)
 abbrev pub copy_after : SlaveRecord → Act → List ℕ
+copy_after slave (configures number) =
+    if keeps_shape slave number then slave.copy else cut_or_filled (inputs_of slave.description number) slave.copy
 copy_after slave (is_controlled control) = if is_frozen_by slave control then slave.inputs else slave.copy
 copy_after slave act = slave.copy
 
--- Unfreeze ends freeze mode, and Freeze starts it (IEC 61158-6-3, Global_Control request)
+-- Unfreeze ends freeze mode, and Freeze starts it (IEC 61158-6-3, Global_Control request); another shape ends it (own)
 abbrev pub freeze_mode_after : SlaveRecord → Act → Bool
 freeze_mode_after slave (locks sender place prm) = false
+freeze_mode_after slave (configures number) = keeps_shape slave number && slave.freeze_mode
 freeze_mode_after slave (is_controlled control) = not control.unfreeze && (is_frozen_by slave control || slave.freeze_mode)
 freeze_mode_after slave act = if releases slave act then false else slave.freeze_mode
 
--- Unsync ends sync mode, and Sync starts it (IEC 61158-6-3, Global_Control request)
+-- Unsync ends sync mode, and Sync starts it (IEC 61158-6-3, Global_Control request); another shape ends it (own)
 abbrev pub sync_mode_after : SlaveRecord → Act → Bool
 sync_mode_after slave (locks sender place prm) = false
+sync_mode_after slave (configures number) = keeps_shape slave number && slave.sync_mode
 sync_mode_after slave (is_controlled control) = not control.unsync && (is_synced_by slave control || slave.sync_mode)
 sync_mode_after slave act = if releases slave act then false else slave.sync_mode
 
@@ -89,21 +104,35 @@ sync_mode_after slave act = if releases slave act then false else slave.sync_mod
 abbrev pub cleared_by : SlaveRecord → Control → List ℕ → List ℕ
 cleared_by slave control octets = if control.clear_data then zeros (output_length slave) else octets
 
--- the data that came last (own)
+-- the data that came last; an empty Data_Exchange stands for zeros (own)
 abbrev pub latest_after : SlaveRecord → Act → List ℕ
 latest_after slave (locks sender place prm) = zeros (output_length slave)
+latest_after slave (configures number) = if keeps_shape slave number then slave.latest else zeros (outputs_of slave.description number)
 latest_after slave (exchanges octets) = octets
+latest_after slave exchanges_none = zeros (output_length slave)
 latest_after slave (is_controlled control) = cleared_by slave control slave.latest
 latest_after slave act = if releases slave act then zeros (output_length slave) else slave.latest
 
--- a good configuration leaves outputs as they are: zero after a lock, and in data exchange what they were (own); in sync mode data wait
--- until Sync or Unsync puts them out (IEC 61158-6-3, Global_Control request)
+-- a good configuration of the shape in force leaves outputs as they are: zero after a lock, and in data exchange what they were; one of
+-- another number makes them zeros of its length (own). In sync mode data wait until Sync or Unsync puts them out (IEC 61158-6-3,
+-- Global_Control request)
 abbrev pub outputs_after : SlaveRecord → Act → List ℕ
 outputs_after slave (locks sender place prm) = zeros (output_length slave)
+outputs_after slave (configures number) = if keeps_shape slave number then slave.outputs else zeros (outputs_of slave.description number)
 outputs_after slave (exchanges octets) = if slave.sync_mode then slave.outputs else octets
+outputs_after slave exchanges_none = if slave.sync_mode then slave.outputs else zeros (output_length slave)
 outputs_after slave (is_controlled control) =
     if control.unsync || is_synced_by slave control then cleared_by slave control slave.latest else cleared_by slave control slave.outputs
 outputs_after slave act = if releases slave act then zeros (output_length slave) else slave.outputs
+
+-- Clear_Data makes a fail-safe slave cleared; a Data_Exchange of the whole length, a lock, a release and a configuration of another number
+-- end that, and an empty Data_Exchange leaves it (own)
+abbrev pub cleared_after : SlaveRecord → Act → Bool
+cleared_after slave (locks sender place prm) = false
+cleared_after slave (configures number) = keeps_shape slave number && slave.cleared
+cleared_after slave (exchanges octets) = false
+cleared_after slave (is_controlled control) = control.clear_data && slave.description.failsafe || slave.cleared
+cleared_after slave act = if releases slave act then false else slave.cleared
 
 -- a watchdog that runs has its full time again (own)
 abbrev pub left_again : SlaveRecord → Option ℕ
@@ -169,12 +198,14 @@ acted slave act = record slave {
   min_tsdr = min_tsdr_after slave act;
   prm = prm_after slave act;
   cfg = cfg_after slave act;
+  shape = shape_after slave act;
   inputs = inputs_after slave act;
   copy = copy_after slave act;
   outputs = outputs_after slave act;
   latest = latest_after slave act;
   sync_mode = sync_mode_after slave act;
   freeze_mode = freeze_mode_after slave act;
+  cleared = cleared_after slave act;
   left = left_after slave act;
   diag = diag_after slave act;
   busy = busy_after slave act;

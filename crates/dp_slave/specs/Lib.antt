@@ -1,4 +1,5 @@
 pub mod SlaveRecord
+pub mod Reshaping
 pub mod ProcessData
 pub mod SlaveParts
 pub mod SlaveLengths

@@ -12,12 +12,14 @@ pub record ProcessData : Type 0 where
   pub min_tsdr : ℕ
   pub prm : Option Prm
   pub cfg : Option ℕ
+  pub shape : ℕ
   pub inputs : List ℕ
   pub copy : List ℕ
   pub outputs : List ℕ
   pub latest : List ℕ
   pub sync_mode : Bool
   pub freeze_mode : Bool
+  pub cleared : Bool
   pub left : Option ℕ
   pub diag : Diag
 
@@ -28,12 +30,14 @@ process_data slave = record {
   min_tsdr = slave.min_tsdr;
   prm = slave.prm;
   cfg = slave.cfg;
+  shape = slave.shape;
   inputs = slave.inputs;
   copy = slave.copy;
   outputs = slave.outputs;
   latest = slave.latest;
   sync_mode = slave.sync_mode;
   freeze_mode = slave.freeze_mode;
+  cleared = slave.cleared;
   left = slave.left;
   diag = slave.diag;
 }

@@ -1,14 +1,15 @@
 -- What a request that passed all rows of the verdict does to a slave, and what it answers (IEC 61158-6-3, services of a slave).
-use Rattle.std.specs.Prelude.{ℕ, ◌==◌, ◌&&◌, Bool, true, false, if◌then◌else◌, List, [], ◌∷◌, slice_index, Option}
+use Rattle.std.specs.Prelude.{ℕ, ◌==◌, Bool, false, if◌then◌else◌, List, [], length, slice_index, Option, Some, None}
 use Rattle.dp_telegram.specs.FunctionCode.{is_set}
 use Rattle.dp_sap.specs.AccessTable.{same_point, data_exchange, rd_inp, rd_outp, global_control, get_cfg, slave_diag, set_prm, chk_cfg}
 use Rattle.dp_prm.specs.declared.prm.PrmVerdict.{PrmVerdict}
 use Rattle.dp_prm.specs.declared.prm.PrmVerdict.TheVariants as prm
 use Rattle.dp_prm.specs.Meaning.{meaning_of}
+use Rattle.dp_cfg.specs.Choosing.{chosen}
 use Rattle.dp_diag.specs.Diagnosis.{is_due_high}
 use Rattle.dp_diag.specs.DiagnosisText.{diagnosis_text}
-use Rattle.dp_slave.specs.SlaveRecord.{SlaveRecord, diag_facts, limits_of, shown_inputs}
-use Rattle.dp_slave.specs.Acts.{Act, locks, faults, unlocks, sets_min_tsdr, configures, misconfigures, exchanges, tells_diagnosis, is_read, is_controlled, Control}
+use Rattle.dp_slave.specs.SlaveRecord.{SlaveRecord, configuration, configurations, diag_facts, limits_of, output_length, shown_inputs}
+use Rattle.dp_slave.specs.Acts.{Act, locks, faults, unlocks, sets_min_tsdr, configures, misconfigures, exchanges, exchanges_none, tells_diagnosis, is_read, is_controlled, Control}
 
 -- Set_Prm by the meaning of its octets (IEC 61158-6-3, Set_Prm request)
 abbrev pub prm_act : ℕ → ℕ → PrmVerdict → Act
@@ -20,20 +21,19 @@ prm_act sender place (prm.Fault not_supported) = faults not_supported
 abbrev pub set_prm_act : SlaveRecord → ℕ → ℕ → List ℕ → Act
 set_prm_act slave sender place octets = prm_act sender place (meaning_of octets (limits_of slave))
 
--- the same octets, one by one (own)
-abbrev pub same_octets : List ℕ → List ℕ → Bool
-same_octets [] [] = true
-same_octets [] (y ∷ ys) = false
-same_octets (x ∷ xs) [] = false
-same_octets (x ∷ xs) (y ∷ ys) = x == y && same_octets xs ys
+-- Chk_Cfg is good where its octets are those of a configuration of the slave, and of several equal ones the first counts (IEC 61158-6-3,
+-- Chk_Cfg request; own in detail)
+abbrev pub cfg_act : Option ℕ → Act
+cfg_act (Some number) = configures number
+cfg_act None = misconfigures
 
--- the number of the slave's configuration (own)
-abbrev pub its_cfg : ℕ
-its_cfg = 0
-
--- Chk_Cfg is good where its octets are those of the slave's configuration (IEC 61158-6-3, Chk_Cfg request)
 abbrev pub chk_cfg_act : SlaveRecord → List ℕ → Act
-chk_cfg_act slave octets = if same_octets slave.description.cfg.items octets then configures its_cfg else misconfigures
+chk_cfg_act slave octets = cfg_act (chosen (configurations slave.description) octets)
+
+-- Data_Exchange of the whole length; each other one that comes is the empty one of a cleared slave, since the verdict refuses any other
+-- length (IEC 61158-6-3, Data_Exchange request; own in detail)
+abbrev pub exchange_act : SlaveRecord → List ℕ → Act
+exchange_act slave octets = if length octets == output_length slave then exchanges octets else exchanges_none
 
 -- the octets of a Global_Control (IEC 61158-6-3, Global_Control request): octet 1 has bit 1 Clear_Data, 2 Unfreeze, 3 Freeze, 4 Unsync,
 -- 5 Sync, and its other bits are ignored (own); octet 2 is Group_Select
@@ -50,7 +50,7 @@ control_of octets = record {
 -- so that no request to it is done (own)
 abbrev pub service_act : SlaveRecord → ℕ → ℕ → Option ℕ → List ℕ → Act
 service_act slave sender place point octets =
-    if same_point point data_exchange then exchanges octets
+    if same_point point data_exchange then exchange_act slave octets
     else if same_point point global_control then is_controlled (control_of octets)
     else if same_point point slave_diag then tells_diagnosis sender
     else if same_point point set_prm then set_prm_act slave sender place octets
@@ -72,6 +72,6 @@ service_answer slave point =
     if same_point point data_exchange then record { high = is_due_high slave.diag; octets = shown_inputs slave }
     else if same_point point rd_inp then low (shown_inputs slave)
     else if same_point point rd_outp then low slave.outputs
-    else if same_point point get_cfg then low slave.description.cfg.items
+    else if same_point point get_cfg then low (configuration slave.description slave.shape)
     else if same_point point slave_diag then low (diagnosis_text (diag_facts slave))
     else low []

@@ -1,10 +1,11 @@
 -- Slave 5 of a line with masters 1 and 2: ident number 80A1, two octets of outputs and two of inputs, with Sync and Freeze.
 use Rattle.std.specs.Prelude.{◌≡◌, ℕ, List, [], ◌∷◌, true, false, Option, Some, None, refl}
+use Rattle.dp_telegram.specs.declared.access.Parts.{Parts}
 use Rattle.dp_telegram.specs.FunctionCode.{user_error}
 use Rattle.dp_sap.specs.declared.state.State.TheVariants.{WaitPrm, WaitCfg, DataExch}
-use Rattle.dp_sap.specs.AccessTable.{no_lists, data_exchange, rd_outp, slave_diag, set_prm, chk_cfg, global_control}
+use Rattle.dp_sap.specs.AccessTable.{no_lists, data_exchange, get_cfg, rd_outp, slave_diag, set_prm, chk_cfg, global_control}
 use Rattle.dp_responder.specs.declared.rule.Rule.TheVariants.{Length}
-use Rattle.dp_responder.specs.declared.judgement.Judged.TheVariants.{Refuse}
+use Rattle.dp_responder.specs.declared.judgement.Judged.TheVariants.{Pass, Refuse}
 use Rattle.dp_responder.specs.Judgement.{judgement}
 use Rattle.dp_diag.specs.DiagnosisText.{diagnosis_text}
 use Rattle.dp_slave.specs.declared.description.SlaveSpec.{SlaveSpec}
@@ -18,12 +19,13 @@ abbrev pub slave_5 : SlaveSpec
 slave_5 = record {
   address = 5;
   ident = 0x80A1;
-  cfg = record { items = 0x21 ∷ 0x11 ∷ [] };
+  cfgs = record { items = record { items = 0x21 ∷ 0x11 ∷ [] } ∷ [] };
   sync = true;
   freeze = true;
   user_max = 237;
   device = Still;
   lists = no_lists;
+  failsafe = false;
 }
 
 -- a request of a master to a point, at this place of the journal
@@ -158,3 +160,163 @@ strangers_reading_leaves_it_due = refl
 pub holders_reading_ends_it : service_answer (requested 1 6 slave_diag [] reporting) data_exchange ≡ low (0xAA ∷ 0x55 ∷ [])
 unfolding reporting exchanged configured locked requested fed acted
 holders_reading_ends_it = refl
+
+-- a slave with two configurations, of two octets each way and of one, which feeds AA 55
+abbrev pub slave_5_of_two : SlaveSpec
+slave_5_of_two = record slave_5 {
+  cfgs = record { items = record { items = 0x21 ∷ 0x11 ∷ [] } ∷ record { items = 0x20 ∷ 0x10 ∷ [] } ∷ [] };
+}
+
+unfoldable pub locked_of_two : SlaveRecord
+locked_of_two =
+    requested 1 2 set_prm (0x88 ∷ 0x02 ∷ 0x05 ∷ 0x0B ∷ 0x80 ∷ 0xA1 ∷ 0x01 ∷ [])
+    (acted (starting_slave (1 ∷ 2 ∷ []) slave_5_of_two) (is_fed (0xAA ∷ 0x55 ∷ [])))
+
+-- until a master chooses, the first is in force
+pub first_shape_is_in_force : locked_of_two.shape ≡ 0
+unfolding locked_of_two requested acted
+first_shape_is_in_force = refl
+
+-- the second is chosen: inputs are cut, outputs are zero, and each has one octet
+unfoldable pub second_chosen : SlaveRecord
+second_chosen = requested 1 3 chk_cfg (0x20 ∷ 0x10 ∷ []) locked_of_two
+
+pub second_shape : second_chosen.shape ≡ 1
+unfolding second_chosen locked_of_two requested acted
+second_shape = refl
+
+pub second_is_sent : second_chosen.cfg ≡ Some 1
+unfolding second_chosen locked_of_two requested acted
+second_is_sent = refl
+
+pub inputs_are_cut : second_chosen.inputs ≡ 0xAA ∷ []
+unfolding second_chosen locked_of_two requested acted
+inputs_are_cut = refl
+
+pub outputs_are_one_octet : second_chosen.outputs ≡ 0 ∷ []
+unfolding second_chosen locked_of_two requested acted
+outputs_are_one_octet = refl
+
+pub get_cfg_follows : service_answer second_chosen get_cfg ≡ low (0x20 ∷ 0x10 ∷ [])
+unfolding second_chosen locked_of_two requested acted
+get_cfg_follows = refl
+
+-- the slave keeps that shape when it is released, and a good configuration of the first fills the inputs with a zero
+pub shape_outlasts_a_release : (released second_chosen).shape ≡ 1
+unfolding second_chosen locked_of_two requested acted released
+shape_outlasts_a_release = refl
+
+pub inputs_are_filled : (requested 1 4 chk_cfg (0x21 ∷ 0x11 ∷ []) second_chosen).inputs ≡ 0xAA ∷ 0x00 ∷ []
+unfolding second_chosen locked_of_two requested acted
+inputs_are_filled = refl
+
+-- in sync mode another configuration ends the mode, and the same one leaves it with its outputs
+unfoldable pub synced_of_two : SlaveRecord
+synced_of_two =
+    requested 1 6 global_control (0x20 ∷ 0x00 ∷ [])
+    (requested 1 5 data_exchange (0x12 ∷ 0x34 ∷ [])
+    (requested 1 4 chk_cfg (0x21 ∷ 0x11 ∷ [])
+    (requested 1 3 set_prm (0xA8 ∷ 0x02 ∷ 0x05 ∷ 0x0B ∷ 0x80 ∷ 0xA1 ∷ 0x01 ∷ []) (starting_slave (1 ∷ []) slave_5_of_two))))
+
+pub same_configuration_keeps_sync : (requested 1 7 chk_cfg (0x21 ∷ 0x11 ∷ []) synced_of_two).sync_mode ≡ true
+unfolding synced_of_two requested acted
+same_configuration_keeps_sync = refl
+
+pub same_configuration_keeps_outputs : (requested 1 7 chk_cfg (0x21 ∷ 0x11 ∷ []) synced_of_two).outputs ≡ 0x12 ∷ 0x34 ∷ []
+unfolding synced_of_two requested acted
+same_configuration_keeps_outputs = refl
+
+pub another_configuration_ends_sync : (requested 1 7 chk_cfg (0x20 ∷ 0x10 ∷ []) synced_of_two).sync_mode ≡ false
+unfolding synced_of_two requested acted
+another_configuration_ends_sync = refl
+
+-- a fail-safe slave in data exchange with outputs 12 34, and after Clear_Data
+abbrev pub failsafe_5 : SlaveSpec
+failsafe_5 = record slave_5 { failsafe = true }
+
+unfoldable pub exchanged_safely : SlaveRecord
+exchanged_safely =
+    requested 1 4 data_exchange (0x12 ∷ 0x34 ∷ [])
+    (requested 1 3 chk_cfg (0x21 ∷ 0x11 ∷ [])
+    (requested 1 2 set_prm (0x88 ∷ 0x02 ∷ 0x05 ∷ 0x0B ∷ 0x80 ∷ 0xA1 ∷ 0x01 ∷ []) (starting_slave (1 ∷ []) failsafe_5)))
+
+unfoldable pub cleared_slave : SlaveRecord
+cleared_slave = requested 1 5 global_control (0x02 ∷ 0x00 ∷ []) exchanged_safely
+
+-- an empty request to exchange data
+abbrev pub empty_request : Parts
+empty_request = record { dsap = None; ssap = None; payload = record { items = [] } }
+
+pub is_cleared : cleared_slave.cleared ≡ true
+unfolding cleared_slave exchanged_safely requested acted
+is_cleared = refl
+
+pub cleared_takes_none : judgement (points_of cleared_slave) None 1 0x7D empty_request ≡ Pass
+unfolding cleared_slave exchanged_safely requested acted
+cleared_takes_none = refl
+
+-- it stays cleared by that, and zeros are put out
+pub none_stand_for_zeros : (requested 1 6 data_exchange [] cleared_slave).outputs ≡ 0 ∷ 0 ∷ []
+unfolding cleared_slave exchanged_safely requested acted
+none_stand_for_zeros = refl
+
+pub none_leave_it_cleared : (requested 1 6 data_exchange [] cleared_slave).cleared ≡ true
+unfolding cleared_slave exchanged_safely requested acted
+none_leave_it_cleared = refl
+
+-- data end it
+pub data_end_it : (requested 1 6 data_exchange (0x12 ∷ 0x34 ∷ []) cleared_slave).cleared ≡ false
+unfolding cleared_slave exchanged_safely requested acted
+data_end_it = refl
+
+pub then_none_is_a_wrong_length : judgement (points_of (requested 1 6 data_exchange (0x12 ∷ 0x34 ∷ []) cleared_slave)) None 1 0x7D empty_request ≡ Refuse user_error Length
+unfolding cleared_slave exchanged_safely requested acted
+then_none_is_a_wrong_length = refl
+
+-- a slave that isn't fail-safe isn't cleared
+pub others_are_not_cleared : judgement (points_of (requested 1 5 global_control (0x02 ∷ 0x00 ∷ []) exchanged)) None 1 0x7D empty_request ≡ Refuse user_error Length
+unfolding exchanged configured locked requested fed acted
+others_are_not_cleared = refl
+
+-- a good configuration of the same number leaves it cleared, a release ends it
+pub same_configuration_leaves_it_cleared : (requested 1 6 chk_cfg (0x21 ∷ 0x11 ∷ []) cleared_slave).cleared ≡ true
+unfolding cleared_slave exchanged_safely requested acted
+same_configuration_leaves_it_cleared = refl
+
+pub release_ends_it : (released cleared_slave).cleared ≡ false
+unfolding cleared_slave exchanged_safely requested acted released
+release_ends_it = refl
+
+-- without outputs an empty Data_Exchange has the whole length, and ends it
+abbrev pub failsafe_without_outputs : SlaveSpec
+failsafe_without_outputs = record failsafe_5 { cfgs = record { items = record { items = 0x11 ∷ [] } ∷ [] } }
+
+unfoldable pub cleared_without_outputs : SlaveRecord
+cleared_without_outputs =
+    requested 1 4 global_control (0x02 ∷ 0x00 ∷ [])
+    (requested 1 3 chk_cfg (0x11 ∷ [])
+    (requested 1 2 set_prm (0x88 ∷ 0x02 ∷ 0x05 ∷ 0x0B ∷ 0x80 ∷ 0xA1 ∷ 0x01 ∷ []) (starting_slave (1 ∷ []) failsafe_without_outputs)))
+
+pub is_cleared_without_outputs : cleared_without_outputs.cleared ≡ true
+unfolding cleared_without_outputs requested acted
+is_cleared_without_outputs = refl
+
+pub whole_length_of_none_ends_it : (requested 1 5 data_exchange [] cleared_without_outputs).cleared ≡ false
+unfolding cleared_without_outputs requested acted
+whole_length_of_none_ends_it = refl
+
+-- in sync mode an empty one changes the latest data alone
+unfoldable pub cleared_in_sync : SlaveRecord
+cleared_in_sync =
+    requested 1 6 global_control (0x22 ∷ 0x00 ∷ [])
+    (requested 1 5 data_exchange (0x12 ∷ 0x34 ∷ [])
+    (requested 1 4 chk_cfg (0x21 ∷ 0x11 ∷ [])
+    (requested 1 3 set_prm (0xA8 ∷ 0x02 ∷ 0x05 ∷ 0x0B ∷ 0x80 ∷ 0xA1 ∷ 0x01 ∷ []) (starting_slave (1 ∷ []) failsafe_5))))
+
+pub latest_are_zeros_in_sync : (requested 1 7 data_exchange [] cleared_in_sync).latest ≡ 0 ∷ 0 ∷ []
+unfolding cleared_in_sync requested acted
+latest_are_zeros_in_sync = refl
+
+pub sync_goes_on : (requested 1 7 data_exchange [] cleared_in_sync).sync_mode ≡ true
+unfolding cleared_in_sync requested acted
+sync_goes_on = refl

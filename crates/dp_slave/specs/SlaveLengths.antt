@@ -1,10 +1,11 @@
 -- Of how many octets a slave's data are. No public clause cites this module.
 use Rattle.std.specs.Prelude.{◌≡◌, ℕ, List, length}
-use Rattle.dp_cfg.specs.Reading.{input_octets, output_octets}
+use Rattle.dp_slave.specs.declared.description.SlaveSpec.{SlaveSpec}
+use Rattle.dp_slave.specs.SlaveRecord.{inputs_of, outputs_of}
 
--- inputs and their copy, outputs and latest data are as long as the configuration says
-pub record HaveLengths (cfg inputs copy outputs latest : List ℕ) : Type 0 where
-  pub inputs_are : length inputs ≡ input_octets cfg
-  pub copy_is : length copy ≡ input_octets cfg
-  pub outputs_are : length outputs ≡ output_octets cfg
-  pub latest_are : length latest ≡ output_octets cfg
+-- inputs and their copy, outputs and latest data are as long as the configuration of the shape says
+pub record HaveLengths (description : SlaveSpec) (shape : ℕ) (inputs copy outputs latest : List ℕ) : Type 0 where
+  pub inputs_are : length inputs ≡ inputs_of description shape
+  pub copy_is : length copy ≡ inputs_of description shape
+  pub outputs_are : length outputs ≡ outputs_of description shape
+  pub latest_are : length latest ≡ outputs_of description shape

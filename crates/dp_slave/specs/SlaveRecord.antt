@@ -1,5 +1,5 @@
 -- What a DP slave is at one moment (IEC 61158-6-3, slave state machine).
-use Rattle.std.specs.Prelude.{◌≡◌, ℕ, ◌==◌, Bool, false, if◌then◌else◌, List, replicate, Option, None, is_some}
+use Rattle.std.specs.Prelude.{◌≡◌, ℕ, ◌==◌, Bool, false, if◌then◌else◌, ◌-◌, ◌++◌, List, [], length, map, replicate, slice_get, take, unwrap_or, Option, None, is_ok, is_some}
 use Rattle.std.specs.Option.{option_map_or, option_and_then}
 use Rattle.dp_sap.specs.declared.state.State.{State}
 use Rattle.dp_sap.specs.declared.state.State.TheVariants.{WaitPrm}
@@ -7,7 +7,7 @@ use Rattle.dp_sap.specs.AccessTable.{BusyMarks, PointsView, no_marks}
 use Rattle.dp_responder.specs.Memory.{MasterMemory, no_memory}
 use Rattle.dp_prm.specs.declared.prm.Prm.{Prm}
 use Rattle.dp_prm.specs.declared.limits.Limits.{Limits}
-use Rattle.dp_cfg.specs.Reading.{input_octets, output_octets}
+use Rattle.dp_cfg.specs.Reading.{input_octets, output_octets, reading_of}
 use Rattle.dp_diag.specs.declared.diag.Diag.{Diag}
 use Rattle.dp_diag.specs.declared.facts.DiagFacts.{DiagFacts}
 use Rattle.dp_diag.specs.Diagnosis.{no_diagnosis}
@@ -22,9 +22,11 @@ pub record SlaveRecord : Type 0 where
   pub since : ℕ
   -- the shortest time to a reply, in bit times
   pub min_tsdr : ℕ
-  -- the parameters of its holder, and the number of the configuration in force
+  -- the parameters of its holder, and the number of the configuration that it sent
   pub prm : Option Prm
   pub cfg : Option ℕ
+  -- the shape in force: the number of the configuration that says how long the data are, also while no master has sent one
+  pub shape : ℕ
   -- the inputs, and the copy of them that Freeze made
   pub inputs : List ℕ
   pub copy : List ℕ
@@ -33,30 +35,55 @@ pub record SlaveRecord : Type 0 where
   pub latest : List ℕ
   pub sync_mode : Bool
   pub freeze_mode : Bool
+  -- Clear_Data has made the data of a fail-safe slave zero, and none have come since
+  pub cleared : Bool
   -- the watchdog's remaining time in units of 10 ms, None where it is off
   pub left : Option ℕ
   pub diag : Diag
   pub busy : BusyMarks
   pub memory : List MasterMemory
 
--- how many octets of inputs and of outputs it has, by its configuration (IEC 61158-6-3, configuration identifiers)
+-- the octets of the configurations that are described, and of the one of a number, none where there is none of it
+abbrev pub configurations : SlaveSpec → List (List ℕ)
+configurations description = map (λ configuration. configuration.items) description.cfgs.items
+
+abbrev pub configuration : SlaveSpec → ℕ → List ℕ
+configuration description number = unwrap_or (slice_get (configurations description) number) []
+
+-- the octets split into identifiers, with at most 244 octets of inputs and of outputs (IEC 61158-6-3, configuration identifiers)
+abbrev pub can_be_parsed : List ℕ → Bool
+can_be_parsed octets = is_ok (reading_of octets)
+
+-- how many octets of inputs and of outputs a configuration has (IEC 61158-6-3, configuration identifiers)
+abbrev pub inputs_of : SlaveSpec → ℕ → ℕ
+inputs_of description number = input_octets (configuration description number)
+
+abbrev pub outputs_of : SlaveSpec → ℕ → ℕ
+outputs_of description number = output_octets (configuration description number)
+
+-- how many a slave has, by the shape in force (own)
 abbrev pub input_length : SlaveRecord → ℕ
-input_length slave = input_octets slave.description.cfg.items
+input_length slave = inputs_of slave.description slave.shape
 
 abbrev pub output_length : SlaveRecord → ℕ
-output_length slave = output_octets slave.description.cfg.items
+output_length slave = outputs_of slave.description slave.shape
 
 -- so many octets of zero (own)
 abbrev pub zeros : ℕ → List ℕ
 zeros count = replicate count 0
 
--- its points: state, holder and output length, which decide what is on, the busy marks and the lists (own)
+-- octets cut or filled with zeros at the end to this length (own)
+abbrev pub cut_or_filled : ℕ → List ℕ → List ℕ
+cut_or_filled count octets = take count octets ++ zeros (count - length octets)
+
+-- its points: state, holder and output length, which decide what is on, whether an empty Data_Exchange is accepted too, the busy marks and
+-- the lists (own)
 abbrev pub points_of : SlaveRecord → PointsView
 points_of slave = record {
   state = slave.state;
   holder = slave.holder;
   out_len = output_length slave;
-  empty = false;
+  empty = slave.cleared;
   busy = slave.busy;
   lists = slave.description.lists;
 }
@@ -101,8 +128,9 @@ diag_facts slave = record {
   diag = slave.diag;
 }
 
--- a slave that no master holds: state, holder, its place, parameters, configuration, outputs, latest data, modes and watchdog are as at
--- the start; inputs and their copy, min TSDR, diagnosis with its faults, busy marks and frame memories stay (own)
+-- a slave that no master holds: state, holder, its place, parameters, configuration, modes and watchdog are as at the start, outputs and
+-- latest data are zeros of the length in force, and it isn't cleared; the shape, inputs and their copy, min TSDR, diagnosis with its faults,
+-- busy marks and frame memories stay (own)
 unfoldable pub released : SlaveRecord → SlaveRecord
 released slave = record slave {
   state = WaitPrm;
@@ -114,6 +142,7 @@ released slave = record slave {
   latest = zeros (output_length slave);
   sync_mode = false;
   freeze_mode = false;
+  cleared = false;
   left = None;
 }
 
@@ -124,7 +153,7 @@ IsReleased slave = released slave ≡ slave
 abbrev pub first_min_tsdr : ℕ
 first_min_tsdr = 11
 
--- a slave starts released, with inputs of zero, no diagnosis, no busy mark and nothing remembered of the line's masters (own)
+-- a slave starts released, in the shape of its first configuration, with inputs of zero, no diagnosis, no busy mark and nothing remembered of the line's masters (own)
 abbrev pub starting_slave : List ℕ → SlaveSpec → SlaveRecord
 starting_slave masters description = record {
   description = description;
@@ -134,12 +163,14 @@ starting_slave masters description = record {
   min_tsdr = first_min_tsdr;
   prm = None;
   cfg = None;
-  inputs = zeros (input_octets description.cfg.items);
-  copy = zeros (input_octets description.cfg.items);
-  outputs = zeros (output_octets description.cfg.items);
-  latest = zeros (output_octets description.cfg.items);
+  shape = 0;
+  inputs = zeros (inputs_of description 0);
+  copy = zeros (inputs_of description 0);
+  outputs = zeros (outputs_of description 0);
+  latest = zeros (outputs_of description 0);
   sync_mode = false;
   freeze_mode = false;
+  cleared = false;
   left = None;
   diag = no_diagnosis;
   busy = no_marks;

@@ -1,16 +1,18 @@
 -- What a slave goes through: acts one after another, each let through by the verdict on its request or by the line.
-use Rattle.std.specs.Prelude.{◌≡◌, ◌==◌, ◌&&◌, not, Bool, true, false, List, [], ◌∷◌, length, is_some, is_none}
+use Rattle.std.specs.Prelude.{◌≡◌, ◌==◌, ◌<◌, ◌≤◌, ◌&&◌, nat_lt, if◌then◌else◌, not, Bool, true, false, List, [], ◌∷◌, length, Some, None, is_some, is_none}
 use Rattle.dp_sap.specs.States.{is_in_data_exch, is_in_wait_prm}
-use Rattle.dp_slave.specs.SlaveRecord.{SlaveRecord, full_time, input_length, output_length, zeros}
-use Rattle.dp_slave.specs.Acts.{Act, configures, misconfigures, exchanges, is_controlled, is_fed}
-use Rattle.dp_slave.specs.Fields.{acted}
+use Rattle.dp_slave.specs.SlaveRecord.{SlaveRecord, configurations, full_time, input_length, output_length, zeros}
+use Rattle.dp_slave.specs.Acts.{Act, locks, configures, misconfigures, exchanges, exchanges_none, is_controlled, is_fed, releases}
+use Rattle.dp_slave.specs.Fields.{acted, keeps_shape}
 
--- in this state the slave can meet the act: Chk_Cfg comes from a holder, Data_Exchange and Global_Control come in Data_Exch alone;
--- outputs and inputs that come are as many as the slave has
+-- in this state the slave can meet the act: Chk_Cfg comes from a holder, and is good for a configuration that the slave has; Data_Exchange and
+-- Global_Control come in Data_Exch alone, an empty Data_Exchange to a cleared slave alone; outputs and inputs that come are as many as the
+-- slave has
 abbrev pub fits : SlaveRecord → Act → Bool
-fits slave (configures number) = not (is_in_wait_prm slave.state)
+fits slave (configures number) = not (is_in_wait_prm slave.state) && nat_lt number (length (configurations slave.description))
 fits slave misconfigures = not (is_in_wait_prm slave.state)
 fits slave (exchanges octets) = is_in_data_exch slave.state && length octets == output_length slave
+fits slave exchanges_none = is_in_data_exch slave.state && slave.cleared
 fits slave (is_controlled control) = is_in_data_exch slave.state
 fits slave (is_fed octets) = length octets == input_length slave
 fits slave act = true
@@ -22,6 +24,13 @@ all_fit slave (act ∷ acts) = fits slave act && all_fit (acted slave act) acts
 abbrev pub acts_after : SlaveRecord → List Act → SlaveRecord
 acts_after slave [] = slave
 acts_after slave (act ∷ acts) = acts_after (acted slave act) acts
+
+-- the act ends that the slave is cleared: a lock, a release, a configuration of another number, and a Data_Exchange of the whole length (own)
+abbrev pub ends_clearing : SlaveRecord → Act → Bool
+ends_clearing slave (locks sender place prm) = true
+ends_clearing slave (configures number) = not (keeps_shape slave number)
+ends_clearing slave (exchanges octets) = true
+ends_clearing slave act = releases slave act
 
 -- what holds of a slave whatever it went through
 pub record IsSound (slave : SlaveRecord) : Type 0 where
@@ -35,7 +44,16 @@ pub record IsSound (slave : SlaveRecord) : Type 0 where
   pub latest_zero : is_in_data_exch slave.state ≡ false → slave.latest ≡ zeros (output_length slave)
   pub no_sync : is_in_data_exch slave.state ≡ false → slave.sync_mode ≡ false
   pub no_freeze : is_in_data_exch slave.state ≡ false → slave.freeze_mode ≡ false
-  -- lengths
+  -- in Data_Exch the configuration that its holder sent is the shape in force, and else it has sent none; the shape is one of those
+  -- described
+  pub configured : slave.cfg ≡ (if is_in_data_exch slave.state then Some slave.shape else None)
+  pub shaped : 1 ≤ length (configurations slave.description) → slave.shape < length (configurations slave.description)
+  -- a slave that is cleared is fail-safe and in Data_Exch, and its outputs and latest data are zero
+  pub cleared_failsafe : slave.cleared ≡ true → slave.description.failsafe ≡ true
+  pub cleared_exchanging : slave.cleared ≡ true → is_in_data_exch slave.state ≡ true
+  pub cleared_outputs : slave.cleared ≡ true → slave.outputs ≡ zeros (output_length slave)
+  pub cleared_latest : slave.cleared ≡ true → slave.latest ≡ zeros (output_length slave)
+  -- the lengths are those of the shape in force
   pub inputs_long : length slave.inputs ≡ input_length slave
   pub copy_long : length slave.copy ≡ input_length slave
   pub outputs_long : length slave.outputs ≡ output_length slave

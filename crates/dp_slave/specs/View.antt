@@ -11,12 +11,14 @@ view_of slave = record {
   min_tsdr = slave.min_tsdr;
   prm = slave.prm;
   cfg = slave.cfg;
+  shape = slave.shape;
   inputs = record { items = slave.inputs };
   shown = record { items = shown_inputs slave };
   outputs = record { items = slave.outputs };
   latest = record { items = slave.latest };
   sync_mode = slave.sync_mode;
   freeze_mode = slave.freeze_mode;
+  cleared = slave.cleared;
   left = slave.left;
   diag = slave.diag;
 }

@@ -2,17 +2,21 @@
 
 ghost use Rattle.std.specs.Prelude.{◌≡◌};
 ghost use Rattle.dp_slave.specs.SlaveParts.{with_slave};
-ghost use Rattle.dp_slave.specs.Controls.{cleared, frozen, retriggered, synced, unfrozen, unsynced};
+ghost use Rattle.dp_slave.specs.Controls.{emptied, frozen, retriggered, synced, unfrozen, unsynced};
 
 use crate::slave::Slave;
 
 impl Slave {
-    /// Clear_Data: outputs and latest data are zero.
+    /// Clear_Data: outputs and latest data are zero, and a fail-safe slave takes an empty
+    /// Data_Exchange from now on.
     pub fn clear_data(&mut self)
-        ensures { self.new ≡ with_slave self.old (cleared self.old.slave) }
+        ensures { self.new ≡ with_slave self.old (emptied self.old.slave) }
     {
         self.outputs.clear();
         self.latest.clear();
+        if self.description.failsafe {
+            self.mark_cleared(true);
+        }
     }
 
     /// Unsync: sync mode ends, and the latest data are put out.

@@ -2,13 +2,13 @@
 
 ghost use Rattle.std.specs.Prelude.{◌≡◌, ◌≤◌, length};
 ghost use Rattle.dp_sap.specs.AccessTable.{most_data};
-ghost use Rattle.dp_slave.specs.SlaveRecord.{zeros};
+ghost use Rattle.dp_slave.specs.SlaveRecord.{cut_or_filled, zeros};
 
 use arrayvec::ArrayVec;
 use dp_sap::MOST_DATA;
 use std::marker::Model;
 
-/// Octets of inputs or of outputs, 0 to 244 of them, which keep their number.
+/// Octets of inputs or of outputs, 0 to 244 of them, as many as the shape in force has.
 #[derive(Debug, Drop)]
 pub(crate) struct DataOctets {
     octets: ArrayVec<u8, MOST_DATA>,
@@ -47,6 +47,17 @@ impl DataOctets {
         ensures { self.new ≡ octets.now }
     {
         self.octets.as_mut_slice().copy_from_slice(octets);
+    }
+
+    /// Cuts the octets, or fills them with zeros at the end, to so many.
+    pub(crate) fn resize(&mut self, count: u8)
+        requires { count ≤ most_data }
+        ensures { self.new ≡ cut_or_filled count self.old }
+    {
+        let zeros = [0; MOST_DATA];
+        self.octets.truncate(usize::from(count));
+        let more = usize::from(count) - self.octets.len();
+        self.octets.try_extend_from_slice(&zeros[..more]).unwrap();
     }
 
     /// The octets.

@@ -15,6 +15,12 @@ pub enum Device {
     Mirror,
 }
 
+/// The most configurations of a slave.
+pub const MOST_CONFIGURATIONS: usize = 4;
+
+/// The octets of a configuration, 0 to 244 of them (IEC 61158-6-3, configuration identifiers).
+pub type Configuration = ArrayVec<u8, MOST_OCTETS>;
+
 /// The description of one slave.
 #[derive(Clone, Debug, Drop, PartialEq, Eq)]
 pub struct SlaveSpec {
@@ -22,8 +28,9 @@ pub struct SlaveSpec {
     pub address: u8,
     /// Ident number.
     pub ident: u16,
-    /// Configuration, 0 to 244 octets of identifiers.
-    pub cfg: ArrayVec<u8, MOST_OCTETS>,
+    /// Its configurations, numbered from 0. A master chooses one by Chk_Cfg; until then the first is
+    /// in force.
+    pub cfgs: ArrayVec<Configuration, MOST_CONFIGURATIONS>,
     /// The slave has a sync mode.
     pub sync: bool,
     /// The slave has a freeze mode.
@@ -34,4 +41,7 @@ pub struct SlaveSpec {
     pub device: Device,
     /// Which masters may set its parameters, and which may read its inputs and outputs.
     pub lists: Lists,
+    /// The slave is fail-safe: once its data were cleared, it takes an empty Data_Exchange too, until
+    /// data come (IEC 61158-6-3, Global_Control request, Clear_Data; own in detail).
+    pub failsafe: bool,
 }

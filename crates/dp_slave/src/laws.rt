@@ -1,13 +1,13 @@
 //! Laws of a slave: each is what an empty function ensures.
 
-ghost use Rattle.std.specs.Prelude.{◌≡◌, ◌+◌, ℕ, List, true, false};
+ghost use Rattle.std.specs.Prelude.{◌≡◌, ◌≢◌, ◌+◌, ℕ, List, not, true, false};
 ghost use Rattle.dp_prm.specs.Requests.{AsksUnsupported, IsLocking};
 ghost use Rattle.dp_slave.specs.declared.description.SlaveSpec.{SlaveSpec};
-ghost use Rattle.dp_slave.specs.SlaveRecord.{SlaveRecord, limits_of, released, starting_slave};
-ghost use Rattle.dp_slave.specs.Acts.{Act, Control, exchanges, halts, is_controlled, releases, ticks};
+ghost use Rattle.dp_slave.specs.SlaveRecord.{SlaveRecord, limits_of, output_length, released, starting_slave, zeros};
+ghost use Rattle.dp_slave.specs.Acts.{Act, Control, configures, exchanges, halts, is_controlled, releases, ticks};
 ghost use Rattle.dp_slave.specs.Fields.{acted};
 ghost use Rattle.dp_slave.specs.Services.{set_prm_act};
-ghost use Rattle.dp_slave.specs.Soundness.{acts_after, all_fit, IsSound};
+ghost use Rattle.dp_slave.specs.Soundness.{acts_after, all_fit, ends_clearing, fits, IsSound};
 
 /// A released slave stays as it is when it is released again, and a halt releases.
 pub fn released_is_a_fixed_point()
@@ -18,7 +18,9 @@ pub fn released_is_a_fixed_point()
 /// After any acts from the start, each of which the verdict or the line lets through: outside
 /// Data_Exch outputs and latest data are zero and neither mode is on; the slave is in Wait_Prm
 /// exactly where nobody holds it, and a watchdog runs exactly where the holder's parameters ask for
-/// one; inputs, their copy, outputs and latest data keep their lengths.
+/// one; inputs, their copy, outputs and latest data have the lengths of the shape in force, which is
+/// that of a configuration of the slave; a slave that is cleared is fail-safe, in Data_Exch, and its
+/// outputs and latest data are zero.
 pub fn a_slave_stays_sound()
     ensures { (masters : List ℕ) (description : SlaveSpec) (acts : List Act)
         → all_fit (starting_slave masters description) acts ≡ true
@@ -49,6 +51,34 @@ pub fn sync_waits_for_unsync()
         → control.unsync ≡ true
         → control.clear_data ≡ false
         → (acted (acted slave (exchanges octets)) (is_controlled control)).outputs ≡ octets }
+{}
+
+/// Nothing but a good Chk_Cfg changes the shape in force, and then it is that of the configuration that
+/// came.
+pub fn the_shape_changes_by_chk_cfg_alone()
+    ensures { (slave : SlaveRecord) (act : Act)
+        → (acted slave act).shape ≢ slave.shape
+        → (number : ℕ) × (act ≡ configures number) × ((acted slave act).shape ≡ number) }
+{}
+
+/// A fail-safe slave is cleared by Clear_Data, until a Data_Exchange of the whole length, a lock, a
+/// release or a configuration of another number; and until such a Data_Exchange its outputs and latest
+/// data are zeros, as many as the shape in force has.
+pub fn a_cleared_slave_waits_for_data()
+    ensures begins { (slave : SlaveRecord) (control : Control)
+        → slave.description.failsafe ≡ true
+        → control.clear_data ≡ true
+        → (acted slave (is_controlled control)).cleared ≡ true }
+    ensures stays { (slave : SlaveRecord) (act : Act)
+        → slave.cleared ≡ true
+        → (acted slave act).cleared ≡ not (ends_clearing slave act) }
+    ensures zero { (slave : SlaveRecord) (act : Act)
+        → IsSound slave
+        → slave.cleared ≡ true
+        → fits slave act ≡ true
+        → ((octets : List ℕ) → act ≢ exchanges octets)
+        → ((acted slave act).outputs ≡ zeros (output_length (acted slave act)))
+        × ((acted slave act).latest ≡ zeros (output_length (acted slave act))) }
 {}
 
 /// Where no time lets go of the slave, time passes as a whole as in parts.

@@ -13,7 +13,7 @@ mod services;
 mod slave;
 mod view;
 
-pub use description::{Device, SlaveSpec};
+pub use description::{Configuration, Device, MOST_CONFIGURATIONS, SlaveSpec};
 pub use dp_cfg::MOST_OCTETS as MOST_CONFIGURATION;
 pub use fault::InputFault;
 pub use slave::Slave;

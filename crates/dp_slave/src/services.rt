@@ -1,25 +1,25 @@
-//! What the services of a slave do (IEC 61158-6-3, DP-V0 services): each has the condition that the
-//! request passed the rows of the verdict.
+//! What the services of a slave do (IEC 61158-6-3, DP-V0 services), each for a request that passed the
+//! rows of the verdict.
 
-ghost use Rattle.std.specs.Prelude.{◌≡◌, ◌≤◌, length, Some};
+ghost use Rattle.std.specs.Prelude.{◌≡◌, ◌≤◌, ◌<◌, ◌==◌, false, length, Some};
 ghost use Rattle.dp_sap.specs.AccessTable.{most_data};
 ghost use Rattle.dp_prm.specs.Meaning.{most_octets as most_parameters};
 ghost use Rattle.dp_diag.specs.Diagnosis.{is_due_high};
 ghost use Rattle.dp_diag.specs.DiagnosisText.{diagnosis_text};
-ghost use Rattle.dp_slave.specs.SlaveRecord.{diag_facts, is_held_by as is_held_by_master, limits_of, output_length, released};
+ghost use Rattle.dp_slave.specs.SlaveRecord.{configurations as configurations_of, diag_facts, is_held_by as is_held_by_master, limits_of, output_length, released};
 ghost use Rattle.dp_slave.specs.SlaveParts.{with_slave};
-ghost use Rattle.dp_slave.specs.Acts.{configures, exchanges, faults, locks, misconfigures, sets_min_tsdr, tells_diagnosis, unlocks};
+ghost use Rattle.dp_slave.specs.Acts.{configures, exchanges, exchanges_none, faults, locks, misconfigures, sets_min_tsdr, tells_diagnosis, unlocks};
 ghost use Rattle.dp_slave.specs.Fields.{acted, left_again as left_again_of};
-ghost use Rattle.dp_slave.specs.Services.{chk_cfg_act, its_cfg, same_octets, set_prm_act};
+ghost use Rattle.dp_slave.specs.Services.{chk_cfg_act, exchange_act, set_prm_act};
+ghost use Rattle.dp_slave.specs.Reshaping.{reshaped};
 
-use crate::slave::Slave;
+use crate::data_octets::DataOctets;
+use crate::slave::{Slave, data_lengths};
 use arrayvec::ArrayVec;
+use dp_cfg::choose;
 use dp_diag::{Diag, DiagFacts};
 use dp_prm::{Limits, Prm, PrmVerdict, read};
 use dp_sap::{MOST_DATA, State};
-
-/// The number of a slave's configuration (own).
-const ITS_CFG: u8 = 0;
 
 impl Slave {
     /// Set_Prm by the sender, a master 0 to 126, at this place of the journal, with 0 to 244 octets:
@@ -58,7 +58,8 @@ impl Slave {
             self.since = number;
         }
         let out_len = self.points.out_len();
-        self.points.move_to(State::WaitCfg, Some(sender), out_len, false);
+        self.points
+            .move_to(State::WaitCfg, Some(sender), out_len, false);
         if prm.min_tsdr != 0 {
             self.min_tsdr = prm.min_tsdr;
         }
@@ -106,38 +107,53 @@ impl Slave {
         }
     }
 
-    /// Chk_Cfg with these octets: data exchange where they are the slave's configuration, and else
-    /// the slave is let go with the fault. It is always answered without data.
+    /// Chk_Cfg with these octets: data exchange where they are a configuration of the slave, whose
+    /// lengths are in force then, and else the slave is let go with the fault. It is always answered
+    /// without data.
     pub fn chk_cfg(&mut self, octets: &[u8])
         ensures { self.new ≡ with_slave self.old (acted self.old.slave (chk_cfg_act self.old.slave octets.now)) }
     {
-        if self.is_configuration(octets) {
-            self.configure();
-        } else {
-            self.refuse_configuration();
+        match choose(&self.configurations, octets) {
+            Some(number) => self.configure(number),
+            None => self.refuse_configuration(),
         }
     }
 
-    /// The octets are those of its configuration.
-    fn is_configuration(&self, octets: &[u8]) -> bool
-        ensures { result ≡ same_octets self.now.slave.description.cfg.items octets.now }
-    {
-        self.get_cfg() == octets
-    }
-
-    /// The configuration is good: data are exchanged from now on.
+    /// The configuration of this number is good: data are exchanged from now on.
     #[tactic(auto, unfolding(crate::specs::Fields::acted))]
-    fn configure(&mut self)
-        ensures { self.new ≡ with_slave self.old (acted self.old.slave (configures its_cfg)) }
+    fn configure(&mut self, number: u8)
+        ensures { self.new ≡ with_slave self.old (acted self.old.slave (configures number)) }
     {
+        if number != self.shape {
+            self.reshape(number);
+        }
         let (holder, out_len) = (self.points.holder(), self.points.out_len());
-        self.points.move_to(State::DataExch, holder, out_len, false);
-        self.cfg = Some(ITS_CFG);
+        let cleared = self.points.empty();
+        self.points
+            .move_to(State::DataExch, holder, out_len, cleared);
+        self.cfg = Some(number);
         self.diag.cfg_fault = false;
         self.left = self.left_again();
     }
 
-    /// The configuration is another one: the slave is let go with the fault.
+    /// The shape of this number is in force: the inputs and their copy are cut or filled with zeros,
+    /// outputs and latest data are zeros, both modes end, and the slave isn't cleared.
+    fn reshape(&mut self, number: u8)
+        ensures { self.new ≡ with_slave self.old (reshaped self.old.slave number) }
+    {
+        let (input_length, output_length) = data_lengths(&self.configurations, number);
+        let (state, holder) = (self.points.state(), self.points.holder());
+        self.points.move_to(state, holder, output_length, false);
+        self.shape = number;
+        self.inputs.resize(input_length);
+        self.copy.resize(input_length);
+        self.outputs = DataOctets::zeros(output_length);
+        self.latest = DataOctets::zeros(output_length);
+        self.sync_mode = false;
+        self.freeze_mode = false;
+    }
+
+    /// The configuration is none of the slave's: it is let go with the fault.
     #[tactic(auto, unfolding(crate::specs::Fields::acted, crate::specs::SlaveRecord::released))]
     fn refuse_configuration(&mut self)
         ensures { self.new ≡ with_slave self.old (acted self.old.slave misconfigures) }
@@ -147,20 +163,60 @@ impl Slave {
     }
 
     /// Data_Exchange with as many octets as the slave has outputs: they are put out, or wait in sync
-    /// mode. The reply has the inputs of `rd_inp`; true where it is of high priority, since a
-    /// diagnosis is due.
-    #[tactic(auto, unfolding(crate::specs::Fields::acted))]
+    /// mode; or with none to a cleared slave, which stand for zeros. Octets of another number never
+    /// arrive: the verdict refuses them. The reply has the inputs of `rd_inp`; true where it is of high
+    /// priority, since a diagnosis is due.
     pub fn data_exchange(&mut self, octets: &[u8]) -> bool
-        requires { length octets.now ≡ output_length self.old.slave }
-        ensures slave { self.new ≡ with_slave self.old (acted self.old.slave (exchanges octets.now)) }
+        ensures slave { self.new ≡ with_slave self.old (acted self.old.slave (exchange_act self.old.slave octets.now)) }
         ensures high { result ≡ is_due_high self.old.slave.diag }
+    {
+        let high = self.diag.due_high();
+        if octets.len() == self.outputs.as_slice().len() {
+            self.exchange(octets);
+        } else {
+            self.exchange_none();
+        }
+        high
+    }
+
+    /// Data of the whole length.
+    #[tactic(auto, unfolding(crate::specs::Fields::acted))]
+    fn exchange(&mut self, octets: &[u8])
+        requires { length octets.now ≡ output_length self.old.slave }
+        ensures { self.new ≡ with_slave self.old (acted self.old.slave (exchanges octets.now)) }
     {
         self.latest.set(octets);
         if !self.sync_mode {
             self.outputs.set(octets);
         }
+        if self.points.empty() {
+            self.mark_cleared(false);
+        }
         self.left = self.left_again();
-        self.diag.due_high()
+    }
+
+    /// No data, which stand for zeros.
+    #[tactic(auto, unfolding(crate::specs::Fields::acted))]
+    fn exchange_none(&mut self)
+        ensures { self.new ≡ with_slave self.old (acted self.old.slave exchanges_none) }
+    {
+        self.latest.clear();
+        if !self.sync_mode {
+            self.outputs.clear();
+        }
+        self.left = self.left_again();
+    }
+
+    /// Whether the slave is cleared, and takes an empty Data_Exchange.
+    pub(crate) fn mark_cleared(&mut self, cleared: bool)
+        ensures { self.new ≡ with_slave self.old (record self.old.slave { cleared = cleared }) }
+    {
+        let (state, holder, out_len) = (
+            self.points.state(),
+            self.points.holder(),
+            self.points.out_len(),
+        );
+        self.points.move_to(state, holder, out_len, cleared);
     }
 
     /// Slave_Diag by the sender: the 6 to 244 octets of the diagnosis. The holder has read it then,

@@ -1,14 +1,15 @@
 //! A slave.
 
-ghost use Rattle.std.specs.Prelude.{◌≡◌, ◌≤◌, length, Ok, None};
-ghost use Rattle.dp_cfg.specs.Reading.{input_octets, output_octets, reading_of};
+ghost use Rattle.std.specs.Prelude.{◌≡◌, ◌≤◌, [], length, map, slice_get, unwrap_or, true, None};
+ghost use Rattle.std.specs.List.{list_all};
+ghost use Rattle.dp_cfg.specs.Reading.{input_octets, output_octets};
 ghost use Rattle.dp_sap.specs.AccessTable.{most_data};
 ghost use Rattle.dp_responder.specs.Memory.{with_remembered};
-ghost use Rattle.dp_slave.specs.SlaveRecord.{group_of, input_length, output_length, points_of, shown_inputs, starting_slave};
+ghost use Rattle.dp_slave.specs.SlaveRecord.{can_be_parsed, configuration as configuration_of, configurations as configurations_of, group_of, input_length, output_length, points_of, shown_inputs, starting_slave};
 ghost use Rattle.dp_slave.specs.SlaveParts.{with_slave};
 
 use crate::data_octets::DataOctets;
-use crate::description::SlaveSpec;
+use crate::description::{Configuration, MOST_CONFIGURATIONS, SlaveSpec};
 use arrayvec::ArrayVec;
 use dp_cfg::CfgIds;
 use dp_diag::Diag;
@@ -27,11 +28,13 @@ const FIRST_MIN_TSDR: u8 = 11;
 #[derive(Drop)]
 pub struct Slave {
     pub(crate) description: SlaveSpec,
+    pub(crate) configurations: ArrayVec<CfgIds, MOST_CONFIGURATIONS>,
     pub(crate) points: Points,
     pub(crate) since: u32,
     pub(crate) min_tsdr: u8,
     pub(crate) prm: Option<Prm>,
     pub(crate) cfg: Option<u8>,
+    pub(crate) shape: u8,
     pub(crate) inputs: DataOctets,
     pub(crate) copy: DataOctets,
     pub(crate) outputs: DataOctets,
@@ -45,9 +48,9 @@ pub struct Slave {
 }
 
 impl Model for Slave {
-    ghost use Rattle.std.specs.Prelude.{◌≡◌, false};
-    ghost use Rattle.dp_cfg.specs.Reading.{output_octets};
+    ghost use Rattle.std.specs.Prelude.{◌≡◌};
     ghost use Rattle.dp_slave.specs.SlaveParts.{SlaveParts};
+    ghost use Rattle.dp_slave.specs.SlaveRecord.{configurations as described, outputs_of};
     ghost use Rattle.dp_slave.specs.SlaveLengths.{HaveLengths};
 
     ghost Value = { SlaveParts };
@@ -61,12 +64,14 @@ impl Model for Slave {
         min_tsdr = s.min_tsdr;
         prm = s.prm;
         cfg = s.cfg;
+        shape = s.shape;
         inputs = s.inputs;
         copy = s.copy;
         outputs = s.outputs;
         latest = s.latest;
         sync_mode = s.sync_mode;
         freeze_mode = s.freeze_mode;
+        cleared = s.points.empty;
         left = s.left;
         diag = s.diag;
         busy = s.points.busy;
@@ -75,28 +80,36 @@ impl Model for Slave {
       links = s.links;
     } };
 
-    ghost invariant = { λ s. HaveLengths s.description.cfg.items s.inputs s.copy s.outputs s.latest
-        × (s.points.out_len ≡ output_octets s.description.cfg.items)
-        × (s.points.empty ≡ false)
+    ghost invariant = { λ s. HaveLengths s.description s.shape s.inputs s.copy s.outputs s.latest
+        × (s.points.out_len ≡ outputs_of s.description s.shape)
+        × (s.configurations.items ≡ described s.description)
         × (s.points.lists ≡ s.description.lists) };
 }
 
 impl Slave {
-    /// A slave at its start, on a line with these masters. Its configuration is one that can be
-    /// parsed.
+    /// A slave at its start, on a line with these masters. Each of its configurations can be parsed.
     pub fn open(description: &SlaveSpec, masters: &ArrayVec<u8, MOST_MASTERS>) -> Slave
-        requires { reading_of description.now.cfg.items ≡ Ok description.now.cfg.items }
+        requires { list_all can_be_parsed (configurations_of description.now) ≡ true }
         ensures slave { result.slave ≡ starting_slave masters.now.items description.now }
         ensures links { result.links ≡ record { prev = None; next = None } }
     {
-        let (input_length, output_length) = data_lengths(&description.cfg);
+        let configurations = parsed(&description.cfgs);
+        let (input_length, output_length) = data_lengths(&configurations, 0);
         Slave {
             description: copied(description),
-            points: Points::at_state(State::WaitPrm, None, output_length, false, &description.lists),
+            configurations,
+            points: Points::at_state(
+                State::WaitPrm,
+                None,
+                output_length,
+                false,
+                &description.lists,
+            ),
             since: 0,
             min_tsdr: FIRST_MIN_TSDR,
             prm: None,
             cfg: None,
+            shape: 0,
             inputs: DataOctets::zeros(input_length),
             copy: DataOctets::zeros(input_length),
             outputs: DataOctets::zeros(output_length),
@@ -172,12 +185,15 @@ impl Slave {
         self.outputs.as_slice()
     }
 
-    /// The octets of its configuration, 0 to 244 of them.
+    /// The octets of the configuration of the shape in force, 0 to 244 of them.
     pub fn get_cfg(&self) -> &[u8]
-        ensures octets { result.now ≡ self.now.slave.description.cfg.items }
+        ensures octets { result.now ≡ configuration_of self.now.slave.description self.now.slave.shape }
         ensures most { length result.now ≤ most_data }
     {
-        self.description.cfg.as_slice()
+        match self.configurations.get(usize::from(self.shape)) {
+            Some(configuration) => configuration.octets(),
+            None => &[],
+        }
     }
 
     /// The groups that it belongs to, a bit for each, as its holder's parameters say; 0 where it has
@@ -192,16 +208,30 @@ impl Slave {
     }
 }
 
-/// The inputs and the outputs of a configuration that can be parsed, 0 to 244 octets each.
-fn data_lengths(cfg: &[u8]) -> (u8, u8)
-    requires parsed { reading_of cfg.now ≡ Ok cfg.now }
-    requires most { length cfg.now ≤ most_data }
-    ensures inputs { result.0 ≡ input_octets cfg.now }
-    ensures outputs { result.1 ≡ output_octets cfg.now }
+/// The configurations of these octets, each of which can be parsed.
+fn parsed(cfgs: &[Configuration]) -> ArrayVec<CfgIds, MOST_CONFIGURATIONS>
+    requires read { list_all can_be_parsed (map (λ cfg. cfg.items) cfgs.now) ≡ true }
+    requires few { length cfgs.now ≤ 4 }
+    ensures { result.items ≡ map (λ cfg. cfg.items) cfgs.now }
+{
+    let mut configurations = ArrayVec::new();
+    for cfg in cfgs {
+        configurations.push(CfgIds::parse(cfg).unwrap());
+    }
+    configurations
+}
+
+/// The inputs and the outputs of the configuration of this number, 0 to 244 octets each; none where
+/// there is no configuration of it.
+pub(crate) fn data_lengths(configurations: &[CfgIds], number: u8) -> (u8, u8)
+    ensures inputs { result.0 ≡ input_octets (unwrap_or (slice_get configurations.now number) []) }
+    ensures outputs { result.1 ≡ output_octets (unwrap_or (slice_get configurations.now number) []) }
     ensures most { (result.0 ≤ most_data) × (result.1 ≤ most_data) }
 {
-    let ids = CfgIds::parse(cfg).unwrap();
-    (ids.input_len(), ids.output_len())
+    match configurations.get(usize::from(number)) {
+        Some(configuration) => (configuration.input_len(), configuration.output_len()),
+        None => (0, 0),
+    }
 }
 
 fn copied(description: &SlaveSpec) -> SlaveSpec

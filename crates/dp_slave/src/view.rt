@@ -25,8 +25,10 @@ pub struct SlaveView {
     pub min_tsdr: u8,
     /// The parameters of its holder.
     pub prm: Option<Prm>,
-    /// The number of the configuration in force.
+    /// The number of the configuration that its holder sent.
     pub cfg: Option<u8>,
+    /// The number of the configuration whose lengths are in force, also where nobody has sent one.
+    pub shape: u8,
     /// The inputs of its device, 0 to 244 octets.
     pub inputs: ArrayVec<u8, MOST_DATA>,
     /// The inputs that a master sees.
@@ -39,6 +41,9 @@ pub struct SlaveView {
     pub sync_mode: bool,
     /// It is in freeze mode.
     pub freeze_mode: bool,
+    /// It is fail-safe and its data were cleared: it takes an empty Data_Exchange until data come, a
+    /// master locks it or sends a configuration of another number, or it is released.
+    pub cleared: bool,
     /// What its watchdog has left, in units of 10 ms; `None` where it is off.
     pub left: Option<u32>,
     /// Its diagnosis.
@@ -58,12 +63,14 @@ impl Slave {
             min_tsdr: self.min_tsdr,
             prm: copied(&self.prm),
             cfg: self.cfg,
+            shape: self.shape,
             inputs: self.inputs.copied(),
             shown: self.shown().copied(),
             outputs: self.outputs.copied(),
             latest: self.latest.copied(),
             sync_mode: self.sync_mode,
             freeze_mode: self.freeze_mode,
+            cleared: self.points.empty(),
             left: self.left,
             diag: self.diag.clone().unwrap(),
         }

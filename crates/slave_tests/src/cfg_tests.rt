@@ -1,11 +1,11 @@
-//! Configurations: the octets of inputs and of outputs that they announce.
+//! Configurations: the octets of inputs and of outputs that they announce, and the choice among several.
 
 ghost use Rattle.std.specs.Prelude.{◌≡◌, List};
 ghost use Rattle.dp_cfg.specs.Identifiers.{Identifier, IsSplit, input_sum, output_sum};
 
 use crate::rows::{Answers, play};
 use crate::words::{Words, hex_text, text};
-use dp_cfg::{CfgFault, CfgIds, MOST_OCTETS, laws};
+use dp_cfg::{CfgFault, CfgIds, MOST_OCTETS, choose, laws};
 use std::alloc::Global;
 use std::test::Fail;
 
@@ -140,6 +140,51 @@ equals 1121 => no
 equals 21 => no
 inputs => 2
 sums => 2 2
+",
+    )
+}
+
+/// Configurations to choose among.
+#[derive(Drop)]
+struct Choices {
+    configurations: [CfgIds; 4],
+}
+
+impl Answers for Choices {
+    /// The command is `choose HEX`, answered by the number of a configuration or `none`.
+    fn answer(&mut self, alloc: Global, command: &str) -> Result<String, Fail> {
+        let mut words = Words::of(command);
+        if words.word()? != "choose" {
+            return Err("a command")?;
+        }
+        match choose(&self.configurations, &words.octets(alloc)?) {
+            Some(number) => Ok(format!(in alloc; "{number}")?),
+            None => text(alloc, "none"),
+        }
+    }
+}
+
+/// The first and the last of these are equal.
+#[test]
+fn first_equal_one_is_chosen(rt: HostRuntime) -> Result<(), Fail> {
+    let mut choices = Choices {
+        configurations: [
+            CfgIds::parse(&[0x21])?,
+            CfgIds::parse(&[0x21, 0x11])?,
+            CfgIds::parse(&[])?,
+            CfgIds::parse(&[0x21])?,
+        ],
+    };
+    play(
+        rt.alloc(),
+        &mut choices,
+        "\
+choose 21 => 0
+choose 2111 => 1
+choose - => 2
+choose 11 => none
+choose 1121 => none
+choose 211121 => none
 ",
     )
 }
