@@ -45,10 +45,10 @@ lines_text entries = flat_map (λ entry. line_text (entry_text entry)) entries
 
 -- the header and so many lines behind it
 abbrev pub text_to : ℕ → List Entry → ℕ → List ℕ
-text_to number entries n = line_text (header_text number) ++ lines_text (take n entries)
+text_to number entries n = line_text (header_text 2 number) ++ lines_text (take n entries)
 
-pub at_start : (number : ℕ) (entries : List Entry) → line_text (header_text number) ≡ text_to number entries 0
-at_start number entries = sym (append-nil (line_text (header_text number)))
+pub at_start : (number : ℕ) (entries : List Entry) → line_text (header_text 2 number) ≡ text_to number entries 0
+at_start number entries = sym (append-nil (line_text (header_text 2 number)))
 
 position_is : (entries : List Entry) (n : ℕ) → entry_at entries (n + 1) ≡ slice_get entries n
 position_is entries n =
@@ -67,8 +67,8 @@ pub one_more : (number : ℕ) (entries : List Entry) (n : ℕ) (found : Option E
 one_more number entries n found entry within is there =
     let got : get_or entries n entry ≡ entry = get_or_from_slice_get entries n entry entry (sym (position_is entries n) ∙ sym is ∙ there) in
     let grown : take (n + 1) entries ≡ take n entries ++ entry ∷ [] = take_more entries n entry within ∙ ap (λ (e : Entry). take n entries ++ e ∷ []) got in
-    append_assoc (line_text (header_text number)) (lines_text (take n entries)) (line_text (entry_text entry))
-    ∙ ap (λ (t : List ℕ). line_text (header_text number) ++ t)
+    append_assoc (line_text (header_text 2 number)) (lines_text (take n entries)) (line_text (entry_text entry))
+    ∙ ap (λ (t : List ℕ). line_text (header_text 2 number) ++ t)
     (ap (λ (t : List ℕ). lines_text (take n entries) ++ t) (sym (append-nil (line_text (entry_text entry))))
     ∙ sym (flat_map-append (λ (e : Entry). line_text (entry_text e)) (take n entries) (entry ∷ []))
     ∙ ap lines_text (sym grown))
@@ -77,11 +77,11 @@ one_more number entries n found entry within is there =
 whole : (number : ℕ) (entries : List Entry) (n : ℕ) → text_to number entries n ++ lines_text (drop n entries) ≡ audit_text number entries
 unfolding audit_text
 whole number entries n =
-    append_assoc (line_text (header_text number)) (lines_text (take n entries)) (lines_text (drop n entries))
-    ∙ ap (λ (t : List ℕ). line_text (header_text number) ++ t)
+    append_assoc (line_text (header_text 2 number)) (lines_text (take n entries)) (lines_text (drop n entries))
+    ∙ ap (λ (t : List ℕ). line_text (header_text 2 number) ++ t)
     (sym (flat_map-append (λ (e : Entry). line_text (entry_text e)) (take n entries) (drop n entries)) ∙ ap lines_text (take-append-drop n entries))
 
-pub header_prefix : (old new : Option (List ℕ)) (number : ℕ) (entries : List Entry) (written : List ℕ) → written ≡ line_text (header_text number)
+pub header_prefix : (old new : Option (List ℕ)) (number : ℕ) (entries : List Entry) (written : List ℕ) → written ≡ line_text (header_text 2 number)
     → WritesPrefix old new written → WritesPrefix old new (audit_text number entries)
 unfolding audit_text
 header_prefix old new number entries written is cut = front_prefix old new written (lines_text entries) (audit_text number entries) cut (ap (λ (t : List ℕ). t ++ lines_text entries) is)

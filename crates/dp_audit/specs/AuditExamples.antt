@@ -2,15 +2,18 @@
 use Rattle.std.specs.Prelude.{◌≡◌, ⊤, true, false, [], ◌∷◌, codes, Some, None, refl}
 use Rattle.std.specs.Fmt.{digits}
 use Rattle.hex.proofs.OnLiterals.{hex_on_literals}
+use Rattle.dp_sap.specs.declared.lists.Lists.{Lists}
 use Rattle.dp_sap.specs.declared.state.State.TheVariants.{WaitPrm, WaitCfg, DataExch}
 use Rattle.dp_responder.specs.declared.rule.Rule.TheVariants as rules
 use Rattle.dp_line.specs.declared.event.Event.TheVariants.{Request, Operator}
 use Rattle.dp_line.specs.declared.event.Op.TheVariants.{Input, Diag, Busy, Tick, Halt}
 use Rattle.dp_line.specs.declared.event.Outcome.TheVariants.{Reply, Silence, Spread, Released, Done}
+use Rattle.dp_line.specs.World.{Description}
+use Rattle.dp_line.specs.LineExamples.{slave_5}
 use Rattle.dp_audit.specs.declared.entry.Entry.{Entry}
 use Rattle.dp_audit.specs.Packed.{flags_octet, record_octets}
 use Rattle.dp_audit.specs.AuditText.{audit_text}
-use Rattle.dp_audit.specs.Check.{line_parts}
+use Rattle.dp_audit.specs.Check.{is_accepted_header, line_parts}
 
 -- FDL status, first on a fresh line
 abbrev pub status_entry : Entry
@@ -93,15 +96,54 @@ unfoldable text_on_literals : ⊤
 unfolding hex_on_literals digits
 text_on_literals = tt
 
-pub no_entry : audit_text 1 [] ≡ codes "rack-audit 1 line 1\n"
+pub no_entry : audit_text 1 [] ≡ codes "rack-audit 2 line 1\n"
 unfolding text_on_literals audit_text
 no_entry = refl
 
 pub a_request_and_the_halt :
     audit_text 1 (status_entry ∷ (record { place = 2; event = Operator Halt; facts = None; outcome = Released (record { items = [] }) }) ∷ [])
-    ≡ codes "rack-audit 1 line 1\n1 req 1 100501494f16 | WaitPrm none | reply 100105000616 Status\n2 halt | none | released\n"
+    ≡ codes "rack-audit 2 line 1\n1 req 1 100501494f16 | WaitPrm none | reply 100105000616 Status\n2 halt | none | released\n"
 unfolding text_on_literals audit_text
 a_request_and_the_halt = refl
+
+-- ---- headers
+
+-- line 1 with masters 1 and 2 and slave 5, which has no list
+abbrev line_1 : Description
+line_1 = record { number = 1; capacity = 1000; masters = 1 ∷ 2 ∷ []; slaves = slave_5 ∷ [] }
+
+-- the same, but slave 5 has these lists, and another slave behind it has none
+abbrev line_1_with : Lists → Description
+line_1_with lists = record line_1 { slaves = record slave_5 { lists = lists } ∷ record slave_5 { address = 6 } ∷ [] }
+
+pub version_2_is_accepted : is_accepted_header line_1 (codes "rack-audit 2 line 1") ≡ true
+unfolding text_on_literals
+version_2_is_accepted = refl
+
+pub version_1_is_accepted_without_lists : is_accepted_header line_1 (codes "rack-audit 1 line 1") ≡ true
+unfolding text_on_literals
+version_1_is_accepted_without_lists = refl
+
+pub version_2_is_accepted_with_a_list : is_accepted_header (line_1_with (record { lockers = Some (record { items = 1 ∷ [] }); readers = None })) (codes "rack-audit 2 line 1") ≡ true
+unfolding text_on_literals
+version_2_is_accepted_with_a_list = refl
+
+pub version_1_is_refused_with_a_list : is_accepted_header (line_1_with (record { lockers = Some (record { items = 1 ∷ [] }); readers = None })) (codes "rack-audit 1 line 1") ≡ false
+unfolding text_on_literals
+version_1_is_refused_with_a_list = refl
+
+-- a list that is empty is one
+pub version_1_is_refused_with_an_empty_list : is_accepted_header (line_1_with (record { lockers = None; readers = Some (record { items = [] }) })) (codes "rack-audit 1 line 1") ≡ false
+unfolding text_on_literals
+version_1_is_refused_with_an_empty_list = refl
+
+pub version_3_is_refused : is_accepted_header line_1 (codes "rack-audit 3 line 1") ≡ false
+unfolding text_on_literals
+version_3_is_refused = refl
+
+pub another_number_is_refused : is_accepted_header line_1 (codes "rack-audit 2 line 2") ≡ false
+unfolding text_on_literals
+another_number_is_refused = refl
 
 -- ---- parts
 

@@ -1,6 +1,7 @@
 -- What an audit text is found to be (own).
-use Rattle.std.specs.Prelude.{codes, ◌≡◌, ℕ, ◌+◌, ◌==◌, ◌&&◌, ◌||◌, Bool, not, if◌then◌else◌, List, [], ◌∷◌, length, take, drop, Option, Some, None, is_none, option_map, option_and_then, Result, Ok, Err}
-use Rattle.std.specs.List.{AllByRecursion}
+use Rattle.std.specs.Prelude.{codes, ◌≡◌, ℕ, ◌+◌, ◌==◌, ◌&&◌, ◌||◌, Bool, true, not, if◌then◌else◌, List, [], ◌∷◌, length, take, drop, Option, Some, None, is_none, option_map, option_and_then, Result, Ok, Err}
+use Rattle.std.specs.List.{AllByRecursion, list_all}
+use Rattle.dp_slave.specs.declared.description.SlaveSpec.{SlaveSpec}
 use Rattle.dp_line.specs.declared.event.Event.{Event}
 use Rattle.dp_line.specs.World.{Description, World, is_last_place, start_of}
 use Rattle.dp_line.specs.Events.{is_halt, misfit}
@@ -12,7 +13,7 @@ use Rattle.dp_text.specs.Events.{IsWithinLimits, event_of_words}
 use Rattle.dp_audit.specs.declared.entry.Entry.{Entry}
 use Rattle.dp_audit.specs.declared.fault.AuditFault.{AuditFault}
 use Rattle.dp_audit.specs.declared.fault.AuditFault.TheVariants.{BadLine, NotThePolicy}
-use Rattle.dp_audit.specs.AuditText.{audit_text, header_text}
+use Rattle.dp_audit.specs.AuditText.{header_text, headed_text}
 use Rattle.dp_audit.specs.Legal.{IsLegal}
 
 -- ---- the form of a line
@@ -55,6 +56,19 @@ placed_of_words (word ∷ words) =
 
 abbrev pub placed_of : List ℕ → Option Placed
 placed_of text = placed_of_words (words_of text)
+
+-- ---- the header
+
+-- the slave has nothing that version 1 of the policy doesn't know: it has no list of masters, also none that is empty
+abbrev pub is_known_to_version_1 : SlaveSpec → Bool
+is_known_to_version_1 slave = is_none slave.lists.lockers && is_none slave.lists.readers
+
+-- the header lines that a text of the line may begin with: that of version 2, and that of version 1 where this knows all that the slaves
+-- have
+abbrev pub is_accepted_header : Description → List ℕ → Bool
+is_accepted_header line header =
+    same_text header (header_text 2 line.number)
+    || (same_text header (header_text 1 line.number) && list_all is_known_to_version_1 line.slaves)
 
 -- ---- the policy
 
@@ -113,7 +127,7 @@ abbrev pub checked_from_header : Description → List (List ℕ) → Result ℕ 
 checked_from_header description [] = Err (BadLine 1)
 checked_from_header description (header ∷ []) = Err (BadLine 1)
 checked_from_header description (header ∷ next ∷ lines) =
-    if same_text header (header_text description.number) then checked_lines (start_of description) 0 (next ∷ lines) else Err (BadLine 1)
+    if is_accepted_header description header then checked_lines (start_of description) 0 (next ∷ lines) else Err (BadLine 1)
 
 -- how many entries an audit text of the line has, or which line of it is the first that is wrong
 unfoldable pub checked : Description → List ℕ → Result ℕ AuditFault
@@ -121,10 +135,12 @@ checked description text = checked_from_header description (lines_of text)
 
 -- ---- what is accepted, without a walk through the lines
 
--- the text is the audit text of a legal journal of the line with so many entries, each event within the limits of its text
+-- the text is an accepted header and the entries of a legal journal of the line, so many of them, each event within the limits of its text
 pub record IsAuditOf (line : Description) (text : List ℕ) (count : ℕ) : Type 0 where
+  pub header : List ℕ
+  pub headed : is_accepted_header line header ≡ true
   pub entries : List Entry
   pub legal : IsLegal (start_of line) entries
   pub limits : AllByRecursion (λ entry. IsWithinLimits entry.event) entries
   pub counted : length entries ≡ count
-  pub written : text ≡ audit_text line.number entries
+  pub written : text ≡ headed_text header entries

@@ -1,21 +1,26 @@
 //! Checking an audit text, line by line.
 
 ghost use Rattle.std.specs.Prelude.{◌≡◌, ◌+◌, ◌∷◌, ◌&&◌, ◌⊎◌, true, Err, None};
+ghost use Rattle.std.specs.List.{list_all};
 ghost use Rattle.dp_line.specs.World.{description_of, opening_fault};
 ghost use Rattle.dp_line.specs.Events.{is_halt as is_operators_halt};
 ghost use Rattle.dp_line.specs.Effects.{effect};
 ghost use Rattle.dp_text.specs.Words.{same_text};
 ghost use Rattle.dp_text.specs.Texts.{facts_text, outcome_text};
 ghost use Rattle.dp_audit.specs.AuditText.{header_text};
-ghost use Rattle.dp_audit.specs.Check.{checked, checked_lines, is_recorded_at, judged_line, tells_policy};
+ghost use Rattle.dp_audit.specs.Check.{checked, checked_lines, is_accepted_header, is_known_to_version_1, is_recorded_at, judged_line, tells_policy};
 ghost use Rattle.dp_audit.specs.Checking.{TakesLine};
 
 use crate::fault::AuditFault;
 use crate::reading::{LineParts, Placed, parts_in, placed_in};
-use crate::writing::set_header;
+use crate::writing::{VERSION, set_header};
 use dp_line::{Event, Facts, LineSpec, LineState, Op, Outcome};
+use dp_slave::SlaveSpec;
 use dp_text::{Lines, Text, is_text};
 use std::alloc::Global;
+
+/// The version of the policy before lists of masters.
+const FIRST_VERSION: u8 = 1;
 
 /// How many entries an audit text of a line has, 0 to 65,536; or which line is the first that makes it
 /// none of a legal journal of the line.
@@ -36,25 +41,47 @@ pub fn check_text(alloc: Global, line: &LineSpec, text: &str) -> Result<u32, Aud
     let Some(first) = lines.next() else {
         return Err(AuditFault::BadLine(1));
     };
-    if !is_header(header, line.number, &mut written) {
+    if !is_header(header, line, &mut written) {
         return Err(AuditFault::BadLine(1));
     }
     check_lines(&mut state, first, &mut lines, &mut written)
 }
 
-/// A line, without its LF, is the header of the audit texts of the line of this number.
-pub fn is_header_of(line: &[u8], number: u8) -> bool
-    ensures { result ≡ same_text line.now (header_text number) }
+/// A row, without its LF, is a header that an audit text of the line may begin with: that of version 2,
+/// which is written, or that of version 1 where no slave of the line has a list of masters.
+pub fn is_header_of(row: &[u8], line: &LineSpec) -> bool
+    ensures { result ≡ is_accepted_header (description_of line.now) row.now }
 {
-    is_header(line, number, &mut Text::new())
+    is_header(row, line, &mut Text::new())
 }
 
-/// A line, without its LF, is the header of this number; `written` is room to write the header into.
-fn is_header(line: &[u8], number: u8, written: &mut Text) -> bool
-    ensures { result ≡ same_text line.now (header_text number) }
+/// A row is a header of the line; `written` is room to write a header into.
+fn is_header(row: &[u8], line: &LineSpec, written: &mut Text) -> bool
+    ensures { result ≡ is_accepted_header (description_of line.now) row.now }
 {
-    set_header(written, number);
-    is_text(line, written.as_bytes())
+    is_of_version(row, VERSION, line.number, written)
+        || is_of_version(row, FIRST_VERSION, line.number, written) && are_of_version_1(&line.slaves)
+}
+
+/// A row is the header of this version and of this number.
+fn is_of_version(row: &[u8], version: u8, number: u8, written: &mut Text) -> bool
+    ensures { result ≡ same_text row.now (header_text version number) }
+{
+    set_header(written, version, number);
+    is_text(row, written.as_bytes())
+}
+
+fn are_of_version_1(slaves: &[SlaveSpec]) -> bool
+    ensures { result ≡ list_all is_known_to_version_1 slaves.now }
+{
+    slaves.iter().all(|slave| is_of_version_1(slave))
+}
+
+/// The slave has nothing that version 1 of the policy doesn't know.
+fn is_of_version_1(slave: &SlaveSpec) -> bool
+    ensures { result ≡ is_known_to_version_1 slave.now }
+{
+    slave.lists.lockers.is_none() && slave.lists.readers.is_none()
 }
 
 /// How many entries there are with those of this line and of the lines behind it.

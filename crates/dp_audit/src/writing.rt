@@ -10,6 +10,9 @@ use crate::records::Records;
 use dp_text::{Text, WriteFault, write_whole};
 use std::io::Write;
 
+/// The version of the policy that the header of what is written names.
+pub(crate) const VERSION: u8 = 2;
+
 /// Writes the audit text of entries: the header of the line of this number, and their lines. It takes
 /// no memory, but for what the writer takes. Where a write fails, a prefix of the text is out.
 pub(crate) fn write_journal<W: Write>(
@@ -21,7 +24,7 @@ pub(crate) fn write_journal<W: Write>(
     ensures err { OnErr result (WritesPrefix (W.contents writer.old) (W.contents writer.new) (audit_text number records.now.entries)) }
 {
     let mut text = Text::new();
-    set_header(&mut text, number);
+    set_header(&mut text, VERSION, number);
     text.push_str("\n");
     write_whole(writer, text.as_bytes())?;
     for index in 0..records.count() {
@@ -32,13 +35,15 @@ pub(crate) fn write_journal<W: Write>(
     Ok(())
 }
 
-/// Makes it the header of the line of this number, without its LF.
-pub(crate) fn set_header(text: &mut Text, number: u8)
-    ensures header { text.new ≡ header_text number }
-    ensures most { length text.new ≤ 21 }
+/// Makes it the header of a version of the policy and of the line of this number, without its LF.
+pub(crate) fn set_header(text: &mut Text, version: u8, number: u8)
+    ensures header { text.new ≡ header_text version number }
+    ensures most { length text.new ≤ 23 }
 {
     text.clear();
-    text.push_str("rack-audit 1 line ");
+    text.push_str("rack-audit ");
+    text.push_octet(version);
+    text.push_str(" line ");
     text.push_octet(number);
 }
 

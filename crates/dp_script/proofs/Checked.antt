@@ -6,16 +6,16 @@ use Rattle.std.proofs.lemmas.List.Elements.{recursion_from_All}
 use Rattle.dp_line.specs.World.{description_of, opening_fault}
 use Rattle.rack_file.specs.declared.rack.RackLine.{RackLine}
 use Rattle.rack_file.specs.Rack.{LineDescription, line_described}
-use Rattle.dp_text.specs.Words.{lines_of, same_text}
-use Rattle.dp_audit.specs.AuditText.{header_text}
+use Rattle.dp_text.specs.Words.{lines_of}
+use Rattle.dp_audit.specs.Check.{is_accepted_header}
 use Rattle.dp_script.specs.Checks.{line_named, checked_by_line, checked_on}
 
--- this is the header of the line
+-- this is an accepted header of the line
 abbrev is_headed : List ℕ → RackLine → Bool
-is_headed header line = same_text header (header_text line.spec.number)
+is_headed header line = is_accepted_header (description_of line.spec) header
 
 abbrev is_described_headed : List ℕ → LineDescription → Bool
-is_described_headed header line = same_text header (header_text line.line.number)
+is_described_headed header line = is_accepted_header line.line header
 
 first_or : (is : Bool) (first : RackLine) (found : Option LineDescription) (others : Option RackLine) → found ≡ option_map line_described others
     → cond is (Some (line_described first)) found ≡ option_map line_described (cond is (Some first) others)

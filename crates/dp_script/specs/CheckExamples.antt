@@ -1,7 +1,8 @@
 -- Audit texts on a rack of one line, and what is told of them.
-use Rattle.std.specs.Prelude.{◌≡◌, ⊤, [], ◌∷◌, codes, None, Ok, Err, refl}
+use Rattle.std.specs.Prelude.{◌≡◌, ⊤, [], ◌∷◌, codes, Some, None, Ok, Err, refl}
 use Rattle.std.specs.Fmt.{digits}
 use Rattle.hex.proofs.OnLiterals.{hex_on_literals}
+use Rattle.dp_slave.specs.declared.description.SlaveSpec.{SlaveSpec}
 use Rattle.dp_slave.specs.SlaveRecord.{released}
 use Rattle.dp_slave.specs.Fields.{acted}
 use Rattle.dp_line.specs.World.{ascending}
@@ -26,56 +27,76 @@ unfoldable check_on_entries : ⊤
 unfolding check_on_literals hex_on_literals ascending effect slave_after facts_of outcome_of served heard verdict_of rule_at reply_text acted released
 check_on_entries = tt
 
--- line 1 with masters 1 and 2 and slave 5
-abbrev rack_1 : RackDescription
-rack_1 = record {
+-- line 1 with masters 1 and 2 and one slave
+abbrev rack_of : SlaveSpec → RackDescription
+rack_of slave = record {
   workers = 4;
   lines = record {
-    line = record { number = 1; capacity = 1000; masters = 1 ∷ 2 ∷ []; slaves = slave_5 ∷ [] };
+    line = record { number = 1; capacity = 1000; masters = 1 ∷ 2 ∷ []; slaves = slave ∷ [] };
     listen = None;
     operator = None;
   } ∷ [];
 }
 
+-- slave 5, and the same where master 1 alone may lock it
+abbrev rack_1 : RackDescription
+rack_1 = rack_of slave_5
+
+abbrev rack_with_a_list : RackDescription
+rack_with_a_list = rack_of (record slave_5 { lists = record { lockers = Some (record { items = 1 ∷ [] }); readers = None } })
+
 pub nothing_at_all : checked_on rack_1 [] ≡ Err (BadLine 1)
 nothing_at_all = refl
 
-pub header_alone : checked_on rack_1 (codes "rack-audit 1 line 1\n") ≡ Ok 0
+pub header_alone : checked_on rack_1 (codes "rack-audit 2 line 1\n") ≡ Ok 0
 unfolding check_on_literals
 header_alone = refl
 
-pub header_without_its_end : checked_on rack_1 (codes "rack-audit 1 line 1") ≡ Err (BadLine 1)
+pub header_without_its_end : checked_on rack_1 (codes "rack-audit 2 line 1") ≡ Err (BadLine 1)
 unfolding check_on_literals
 header_without_its_end = refl
 
-pub header_of_another_line : checked_on rack_1 (codes "rack-audit 1 line 9\n") ≡ Err (BadLine 1)
+pub header_of_another_line : checked_on rack_1 (codes "rack-audit 2 line 9\n") ≡ Err (BadLine 1)
 unfolding check_on_literals
 header_of_another_line = refl
 
+-- version 1 doesn't know lists
+pub header_of_version_1 : checked_on rack_1 (codes "rack-audit 1 line 1\n") ≡ Ok 0
+unfolding check_on_literals
+header_of_version_1 = refl
+
+pub header_of_version_1_with_a_list : checked_on rack_with_a_list (codes "rack-audit 1 line 1\n") ≡ Err (BadLine 1)
+unfolding check_on_literals
+header_of_version_1_with_a_list = refl
+
+pub header_alone_with_a_list : checked_on rack_with_a_list (codes "rack-audit 2 line 1\n") ≡ Ok 0
+unfolding check_on_literals
+header_alone_with_a_list = refl
+
 -- an empty line has no parts
-pub empty_line_behind_the_header : checked_on rack_1 (codes "rack-audit 1 line 1\n\n") ≡ Err (BadLine 2)
+pub empty_line_behind_the_header : checked_on rack_1 (codes "rack-audit 2 line 1\n\n") ≡ Err (BadLine 2)
 unfolding check_on_literals
 empty_line_behind_the_header = refl
 
 -- the device sets inputs of a slave that nobody holds
-pub an_entry : checked_on rack_1 (codes "rack-audit 1 line 1\n1 in 5 aa55 | WaitPrm none | done\n") ≡ Ok 1
+pub an_entry : checked_on rack_1 (codes "rack-audit 2 line 1\n1 in 5 aa55 | WaitPrm none | done\n") ≡ Ok 1
 unfolding check_on_entries
 an_entry = refl
 
 -- master 1 asks for the diagnosis, and one digit of the reply is another
-pub a_reply : checked_on rack_1 (codes "rack-audit 1 line 1\n1 req 1 6805056885816d3c3eed16 | WaitPrm none | reply 680b0b688185083e3c020500ff80a1af16 Done\n") ≡ Ok 1
+pub a_reply : checked_on rack_1 (codes "rack-audit 2 line 1\n1 req 1 6805056885816d3c3eed16 | WaitPrm none | reply 680b0b688185083e3c020500ff80a1af16 Done\n") ≡ Ok 1
 unfolding check_on_entries
 a_reply = refl
 
-pub another_reply : checked_on rack_1 (codes "rack-audit 1 line 1\n1 req 1 6805056885816d3c3eed16 | WaitPrm none | reply 680b0b688185083e3c020500ff80a0af16 Done\n") ≡ Err (NotThePolicy 2)
+pub another_reply : checked_on rack_1 (codes "rack-audit 2 line 1\n1 req 1 6805056885816d3c3eed16 | WaitPrm none | reply 680b0b688185083e3c020500ff80a0af16 Done\n") ≡ Err (NotThePolicy 2)
 unfolding check_on_entries
 another_reply = refl
 
-pub capital_letter : checked_on rack_1 (codes "rack-audit 1 line 1\n1 in 5 Aa55 | WaitPrm none | done\n") ≡ Err (BadLine 2)
+pub capital_letter : checked_on rack_1 (codes "rack-audit 2 line 1\n1 in 5 Aa55 | WaitPrm none | done\n") ≡ Err (BadLine 2)
 unfolding check_on_entries
 capital_letter = refl
 
-pub another_holder : checked_on rack_1 (codes "rack-audit 1 line 1\n1 in 5 aa55 | WaitPrm 1 | done\n") ≡ Err (NotThePolicy 2)
+pub another_holder : checked_on rack_1 (codes "rack-audit 2 line 1\n1 in 5 aa55 | WaitPrm 1 | done\n") ≡ Err (NotThePolicy 2)
 unfolding check_on_entries
 another_holder = refl
 

@@ -2,16 +2,15 @@
 use Rattle.std.specs.Prelude.{codes, ℕ, List, [], ◌∷◌, ◌++◌, find, Option, Some, None, Result, Ok, Err}
 use Rattle.std.specs.Fmt.{decimal}
 use Rattle.rack_file.specs.Rack.{LineDescription, RackDescription}
-use Rattle.dp_text.specs.Words.{lines_of, same_text}
+use Rattle.dp_text.specs.Words.{lines_of}
 use Rattle.dp_audit.specs.declared.fault.AuditFault.{AuditFault}
 use Rattle.dp_audit.specs.declared.fault.AuditFault.TheVariants as faults
-use Rattle.dp_audit.specs.AuditText.{header_text}
-use Rattle.dp_audit.specs.Check.{checked}
+use Rattle.dp_audit.specs.Check.{checked, is_accepted_header}
 
--- of the lines of a rack, the first whose header the first line of a text is
+-- of the lines of a rack, the first for which the first line of a text is an accepted header
 abbrev pub line_named : List LineDescription → List (List ℕ) → Option LineDescription
 line_named lines [] = None
-line_named lines (header ∷ others) = find (λ line. same_text header (header_text line.line.number)) lines
+line_named lines (header ∷ others) = find (λ line. is_accepted_header line.line header) lines
 
 -- an audit text is checked on the line that it names, and its first line is bad where it names none
 abbrev pub checked_by_line : Option LineDescription → List ℕ → Result ℕ AuditFault

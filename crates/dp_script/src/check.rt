@@ -2,10 +2,10 @@
 
 ghost use Rattle.std.specs.Prelude.{◌≡◌, ◌⊎◌, Err, None, All, find, option_copied};
 ghost use Rattle.dp_line.specs.World.{description_of, opening_fault};
-ghost use Rattle.dp_text.specs.Words.{lines_of, same_text};
+ghost use Rattle.dp_text.specs.Words.{lines_of};
 ghost use Rattle.rack_file.specs.RackFile.{rack_in};
 ghost use Rattle.rack_file.specs.Rack.{rack_described};
-ghost use Rattle.dp_audit.specs.AuditText.{header_text};
+ghost use Rattle.dp_audit.specs.Check.{is_accepted_header};
 ghost use Rattle.dp_script.specs.Checks.{checked_on, verdict_text};
 ghost use Rattle.dp_script.specs.Runs.{RunsCheck, Tells};
 
@@ -53,13 +53,11 @@ fn verdict_on(alloc: Global, rack: &Rack, audit: &str) -> Result<u32, AuditFault
     }
 }
 
-/// The line whose header this is.
+/// The line that this is an accepted header of.
 fn line_named<'a>(lines: &'a [RackLine], header: &[u8]) -> Option<&'a RackLine>
-    ensures { option_copied result ≡ find (λ line. same_text header.now (header_text line.spec.number)) lines.now }
+    ensures { option_copied result ≡ find (λ line. is_accepted_header (description_of line.spec) header.now) lines.now }
 {
-    lines
-        .iter()
-        .find(|line| is_header_of(header, line.spec.number))
+    lines.iter().find(|line| is_header_of(header, &line.spec))
 }
 
 /// Writes what an audit text is found to be, and answers the exit status.

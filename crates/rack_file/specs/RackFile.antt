@@ -1,6 +1,7 @@
 -- The rack that a rack file describes (own).
 use Rattle.std.specs.Prelude.{ℕ, ◌+◌, false, ◌&&◌, nat_le, if◌then◌else◌, List, [], ◌∷◌, length, map, codes, Option, Some, None, Result, Ok, Err}
 use Rattle.std.specs.Str.{bytes_eq}
+use Rattle.arrayvec.specs.ArrayVec.{ArrayVec}
 use Rattle.toml.specs.Data.{Data, Members}
 use Rattle.toml.specs.Parse.{parse_document}
 use Rattle.dp_slave.specs.declared.description.SlaveSpec.{SlaveSpec}
@@ -12,6 +13,14 @@ use Rattle.rack_file.specs.declared.fault.RackFault.{RackFault}
 use Rattle.rack_file.specs.declared.fault.RackFault.TheVariants.{NotToml, BadKey, TwiceLine, Open}
 use Rattle.rack_file.specs.Rack.{LineDescription, RackDescription}
 use Rattle.rack_file.specs.TomlKeys.{◌>>=◌, only, required, optional, array_of, table_of, flag_of, text_of, number_to, octets_of, each_of}
+
+-- ---- masters
+
+-- masters by their addresses, at most 16, in the order of the file; one that is given twice is there twice
+unfoldable pub masters_of : Data → Result (List ℕ) RackFault
+masters_of value = do
+  values ← array_of value
+  if nat_le (length values) 16 then each_of (number_to 255) values else Err BadKey
 
 -- ---- [[line.slave]]
 
@@ -33,9 +42,16 @@ device_named name =
 unfoldable pub device_of : Data → Result Device RackFault
 device_of value = text_of value >>= device_named
 
+-- a list of masters: one that names nobody is a list too
+unfoldable pub list_of : Data → Result (Option (ArrayVec ℕ)) RackFault
+list_of value = do
+  masters ← masters_of value
+  Ok (Some (record { items = masters }))
+
 abbrev pub slave_keys : List (List ℕ)
 slave_keys =
-    codes "address" ∷ codes "ident" ∷ codes "cfg" ∷ codes "sync" ∷ codes "freeze" ∷ codes "user_max" ∷ codes "device" ∷ []
+    codes "address" ∷ codes "ident" ∷ codes "cfg" ∷ codes "sync" ∷ codes "freeze" ∷ codes "user_max" ∷ codes "device" ∷ codes "lockers"
+    ∷ codes "readers" ∷ []
 
 -- a slave
 unfoldable pub slave_of : Data → Result SlaveSpec RackFault
@@ -49,6 +65,8 @@ slave_of value = do
   freeze ← optional false flag_of (codes "freeze") slave
   user_max ← optional 237 (number_to 255) (codes "user_max") slave
   device ← optional Still device_of (codes "device") slave
+  lockers ← optional None list_of (codes "lockers") slave
+  readers ← optional None list_of (codes "readers") slave
   Ok (record {
     address = address;
     ident = ident;
@@ -57,15 +75,10 @@ slave_of value = do
     freeze = freeze;
     user_max = user_max;
     device = device;
+    lists = record { lockers = lockers; readers = readers };
   })
 
 -- ---- [[line]]
-
--- the masters of a line, at most 16
-unfoldable pub masters_of : Data → Result (List ℕ) RackFault
-masters_of value = do
-  values ← array_of value
-  if nat_le (length values) 16 then each_of (number_to 255) values else Err BadKey
 
 -- the slaves of a line
 unfoldable pub slaves_of : Data → Result (List SlaveSpec) RackFault

@@ -3,16 +3,17 @@ use Rattle.std.specs.Prelude.{◌≡◌, ⊤, ℕ, pos, [], ◌∷◌, codes, tr
 use Rattle.hex.proofs.OnLiterals.{hex_on_literals}
 use Rattle.toml.proofs.OnLiterals.{toml_on_literals}
 use Rattle.toml.specs.Data.{Data, string, integer, boolean, array, table, Items, no_items, item, Members, no_members, member}
+use Rattle.dp_sap.specs.AccessTable.{no_lists}
 use Rattle.dp_slave.specs.declared.description.Device.TheVariants.{Still, Mirror}
 use Rattle.dp_line.specs.declared.fault.OpenFault.TheVariants.{TwiceAddress, BadCfg}
 use Rattle.rack_file.specs.declared.fault.RackFault.TheVariants.{NotToml, BadKey, TwiceLine, Open}
 use Rattle.rack_file.specs.Rack.{LineDescription}
 use Rattle.rack_file.specs.TomlKeys.{required, optional, array_of, number_to, octets_of, each_of}
-use Rattle.rack_file.specs.RackFile.{configuration_of, device_of, slave_of, masters_of, slaves_of, port_of, line_of, workers_of, lines_of, all_open, rack_of, rack_in}
+use Rattle.rack_file.specs.RackFile.{masters_of, configuration_of, device_of, list_of, slave_of, slaves_of, port_of, line_of, workers_of, lines_of, all_open, rack_of, rack_in}
 
 -- what computes a document's rack
 unfoldable rack_on_literals : ⊤
-unfolding hex_on_literals toml_on_literals required optional array_of number_to octets_of each_of configuration_of device_of slave_of masters_of slaves_of port_of line_of workers_of lines_of all_open rack_of
+unfolding hex_on_literals toml_on_literals required optional array_of number_to octets_of each_of masters_of configuration_of device_of list_of slave_of slaves_of port_of line_of workers_of lines_of all_open rack_of
 rack_on_literals = tt
 
 -- `[[line.slave]]` with this ident number
@@ -49,6 +50,7 @@ line_1 = record {
       freeze = true;
       user_max = 237;
       device = Still;
+      lists = no_lists;
     } ∷ [];
   };
   listen = None;
@@ -98,15 +100,17 @@ whole_slave device =
     (member (codes "device") device
     (member (codes "freeze") (boolean false)
     (member (codes "ident") (integer (pos 1))
+    (member (codes "lockers") (array (item (integer (pos 2)) (item (integer (pos 1)) no_items)))
+    (member (codes "readers") (array (item (integer (pos 1)) (item (integer (pos 1)) no_items)))
     (member (codes "sync") (boolean true)
-    (member (codes "user_max") (integer (pos 0)) no_members)))))))
+    (member (codes "user_max") (integer (pos 0)) no_members)))))))))
 
 -- one `[[line]]` with each key, and these workers and this device
 abbrev whole_file : ℕ → Data → Members
 whole_file workers device =
     member (codes "line") (array (item (table (member (codes "capacity") (integer (pos 2))
     (member (codes "listen") (integer (pos 65535))
-    (member (codes "masters") (array (item (integer (pos 1)) no_items))
+    (member (codes "masters") (array (item (integer (pos 1)) (item (integer (pos 2)) no_items)))
     (member (codes "number") (integer (pos 1))
     (member (codes "operator") (integer (pos 0))
     (member (codes "slave") (array (item (whole_slave device) no_items)) no_members))))))) no_items))
@@ -117,7 +121,7 @@ whole_line = record {
   line = record {
     number = 1;
     capacity = 2;
-    masters = 1 ∷ [];
+    masters = 1 ∷ 2 ∷ [];
     slaves = record {
       address = 5;
       ident = 1;
@@ -126,6 +130,7 @@ whole_line = record {
       freeze = false;
       user_max = 0;
       device = Mirror;
+      lists = record { lockers = Some (record { items = 2 ∷ 1 ∷ [] }); readers = Some (record { items = 1 ∷ 1 ∷ [] }) };
     } ∷ [];
   };
   listen = Some 65535;
@@ -147,6 +152,35 @@ many_workers = refl
 pub unknown_device : rack_of (whole_file 32 (string (codes "Mirror"))) ≡ Err BadKey
 unfolding rack_on_literals
 unknown_device = refl
+
+-- ---- lists of masters
+
+-- `[[line.slave]]` with these readers
+abbrev slave_with_readers : Data → Data
+slave_with_readers readers =
+    table (member (codes "address") (integer (pos 5))
+    (member (codes "cfg") (string [])
+    (member (codes "ident") (integer (pos 1))
+    (member (codes "readers") readers no_members))))
+
+pub nobody_reads :
+    slave_of (slave_with_readers (array no_items))
+    ≡ Ok (record {
+      address = 5;
+      ident = 1;
+      cfg = record { items = [] };
+      sync = false;
+      freeze = false;
+      user_max = 237;
+      device = Still;
+      lists = record { lockers = None; readers = Some (record { items = [] }) };
+    })
+unfolding rack_on_literals
+nobody_reads = refl
+
+pub wide_reader : slave_of (slave_with_readers (array (item (integer (pos 256)) no_items))) ≡ Err BadKey
+unfolding rack_on_literals
+wide_reader = refl
 
 -- ---- texts
 

@@ -7,7 +7,7 @@ ghost use Rattle.dp_slave.specs.declared.description.Device.TheVariants.{Still};
 ghost use Rattle.dp_line.specs.World.{description_of, opening_fault, has_twice};
 ghost use Rattle.rack_file.specs.Rack.{line_described, rack_described};
 ghost use Rattle.rack_file.specs.TomlKeys.{Gives, Fails, required, optional, number_to, each_of};
-ghost use Rattle.rack_file.specs.RackFile.{configuration_of, device_named, device_of, slave_of, masters_of, slaves_of, port_of, line_of, workers_of, lines_of, numbers, opened, all_open, rack_of, rack_in};
+ghost use Rattle.rack_file.specs.RackFile.{masters_of, configuration_of, device_named, device_of, list_of, slave_of, slaves_of, port_of, line_of, workers_of, lines_of, numbers, opened, all_open, rack_of, rack_in};
 
 use crate::fault::RackFault;
 use crate::rack::{Rack, RackLine};
@@ -19,6 +19,7 @@ use arrayvec::ArrayVec;
 use dp_line::{
     Device, LineSpec, MOST_CONFIGURATION, MOST_MASTERS, MOST_USER_PARAMETERS, SlaveSpec,
 };
+use dp_sap::{Lists, MOST_LISTED};
 use std::alloc::Global;
 use toml::{Table, Value};
 
@@ -33,6 +34,30 @@ const USER_PARAMETERS: u8 = MOST_USER_PARAMETERS as u8;
 
 /// The most lines of a rack.
 const MOST_LINES: usize = 8;
+
+/// The addresses of masters.
+fn addresses_in(values: &[Value]) -> Result<ArrayVec<u8, MOST_MASTERS>, RackFault>
+    requires { length values.now ≤ 16 }
+    ensures { Gives (λ masters. masters.items) result (each_of (number_to 255) (map view values.now)) }
+{
+    let mut masters = ArrayVec::new();
+    for value in values {
+        masters.push(number_in(value, 255)? as u8);
+    }
+    Ok(masters)
+}
+
+/// The masters that a value names, at most 16.
+#[tactic(auto, unfolding(crate::specs::RackFile::masters_of))]
+fn masters_in(value: &Value) -> Result<ArrayVec<u8, MOST_MASTERS>, RackFault>
+    ensures { Gives (λ masters. masters.items) result (masters_of (view value.now)) }
+{
+    let values = array_in(value)?;
+    if values.len() > MOST_MASTERS {
+        return Err(RackFault::BadKey);
+    }
+    addresses_in(values)
+}
 
 /// A configuration: at most 244 octets in hex text.
 #[tactic(auto, unfolding(crate::specs::RackFile::configuration_of))]
@@ -97,6 +122,17 @@ fn optional_device(slave: &Table) -> Result<Device, RackFault>
     }
 }
 
+/// The list of masters at a key, if the slave has it; one that names nobody is a list too.
+#[tactic(auto, unfolding(crate::specs::TomlKeys::optional, crate::specs::RackFile::list_of))]
+fn optional_list(slave: &Table, key: &str) -> Result<Option<ArrayVec<u8, MOST_LISTED>>, RackFault>
+    ensures { Gives (λ list. list) result (optional None list_of key.now (table_view slave.now)) }
+{
+    match value_at(slave, key) {
+        Some(value) => Ok(Some(masters_in(value)?)),
+        None => Ok(None),
+    }
+}
+
 /// The slave that a value describes.
 #[tactic(auto, unfolding(crate::specs::RackFile::slave_of))]
 fn slave_in(alloc: Global, value: &Value) -> Result<SlaveSpec, RackFault>
@@ -106,7 +142,7 @@ fn slave_in(alloc: Global, value: &Value) -> Result<SlaveSpec, RackFault>
     only_keys(
         slave,
         &[
-            "address", "ident", "cfg", "sync", "freeze", "user_max", "device",
+            "address", "ident", "cfg", "sync", "freeze", "user_max", "device", "lockers", "readers",
         ],
     )?;
     Ok(SlaveSpec {
@@ -117,31 +153,19 @@ fn slave_in(alloc: Global, value: &Value) -> Result<SlaveSpec, RackFault>
         freeze: optional_flag(slave, "freeze")?,
         user_max: optional_user_parameters(slave)?,
         device: optional_device(slave)?,
+        lists: Lists {
+            lockers: optional_list(slave, "lockers")?,
+            readers: optional_list(slave, "readers")?,
+        },
     })
 }
 
 /// The masters of a line.
-fn masters_in(values: &[Value]) -> Result<ArrayVec<u8, MOST_MASTERS>, RackFault>
-    requires { length values.now ≤ 16 }
-    ensures { Gives (λ masters. masters.items) result (each_of (number_to 255) (map view values.now)) }
-{
-    let mut masters = ArrayVec::new();
-    for value in values {
-        masters.push(number_in(value, 255)? as u8);
-    }
-    Ok(masters)
-}
-
-/// The masters of a line, at most 16.
-#[tactic(auto, unfolding(crate::specs::TomlKeys::required, crate::specs::RackFile::masters_of))]
+#[tactic(auto, unfolding(crate::specs::TomlKeys::required))]
 fn required_masters(line: &Table) -> Result<ArrayVec<u8, MOST_MASTERS>, RackFault>
     ensures { Gives (λ masters. masters.items) result (required masters_of (codes "masters") (table_view line.now)) }
 {
-    let values = array_in(required_value(line, "masters")?)?;
-    if values.len() > MOST_MASTERS {
-        return Err(RackFault::BadKey);
-    }
-    masters_in(values)
+    masters_in(required_value(line, "masters")?)
 }
 
 /// The slaves of a line.
@@ -314,7 +338,9 @@ fn rack_in_document(alloc: Global, file: &Table) -> Result<Rack, RackFault>
 ///   no port where they are missing.
 /// - `[[line.slave]]`: `address`, 0 to 255; `ident`, 0 to 65,535; `cfg`, hex text of at most 244
 ///   octets; `sync` and `freeze`, false where they are missing; `user_max`, 0 to 255, and 237 where
-///   it is missing; `device`, "still", "counter" or "mirror", and still where it is missing.
+///   it is missing; `device`, "still", "counter" or "mirror", and still where it is missing;
+///   `lockers` and `readers`, each at most 16 numbers from 0 to 255, and no list where they are
+///   missing.
 ///
 /// The first fault that applies is reported: `NotToml`; `BadKey` for an unknown or missing key, a wrong
 /// type, text that isn't hex or no device, or a number or list outside its range; `TwiceLine`; `Open`

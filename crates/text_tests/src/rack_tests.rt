@@ -11,6 +11,21 @@ fn reads(alloc: Global, top: &str, line: &str, slave: &str, expected: &str) -> R
     is_shown(alloc, &read_rack(alloc, &text), expected)
 }
 
+/// A slave with these rows for its lists of masters is read with the lists that are expected.
+fn reads_lists(alloc: Global, rows: &str, lists: &str) -> Result<(), Fail> {
+    let slave = format!(in alloc; "cfg = \"\"\n{rows}")?;
+    let expected = format!(in alloc;
+        "Ok(Rack {{ workers: 4, lines: [RackLine {{ spec: LineSpec {{ number: 1, capacity: 1000, masters: [1, 2], slaves: [SlaveSpec {{ address: 5, ident: 32929, cfg: [], sync: false, freeze: false, user_max: 237, device: Still, lists: Lists {{ {lists} }} }}] }}, listen: None, operator: None }}] }})"
+    )?;
+    reads(alloc, "", "", &slave, &expected)
+}
+
+/// A slave with these rows for its lists of masters is refused as expected.
+fn refuses_lists(alloc: Global, rows: &str, expected: &str) -> Result<(), Fail> {
+    let slave = format!(in alloc; "cfg = \"\"\n{rows}")?;
+    reads(alloc, "", "", &slave, expected)
+}
+
 #[test]
 fn reads_the_example_rack(rt: HostRuntime) -> Result<(), Fail> {
     reads(
@@ -18,7 +33,7 @@ fn reads_the_example_rack(rt: HostRuntime) -> Result<(), Fail> {
         "",
         "",
         "cfg = \"2111\"\nsync = true\nfreeze = true\n",
-        "Ok(Rack { workers: 4, lines: [RackLine { spec: LineSpec { number: 1, capacity: 1000, masters: [1, 2], slaves: [SlaveSpec { address: 5, ident: 32929, cfg: [33, 17], sync: true, freeze: true, user_max: 237, device: Still }] }, listen: None, operator: None }] })",
+        "Ok(Rack { workers: 4, lines: [RackLine { spec: LineSpec { number: 1, capacity: 1000, masters: [1, 2], slaves: [SlaveSpec { address: 5, ident: 32929, cfg: [33, 17], sync: true, freeze: true, user_max: 237, device: Still, lists: Lists { lockers: None, readers: None } }] }, listen: None, operator: None }] })",
     )
 }
 
@@ -29,7 +44,7 @@ fn sync_and_freeze_are_false_where_they_are_missing(rt: HostRuntime) -> Result<(
         "",
         "",
         "cfg = \"aB\"\nfreeze = true\n",
-        "Ok(Rack { workers: 4, lines: [RackLine { spec: LineSpec { number: 1, capacity: 1000, masters: [1, 2], slaves: [SlaveSpec { address: 5, ident: 32929, cfg: [171], sync: false, freeze: true, user_max: 237, device: Still }] }, listen: None, operator: None }] })",
+        "Ok(Rack { workers: 4, lines: [RackLine { spec: LineSpec { number: 1, capacity: 1000, masters: [1, 2], slaves: [SlaveSpec { address: 5, ident: 32929, cfg: [171], sync: false, freeze: true, user_max: 237, device: Still, lists: Lists { lockers: None, readers: None } }] }, listen: None, operator: None }] })",
     )
 }
 
@@ -40,7 +55,7 @@ fn reads_each_key(rt: HostRuntime) -> Result<(), Fail> {
         "workers = 32\n",
         "listen = 65535\noperator = 0\n",
         "cfg = \"2111\"\nsync = true\nfreeze = true\nuser_max = 0\ndevice = \"mirror\"\n",
-        "Ok(Rack { workers: 32, lines: [RackLine { spec: LineSpec { number: 1, capacity: 1000, masters: [1, 2], slaves: [SlaveSpec { address: 5, ident: 32929, cfg: [33, 17], sync: true, freeze: true, user_max: 0, device: Mirror }] }, listen: Some(65535), operator: Some(0) }] })",
+        "Ok(Rack { workers: 32, lines: [RackLine { spec: LineSpec { number: 1, capacity: 1000, masters: [1, 2], slaves: [SlaveSpec { address: 5, ident: 32929, cfg: [33, 17], sync: true, freeze: true, user_max: 0, device: Mirror, lists: Lists { lockers: None, readers: None } }] }, listen: Some(65535), operator: Some(0) }] })",
     )
 }
 
@@ -51,14 +66,14 @@ fn reads_the_bounds_of_workers_and_equal_ports(rt: HostRuntime) -> Result<(), Fa
         "workers = 1\n",
         "listen = 4000\noperator = 4000\n",
         "cfg = \"2111\"\n",
-        "Ok(Rack { workers: 1, lines: [RackLine { spec: LineSpec { number: 1, capacity: 1000, masters: [1, 2], slaves: [SlaveSpec { address: 5, ident: 32929, cfg: [33, 17], sync: false, freeze: false, user_max: 237, device: Still }] }, listen: Some(4000), operator: Some(4000) }] })",
+        "Ok(Rack { workers: 1, lines: [RackLine { spec: LineSpec { number: 1, capacity: 1000, masters: [1, 2], slaves: [SlaveSpec { address: 5, ident: 32929, cfg: [33, 17], sync: false, freeze: false, user_max: 237, device: Still, lists: Lists { lockers: None, readers: None } }] }, listen: Some(4000), operator: Some(4000) }] })",
     )?;
     reads(
         rt.alloc(),
         "workers = 32\n",
         "listen = 4000\noperator = 4000\n",
         "cfg = \"2111\"\n",
-        "Ok(Rack { workers: 32, lines: [RackLine { spec: LineSpec { number: 1, capacity: 1000, masters: [1, 2], slaves: [SlaveSpec { address: 5, ident: 32929, cfg: [33, 17], sync: false, freeze: false, user_max: 237, device: Still }] }, listen: Some(4000), operator: Some(4000) }] })",
+        "Ok(Rack { workers: 32, lines: [RackLine { spec: LineSpec { number: 1, capacity: 1000, masters: [1, 2], slaves: [SlaveSpec { address: 5, ident: 32929, cfg: [33, 17], sync: false, freeze: false, user_max: 237, device: Still, lists: Lists { lockers: None, readers: None } }] }, listen: Some(4000), operator: Some(4000) }] })",
     )
 }
 
@@ -69,21 +84,69 @@ fn reads_the_devices_by_their_names(rt: HostRuntime) -> Result<(), Fail> {
         "",
         "",
         "cfg = \"\"\ndevice = \"still\"\n",
-        "Ok(Rack { workers: 4, lines: [RackLine { spec: LineSpec { number: 1, capacity: 1000, masters: [1, 2], slaves: [SlaveSpec { address: 5, ident: 32929, cfg: [], sync: false, freeze: false, user_max: 237, device: Still }] }, listen: None, operator: None }] })",
+        "Ok(Rack { workers: 4, lines: [RackLine { spec: LineSpec { number: 1, capacity: 1000, masters: [1, 2], slaves: [SlaveSpec { address: 5, ident: 32929, cfg: [], sync: false, freeze: false, user_max: 237, device: Still, lists: Lists { lockers: None, readers: None } }] }, listen: None, operator: None }] })",
     )?;
     reads(
         rt.alloc(),
         "",
         "",
         "cfg = \"\"\ndevice = \"counter\"\n",
-        "Ok(Rack { workers: 4, lines: [RackLine { spec: LineSpec { number: 1, capacity: 1000, masters: [1, 2], slaves: [SlaveSpec { address: 5, ident: 32929, cfg: [], sync: false, freeze: false, user_max: 237, device: Counter }] }, listen: None, operator: None }] })",
+        "Ok(Rack { workers: 4, lines: [RackLine { spec: LineSpec { number: 1, capacity: 1000, masters: [1, 2], slaves: [SlaveSpec { address: 5, ident: 32929, cfg: [], sync: false, freeze: false, user_max: 237, device: Counter, lists: Lists { lockers: None, readers: None } }] }, listen: None, operator: None }] })",
     )?;
     reads(
         rt.alloc(),
         "",
         "",
         "cfg = \"\"\ndevice = \"mirror\"\n",
-        "Ok(Rack { workers: 4, lines: [RackLine { spec: LineSpec { number: 1, capacity: 1000, masters: [1, 2], slaves: [SlaveSpec { address: 5, ident: 32929, cfg: [], sync: false, freeze: false, user_max: 237, device: Mirror }] }, listen: None, operator: None }] })",
+        "Ok(Rack { workers: 4, lines: [RackLine { spec: LineSpec { number: 1, capacity: 1000, masters: [1, 2], slaves: [SlaveSpec { address: 5, ident: 32929, cfg: [], sync: false, freeze: false, user_max: 237, device: Mirror, lists: Lists { lockers: None, readers: None } }] }, listen: None, operator: None }] })",
+    )
+}
+
+#[test]
+fn reads_lists_of_masters_in_the_order_of_the_file(rt: HostRuntime) -> Result<(), Fail> {
+    let alloc = rt.alloc();
+    reads_lists(
+        alloc,
+        "lockers = [2, 1]\nreaders = [1, 2, 1]\n",
+        "lockers: Some([2, 1]), readers: Some([1, 2, 1])",
+    )?;
+    reads_lists(alloc, "lockers = []\n", "lockers: Some([]), readers: None")?;
+    reads_lists(alloc, "readers = []\n", "lockers: None, readers: Some([])")
+}
+
+#[test]
+fn a_list_has_at_most_16_masters(rt: HostRuntime) -> Result<(), Fail> {
+    let alloc = rt.alloc();
+    reads_lists(
+        alloc,
+        "readers = [1, 2, 1, 2, 1, 2, 1, 2, 1, 2, 1, 2, 1, 2, 1, 2]\n",
+        "lockers: None, readers: Some([1, 2, 1, 2, 1, 2, 1, 2, 1, 2, 1, 2, 1, 2, 1, 2])",
+    )?;
+    refuses_lists(
+        alloc,
+        "readers = [1, 2, 1, 2, 1, 2, 1, 2, 1, 2, 1, 2, 1, 2, 1, 2, 1]\n",
+        "Err(BadKey)",
+    )
+}
+
+#[test]
+fn a_listed_address_is_a_number_of_8_bits(rt: HostRuntime) -> Result<(), Fail> {
+    let alloc = rt.alloc();
+    refuses_lists(alloc, "lockers = [-1]\n", "Err(BadKey)")?;
+    refuses_lists(alloc, "lockers = [1, 256]\n", "Err(BadKey)")?;
+    refuses_lists(alloc, "lockers = [1, 255]\n", "Err(Open(1, UnknownListed))")
+}
+
+#[test]
+fn refuses_what_is_no_list_of_masters(rt: HostRuntime) -> Result<(), Fail> {
+    let alloc = rt.alloc();
+    refuses_lists(alloc, "lockers = \"1\"\n", "Err(BadKey)")?;
+    refuses_lists(alloc, "readers = 1\n", "Err(BadKey)")?;
+    refuses_lists(alloc, "readers = [1, \"2\"]\n", "Err(BadKey)")?;
+    refuses_lists(
+        alloc,
+        "lockers = [1]\nreaders = [1]\nwriters = [1]\n",
+        "Err(BadKey)",
     )
 }
 

@@ -6,13 +6,13 @@ use Rattle.dp_audit.proofs.writing.write_journal.Goals as goal
 
 pub returns-in_err-write_whole-clause-err : goal.returns-in_err-write_whole-clause-err
 returns-in_err-write_whole-clause-err g c =
-    let is : c.as_bytes.result.now ≡ line_text (header_text c.args.number) = c.as_bytes.ensures ∙ c.push_str.ensures.text ∙ ap (λ (t : List ℕ). t ++ codes "\n") c.set_header.ensures.header in
+    let is : c.as_bytes.result.now ≡ line_text (header_text 2 c.args.number) = c.as_bytes.ensures ∙ c.push_str.ensures.text ∙ ap (λ (t : List ℕ). t ++ codes "\n") c.set_header.ensures.header in
     on_err c.from_residual.result
     (header_prefix (g.W.Write.contents c.args.writer.now) (g.W.Write.contents c.write_whole.new.writer) c.args.number c.args.records.now.entries c.as_bytes.result.now is c.in_err-write_whole.ensures.err)
 
 pub loop-index-init : goal.loop-index-init
 loop-index-init g c =
-    let is : c.as_bytes.result.now ≡ line_text (header_text c.args.number) = c.as_bytes.ensures ∙ c.push_str.ensures.text ∙ ap (λ (t : List ℕ). t ++ codes "\n") c.set_header.ensures.header in
+    let is : c.as_bytes.result.now ≡ line_text (header_text 2 c.args.number) = c.as_bytes.ensures ∙ c.push_str.ensures.text ∙ ap (λ (t : List ℕ). t ++ codes "\n") c.set_header.ensures.header in
     subst (λ (t : List ℕ). Appends (g.W.Write.contents c.args.writer.now) (g.W.Write.contents c.write_whole.new.writer) t)
     (is ∙ at_start c.args.number c.args.records.now.entries) c.in_ok-write_whole.ensures.ok
 

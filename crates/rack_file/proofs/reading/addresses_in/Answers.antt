@@ -4,7 +4,7 @@ use Rattle.std.proofs.lemmas.Result.{err_from_is_err_and}
 use Rattle.toml.specs.View.{view}
 use Rattle.rack_file.specs.TomlKeys.{number_to, each_of}
 use Rattle.rack_file.proofs.Each.{each_more, each_stops, fails_as}
-use Rattle.rack_file.proofs.reading.masters_in.Goals as goal
+use Rattle.rack_file.proofs.reading.addresses_in.Goals as goal
 
 pub loop-value-init : goal.loop-value-init
 unfolding each_of
