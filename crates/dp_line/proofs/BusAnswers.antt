@@ -1,6 +1,6 @@
 -- Each slave remembers replies to the masters that they went to, and so a reply goes to the asker, also where it is repeated.
-use Rattle.std.proofs.Common.{◌≡◌, ℕ, ◌+◌, ◌≤◌, Bool, true, false, not, cond, eqb, List, [], ◌∷◌, length, map, Option, Some, None, refl, sym, subst, ◌∙◌, arith}
-use Rattle.std.specs.Prelude.{◌||◌, find, is_ok, nat_lt, unwrap_or}
+use Rattle.std.proofs.Common.{◌≡◌, ℕ, ◌+◌, ◌≤◌, Bool, true, false, not, cond, eqb, List, [], ◌∷◌, length, map, Option, Some, None, refl, sym, subst, ◌∙◌, arith, zero, suc}
+use Rattle.std.specs.Prelude.{◌||◌, find, is_ok, nat_lt, unwrap_or, slice_get}
 use Rattle.std.specs.List.{AllByRecursion, cons_option, filter_map, list_all, range_with_len}
 use Rattle.std.specs.Option.{option_and_then}
 use Rattle.std.proofs.lemmas.Bool.{and_parts, eqb-true, ltb-false}
@@ -19,17 +19,18 @@ use Rattle.dp_cfg.specs.Reading.{fault_in, input_octets, output_octets, split_of
 use Rattle.dp_responder.specs.Memory.{MasterMemory, Remembered, is_repeat, kept_reply, last_after, no_memory, remembered_of, with_remembered}
 use Rattle.dp_responder.specs.declared.rule.Rule.{Rule}
 use Rattle.dp_responder.specs.declared.rule.Rule.TheVariants as rules
+use Rattle.dp_cfg.specs.Choosing.{chosen}
 use Rattle.dp_slave.specs.declared.description.SlaveSpec.{SlaveSpec}
-use Rattle.dp_slave.specs.SlaveRecord.{SlaveRecord, limits_of, starting_slave}
-use Rattle.dp_slave.specs.Acts.{Act, configures, exchanges, is_controlled, is_read, misconfigures, tells_diagnosis}
+use Rattle.dp_slave.specs.SlaveRecord.{SlaveRecord, limits_of, starting_slave, inputs_of, output_length, can_be_parsed, configurations, configuration, outputs_of}
+use Rattle.dp_slave.specs.Acts.{Act, exchanges, exchanges_none, is_controlled, is_read, tells_diagnosis}
 use Rattle.dp_slave.specs.Fields.{acted}
-use Rattle.dp_slave.specs.Services.{chk_cfg_act, control_of, its_cfg, prm_act, same_octets, service_act, set_prm_act}
+use Rattle.dp_slave.specs.Services.{cfg_act, chk_cfg_act, control_of, exchange_act, prm_act, service_act, set_prm_act}
 use Rattle.dp_slave.specs.Soundness.{IsSound}
 use Rattle.dp_line.specs.declared.event.Event.{Event}
 use Rattle.dp_line.specs.declared.event.Event.TheVariants.{Operator}
 use Rattle.dp_line.specs.declared.event.Op.{Op}
 use Rattle.dp_line.specs.declared.event.Op.TheVariants.{Input, Diag, Busy, Tick, Halt}
-use Rattle.dp_line.specs.World.{Description, World, address_of_slave, ascending, described_at, has_configuration, opening_fault, slave_at, start_of}
+use Rattle.dp_line.specs.World.{Description, World, address_of_slave, ascending, described_at, has_configurations, opening_fault, slave_at, start_of}
 use Rattle.dp_line.specs.Events.{act_of_op}
 use Rattle.dp_line.specs.Hearing.{heard, is_to_all}
 use Rattle.dp_line.specs.Verdict.{rule_at}
@@ -37,7 +38,7 @@ use Rattle.dp_line.specs.ReplyText.{reply_text}
 use Rattle.dp_line.specs.Served.{executed, memory_after_reply, served}
 use Rattle.dp_line.specs.Effects.{effect, is_for, slave_after}
 use Rattle.dp_line.specs.Steps.{run}
-use Rattle.dp_line.specs.Bus.{HasShortConfiguration, HasShortReport, IsReplyTo}
+use Rattle.dp_line.specs.Bus.{HasShortConfigurations, HasShortReport, IsReplyTo}
 use Rattle.dp_line.proofs.Starting.{opened}
 use Rattle.dp_line.proofs.BusSteps.{IsConcerned, IsWay, leaves, reaches, operates, KeepsUnder, found_address, found_is, heard_sender, kept_under, served_description, way}
 use Rattle.dp_line.proofs.BusLives.{HaveLived, StaysSound, have_lived, start_lived, world_sound}
@@ -120,11 +121,11 @@ served_kept slave sender place station telegram parts for short kept =
     memory_kept slave sender station telegram (rule_at sender telegram parts slave) (reply_text slave sender telegram parts (rule_at sender telegram parts slave))
     (λ text is. reply_served slave sender station telegram parts text for short kept is) kept
 
--- a slave's configuration has room in a telegram, and so has what it is as long as it is sound
+-- each configuration of a slave has room in a telegram, and so has what it is as long as it is sound
 pub record HasRoom (description : SlaveSpec) : Type 0 where
-  pub inputs : input_octets description.cfg.items ≤ 244
-  pub outputs : output_octets description.cfg.items ≤ 244
-  pub cfg : length description.cfg.items ≤ 244
+  pub inputs : (number : ℕ) → inputs_of description number ≤ 244
+  pub outputs : (number : ℕ) → outputs_of description number ≤ 244
+  pub cfg : (number : ℕ) → length (configuration description number) ≤ 244
 
 pub record IsAnswering (slave : SlaveRecord) : Type 0 where
   pub room : HasRoom slave.description
@@ -133,12 +134,12 @@ pub record IsAnswering (slave : SlaveRecord) : Type 0 where
 
 is_short : (slave : SlaveRecord) → IsSound slave → IsAnswering slave → IsShort slave
 is_short slave sound answering =
-    let inputs = answering.room.inputs in
-    let outputs = answering.room.outputs in
+    let inputs = answering.room.inputs slave.shape in
+    let outputs = answering.room.outputs slave.shape in
     let inputs_long = sound.inputs_long in
     let copy_long = sound.copy_long in
     let outputs_long = sound.outputs_long in
-    record { inputs = omega arith; copy = omega arith; outputs = omega arith; cfg = answering.room.cfg; diag = answering.diag }
+    record { inputs = omega arith; copy = omega arith; outputs = omega arith; cfg = answering.room.cfg slave.shape; diag = answering.diag }
 
 -- no service reports a diagnosis
 abbrev LeavesReport : SlaveRecord → Act → Type 0
@@ -155,15 +156,25 @@ prm_report slave sender place prm.Unlock = refl
 prm_report slave sender place (prm.Lock parameters) = refl
 prm_report slave sender place (prm.Fault not_supported) = refl
 
+exchange_report : (slave : SlaveRecord) (octets : List ℕ) (b : Bool) → LeavesReport slave (cond b (exchanges octets) exchanges_none)
+unfolding acted
+exchange_report slave octets true = refl
+exchange_report slave octets false = refl
+
+cfg_report : (slave : SlaveRecord) (number : Option ℕ) → LeavesReport slave (cfg_act number)
+unfolding acted
+cfg_report slave None = refl
+cfg_report slave (Some number) = refl
+
 service_report : (slave : SlaveRecord) (sender place : ℕ) (point : Option ℕ) (octets : List ℕ) → LeavesReport slave (service_act slave sender place point octets)
 unfolding acted
 service_report slave sender place point octets =
-    either_report slave (same_point point data_exchange) (exchanges octets) _ refl
+    either_report slave (same_point point data_exchange) (exchange_act slave octets) _ (exchange_report slave octets (eqb (length octets) (output_length slave)))
     (either_report slave (same_point point global_control) (is_controlled (control_of octets)) _ refl
     (either_report slave (same_point point slave_diag) (tells_diagnosis sender) _ refl
     (either_report slave (same_point point set_prm) (set_prm_act slave sender place octets) _ (prm_report slave sender place (meaning_of octets (limits_of slave)))
     (either_report slave (same_point point chk_cfg) (chk_cfg_act slave octets) is_read
-    (either_report slave (same_octets slave.description.cfg.items octets) (configures its_cfg) misconfigures refl refl) refl))))
+    (cfg_report slave (chosen (configurations slave.description) octets)) refl))))
 
 executed_report : (slave : SlaveRecord) (sender place : ℕ) (parts : Parts) (rule : Rule) → (executed slave sender place parts rule).diag.octets ≡ slave.diag.octets
 executed_report slave sender place parts rules.Done = service_report slave sender place parts.dsap parts.payload.items
@@ -274,14 +285,23 @@ split_room (Some identifiers) octets is =
     let both = room_by (nat_lt 244 (input_sum identifiers)) (nat_lt 244 (output_sum identifiers)) octets is in
     (ltb-false 244 (input_sum identifiers) both.0, ltb-false 244 (output_sum identifiers) both.1)
 
-all_room : (slaves : List SlaveSpec) → list_all has_configuration slaves ≡ true → AllByRecursion HasShortConfiguration slaves → AllByRecursion HasRoom slaves
+room_at : (octets : List (List ℕ)) → list_all can_be_parsed octets ≡ true → AllByRecursion (λ o. length o ≤ 244) octets → (number : ℕ)
+    → (input_octets (unwrap_or (slice_get octets number) []) ≤ 244) × (output_octets (unwrap_or (slice_get octets number) []) ≤ 244) × (length (unwrap_or (slice_get octets number) []) ≤ 244)
+room_at [] parsed short zero = (omega arith, omega arith, omega arith)
+room_at [] parsed short (suc number) = (omega arith, omega arith, omega arith)
+room_at (first ∷ others) parsed short zero =
+    let room = split_room (split_of first) first (and_parts (can_be_parsed first) (list_all can_be_parsed others) parsed).0 in
+    (room.0, room.1, short.0)
+room_at (first ∷ others) parsed short (suc number) = room_at others (and_parts (can_be_parsed first) (list_all can_be_parsed others) parsed).1 short.1 number
+
+all_room : (slaves : List SlaveSpec) → list_all has_configurations slaves ≡ true → AllByRecursion HasShortConfigurations slaves → AllByRecursion HasRoom slaves
 all_room [] configured short = tt
 all_room (slave ∷ slaves) configured short =
-    let both = and_parts (has_configuration slave) (list_all has_configuration slaves) configured in
-    let room = split_room (split_of slave.cfg.items) slave.cfg.items both.0 in
-    (record { inputs = room.0; outputs = room.1; cfg = short.0 }, all_room slaves both.1 short.1)
+    let both = and_parts (has_configurations slave) (list_all has_configurations slaves) configured in
+    let room = room_at (configurations slave) both.0 short.0 in
+    (record { inputs = λ number. (room number).0; outputs = λ number. (room number).1; cfg = λ number. (room number).2 }, all_room slaves both.1 short.1)
 
-line_answers : StaysSound → (line : Description) (events : List Event) → opening_fault line ≡ None → AllByRecursion HasShortConfiguration line.slaves
+line_answers : StaysSound → (line : Description) (events : List Event) → opening_fault line ≡ None → AllByRecursion HasShortConfigurations line.slaves
     → AllByRecursion HasShortReport events → HaveAnswers (run (start_of line) events).world
 line_answers sound line events accepted short reports =
     kept_under HasShortReport HaveAnswers (start_of line) events (answers_kept sound) tt reports (record {
@@ -291,7 +311,7 @@ line_answers sound line events accepted short reports =
     })
 
 -- a slave that an address finds there
-pub answering_at : StaysSound → (line : Description) (events : List Event) (address : ℕ) (slave : SlaveRecord) → opening_fault line ≡ None → AllByRecursion HasShortConfiguration line.slaves
+pub answering_at : StaysSound → (line : Description) (events : List Event) (address : ℕ) (slave : SlaveRecord) → opening_fault line ≡ None → AllByRecursion HasShortConfigurations line.slaves
     → AllByRecursion HasShortReport events → slave_at (run (start_of line) events).world address ≡ Some slave → IsShort slave × AreKept address slave.memory
 answering_at sound line events address slave accepted short reports here =
     let world = (run (start_of line) events).world in

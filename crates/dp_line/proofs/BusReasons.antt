@@ -20,7 +20,7 @@ use Rattle.dp_line.specs.World.{Description, World, opening_fault, slave_at, sta
 use Rattle.dp_line.specs.Hearing.{asked_among, heard, is_to_all, telegram_of_frame}
 use Rattle.dp_line.specs.Verdict.{verdict_of}
 use Rattle.dp_line.specs.Steps.{run, step}
-use Rattle.dp_line.specs.Bus.{HasReason, gets_reply, is_kept_off, is_no_question, HasShortConfiguration, HasShortReport, IsAnswered, IsReplyTo}
+use Rattle.dp_line.specs.Bus.{HasReason, gets_reply, is_kept_off, is_no_question, HasShortConfigurations, HasShortReport, IsAnswered, IsReplyTo}
 use Rattle.dp_line.proofs.Asked.{asks_one}
 use Rattle.dp_line.proofs.BusSteps.{heard_sender}
 use Rattle.dp_line.proofs.BusVerdict.{from_sender, telegram_frame}
@@ -81,7 +81,7 @@ answered_by agree world master octets outcome reply rule have (keeps_off silent 
 answered_by agree world master octets outcome reply rule have (is_silent telegram parts concerned sdn no_reply ruled) told = absurd (no_reply reply rule told)
 
 pub answered_to : StaysSound → TextsAgree → (line : Description) (events : List Event) (master : ℕ) (octets reply : ArrayVec ℕ) (rule : Rule) → opening_fault line ≡ None
-    → AllByRecursion HasShortConfiguration line.slaves → AllByRecursion HasShortReport events
+    → AllByRecursion HasShortConfigurations line.slaves → AllByRecursion HasShortReport events
     → (step (run (start_of line) events).world (Request master octets)).answer.outcome ≡ Reply reply rule → IsAnswered (run (start_of line) events).world master octets.items reply.items
 answered_to sound agree line events master octets reply rule accepted short reports =
     let world = (run (start_of line) events).world in

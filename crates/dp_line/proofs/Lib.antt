@@ -47,3 +47,4 @@ pub mod ListedMasters
 pub mod Facts
 pub mod BusEach
 pub mod BusRepeats
+pub mod Shapes

@@ -1,18 +1,24 @@
 -- Words of the laws of a line in the bus's own words.
+use Rattle.dp_line.specs.Effects.{is_for}
+use Rattle.dp_line.specs.Hearing.{heard, telegram_of_frame}
+use Rattle.dp_cfg.specs.Choosing.{chosen}
+use Rattle.dp_telegram.specs.declared.access.Parts.{Parts}
+use Rattle.std.specs.Option.{option_and_then}
 use Rattle.std.specs.Prelude.{◌≡◌, ◌≢◌, ℕ, ◌≤◌, Bool, true, false, not, ◌||◌, List, [], ◌∷◌, Option, Some, None, IfSome, length, slice_index}
+use Rattle.std.specs.List.{AllByRecursion}
 use Rattle.arrayvec.specs.ArrayVec.{ArrayVec}
 use Rattle.dp_telegram.specs.declared.frame.Telegram.{Telegram}
 use Rattle.dp_telegram.specs.declared.frame.Frame.TheVariants as frames
 use Rattle.dp_telegram.specs.FrameText.{Spells}
 use Rattle.dp_telegram.specs.Access.{address_of, global_address}
 use Rattle.dp_telegram.specs.FunctionCode.{asks_sdn, function_of, is_request, is_set}
-use Rattle.dp_sap.specs.AccessTable.{may_lock, may_read, most_data, rd_inp, rd_outp, same_point}
+use Rattle.dp_sap.specs.AccessTable.{may_lock, may_read, most_data, rd_inp, rd_outp, same_point, chk_cfg}
 use Rattle.dp_diag.specs.Diagnosis.{most_extended}
 use Rattle.dp_diag.specs.DiagnosisText.{diagnosis_text}
 use Rattle.dp_responder.specs.declared.rule.Rule.{Rule}
 use Rattle.dp_responder.specs.declared.rule.Rule.TheVariants as rules
 use Rattle.dp_slave.specs.declared.description.SlaveSpec.{SlaveSpec}
-use Rattle.dp_slave.specs.SlaveRecord.{SlaveRecord, diag_facts, is_held_by}
+use Rattle.dp_slave.specs.SlaveRecord.{SlaveRecord, configurations, diag_facts, is_held_by}
 use Rattle.dp_line.specs.declared.event.Event.{Event}
 use Rattle.dp_line.specs.declared.event.Event.TheVariants.{Request, Operator}
 use Rattle.dp_line.specs.declared.event.Op.TheVariants.{Diag}
@@ -21,7 +27,7 @@ use Rattle.dp_line.specs.declared.event.Outcome.TheVariants.{Refused, Reply, Sil
 use Rattle.dp_line.specs.declared.event.Step.{Step}
 use Rattle.dp_line.specs.declared.fault.OperatorFault.TheVariants as faults
 use Rattle.dp_line.specs.World.{World, slave_at}
-use Rattle.dp_line.specs.Verdict.{concerns_a_slave}
+use Rattle.dp_line.specs.Verdict.{concerns_a_slave, rule_at}
 
 -- WD_On, bit 3 of the second octet of its diagnosis, is 1 (IEC 61158-6-3, Slave_Diag response, Station_status_2)
 abbrev pub tells_watchdog : SlaveRecord → Bool
@@ -74,9 +80,9 @@ pub record IsAnswered (world : World) (master : ℕ) (octets reply : List ℕ) :
   pub there : slave_at world (address_of telegram.da) ≡ Some slave
   pub to_asker : IsReplyTo master (address_of telegram.da) reply
 
--- no more octets than the types of the code have room for: in a configuration, and in what an application reports (own)
-abbrev pub HasShortConfiguration : SlaveSpec → Type 0
-HasShortConfiguration slave = length slave.cfg.items ≤ most_data
+-- no more octets than the types of the code have room for: in each configuration, and in what an application reports (own)
+abbrev pub HasShortConfigurations : SlaveSpec → Type 0
+HasShortConfigurations slave = AllByRecursion (λ octets. length octets ≤ most_data) (configurations slave)
 
 abbrev pub HasShortReport : Event → Type 0
 HasShortReport (Operator (Diag address ext stat overflow octets)) = length octets.items ≤ most_extended
@@ -114,3 +120,18 @@ is_no_reader master slave = not (may_read slave.description.lists master || is_h
 -- a reply that has no octet of data: six octets, SD1 (IEC 61158-4-3, response telegrams)
 abbrev pub HasNoData : List ℕ → Type 0
 HasNoData reply = length reply ≡ 6
+
+-- another shape after an event: this is a request that reaches the slave, which is done at the point of Chk_Cfg, and its octets are those of the
+-- slave's configuration that has the number of the shape then (IEC 61158-6-3, Chk_Cfg request)
+pub record IsReshaped (world : World) (event : Event) (slave after : SlaveRecord) : Type 0 where
+  pub master : ℕ
+  pub octets : ArrayVec ℕ
+  pub telegram : Telegram
+  pub parts : Parts
+  pub request : event ≡ Request master octets
+  pub spelt : option_and_then telegram_of_frame (heard world master octets.items).frame ≡ Some telegram
+  pub read : (heard world master octets.items).parts ≡ Some parts
+  pub asked : is_for telegram slave ≡ true
+  pub done : rule_at master telegram parts slave ≡ rules.Done
+  pub point : parts.dsap ≡ chk_cfg
+  pub found : chosen (configurations slave.description) parts.payload.items ≡ Some after.shape

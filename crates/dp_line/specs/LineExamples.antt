@@ -29,12 +29,13 @@ abbrev pub slave_5 : SlaveSpec
 slave_5 = record {
   address = 5;
   ident = 0x80A1;
-  cfg = record { items = 0x21 ∷ 0x11 ∷ [] };
+  cfgs = record { items = record { items = 0x21 ∷ 0x11 ∷ [] } ∷ [] };
   sync = true;
   freeze = true;
   user_max = 237;
   device = Still;
   lists = no_lists;
+  failsafe = false;
 }
 
 -- the line

@@ -17,12 +17,14 @@ ghost use Rattle.dp_line.specs.Verdict.{verdict_of, verdict_rows};
 ghost use Rattle.dp_line.specs.Effects.{slave_after};
 ghost use Rattle.dp_line.specs.Steps.{run, step};
 ghost use Rattle.dp_line.specs.Isolation.{frame_memory};
-ghost use Rattle.dp_line.specs.Bus.{AreTurnedAway, HasNoData, HasPlace, HasReason, HasShortConfiguration, HasShortReport, IsAnswered, IsFirst, IsHeldByLocker, IsHeldFrom, is_no_reader, reads_data, tells_watchdog};
+ghost use Rattle.dp_line.specs.Bus.{AreTurnedAway, HasNoData, HasPlace, HasReason, HasShortConfigurations, HasShortReport, IsAnswered, IsFirst, IsHeldByLocker, IsHeldFrom, IsReshaped, is_no_reader, reads_data, tells_watchdog};
 
 /// Whatever came to a line since its start, each of its slaves is sound: outside Data_Exch outputs and
 /// latest data are zero and neither mode is on; it is in Wait_Prm exactly where nobody holds it, and has
 /// parameters exactly where a master does; its watchdog runs exactly where these ask for one, and so only
-/// under a holder.
+/// under a holder; inputs, their copy, outputs and latest data have the lengths of the shape in force,
+/// which in Data_Exch is the configuration that the holder sent; and a slave that is cleared is fail-safe,
+/// in Data_Exch, and its outputs and latest data are zero.
 pub fn each_slave_stays_sound()
     ensures { (line : Description) (events : List Events)
         → AllByRecursion IsSound (run (start_of line) events).world.slaves }
@@ -100,6 +102,15 @@ pub fn readers_alone_read()
         → (rule ≢ Rules.Done) × HasNoData reply.items }
 {}
 
+/// The shape of a slave, and with it how many inputs and outputs it has, changes by a good Chk_Cfg alone:
+/// by a request that reaches the slave and is done at the point of Chk_Cfg, with the octets of the slave's
+/// configuration whose number is the shape then.
+pub fn the_shape_changes_by_chk_cfg_alone()
+    ensures { (world : World) (event : Events) (slave : SlaveRecord)
+        → (slave_after world event slave).shape ≢ slave.shape
+        → IsReshaped world event slave (slave_after world event slave) }
+{}
+
 /// While a master holds a slave, a request of another one changes no field of the slave but its frame
 /// memory, and of that only what it remembers of the sender.
 pub fn a_stranger_changes_nothing_but_its_memory()
@@ -122,7 +133,7 @@ pub fn a_stranger_changes_nothing_but_its_memory()
 pub fn a_reply_goes_to_the_asker()
     ensures { (line : Description) (events : List Events) (master : ℕ) (octets reply : ArrayVec ℕ) (rule : Rules)
         → opening_fault line ≡ None
-        → AllByRecursion HasShortConfiguration line.slaves
+        → AllByRecursion HasShortConfigurations line.slaves
         → AllByRecursion HasShortReport events
         → (step (run (start_of line) events).world (Events.Request master octets)).answer.outcome ≡ Answered.Reply reply rule
         → IsAnswered (run (start_of line) events).world master octets.items reply.items }

@@ -3,7 +3,8 @@
 ghost use Rattle.std.specs.Prelude.{◌≡◌, ◌≤◌, ◌++◌, ◌==◌, length, map};
 ghost use Rattle.std.specs.List.{list_all, list_any};
 ghost use Rattle.dp_telegram.specs.Access.{is_station as is_station_address};
-ghost use Rattle.dp_line.specs.World.{is_within_limits, slave_is_within_limits, station_addresses as addresses_of, has_twice, has_configuration, opening_fault, description_of, are_masters as are_masters_of, lists_masters, lockers_of, readers_of};
+ghost use Rattle.dp_line.specs.World.{is_within_limits, slave_is_within_limits, station_addresses as addresses_of, has_twice, has_configurations, opening_fault, description_of, are_masters as are_masters_of, lists_masters, lockers_of, readers_of};
+ghost use Rattle.dp_slave.specs.SlaveRecord.{can_be_parsed as can_be_parsed_octets};
 
 use crate::description::LineSpec;
 use crate::fault::OpenFault;
@@ -11,7 +12,7 @@ use arrayvec::ArrayVec;
 use dp_cfg::CfgIds;
 use dp_prm::MOST_USER_PARAMETERS;
 use dp_sap::Lists;
-use dp_slave::SlaveSpec;
+use dp_slave::{Configuration, SlaveSpec};
 use dp_telegram::is_station;
 
 /// The most slaves of a line.
@@ -25,8 +26,8 @@ const MOST_PLACES: u32 = 65_536;
 impl LineSpec {
     /// Why no line is opened from the description: `Limit` where a number is outside its limits, else
     /// `TwiceAddress` where two stations have one address, else `UnknownListed` where a list of a
-    /// slave names an address that no master has, else `BadCfg` where the `cfg` of a slave is no
-    /// configuration; None where a line is opened.
+    /// slave names an address that no master has, else `BadCfg` where octets that a slave has for a
+    /// configuration are none; None where a line is opened.
     pub fn fault(&self) -> Option<OpenFault>
         ensures { result ≡ opening_fault (description_of self.now) }
     {
@@ -74,7 +75,9 @@ fn slaves_are_within(slaves: &[SlaveSpec]) -> bool
 fn slave_is_within(slave: &SlaveSpec) -> bool
     ensures { result ≡ slave_is_within_limits slave.now }
 {
-    is_station(slave.address) && usize::from(slave.user_max) <= MOST_USER_PARAMETERS
+    is_station(slave.address)
+        && usize::from(slave.user_max) <= MOST_USER_PARAMETERS
+        && !slave.cfgs.is_empty()
 }
 
 /// The addresses of masters and slaves.
@@ -145,13 +148,19 @@ fn is_master(address: u8, masters: &[u8]) -> bool
 }
 
 fn have_configurations(slaves: &[SlaveSpec]) -> bool
-    ensures { result ≡ list_all has_configuration slaves.now }
+    ensures { result ≡ list_all has_configurations slaves.now }
 {
     slaves.iter().all(|slave| is_configured(slave))
 }
 
 fn is_configured(slave: &SlaveSpec) -> bool
-    ensures { result ≡ has_configuration slave.now }
+    ensures { result ≡ has_configurations slave.now }
 {
-    CfgIds::parse(&slave.cfg).is_ok()
+    can_be_parsed(&slave.cfgs)
+}
+
+fn can_be_parsed(cfgs: &[Configuration]) -> bool
+    ensures { result ≡ list_all (λ cfg. can_be_parsed_octets cfg.items) cfgs.now }
+{
+    cfgs.iter().all(|cfg| CfgIds::parse(cfg).is_ok())
 }

@@ -4,7 +4,7 @@ ghost use Rattle.std.specs.Prelude.{◌≡◌, ℕ, ◌≤◌, ◌<◌, ◌==◌
 ghost use Rattle.std.specs.Option.{option_copied};
 ghost use Rattle.std.specs.List.{list_all, list_any};
 ghost use Rattle.dp_slave.specs.SlaveRecord.{released, is_held};
-ghost use Rattle.dp_line.specs.World.{Ascend, HaveMasters, address_of_slave, ascending, described_at, description_of, has_configuration, opening_fault, slave_among};
+ghost use Rattle.dp_line.specs.World.{Ascend, HaveMasters, address_of_slave, ascending, described_at, description_of, has_configurations, opening_fault, slave_among};
 ghost use Rattle.dp_line.specs.Events.{address_of_op, expires, misfit_among};
 ghost use Rattle.dp_line.specs.Owned.{held_among};
 ghost use Rattle.dp_line.specs.Hearing.{is_to_all};
@@ -222,7 +222,7 @@ fn starting_slaves(
     descriptions: &[SlaveSpec],
     masters: &ArrayVec<u8, MOST_MASTERS>,
 ) -> Result<Vec<Slave>, AllocError>
-    requires { list_all has_configuration descriptions.now ≡ true }
+    requires { list_all has_configurations descriptions.now ≡ true }
     ensures { IfOk result (λ slaves. slaves.items ≡ map (fresh_slave masters.now.items) (ascending descriptions.now)) }
 {
     let mut slaves = Vec::with_capacity(alloc, descriptions.len())?;
@@ -236,7 +236,7 @@ fn starting_slaves(
 
 /// A slave at its start.
 fn fresh(description: &SlaveSpec, masters: &ArrayVec<u8, MOST_MASTERS>) -> Slave
-    requires { has_configuration description.now ≡ true }
+    requires { has_configurations description.now ≡ true }
     ensures { result ≡ fresh_slave masters.now.items description.now }
 {
     Slave::open(description, masters)

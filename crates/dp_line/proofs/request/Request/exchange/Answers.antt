@@ -1,12 +1,6 @@
-use Rattle.std.proofs.Common.{ap, ◌∙◌}
-use Rattle.std.specs.Prelude.{length}
-use Rattle.dp_line.proofs.Passing.{exchanged_length, exchange_answered}
+use Rattle.std.proofs.Common.{◌∙◌}
+use Rattle.dp_line.proofs.Passing.{exchange_answered}
 use Rattle.dp_line.proofs.request.Request.exchange.Goals as goal
-
-pub data_exchange-high-requires : goal.data_exchange-high-requires
-data_exchange-high-requires c =
-    ap length c.deref.ensures.0
-    ∙ exchanged_length c.args.slave.now.slave c.args.self.now.sender c.args.self.now.telegram.now c.args.self.now.parts.now c.requires.passes c.requires.point
 
 pub returns-clause-octets : goal.returns-clause-octets
 returns-clause-octets c =
