@@ -137,6 +137,16 @@ pub version_1_is_refused_with_an_empty_list : is_accepted_header (line_1_with (r
 unfolding text_on_literals
 version_1_is_refused_with_an_empty_list = refl
 
+-- and so are two configurations, and a fail-safe slave
+pub version_1_is_refused_with_two_configurations :
+    is_accepted_header (record line_1 { slaves = record slave_5 { cfgs = record { items = record { items = [] } ∷ record { items = [] } ∷ [] } } ∷ [] }) (codes "rack-audit 1 line 1") ≡ false
+unfolding text_on_literals
+version_1_is_refused_with_two_configurations = refl
+
+pub version_1_is_refused_with_a_fail_safe_slave : is_accepted_header (record line_1 { slaves = record slave_5 { failsafe = true } ∷ [] }) (codes "rack-audit 1 line 1") ≡ false
+unfolding text_on_literals
+version_1_is_refused_with_a_fail_safe_slave = refl
+
 pub version_3_is_refused : is_accepted_header line_1 (codes "rack-audit 3 line 1") ≡ false
 unfolding text_on_literals
 version_3_is_refused = refl

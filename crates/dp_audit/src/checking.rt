@@ -1,6 +1,6 @@
 //! Checking an audit text, line by line.
 
-ghost use Rattle.std.specs.Prelude.{◌≡◌, ◌+◌, ◌∷◌, ◌&&◌, ◌⊎◌, true, Err, None};
+ghost use Rattle.std.specs.Prelude.{◌≡◌, ◌+◌, ◌∷◌, ◌&&◌, ◌⊎◌, is_none, true, Err, None};
 ghost use Rattle.std.specs.List.{list_all};
 ghost use Rattle.dp_line.specs.World.{description_of, opening_fault};
 ghost use Rattle.dp_line.specs.Events.{is_halt as is_operators_halt};
@@ -19,7 +19,7 @@ use dp_slave::SlaveSpec;
 use dp_text::{Lines, Text, is_text};
 use std::alloc::Global;
 
-/// The version of the policy before lists of masters.
+/// The version of the policy before lists of masters, several configurations and fail-safe slaves.
 const FIRST_VERSION: u8 = 1;
 
 /// How many entries an audit text of a line has, 0 to 65,536; or which line is the first that makes it
@@ -48,7 +48,8 @@ pub fn check_text(alloc: Global, line: &LineSpec, text: &str) -> Result<u32, Aud
 }
 
 /// A row, without its LF, is a header that an audit text of the line may begin with: that of version 2,
-/// which is written, or that of version 1 where no slave of the line has a list of masters.
+/// which is written, or that of version 1 where no slave of the line has a list of masters, more than one
+/// configuration, or is fail-safe.
 pub fn is_header_of(row: &[u8], line: &LineSpec) -> bool
     ensures { result ≡ is_accepted_header (description_of line.now) row.now }
 {
@@ -80,6 +81,13 @@ fn are_of_version_1(slaves: &[SlaveSpec]) -> bool
 /// The slave has nothing that version 1 of the policy doesn't know.
 fn is_of_version_1(slave: &SlaveSpec) -> bool
     ensures { result ≡ is_known_to_version_1 slave.now }
+{
+    has_no_list(slave) && slave.cfgs.len() <= 1 && !slave.failsafe
+}
+
+/// The slave lets every master lock and read as its points do.
+fn has_no_list(slave: &SlaveSpec) -> bool
+    ensures { result ≡ (is_none slave.now.lists.lockers && is_none slave.now.lists.readers) }
 {
     slave.lists.lockers.is_none() && slave.lists.readers.is_none()
 }

@@ -10,7 +10,8 @@ use Rattle.std.proofs.lemmas.List.{take_all, drop_all, take_more, take-set, drop
 use Rattle.std.proofs.Math.Nat.{pow-suc, mul_assoc, mul_comm, mod-add-mod, add-mod_right}
 use Rattle.dp_slave.specs.declared.description.Device.{Device}
 use Rattle.dp_slave.specs.declared.description.Device.TheVariants.{Still, Counter, Mirror}
-use Rattle.dp_devices.specs.Devices.{AreOctets, in_octets, counted, counted_for, cut_or_filled, next_inputs}
+use Rattle.dp_devices.specs.Devices.{AreOctets, in_octets, counted, counted_for, next_inputs}
+use Rattle.dp_slave.specs.SlaveRecord.{cut_or_filled}
 
 -- ---- numbers in octets
 

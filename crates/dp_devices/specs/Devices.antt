@@ -1,9 +1,9 @@
 -- The inputs that a device feeds next (own).
-use Rattle.std.specs.Prelude.{ℕ, zero, suc, ◌+◌, ◌-◌, ◌/◌, ◌%◌, ◌^◌, ◌<◌, Bool, true, false, List, [], ◌∷◌, ◌++◌, length, slice_index, take}
+use Rattle.std.specs.Prelude.{ℕ, zero, suc, ◌+◌, ◌/◌, ◌%◌, ◌^◌, ◌<◌, Bool, true, false, List, [], ◌∷◌, ◌++◌, length, slice_index}
 use Rattle.std.specs.Int.Digits.{number_from_digits}
 use Rattle.dp_slave.specs.declared.description.Device.{Device}
 use Rattle.dp_slave.specs.declared.description.Device.TheVariants.{Still, Counter, Mirror}
-use Rattle.dp_slave.specs.SlaveRecord.{zeros}
+use Rattle.dp_slave.specs.SlaveRecord.{cut_or_filled}
 
 abbrev pub is_still : Device → Bool
 is_still Still = true
@@ -28,10 +28,6 @@ counted octets = in_octets (length octets) ((number_from_digits 256 octets + 1) 
 abbrev pub counted_for : ℕ → List ℕ → List ℕ
 counted_for zero octets = octets
 counted_for (suc steps) octets = counted (counted_for steps octets)
-
--- so many of the first octets, and zeros where there are fewer
-abbrev pub cut_or_filled : ℕ → List ℕ → List ℕ
-cut_or_filled count octets = take count octets ++ zeros (count - length octets)
 
 -- a still device leaves the inputs; a counter counts; a mirror gives the outputs, as many octets as there are inputs
 abbrev pub next_inputs : Device → List ℕ → List ℕ → List ℕ

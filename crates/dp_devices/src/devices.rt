@@ -2,7 +2,8 @@
 
 ghost use Rattle.std.specs.Prelude.{◌≡◌, ◌≤◌, length};
 ghost use Rattle.dp_sap.specs.AccessTable.{most_data};
-ghost use Rattle.dp_devices.specs.Devices.{AreOctets, next_inputs as inputs_next, counted, cut_or_filled};
+ghost use Rattle.dp_devices.specs.Devices.{AreOctets, next_inputs as inputs_next, counted};
+ghost use Rattle.dp_slave.specs.SlaveRecord.{cut_or_filled};
 
 use arrayvec::ArrayVec;
 use dp_line::Device;
