@@ -47,7 +47,7 @@ rack='[[line]]\nnumber = 1\ncapacity = 1000\nmasters = [1, 2]\n[[line.slave]]\na
 slave_diag='m 1 68 05 05 68 85 81 6D 3C 3E ED 16'
 reply='1: reply 680b0b688185083e3c020500ff80a1af16 Done'
 
-for example in slave-diag streams two-lines lock-and-exchange day-of-a-line sync-and-freeze; do
+for example in slave-diag streams two-lines lock-and-exchange day-of-a-line sync-and-freeze lists fail-safe; do
   "$rackd" <"$top/examples/$example.txt" >"$work/out" 2>"$work/err"
   status=$?
   expect "the example $example" 0 "$(cat "$top/examples/$example.out")" ''

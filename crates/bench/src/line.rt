@@ -7,25 +7,33 @@ use std::alloc::Global;
 /// Requests of one measurement.
 pub const REQUESTS: u32 = 60_000;
 
+/// A slave without data: its one configuration has no octets.
+pub(crate) fn slave(address: u8) -> SlaveSpec {
+    let mut cfgs = ArrayVec::new();
+    cfgs.push(ArrayVec::new());
+    SlaveSpec {
+        address,
+        ident: 0x80A1,
+        cfgs,
+        sync: false,
+        freeze: false,
+        user_max: 237,
+        device: Device::Still,
+        lists: Lists {
+            lockers: None,
+            readers: None,
+        },
+        failsafe: false,
+    }
+}
+
 /// A line of master 1 and slaves 2 to one above their number.
 pub fn opened(alloc: Global, slaves: u8) -> Result<LineState, OpenFault> {
     let mut masters = ArrayVec::new();
     masters.push(1);
     let mut described = Vec::new(alloc);
     for offset in 0..slaves {
-        let slave = SlaveSpec {
-            address: offset.saturating_add(2),
-            ident: 0x80A1,
-            cfg: ArrayVec::new(),
-            sync: false,
-            freeze: false,
-            user_max: 237,
-            device: Device::Still,
-            lists: Lists {
-                lockers: None,
-                readers: None,
-            },
-        };
+        let slave = slave(offset.saturating_add(2));
         described.push(slave).map_err(|_| OpenFault::OutOfMemory)?;
     }
     LineState::open(

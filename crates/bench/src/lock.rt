@@ -3,9 +3,10 @@
 ghost use Rattle.std.specs.Prelude.{◌≡◌};
 ghost use Rattle.dp_shared.specs.Passes.{table_of};
 
+use crate::line::slave;
 use arrayvec::ArrayVec;
 use dp_audit::{Book, Receipt};
-use dp_line::{Device, Event, LineSpec, Lists, OpenFault, Outcome, SlaveSpec};
+use dp_line::{Event, LineSpec, OpenFault, Outcome};
 use dp_shared::{Line, Pass};
 use dp_telegram::{GLOBAL_ADDRESS, Octets};
 use std::alloc::Global;
@@ -25,20 +26,7 @@ pub(crate) fn described(alloc: Global, requests: u32) -> Result<LineSpec, OpenFa
         let _ = masters.try_push(master);
     }
     let mut slaves = Vec::new(alloc);
-    let slave = SlaveSpec {
-        address: SLAVE,
-        ident: 0x80A1,
-        cfg: ArrayVec::new(),
-        sync: false,
-        freeze: false,
-        user_max: 237,
-        device: Device::Still,
-        lists: Lists {
-            lockers: None,
-            readers: None,
-        },
-    };
-    slaves.push(slave).map_err(|_| OpenFault::OutOfMemory)?;
+    slaves.push(slave(SLAVE)).map_err(|_| OpenFault::OutOfMemory)?;
     Ok(LineSpec {
         number: 1,
         capacity: requests.saturating_add(2),

@@ -3,9 +3,10 @@
 ghost use Rattle.std.specs.Prelude.{◌≡◌};
 
 use crate::ROUNDS;
+use crate::line::slave;
 use crate::sockets::{Bare, Connection, Served, ask_all, connect};
 use arrayvec::ArrayVec;
-use dp_line::{Device, LineSpec, Lists, OpenFault, SlaveSpec};
+use dp_line::{LineSpec, OpenFault};
 use dp_sessions::Port;
 use dp_shared::{Claims, Line, WorkerSeat};
 use std::alloc::Global;
@@ -96,19 +97,7 @@ fn described(alloc: Global, requests: u32) -> io::Result<LineSpec> {
     let mut masters = ArrayVec::new();
     masters.push(1);
     let mut slaves = Vec::new(alloc);
-    slaves.push(SlaveSpec {
-        address: 5,
-        ident: 0x80A1,
-        cfg: ArrayVec::new(),
-        sync: false,
-        freeze: false,
-        user_max: 237,
-        device: Device::Still,
-        lists: Lists {
-            lockers: None,
-            readers: None,
-        },
-    })?;
+    slaves.push(slave(5))?;
     Ok(LineSpec {
         number: 1,
         capacity: requests.saturating_add(2),

@@ -36,10 +36,12 @@ pub(crate) fn line(
 }
 
 fn slave(address: u8) -> Result<SlaveSpec, Fail> {
+    let mut cfgs = ArrayVec::new();
+    cfgs.push(ArrayVec::try_from([0x21, 0x11].as_slice())?);
     Ok(SlaveSpec {
         address,
         ident: 0x80A1,
-        cfg: ArrayVec::try_from([0x21, 0x11].as_slice())?,
+        cfgs,
         sync: true,
         freeze: true,
         user_max: 237,
@@ -48,5 +50,6 @@ fn slave(address: u8) -> Result<SlaveSpec, Fail> {
             lockers: None,
             readers: None,
         },
+        failsafe: false,
     })
 }

@@ -19,10 +19,12 @@ pub(crate) fn octets_of(word: &[u8]) -> Result<Octets, Fail> {
 fn slave(address: u8, configuration: &[u8]) -> Result<SlaveSpec, Fail> {
     let mut cfg = ArrayVec::new();
     cfg.try_extend_from_slice(configuration)?;
+    let mut cfgs = ArrayVec::new();
+    cfgs.push(cfg);
     Ok(SlaveSpec {
         address,
         ident: 0x80A1,
-        cfg,
+        cfgs,
         sync: true,
         freeze: true,
         user_max: 237,
@@ -31,6 +33,7 @@ fn slave(address: u8, configuration: &[u8]) -> Result<SlaveSpec, Fail> {
             lockers: None,
             readers: None,
         },
+        failsafe: false,
     })
 }
 

@@ -1,6 +1,6 @@
 //! The line, the rack and the texts that the calls take.
 
-ghost use Rattle.std.specs.Prelude.{◌≡◌, [], ◌∷◌, true, IfOk, None};
+ghost use Rattle.std.specs.Prelude.{◌≡◌, [], ◌∷◌, true, false, IfOk, None};
 ghost use Rattle.dp_line.specs.World.{description_of, opening_fault};
 ghost use Rattle.dp_sap.specs.AccessTable.{no_lists};
 
@@ -73,21 +73,24 @@ fn slave() -> SlaveSpec
     ensures { result ≡ record {
       address = 5;
       ident = 0x80A1;
-      cfg = record { items = 0x21 ∷ 0x11 ∷ [] };
+      cfgs = record { items = record { items = 0x21 ∷ 0x11 ∷ [] } ∷ [] };
       sync = true;
       freeze = true;
       user_max = 237;
       device = Device.Still;
       lists = no_lists;
+      failsafe = false;
     } }
 {
     let mut cfg = ArrayVec::new();
     cfg.push(0x21);
     cfg.push(0x11);
+    let mut cfgs = ArrayVec::new();
+    cfgs.push(cfg);
     SlaveSpec {
         address: 5,
         ident: 0x80A1,
-        cfg,
+        cfgs,
         sync: true,
         freeze: true,
         user_max: 237,
@@ -96,5 +99,6 @@ fn slave() -> SlaveSpec
             lockers: None,
             readers: None,
         },
+        failsafe: false,
     }
 }

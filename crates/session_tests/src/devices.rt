@@ -57,10 +57,12 @@ fn mirror_is_cut(rt: HostRuntime) -> Result<(), Fail> {
 }
 
 fn slave(address: u8, device: Device) -> SlaveSpec {
+    let mut cfgs = ArrayVec::new();
+    cfgs.push(ArrayVec::new());
     SlaveSpec {
         address,
         ident: 0x80A1,
-        cfg: ArrayVec::new(),
+        cfgs,
         sync: false,
         freeze: false,
         user_max: 0,
@@ -69,6 +71,7 @@ fn slave(address: u8, device: Device) -> SlaveSpec {
             lockers: None,
             readers: None,
         },
+        failsafe: false,
     }
 }
 

@@ -1,6 +1,6 @@
 //! A port, and the seats of its workers.
 
-ghost use Rattle.std.specs.Prelude.{◌≡◌, ◌≤◌, [], ◌∷◌, true, IfOk, None};
+ghost use Rattle.std.specs.Prelude.{◌≡◌, ◌≤◌, [], ◌∷◌, true, false, IfOk, None};
 ghost use Rattle.dp_line.specs.World.{description_of, opening_fault};
 ghost use Rattle.dp_sap.specs.AccessTable.{no_lists};
 ghost use Rattle.dp_shared.specs.Passes.{line_of};
@@ -110,21 +110,24 @@ fn slave_at(address: u8, device: Device) -> SlaveSpec
     ensures { result ≡ record {
       address = address;
       ident = 0x80A1;
-      cfg = record { items = 0x21 ∷ 0x11 ∷ [] };
+      cfgs = record { items = record { items = 0x21 ∷ 0x11 ∷ [] } ∷ [] };
       sync = true;
       freeze = true;
       user_max = 237;
       device = device;
       lists = no_lists;
+      failsafe = false;
     } }
 {
     let mut cfg = ArrayVec::new();
     cfg.push(0x21);
     cfg.push(0x11);
+    let mut cfgs = ArrayVec::new();
+    cfgs.push(cfg);
     SlaveSpec {
         address,
         ident: 0x80A1,
-        cfg,
+        cfgs,
         sync: true,
         freeze: true,
         user_max: 237,
@@ -133,5 +136,6 @@ fn slave_at(address: u8, device: Device) -> SlaveSpec
             lockers: None,
             readers: None,
         },
+        failsafe: false,
     }
 }

@@ -1,5 +1,9 @@
 //! What a slave answers to commands.
 
+ghost use Rattle.std.specs.Prelude.{◌≡◌, ◌∷◌, [], true};
+ghost use Rattle.std.specs.List.{list_all};
+ghost use Rattle.dp_slave.specs.SlaveRecord.{can_be_parsed, configurations};
+
 use crate::responder_tests::judged_text;
 use crate::rows::Answers;
 use crate::sap_tests::{marked_text, no_lists, point_text};
@@ -8,7 +12,7 @@ use arrayvec::ArrayVec;
 use dp_globalctl::Command;
 use dp_owners::{Linked, Links};
 use dp_responder::judge;
-use dp_slave::{Device, Slave, SlaveSpec};
+use dp_slave::{Configuration, Device, MOST_CONFIGURATIONS, Slave, SlaveSpec};
 use dp_telegram::Parts;
 use std::alloc::Global;
 use std::test::Fail;
@@ -16,23 +20,52 @@ use std::test::Fail;
 /// A slave with two octets of outputs and two of inputs, with Sync and Freeze, on a line with masters
 /// 1 and 2.
 pub(crate) fn slave() -> Slave {
+    let mut cfgs = ArrayVec::new();
+    cfgs.push(of_two(0x21, 0x11));
+    opened(&described(cfgs, false))
+}
+
+/// A slave that is fail-safe and has two configurations: that of [`slave`], and one of one octet each
+/// way.
+pub(crate) fn slave_of_two() -> Slave {
+    let mut cfgs = ArrayVec::new();
+    cfgs.push(of_two(0x21, 0x11));
+    cfgs.push(of_two(0x20, 0x10));
+    opened(&described(cfgs, true))
+}
+
+fn of_two(first: u8, second: u8) -> Configuration
+    ensures { result.items ≡ first ∷ second ∷ [] }
+{
     let mut cfg = ArrayVec::new();
-    cfg.push(0x21);
-    cfg.push(0x11);
-    let description = SlaveSpec {
+    cfg.push(first);
+    cfg.push(second);
+    cfg
+}
+
+fn described(cfgs: ArrayVec<Configuration, MOST_CONFIGURATIONS>, failsafe: bool) -> SlaveSpec
+    ensures { result.cfgs ≡ cfgs }
+{
+    SlaveSpec {
         address: 5,
         ident: 0x80A1,
-        cfg,
+        cfgs,
         sync: true,
         freeze: true,
         user_max: 237,
         device: Device::Still,
         lists: no_lists(),
-    };
+        failsafe,
+    }
+}
+
+fn opened(description: &SlaveSpec) -> Slave
+    requires { list_all can_be_parsed (configurations description.now) ≡ true }
+{
     let mut masters = ArrayVec::new();
     masters.push(1);
     masters.push(2);
-    Slave::open(&description, &masters)
+    Slave::open(description, &masters)
 }
 
 impl Answers for Slave {
@@ -60,6 +93,8 @@ fn shown(alloc: Global, slave: &Slave, kind: &str) -> Result<Option<String>, Fai
         "state" => format!(in alloc; "{:?}", slave.points().state())?,
         "hold" => hold_text(alloc, slave)?,
         "parameters" => parameters_text(alloc, slave)?,
+        "shape" => format!(in alloc; "{} {:?}", slave.view().shape, slave.view().cfg)?,
+        "cleared" => format!(in alloc; "{}", slave.view().cleared)?,
         "rd_inp" => hex_text(alloc, slave.rd_inp())?,
         "rd_outp" => hex_text(alloc, slave.rd_outp())?,
         "inputs" => hex_text(alloc, &slave.view().inputs)?,
@@ -129,9 +164,6 @@ fn request(
 
 /// Data of the holder: the priority of the reply.
 fn exchange(alloc: Global, slave: &mut Slave, data: &[u8]) -> Result<String, Fail> {
-    if data.len() != slave.rd_outp().len() {
-        return Err("as many octets as outputs")?;
-    }
     text(
         alloc,
         if slave.data_exchange(data) {

@@ -5,7 +5,7 @@
 //! slave's configuration.
 
 use crate::rows::play;
-use crate::slave_commands::slave;
+use crate::slave_commands::{slave, slave_of_two};
 use dp_slave::Slave;
 use std::alloc::Global;
 use std::test::Fail;
@@ -162,6 +162,118 @@ fn wrong_configuration_faults(rt: HostRuntime) -> Result<(), Fail> {
 set_prm 1 2 8802050b80a101 => done
 chk_cfg 2100 => done
 slave_diag 1 => 060500ff80a1
+",
+    )
+}
+
+/// Also that a release keeps the shape, and that a lock sets min TSDR.
+#[test]
+fn second_configuration_is_chosen(rt: HostRuntime) -> Result<(), Fail> {
+    play(
+        rt.alloc(),
+        &mut slave_of_two(),
+        "\
+input aa55 => done
+set_prm 1 2 8802050b80a101 => done
+shape => 0 None
+get_cfg => 2111
+chk_cfg 2010 => done
+shape => 1 Some(1)
+inputs => aa
+outputs => 00
+get_cfg => 2010
+find none => Only(1) Srd 1 to 1
+input aa55 => WrongLength 1
+input bb => done
+exchange 77 => low
+outputs => 77
+make_safe => done
+shape => 1 None
+outputs => 00
+get_cfg => 2010
+set_prm 1 3 8802050b80a101 => done
+chk_cfg 2111 => done
+inputs => bb00
+outputs => 0000
+",
+    )
+}
+
+#[test]
+fn another_configuration_ends_the_modes(rt: HostRuntime) -> Result<(), Fail> {
+    play(
+        rt.alloc(),
+        &mut slave_of_two(),
+        "\
+input aa55 => done
+set_prm 1 2 b802050b80a101 => done
+chk_cfg 2111 => done
+exchange 1234 => low
+sync => done
+freeze => done
+chk_cfg 2111 => done
+parameters => 11 Some(10) Some(0) sync freeze
+outputs => 1234
+rd_inp => aa55
+chk_cfg 2010 => done
+parameters => 11 Some(10) Some(1)
+outputs => 00
+rd_inp => aa
+chk_cfg 2211 => done
+slave_diag 1 => 060500ff80a1
+shape => 1 None
+",
+    )
+}
+
+#[test]
+fn cleared_slave_takes_none(rt: HostRuntime) -> Result<(), Fail> {
+    play(
+        rt.alloc(),
+        &mut slave_of_two(),
+        "\
+set_prm 1 2 8802050b80a101 => done
+chk_cfg 2111 => done
+exchange 1234 => low
+judge 1 7d - => refuse 01 Length
+control 0200 => done
+cleared => true
+outputs => 0000
+find none => Only(1) Srd 2 to 2 or none
+judge 1 7d - => pass
+judge 1 7d 12 => refuse 01 Length
+exchange - => low
+cleared => true
+outputs => 0000
+exchange 1234 => low
+cleared => false
+outputs => 1234
+judge 1 7d - => refuse 01 Length
+",
+    )
+}
+
+#[test]
+fn clearing_ends(rt: HostRuntime) -> Result<(), Fail> {
+    play(
+        rt.alloc(),
+        &mut slave_of_two(),
+        "\
+set_prm 1 2 8802050b80a101 => done
+chk_cfg 2111 => done
+clear_data => done
+chk_cfg 2111 => done
+cleared => true
+chk_cfg 2010 => done
+cleared => false
+clear_data => done
+cleared => true
+set_prm 1 3 8802050b80a101 => done
+cleared => false
+chk_cfg 2010 => done
+clear_data => done
+tick 10 => let go
+cleared => false
 ",
     )
 }
