@@ -24,7 +24,7 @@ const SYNC: u32 = 5;
 /// What a Global_Control asks for.
 #[derive(Clone, Copy, Debug, PartialEq, Eq)]
 pub struct Command {
-    /// Clear_Data: outputs and latest data become zero.
+    /// Clear_Data: outputs and latest data become zero, and a fail-safe slave is cleared.
     pub clear_data: bool,
     /// Unfreeze: freeze mode ends.
     pub unfreeze: bool,

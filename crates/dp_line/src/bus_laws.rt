@@ -90,7 +90,7 @@ pub fn lockers_alone_hold()
 
 /// A master that is none of a slave's readers and doesn't hold the slave reads none of its inputs and
 /// outputs: what it asks RD_Inp or RD_Outp for is never done, and the reply that it gets has no octet of
-/// data. Where it repeats a request, it gets the reply that it got already.
+/// data. This says nothing of a repeat, which is given the reply once more that the master got already.
 pub fn readers_alone_read()
     ensures { (world : World) (master : ℕ) (octets reply : ArrayVec ℕ) (rule : Rules) (parts : Parts) (slave : SlaveRecord)
         → (heard world master octets.items).parts ≡ Some parts

@@ -26,8 +26,8 @@ const MOST_PLACES: u32 = 65_536;
 impl LineSpec {
     /// Why no line is opened from the description: `Limit` where a number is outside its limits, else
     /// `TwiceAddress` where two stations have one address, else `UnknownListed` where a list of a
-    /// slave names an address that no master has, else `BadCfg` where octets that a slave has for a
-    /// configuration are none; None where a line is opened.
+    /// slave names an address that no master has, else `BadCfg` where a configuration of a slave can't be
+    /// parsed; None where a line is opened.
     pub fn fault(&self) -> Option<OpenFault>
         ensures { result ≡ opening_fault (description_of self.now) }
     {

@@ -60,8 +60,9 @@ impl LineState {
     /// The line at its start: nothing recorded, every slave without a holder.
     ///
     /// `Limit` exactly where a number is outside its limits; `TwiceAddress` exactly where none is and
-    /// two stations have one address; `BadCfg` exactly where neither is so and the `cfg` of a
-    /// slave is no configuration; else `OutOfMemory` where memory was refused (own).
+    /// two stations have one address; `UnknownListed` exactly where neither is so and a list of a slave
+    /// names an address that no master has; `BadCfg` exactly where none of these is so and a
+    /// configuration of a slave can't be parsed; else `OutOfMemory` where memory was refused (own).
     pub fn open(alloc: Global, line: &LineSpec) -> Result<LineState, OpenFault>
         ensures refused { IfSome (opening_fault (description_of line.now)) (λ fault. result ≡ Err fault) }
         ensures opened { opening_fault (description_of line.now) ≡ None

@@ -50,7 +50,7 @@ refusal_rows point listed sender fc payload =
     (is_none point, rules.NotActive)
     -- 15: the point is for the holder, and the sender is another master
     ∷ (point_has (λ p. not (admits sender p.access)) point, rules.NotHolder)
-    -- 16: a list of the slave doesn't name the sender
+    -- 16: the slave's lists don't let the sender use the point
     ∷ (not listed, rules.NotListed)
     -- 17: the point takes the other service
     ∷ (point_has (λ p. not (uses fc p.service)) point, rules.NoService)

@@ -60,8 +60,8 @@ other_service = refl
 pub unacknowledged : judgement exchanging None 1 0x46 (request_to slave_diag []) ≡ Silent rules.NoService
 unacknowledged = refl
 
--- a slave that master 1 alone may lock and that no list lets read: the other's Set_Prm is RS before the lock by the list, behind it by
--- the holder, whatever service it asks for; the holder reads
+-- a slave that master 1 alone may lock, and that nobody but its holder may read: the other's Set_Prm is refused by the list before the
+-- lock, and behind it since another holds the slave; by SDN it is refused in silence; the holder reads
 abbrev pub one_locker : Lists
 one_locker = record { lockers = Some (record { items = 1 ∷ [] }); readers = Some (record { items = [] }) }
 
@@ -84,7 +84,7 @@ holder_may_read = refl
 pub off_comes_before_the_list : judgement (unmarked WaitPrm None 2 false one_locker) None 2 0x6D (request_to rd_inp []) ≡ Refuse not_activated rules.NotActive
 off_comes_before_the_list = refl
 
--- where the default point takes none beside its two octets: none, two, and one
+-- where the default point takes two octets or none: none, two, and one
 pub empty_passes : judgement (unmarked DataExch (Some 1) 2 true no_lists) None 1 0x7D (request_to data_exchange []) ≡ Pass
 empty_passes = refl
 

@@ -89,7 +89,13 @@ fn refusal(points: &Points, sender: u8, fc: u8, parts: &Parts) -> Rule
     ensures repeat { result ≢ rules.Repeat }
 {
     let listed = points.listed(parts.dsap, sender);
-    refusal_at(open_point(points, parts.dsap), listed, sender, fc, &parts.payload)
+    refusal_at(
+        open_point(points, parts.dsap),
+        listed,
+        sender,
+        fc,
+        &parts.payload,
+    )
 }
 
 /// The rule that refuses a request at this point, None where it is off, which the slave's lists let

@@ -48,8 +48,8 @@ pub enum Rule {
     NotSelected,
     /// The service is done.
     Done,
-    /// A list of the slave doesn't name the sender: RS. It stands behind [`Rule::NotHolder`] in the
-    /// verdict.
+    /// The slave's lists don't let the sender use the access point: RS to an SRD, silence to an SDN. It
+    /// stands behind [`Rule::NotHolder`] in the verdict.
     NotListed,
 }
 

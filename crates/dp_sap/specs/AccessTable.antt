@@ -93,8 +93,8 @@ pub record BusyMarks : Type 0 where
   pub set_prm : Bool
   pub chk_cfg : Bool
 
--- the points of a slave: its state, its holder, its output length, whether an empty Data_Exchange is accepted too, its busy marks and
--- its lists of masters (own)
+-- the points of a slave: its state, its holder, its output length, whether Data_Exchange may be empty too, its busy marks and its lists of
+-- masters (own)
 pub record PointsView : Type 0 where
   pub state : State
   pub holder : Option ℕ
@@ -103,7 +103,7 @@ pub record PointsView : Type 0 where
   pub busy : BusyMarks
   pub lists : Lists
 
--- the same point (own)
+-- the same point, or the same holder (own)
 abbrev pub same_point : Option ℕ → Option ℕ → Bool
 same_point = option_eq nat_eq
 
@@ -181,7 +181,7 @@ admitted off master = None
 admitted holder master = option_map (λ address. Only address) master
 admitted all master = Some All
 
--- the point that a row is, where it is on; the default point alone may take no octets beside its length (own)
+-- the point that a row is, where it is on; the default point alone may be empty: it takes either the octets of its row or none (own)
 abbrev pub point_of : PointsView → Row → Access → Point
 point_of points row access = record {
   active = true;
@@ -201,16 +201,16 @@ opened points row = option_map (point_of points row) (admitted (column_in points
 abbrev pub access_row : PointsView → Option ℕ → Option Point
 access_row points number = option_and_then (opened points) (row_of points.out_len number)
 
--- lists that name nobody in particular: every master may do what its point lets it (own)
+-- a slave without lists: every master may do what the points let it (own)
 abbrev pub no_lists : Lists
 no_lists = record { lockers = None; readers = None }
 
--- the sender may use Set_Prm: every master may where the slave has no list of lockers, and those on the list where it has one (own)
+-- by the lists the sender may use Set_Prm: every master where there is no list of lockers, and those on it where there is one (own)
 abbrev pub may_lock : Lists → ℕ → Bool
 may_lock lists sender = option_map_or (λ masters. list_any (λ master. master == sender) masters.items) lists.lockers true
 
--- the sender may read inputs and outputs: every master may where the slave has no list of readers, and those on the list where it has
--- one (own)
+-- by the lists the sender may read inputs and outputs without holding the slave: every master where there is no list of readers, and those
+-- on it where there is one (own)
 abbrev pub may_read : Lists → ℕ → Bool
 may_read lists sender = option_map_or (λ masters. list_any (λ master. master == sender) masters.items) lists.readers true
 

@@ -79,6 +79,23 @@ another_is_no_reader = refl
 pub holder_reads_always : is_listed (unmarked DataExch (Some 1) 2 false one_locker) rd_outp 1 ≡ true
 holder_reads_always = refl
 
+-- a reader reads without holding the slave, and every master locks where there is no list of lockers
+abbrev pub one_reader : Lists
+one_reader = record { lockers = None; readers = Some (record { items = 2 ∷ 2 ∷ [] }) }
+
+pub reader_reads : is_listed (unmarked DataExch (Some 1) 2 false one_reader) rd_outp 2 ≡ true
+reader_reads = refl
+
+pub who_is_no_reader_does_not : is_listed (unmarked DataExch (Some 1) 2 false one_reader) rd_outp 3 ≡ false
+who_is_no_reader_does_not = refl
+
+pub readers_are_not_asked_for_a_lock : is_listed (unmarked WaitPrm None 2 false one_reader) set_prm 3 ≡ true
+readers_are_not_asked_for_a_lock = refl
+
+-- an empty list lets nobody lock
+pub nobody_locks : is_listed (unmarked WaitPrm None 2 false (record { lockers = Some (record { items = [] }); readers = None })) set_prm 1 ≡ false
+nobody_locks = refl
+
 pub diagnosis_has_no_list : is_listed (unmarked WaitPrm None 2 false one_locker) slave_diag 2 ≡ true
 diagnosis_has_no_list = refl
 

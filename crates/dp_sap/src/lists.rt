@@ -22,7 +22,7 @@ pub struct Lists {
 }
 
 impl Lists {
-    /// The sender may use Set_Prm.
+    /// By the lists the sender may use Set_Prm.
     pub(crate) fn let_lock(&self, sender: u8) -> bool
         ensures { result ≡ may_lock self.now sender }
     {
@@ -32,7 +32,7 @@ impl Lists {
         }
     }
 
-    /// The sender may use RD_Inp and RD_Outp without holding the slave.
+    /// By the lists the sender may use RD_Inp and RD_Outp without holding the slave.
     pub(crate) fn let_read(&self, sender: u8) -> bool
         ensures { result ≡ may_read self.now sender }
     {

@@ -14,9 +14,9 @@ use crate::point::{
 use crate::state::State;
 use std::marker::Model;
 
-/// The service access points of a slave: its state, its holder and its output length, which
-/// decide what is on, whether an empty Data_Exchange is accepted too, a busy mark for each point of
-/// the access table, and the lists of masters (own).
+/// The service access points of a slave: its state, its holder and its output length, which decide
+/// what is on and of how many octets; whether Data_Exchange may be empty too; a busy mark for each
+/// point of the access table; and the lists of masters (own).
 #[derive(Debug, Drop)]
 pub struct Points {
     state: State,
@@ -45,8 +45,8 @@ impl Model for Points {
 impl Points {
     /// The points of a slave in this state, none of them busy. `holder` is the address of the
     /// master that holds it, 0 to 126, and `None` where nobody does; `out_len` is its output
-    /// length, 0 to 244 octets; with `empty` the default point takes none beside these. The lists
-    /// are copied.
+    /// length, 0 to 244 octets; with `empty` the default point takes either these or no octets. The
+    /// lists are copied.
     pub fn at_state(
         state: State,
         holder: Option<u8>,
@@ -67,8 +67,8 @@ impl Points {
     }
 
     /// The slave is in this state now, with this holder, 0 to 126 or `None`, and this output
-    /// length, 0 to 244 octets; with `empty` the default point takes none beside these. The busy
-    /// marks and the lists stay.
+    /// length, 0 to 244 octets; with `empty` the default point takes either these or no octets. The
+    /// busy marks and the lists stay.
     pub fn move_to(&mut self, state: State, holder: Option<u8>, out_len: u8, empty: bool)
         ensures { self.new ≡ record self.old { state = state; holder = holder; out_len = out_len; empty = empty } }
     {
@@ -99,7 +99,7 @@ impl Points {
         self.out_len
     }
 
-    /// The default point takes no octets beside the output length.
+    /// The default point takes either as many octets as the output length or none.
     pub const fn empty(&self) -> bool
         ensures { result ≡ self.now.empty }
     {
@@ -121,7 +121,7 @@ impl Points {
     }
 
     /// The point of this number, which may be any octet, `None` being the default point: its row
-    /// of the access table with its busy mark. A number outside the table gives a point that is
+    /// of the access table with its busy mark, and whether it may be empty. A number outside the table gives a point that is
     /// off and not busy.
     ///
     /// Of a point that is off only `active` and `busy` mean anything.

@@ -104,7 +104,7 @@ sync_mode_after slave act = if releases slave act then false else slave.sync_mod
 abbrev pub cleared_by : SlaveRecord → Control → List ℕ → List ℕ
 cleared_by slave control octets = if control.clear_data then zeros (output_length slave) else octets
 
--- the data that came last; an empty Data_Exchange stands for zeros (own)
+-- the data that came last; an empty Data_Exchange of a cleared slave stands for zeros (own)
 abbrev pub latest_after : SlaveRecord → Act → List ℕ
 latest_after slave (locks sender place prm) = zeros (output_length slave)
 latest_after slave (configures number) = if keeps_shape slave number then slave.latest else zeros (outputs_of slave.description number)
@@ -125,8 +125,8 @@ outputs_after slave (is_controlled control) =
     if control.unsync || is_synced_by slave control then cleared_by slave control slave.latest else cleared_by slave control slave.outputs
 outputs_after slave act = if releases slave act then zeros (output_length slave) else slave.outputs
 
--- Clear_Data makes a fail-safe slave cleared; a Data_Exchange of the whole length, a lock, a release and a configuration of another number
--- end that, and an empty Data_Exchange leaves it (own)
+-- Clear_Data makes a fail-safe slave cleared. A Data_Exchange of the whole length, which is an empty one where there are no outputs, a lock,
+-- a release and a configuration of another number end that; every other empty Data_Exchange leaves it (own)
 abbrev pub cleared_after : SlaveRecord → Act → Bool
 cleared_after slave (locks sender place prm) = false
 cleared_after slave (configures number) = keeps_shape slave number && slave.cleared

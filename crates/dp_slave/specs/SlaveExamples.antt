@@ -1,4 +1,4 @@
--- Slave 5 of a line with masters 1 and 2: ident number 80A1, two octets of outputs and two of inputs, with Sync and Freeze.
+-- Slave 5 of a line with masters 1 and 2, or with master 1 alone: ident number 80A1, two octets of outputs and two of inputs, with Sync and Freeze.
 use Rattle.std.specs.Prelude.{◌≡◌, ℕ, List, [], ◌∷◌, true, false, Option, Some, None, refl}
 use Rattle.dp_telegram.specs.declared.access.Parts.{Parts}
 use Rattle.dp_telegram.specs.FunctionCode.{user_error}
@@ -161,7 +161,7 @@ pub holders_reading_ends_it : service_answer (requested 1 6 slave_diag [] report
 unfolding reporting exchanged configured locked requested fed acted
 holders_reading_ends_it = refl
 
--- a slave with two configurations, of two octets each way and of one, which feeds AA 55
+-- a slave with two configurations, of two octets each way and of one
 abbrev pub slave_5_of_two : SlaveSpec
 slave_5_of_two = record slave_5 {
   cfgs = record { items = record { items = 0x21 ∷ 0x11 ∷ [] } ∷ record { items = 0x20 ∷ 0x10 ∷ [] } ∷ [] };
@@ -226,6 +226,10 @@ pub same_configuration_keeps_outputs : (requested 1 7 chk_cfg (0x21 ∷ 0x11 ∷
 unfolding synced_of_two requested acted
 same_configuration_keeps_outputs = refl
 
+pub another_configuration_clears_outputs : (requested 1 7 chk_cfg (0x20 ∷ 0x10 ∷ []) synced_of_two).outputs ≡ 0 ∷ []
+unfolding synced_of_two requested acted
+another_configuration_clears_outputs = refl
+
 pub another_configuration_ends_sync : (requested 1 7 chk_cfg (0x20 ∷ 0x10 ∷ []) synced_of_two).sync_mode ≡ false
 unfolding synced_of_two requested acted
 another_configuration_ends_sync = refl
@@ -256,7 +260,7 @@ unfolding cleared_slave exchanged_safely requested acted
 cleared_takes_none = refl
 
 -- it stays cleared by that, and zeros are put out
-pub none_stand_for_zeros : (requested 1 6 data_exchange [] cleared_slave).outputs ≡ 0 ∷ 0 ∷ []
+pub none_stand_for_zeros : (requested 1 6 data_exchange [] (record cleared_slave { outputs = 0x12 ∷ 0x34 ∷ [] })).outputs ≡ 0 ∷ 0 ∷ []
 unfolding cleared_slave exchanged_safely requested acted
 none_stand_for_zeros = refl
 
@@ -305,6 +309,15 @@ pub whole_length_of_none_ends_it : (requested 1 5 data_exchange [] cleared_witho
 unfolding cleared_without_outputs requested acted
 whole_length_of_none_ends_it = refl
 
+-- a lock ends it, and so does time that lets go of the slave
+pub lock_ends_it : (requested 1 6 set_prm (0x88 ∷ 0x02 ∷ 0x05 ∷ 0x0B ∷ 0x80 ∷ 0xA1 ∷ 0x01 ∷ []) cleared_slave).cleared ≡ false
+unfolding cleared_slave exchanged_safely requested acted
+lock_ends_it = refl
+
+pub time_ends_it : (acted cleared_slave (ticks 10)).cleared ≡ false
+unfolding cleared_slave exchanged_safely requested acted
+time_ends_it = refl
+
 -- in sync mode an empty one changes the latest data alone
 unfoldable pub cleared_in_sync : SlaveRecord
 cleared_in_sync =
@@ -313,7 +326,11 @@ cleared_in_sync =
     (requested 1 4 chk_cfg (0x21 ∷ 0x11 ∷ [])
     (requested 1 3 set_prm (0xA8 ∷ 0x02 ∷ 0x05 ∷ 0x0B ∷ 0x80 ∷ 0xA1 ∷ 0x01 ∷ []) (starting_slave (1 ∷ []) failsafe_5))))
 
-pub latest_are_zeros_in_sync : (requested 1 7 data_exchange [] cleared_in_sync).latest ≡ 0 ∷ 0 ∷ []
+pub outputs_stay_in_sync : (requested 1 7 data_exchange [] (record cleared_in_sync { outputs = 0x12 ∷ 0x34 ∷ []; latest = 0x56 ∷ 0x78 ∷ [] })).outputs ≡ 0x12 ∷ 0x34 ∷ []
+unfolding cleared_in_sync requested acted
+outputs_stay_in_sync = refl
+
+pub latest_are_zeros_in_sync : (requested 1 7 data_exchange [] (record cleared_in_sync { outputs = 0x12 ∷ 0x34 ∷ []; latest = 0x56 ∷ 0x78 ∷ [] })).latest ≡ 0 ∷ 0 ∷ []
 unfolding cleared_in_sync requested acted
 latest_are_zeros_in_sync = refl
 

@@ -35,7 +35,7 @@ pub record SlaveRecord : Type 0 where
   pub latest : List ℕ
   pub sync_mode : Bool
   pub freeze_mode : Bool
-  -- Clear_Data has made the data of a fail-safe slave zero, and none have come since
+  -- it is fail-safe and its data were cleared, so that it takes an empty Data_Exchange too
   pub cleared : Bool
   -- the watchdog's remaining time in units of 10 ms, None where it is off
   pub left : Option ℕ
@@ -76,8 +76,8 @@ zeros count = replicate count 0
 abbrev pub cut_or_filled : ℕ → List ℕ → List ℕ
 cut_or_filled count octets = take count octets ++ zeros (count - length octets)
 
--- its points: state, holder and output length, which decide what is on, whether an empty Data_Exchange is accepted too, the busy marks and
--- the lists (own)
+-- its points: state, holder and output length, which decide what is on and of how many octets; whether Data_Exchange may be empty too; the
+-- busy marks; and the lists (own)
 abbrev pub points_of : SlaveRecord → PointsView
 points_of slave = record {
   state = slave.state;

@@ -45,7 +45,7 @@ pub record IsSound (slave : SlaveRecord) : Type 0 where
   pub no_sync : is_in_data_exch slave.state ≡ false → slave.sync_mode ≡ false
   pub no_freeze : is_in_data_exch slave.state ≡ false → slave.freeze_mode ≡ false
   -- in Data_Exch the configuration that its holder sent is the shape in force, and else it has sent none; the shape is one of those
-  -- described
+  -- described, where any is
   pub configured : slave.cfg ≡ (if is_in_data_exch slave.state then Some slave.shape else None)
   pub shaped : 1 ≤ length (configurations slave.description) → slave.shape < length (configurations slave.description)
   -- a slave that is cleared is fail-safe and in Data_Exch, and its outputs and latest data are zero

@@ -42,6 +42,7 @@ pub struct SlaveSpec {
     /// Which masters may set its parameters, and which may read its inputs and outputs.
     pub lists: Lists,
     /// The slave is fail-safe: once its data were cleared, it takes an empty Data_Exchange too, until
-    /// data come (IEC 61158-6-3, Global_Control request, Clear_Data; own in detail).
+    /// data come, a master locks it or chooses another configuration, or it is released
+    /// (IEC 61158-6-3, Global_Control request, Clear_Data; own in detail).
     pub failsafe: bool,
 }

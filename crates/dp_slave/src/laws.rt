@@ -19,7 +19,7 @@ pub fn released_is_a_fixed_point()
 /// Data_Exch outputs and latest data are zero and neither mode is on; the slave is in Wait_Prm
 /// exactly where nobody holds it, and a watchdog runs exactly where the holder's parameters ask for
 /// one; inputs, their copy, outputs and latest data have the lengths of the shape in force, which is
-/// that of a configuration of the slave; a slave that is cleared is fail-safe, in Data_Exch, and its
+/// that of a configuration of the slave, where it has any; a slave that is cleared is fail-safe, in Data_Exch, and its
 /// outputs and latest data are zero.
 pub fn a_slave_stays_sound()
     ensures { (masters : List ℕ) (description : SlaveSpec) (acts : List Act)

@@ -207,7 +207,7 @@ impl Slave {
         self.left = self.left_again();
     }
 
-    /// Whether the slave is cleared, and takes an empty Data_Exchange.
+    /// The slave is cleared from now on, and takes an empty Data_Exchange too, or it isn't.
     pub(crate) fn mark_cleared(&mut self, cleared: bool)
         ensures { self.new ≡ with_slave self.old (record self.old.slave { cleared = cleared }) }
     {

@@ -133,7 +133,8 @@ impl Slave {
         self.description.address
     }
 
-    /// Its service access points, which have its state, its holder and its busy marks.
+    /// Its service access points, which have its state, its holder, its output length, whether it takes
+    /// an empty Data_Exchange, its busy marks and its lists.
     pub fn points(&self) -> &Points
         ensures { result.now ≡ points_of self.now.slave }
     {

@@ -200,16 +200,16 @@ rack-audit 2 line 1
     )
 }
 
-/// A row is the header of a line's audit texts.
+/// Whether a row is a header of audit texts of line 1, and of line 2.
 fn heads(alloc: Global, row: &str, expected: &str) -> Result<(), Fail> {
-    let (own, other) = (
-        is_header_of(row.as_bytes(), 1),
-        is_header_of(row.as_bytes(), 2),
-    );
+    let own = is_header_of(row.as_bytes(), &line(alloc, 1, 1000, &[1], &[5])?);
+    let other = is_header_of(row.as_bytes(), &line(alloc, 2, 1000, &[1], &[5])?);
     is_told(format!(in alloc; "{own} {other}")?, expected)
 }
 
 #[test]
 fn headers(rt: HostRuntime) -> Result<(), Fail> {
-    heads(rt.alloc(), "rack-audit 2 line 1", "true false")
+    heads(rt.alloc(), "rack-audit 2 line 1", "true false")?;
+    heads(rt.alloc(), "rack-audit 1 line 2", "false true")?;
+    heads(rt.alloc(), "rack-audit 3 line 1", "false false")
 }
