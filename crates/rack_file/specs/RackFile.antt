@@ -12,7 +12,7 @@ use Rattle.dp_line.specs.World.{opening_fault, has_twice}
 use Rattle.rack_file.specs.declared.fault.RackFault.{RackFault}
 use Rattle.rack_file.specs.declared.fault.RackFault.TheVariants.{NotToml, BadKey, TwiceLine, Open}
 use Rattle.rack_file.specs.Rack.{LineDescription, RackDescription}
-use Rattle.rack_file.specs.TomlKeys.{◌>>=◌, only, required, optional, array_of, table_of, flag_of, text_of, number_to, octets_of, each_of}
+use Rattle.rack_file.specs.TomlKeys.{◌>>=◌, only, required, optional, array_of, text_or_array_of, table_of, flag_of, text_of, number_to, octets_of, each_of}
 
 -- ---- masters
 
@@ -25,10 +25,16 @@ masters_of value = do
 -- ---- [[line.slave]]
 
 -- a configuration: at most 244 octets
-unfoldable pub configuration_of : Data → Result (List ℕ) RackFault
+unfoldable pub configuration_of : Data → Result (ArrayVec ℕ) RackFault
 configuration_of value = do
   octets ← octets_of value
-  if nat_le (length octets) 244 then Ok octets else Err BadKey
+  if nat_le (length octets) 244 then Ok (record { items = octets }) else Err BadKey
+
+-- a slave's configurations, numbered from 0 in the order of the file: one as a text, or 1 to 4 of them as an array
+unfoldable pub configurations_of : Data → Result (List (ArrayVec ℕ)) RackFault
+configurations_of value = do
+  values ← text_or_array_of value
+  if nat_le 1 (length values) && nat_le (length values) 4 then each_of configuration_of values else Err BadKey
 
 -- a device, by its name
 abbrev pub device_named : List ℕ → Result Device RackFault
@@ -51,7 +57,7 @@ list_of value = do
 abbrev pub slave_keys : List (List ℕ)
 slave_keys =
     codes "address" ∷ codes "ident" ∷ codes "cfg" ∷ codes "sync" ∷ codes "freeze" ∷ codes "user_max" ∷ codes "device" ∷ codes "lockers"
-    ∷ codes "readers" ∷ []
+    ∷ codes "readers" ∷ codes "failsafe" ∷ []
 
 -- a slave
 unfoldable pub slave_of : Data → Result SlaveSpec RackFault
@@ -60,22 +66,24 @@ slave_of value = do
   _ ← only slave_keys slave
   address ← required (number_to 255) (codes "address") slave
   ident ← required (number_to 65535) (codes "ident") slave
-  cfg ← required configuration_of (codes "cfg") slave
+  cfgs ← required configurations_of (codes "cfg") slave
   sync ← optional false flag_of (codes "sync") slave
   freeze ← optional false flag_of (codes "freeze") slave
   user_max ← optional 237 (number_to 255) (codes "user_max") slave
   device ← optional Still device_of (codes "device") slave
   lockers ← optional None list_of (codes "lockers") slave
   readers ← optional None list_of (codes "readers") slave
+  failsafe ← optional false flag_of (codes "failsafe") slave
   Ok (record {
     address = address;
     ident = ident;
-    cfg = record { items = cfg };
+    cfgs = record { items = cfgs };
     sync = sync;
     freeze = freeze;
     user_max = user_max;
     device = device;
     lists = record { lockers = lockers; readers = readers };
+    failsafe = failsafe;
   })
 
 -- ---- [[line]]

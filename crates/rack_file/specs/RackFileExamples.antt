@@ -1,5 +1,5 @@
 -- The rack of one line with masters 1 and 2 and slave 5, ident number 80A1, as a document.
-use Rattle.std.specs.Prelude.{◌≡◌, ⊤, ℕ, pos, [], ◌∷◌, codes, true, false, None, Some, Ok, Err, refl}
+use Rattle.std.specs.Prelude.{◌≡◌, ⊤, ℕ, zero, suc, pos, List, [], ◌∷◌, codes, true, false, None, Some, Ok, Err, refl}
 use Rattle.hex.proofs.OnLiterals.{hex_on_literals}
 use Rattle.toml.proofs.OnLiterals.{toml_on_literals}
 use Rattle.toml.specs.Data.{Data, string, integer, boolean, array, table, Items, no_items, item, Members, no_members, member}
@@ -8,12 +8,12 @@ use Rattle.dp_slave.specs.declared.description.Device.TheVariants.{Still, Mirror
 use Rattle.dp_line.specs.declared.fault.OpenFault.TheVariants.{TwiceAddress, BadCfg}
 use Rattle.rack_file.specs.declared.fault.RackFault.TheVariants.{NotToml, BadKey, TwiceLine, Open}
 use Rattle.rack_file.specs.Rack.{LineDescription}
-use Rattle.rack_file.specs.TomlKeys.{required, optional, array_of, number_to, octets_of, each_of}
-use Rattle.rack_file.specs.RackFile.{masters_of, configuration_of, device_of, list_of, slave_of, slaves_of, port_of, line_of, workers_of, lines_of, all_open, rack_of, rack_in}
+use Rattle.rack_file.specs.TomlKeys.{required, optional, array_of, text_or_array_of, number_to, octets_of, each_of}
+use Rattle.rack_file.specs.RackFile.{masters_of, configuration_of, configurations_of, device_of, list_of, slave_of, slaves_of, port_of, line_of, workers_of, lines_of, all_open, rack_of, rack_in}
 
 -- what computes a document's rack
 unfoldable rack_on_literals : ⊤
-unfolding hex_on_literals toml_on_literals required optional array_of number_to octets_of each_of masters_of configuration_of device_of list_of slave_of slaves_of port_of line_of workers_of lines_of all_open rack_of
+unfolding hex_on_literals toml_on_literals required optional array_of text_or_array_of number_to octets_of each_of masters_of configuration_of configurations_of device_of list_of slave_of slaves_of port_of line_of workers_of lines_of all_open rack_of
 rack_on_literals = tt
 
 -- `[[line.slave]]` with this ident number
@@ -45,12 +45,13 @@ line_1 = record {
     slaves = record {
       address = 5;
       ident = 0x80A1;
-      cfg = record { items = 0x21 ∷ 0x11 ∷ [] };
+      cfgs = record { items = record { items = 0x21 ∷ 0x11 ∷ [] } ∷ [] };
       sync = true;
       freeze = true;
       user_max = 237;
       device = Still;
       lists = no_lists;
+      failsafe = false;
     } ∷ [];
   };
   listen = None;
@@ -96,14 +97,15 @@ cut_configuration = refl
 abbrev whole_slave : Data → Data
 whole_slave device =
     table (member (codes "address") (integer (pos 5))
-    (member (codes "cfg") (string (codes "21"))
+    (member (codes "cfg") (array (item (string (codes "21")) (item (string (codes "11")) no_items)))
     (member (codes "device") device
+    (member (codes "failsafe") (boolean true)
     (member (codes "freeze") (boolean false)
     (member (codes "ident") (integer (pos 1))
     (member (codes "lockers") (array (item (integer (pos 2)) (item (integer (pos 1)) no_items)))
     (member (codes "readers") (array (item (integer (pos 1)) (item (integer (pos 1)) no_items)))
     (member (codes "sync") (boolean true)
-    (member (codes "user_max") (integer (pos 0)) no_members)))))))))
+    (member (codes "user_max") (integer (pos 0)) no_members))))))))))
 
 -- one `[[line]]` with each key, and these workers and this device
 abbrev whole_file : ℕ → Data → Members
@@ -125,12 +127,13 @@ whole_line = record {
     slaves = record {
       address = 5;
       ident = 1;
-      cfg = record { items = 0x21 ∷ [] };
+      cfgs = record { items = record { items = 0x21 ∷ [] } ∷ record { items = 0x11 ∷ [] } ∷ [] };
       sync = true;
       freeze = false;
       user_max = 0;
       device = Mirror;
       lists = record { lockers = Some (record { items = 2 ∷ 1 ∷ [] }); readers = Some (record { items = 1 ∷ 1 ∷ [] }) };
+      failsafe = true;
     } ∷ [];
   };
   listen = Some 65535;
@@ -153,6 +156,42 @@ pub unknown_device : rack_of (whole_file 32 (string (codes "Mirror"))) ≡ Err B
 unfolding rack_on_literals
 unknown_device = refl
 
+-- ---- configurations
+
+-- `[[line.slave]]` with these configurations
+abbrev slave_with_cfg : Data → Data
+slave_with_cfg cfg =
+    table (member (codes "address") (integer (pos 5))
+    (member (codes "cfg") cfg
+    (member (codes "ident") (integer (pos 1)) no_members)))
+
+-- the items of an array: so many times this text
+abbrev texts : ℕ → List ℕ → Items
+texts zero text = no_items
+texts (suc n) text = item (string text) (texts n text)
+
+pub one_text_in_an_array : slave_of (slave_with_cfg (array (texts 1 (codes "2111")))) ≡ slave_of (slave_with_cfg (string (codes "2111")))
+unfolding rack_on_literals
+one_text_in_an_array = refl
+
+pub four_configurations :
+    configurations_of (array (item (string []) (texts 3 (codes "21"))))
+    ≡ Ok (record { items = [] } ∷ record { items = 0x21 ∷ [] } ∷ record { items = 0x21 ∷ [] } ∷ record { items = 0x21 ∷ [] } ∷ [])
+unfolding rack_on_literals
+four_configurations = refl
+
+pub no_configuration : slave_of (slave_with_cfg (array no_items)) ≡ Err BadKey
+unfolding rack_on_literals
+no_configuration = refl
+
+pub five_configurations : slave_of (slave_with_cfg (array (texts 5 (codes "21")))) ≡ Err BadKey
+unfolding rack_on_literals
+five_configurations = refl
+
+pub number_among_configurations : slave_of (slave_with_cfg (array (item (string (codes "21")) (item (integer (pos 21)) no_items)))) ≡ Err BadKey
+unfolding rack_on_literals
+number_among_configurations = refl
+
 -- ---- lists of masters
 
 -- `[[line.slave]]` with these readers
@@ -168,12 +207,13 @@ pub nobody_reads :
     ≡ Ok (record {
       address = 5;
       ident = 1;
-      cfg = record { items = [] };
+      cfgs = record { items = record { items = [] } ∷ [] };
       sync = false;
       freeze = false;
       user_max = 237;
       device = Still;
       lists = record { lockers = None; readers = Some (record { items = [] }) };
+      failsafe = false;
     })
 unfolding rack_on_literals
 nobody_reads = refl

@@ -5,7 +5,7 @@ use Rattle.std.specs.Option.{ok_or, option_map_or}
 use Rattle.std.specs.Str.{bytes_eq}
 use Rattle.hex.specs.Hex.{decode_of}
 use Rattle.hex.specs.declared.error.FromHexError.{FromHexError}
-use Rattle.toml.specs.Data.{Data, Items, no_items, item, Members, no_members, member, get_member, as_integer, as_bool, as_str, as_array, as_table}
+use Rattle.toml.specs.Data.{Data, string, Items, no_items, item, Members, no_members, member, get_member, as_integer, as_bool, as_str, as_array, as_table}
 use Rattle.rack_file.specs.declared.fault.RackFault.{RackFault}
 use Rattle.rack_file.specs.declared.fault.RackFault.TheVariants.{BadKey, OutOfMemory}
 
@@ -64,6 +64,11 @@ unfoldable pub array_of : Data → Result (List Data) RackFault
 array_of value = do
   array ← ok_or (as_array value) BadKey
   Ok (elements array)
+
+-- the elements of an array; a text counts as an array of it alone
+unfoldable pub text_or_array_of : Data → Result (List Data) RackFault
+text_or_array_of (string text) = Ok (string text ∷ [])
+text_or_array_of value = array_of value
 
 abbrev pub table_of : Data → Result Members RackFault
 table_of value = ok_or (as_table value) BadKey

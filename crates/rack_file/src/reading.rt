@@ -7,19 +7,18 @@ ghost use Rattle.dp_slave.specs.declared.description.Device.TheVariants.{Still};
 ghost use Rattle.dp_line.specs.World.{description_of, opening_fault, has_twice};
 ghost use Rattle.rack_file.specs.Rack.{line_described, rack_described};
 ghost use Rattle.rack_file.specs.TomlKeys.{Gives, Fails, required, optional, number_to, each_of};
-ghost use Rattle.rack_file.specs.RackFile.{masters_of, configuration_of, device_named, device_of, list_of, slave_of, slaves_of, port_of, line_of, workers_of, lines_of, numbers, opened, all_open, rack_of, rack_in};
+ghost use Rattle.rack_file.specs.RackFile.{masters_of, configuration_of, configurations_of, device_named, device_of, list_of, slave_of, slaves_of, port_of, line_of, workers_of, lines_of, numbers, opened, all_open, rack_of, rack_in};
 
 use crate::fault::RackFault;
 use crate::rack::{Rack, RackLine};
 use crate::toml_keys::{
     array_in, number_in, octets_in, only_keys, optional_flag, required_number, required_value,
-    table_in, text_in, value_at,
+    table_in, text_in, text_or_array_in, value_at,
 };
 use arrayvec::ArrayVec;
-use dp_line::{
-    Device, LineSpec, MOST_CONFIGURATION, MOST_MASTERS, MOST_USER_PARAMETERS, SlaveSpec,
-};
+use dp_line::{Device, LineSpec, MOST_MASTERS, MOST_USER_PARAMETERS, SlaveSpec};
 use dp_sap::{Lists, MOST_LISTED};
+use dp_slave::{Configuration, MOST_CONFIGURATIONS};
 use std::alloc::Global;
 use toml::{Table, Value};
 
@@ -61,11 +60,8 @@ fn masters_in(value: &Value) -> Result<ArrayVec<u8, MOST_MASTERS>, RackFault>
 
 /// A configuration: at most 244 octets in hex text.
 #[tactic(auto, unfolding(crate::specs::RackFile::configuration_of))]
-fn configuration_in(
-    alloc: Global,
-    value: &Value,
-) -> Result<ArrayVec<u8, MOST_CONFIGURATION>, RackFault>
-    ensures { Gives (λ cfg. cfg.items) result (configuration_of (view value.now)) }
+fn configuration_in(alloc: Global, value: &Value) -> Result<Configuration, RackFault>
+    ensures { Gives (λ cfg. cfg) result (configuration_of (view value.now)) }
 {
     let octets = octets_in(alloc, value)?;
     match ArrayVec::try_from(octets.as_slice()) {
@@ -74,15 +70,34 @@ fn configuration_in(
     }
 }
 
-/// A slave's configuration.
+/// A slave's configurations, in the order of the file: one as a text, or 1 to 4 of them as an array.
+#[tactic(auto, unfolding(crate::specs::RackFile::configurations_of))]
+fn configurations_in(
+    alloc: Global,
+    value: &Value,
+) -> Result<ArrayVec<Configuration, MOST_CONFIGURATIONS>, RackFault>
+    ensures { Gives (λ cfgs. cfgs.items) result (configurations_of (view value.now)) }
+{
+    let values = text_or_array_in(value)?;
+    if values.is_empty() || values.len() > MOST_CONFIGURATIONS {
+        return Err(RackFault::BadKey);
+    }
+    let mut cfgs = ArrayVec::new();
+    for value in values {
+        cfgs.push(configuration_in(alloc, value)?);
+    }
+    Ok(cfgs)
+}
+
+/// A slave's configurations, which it has to have.
 #[tactic(auto, unfolding(crate::specs::TomlKeys::required))]
-fn required_configuration(
+fn required_configurations(
     alloc: Global,
     slave: &Table,
-) -> Result<ArrayVec<u8, MOST_CONFIGURATION>, RackFault>
-    ensures { Gives (λ cfg. cfg.items) result (required configuration_of (codes "cfg") (table_view slave.now)) }
+) -> Result<ArrayVec<Configuration, MOST_CONFIGURATIONS>, RackFault>
+    ensures { Gives (λ cfgs. cfgs.items) result (required configurations_of (codes "cfg") (table_view slave.now)) }
 {
-    configuration_in(alloc, required_value(slave, "cfg")?)
+    configurations_in(alloc, required_value(slave, "cfg")?)
 }
 
 /// User parameters that a slave takes, in octets, 237 where it doesn't say how many.
@@ -142,13 +157,14 @@ fn slave_in(alloc: Global, value: &Value) -> Result<SlaveSpec, RackFault>
     only_keys(
         slave,
         &[
-            "address", "ident", "cfg", "sync", "freeze", "user_max", "device", "lockers", "readers",
+            "address", "ident", "cfg", "sync", "freeze", "user_max", "device", "lockers",
+            "readers", "failsafe",
         ],
     )?;
     Ok(SlaveSpec {
         address: required_number(slave, "address", 255)? as u8,
         ident: required_number(slave, "ident", 65_535)? as u16,
-        cfg: required_configuration(alloc, slave)?,
+        cfgs: required_configurations(alloc, slave)?,
         sync: optional_flag(slave, "sync")?,
         freeze: optional_flag(slave, "freeze")?,
         user_max: optional_user_parameters(slave)?,
@@ -157,6 +173,7 @@ fn slave_in(alloc: Global, value: &Value) -> Result<SlaveSpec, RackFault>
             lockers: optional_list(slave, "lockers")?,
             readers: optional_list(slave, "readers")?,
         },
+        failsafe: optional_flag(slave, "failsafe")?,
     })
 }
 
@@ -337,14 +354,15 @@ fn rack_in_document(alloc: Global, file: &Table) -> Result<Rack, RackFault>
 ///   numbers from 0 to 255; the tables `slave`; `listen` and `operator`, ports from 0 to 65,535, and
 ///   no port where they are missing.
 /// - `[[line.slave]]`: `address`, 0 to 255; `ident`, 0 to 65,535; `cfg`, hex text of at most 244
-///   octets; `sync` and `freeze`, false where they are missing; `user_max`, 0 to 255, and 237 where
-///   it is missing; `device`, "still", "counter" or "mirror", and still where it is missing;
-///   `lockers` and `readers`, each at most 16 numbers from 0 to 255, and no list where they are
-///   missing.
+///   octets, or an array of 1 to 4 such texts, which are the configurations from number 0 on; `sync`,
+///   `freeze` and `failsafe`, false where they are missing; `user_max`, 0 to 255, and 237 where it is
+///   missing; `device`, "still", "counter" or "mirror", and still where it is missing; `lockers` and
+///   `readers`, each at most 16 numbers from 0 to 255, and no list where they are missing.
 ///
 /// The first fault that applies is reported: `NotToml`; `BadKey` for an unknown or missing key, a wrong
-/// type, text that isn't hex or no device, or a number or list outside its range; `TwiceLine`; `Open`
-/// of the first line that can't be opened. `OutOfMemory` may come instead of each.
+/// type, text that isn't hex or no device, or a number, a list or an array of configurations outside
+/// its range; `TwiceLine`; `Open` of the first line that can't be opened. `OutOfMemory` may come
+/// instead of each.
 pub fn read_rack(alloc: Global, text: &str) -> Result<Rack, RackFault>
     // The rack is the one that the text describes.
     ensures ok { IfOk result (λ rack. rack_in text.now ≡ Ok (rack_described rack)) }

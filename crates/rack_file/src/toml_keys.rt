@@ -5,10 +5,11 @@ ghost use Rattle.std.specs.List.{list_any};
 ghost use Rattle.std.specs.Str.{bytes_eq};
 ghost use Rattle.toml.specs.Data.{get_member};
 ghost use Rattle.toml.specs.View.{view, table_view};
-ghost use Rattle.rack_file.specs.TomlKeys.{Gives, seen, only, required, optional, at_key, array_of, table_of, flag_of, text_of, number_to, octets_of};
+ghost use Rattle.rack_file.specs.TomlKeys.{Gives, seen, only, required, optional, at_key, array_of, text_or_array_of, table_of, flag_of, text_of, number_to, octets_of};
 
 use crate::fault::RackFault;
 use std::alloc::Global;
+use std::slice;
 use toml::{Table, Value};
 
 /// Every key of the table is one of the known ones.
@@ -66,6 +67,17 @@ pub(crate) fn array_in(value: &Value) -> Result<&[Value], RackFault>
         Some(array) => Ok(array.as_slice()),
         None => Err(RackFault::BadKey),
     }
+}
+
+/// The values of the array that a value is; a text counts as an array of it alone.
+#[tactic(auto, unfolding(crate::specs::TomlKeys::text_or_array_of))]
+pub(crate) fn text_or_array_in(value: &Value) -> Result<&[Value], RackFault>
+    ensures { seen (λ values. map view values.now) result ≡ text_or_array_of (view value.now) }
+{
+    if value.is_str() {
+        return Ok(slice::from_ref(value));
+    }
+    array_in(value)
 }
 
 /// The number, 0 to the most, that a value is.

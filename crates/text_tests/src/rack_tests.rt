@@ -15,7 +15,7 @@ fn reads(alloc: Global, top: &str, line: &str, slave: &str, expected: &str) -> R
 fn reads_lists(alloc: Global, rows: &str, lists: &str) -> Result<(), Fail> {
     let slave = format!(in alloc; "cfg = \"\"\n{rows}")?;
     let expected = format!(in alloc;
-        "Ok(Rack {{ workers: 4, lines: [RackLine {{ spec: LineSpec {{ number: 1, capacity: 1000, masters: [1, 2], slaves: [SlaveSpec {{ address: 5, ident: 32929, cfg: [], sync: false, freeze: false, user_max: 237, device: Still, lists: Lists {{ {lists} }} }}] }}, listen: None, operator: None }}] }})"
+        "Ok(Rack {{ workers: 4, lines: [RackLine {{ spec: LineSpec {{ number: 1, capacity: 1000, masters: [1, 2], slaves: [SlaveSpec {{ address: 5, ident: 32929, cfgs: [[]], sync: false, freeze: false, user_max: 237, device: Still, lists: Lists {{ {lists} }}, failsafe: false }}] }}, listen: None, operator: None }}] }})"
     )?;
     reads(alloc, "", "", &slave, &expected)
 }
@@ -26,6 +26,25 @@ fn refuses_lists(alloc: Global, rows: &str, expected: &str) -> Result<(), Fail> 
     reads(alloc, "", "", &slave, expected)
 }
 
+/// A slave with these rows is read with the configurations, and with the fail-safe mode, that are
+/// expected.
+fn reads_slave(
+    alloc: Global,
+    rows: &str,
+    configurations: &str,
+    failsafe: bool,
+) -> Result<(), Fail> {
+    let expected = format!(in alloc;
+        "Ok(Rack {{ workers: 4, lines: [RackLine {{ spec: LineSpec {{ number: 1, capacity: 1000, masters: [1, 2], slaves: [SlaveSpec {{ address: 5, ident: 32929, cfgs: {configurations}, sync: false, freeze: false, user_max: 237, device: Still, lists: Lists {{ lockers: None, readers: None }}, failsafe: {failsafe} }}] }}, listen: None, operator: None }}] }})"
+    )?;
+    reads(alloc, "", "", rows, &expected)
+}
+
+/// A slave with these rows is refused as a bad key.
+fn refuses_slave(alloc: Global, rows: &str) -> Result<(), Fail> {
+    reads(alloc, "", "", rows, "Err(BadKey)")
+}
+
 #[test]
 fn reads_the_example_rack(rt: HostRuntime) -> Result<(), Fail> {
     reads(
@@ -33,7 +52,7 @@ fn reads_the_example_rack(rt: HostRuntime) -> Result<(), Fail> {
         "",
         "",
         "cfg = \"2111\"\nsync = true\nfreeze = true\n",
-        "Ok(Rack { workers: 4, lines: [RackLine { spec: LineSpec { number: 1, capacity: 1000, masters: [1, 2], slaves: [SlaveSpec { address: 5, ident: 32929, cfg: [33, 17], sync: true, freeze: true, user_max: 237, device: Still, lists: Lists { lockers: None, readers: None } }] }, listen: None, operator: None }] })",
+        "Ok(Rack { workers: 4, lines: [RackLine { spec: LineSpec { number: 1, capacity: 1000, masters: [1, 2], slaves: [SlaveSpec { address: 5, ident: 32929, cfgs: [[33, 17]], sync: true, freeze: true, user_max: 237, device: Still, lists: Lists { lockers: None, readers: None }, failsafe: false }] }, listen: None, operator: None }] })",
     )
 }
 
@@ -44,7 +63,7 @@ fn sync_and_freeze_are_false_where_they_are_missing(rt: HostRuntime) -> Result<(
         "",
         "",
         "cfg = \"aB\"\nfreeze = true\n",
-        "Ok(Rack { workers: 4, lines: [RackLine { spec: LineSpec { number: 1, capacity: 1000, masters: [1, 2], slaves: [SlaveSpec { address: 5, ident: 32929, cfg: [171], sync: false, freeze: true, user_max: 237, device: Still, lists: Lists { lockers: None, readers: None } }] }, listen: None, operator: None }] })",
+        "Ok(Rack { workers: 4, lines: [RackLine { spec: LineSpec { number: 1, capacity: 1000, masters: [1, 2], slaves: [SlaveSpec { address: 5, ident: 32929, cfgs: [[171]], sync: false, freeze: true, user_max: 237, device: Still, lists: Lists { lockers: None, readers: None }, failsafe: false }] }, listen: None, operator: None }] })",
     )
 }
 
@@ -55,7 +74,7 @@ fn reads_each_key(rt: HostRuntime) -> Result<(), Fail> {
         "workers = 32\n",
         "listen = 65535\noperator = 0\n",
         "cfg = \"2111\"\nsync = true\nfreeze = true\nuser_max = 0\ndevice = \"mirror\"\n",
-        "Ok(Rack { workers: 32, lines: [RackLine { spec: LineSpec { number: 1, capacity: 1000, masters: [1, 2], slaves: [SlaveSpec { address: 5, ident: 32929, cfg: [33, 17], sync: true, freeze: true, user_max: 0, device: Mirror, lists: Lists { lockers: None, readers: None } }] }, listen: Some(65535), operator: Some(0) }] })",
+        "Ok(Rack { workers: 32, lines: [RackLine { spec: LineSpec { number: 1, capacity: 1000, masters: [1, 2], slaves: [SlaveSpec { address: 5, ident: 32929, cfgs: [[33, 17]], sync: true, freeze: true, user_max: 0, device: Mirror, lists: Lists { lockers: None, readers: None }, failsafe: false }] }, listen: Some(65535), operator: Some(0) }] })",
     )
 }
 
@@ -66,14 +85,14 @@ fn reads_the_bounds_of_workers_and_equal_ports(rt: HostRuntime) -> Result<(), Fa
         "workers = 1\n",
         "listen = 4000\noperator = 4000\n",
         "cfg = \"2111\"\n",
-        "Ok(Rack { workers: 1, lines: [RackLine { spec: LineSpec { number: 1, capacity: 1000, masters: [1, 2], slaves: [SlaveSpec { address: 5, ident: 32929, cfg: [33, 17], sync: false, freeze: false, user_max: 237, device: Still, lists: Lists { lockers: None, readers: None } }] }, listen: Some(4000), operator: Some(4000) }] })",
+        "Ok(Rack { workers: 1, lines: [RackLine { spec: LineSpec { number: 1, capacity: 1000, masters: [1, 2], slaves: [SlaveSpec { address: 5, ident: 32929, cfgs: [[33, 17]], sync: false, freeze: false, user_max: 237, device: Still, lists: Lists { lockers: None, readers: None }, failsafe: false }] }, listen: Some(4000), operator: Some(4000) }] })",
     )?;
     reads(
         rt.alloc(),
         "workers = 32\n",
         "listen = 4000\noperator = 4000\n",
         "cfg = \"2111\"\n",
-        "Ok(Rack { workers: 32, lines: [RackLine { spec: LineSpec { number: 1, capacity: 1000, masters: [1, 2], slaves: [SlaveSpec { address: 5, ident: 32929, cfg: [33, 17], sync: false, freeze: false, user_max: 237, device: Still, lists: Lists { lockers: None, readers: None } }] }, listen: Some(4000), operator: Some(4000) }] })",
+        "Ok(Rack { workers: 32, lines: [RackLine { spec: LineSpec { number: 1, capacity: 1000, masters: [1, 2], slaves: [SlaveSpec { address: 5, ident: 32929, cfgs: [[33, 17]], sync: false, freeze: false, user_max: 237, device: Still, lists: Lists { lockers: None, readers: None }, failsafe: false }] }, listen: Some(4000), operator: Some(4000) }] })",
     )
 }
 
@@ -84,21 +103,21 @@ fn reads_the_devices_by_their_names(rt: HostRuntime) -> Result<(), Fail> {
         "",
         "",
         "cfg = \"\"\ndevice = \"still\"\n",
-        "Ok(Rack { workers: 4, lines: [RackLine { spec: LineSpec { number: 1, capacity: 1000, masters: [1, 2], slaves: [SlaveSpec { address: 5, ident: 32929, cfg: [], sync: false, freeze: false, user_max: 237, device: Still, lists: Lists { lockers: None, readers: None } }] }, listen: None, operator: None }] })",
+        "Ok(Rack { workers: 4, lines: [RackLine { spec: LineSpec { number: 1, capacity: 1000, masters: [1, 2], slaves: [SlaveSpec { address: 5, ident: 32929, cfgs: [[]], sync: false, freeze: false, user_max: 237, device: Still, lists: Lists { lockers: None, readers: None }, failsafe: false }] }, listen: None, operator: None }] })",
     )?;
     reads(
         rt.alloc(),
         "",
         "",
         "cfg = \"\"\ndevice = \"counter\"\n",
-        "Ok(Rack { workers: 4, lines: [RackLine { spec: LineSpec { number: 1, capacity: 1000, masters: [1, 2], slaves: [SlaveSpec { address: 5, ident: 32929, cfg: [], sync: false, freeze: false, user_max: 237, device: Counter, lists: Lists { lockers: None, readers: None } }] }, listen: None, operator: None }] })",
+        "Ok(Rack { workers: 4, lines: [RackLine { spec: LineSpec { number: 1, capacity: 1000, masters: [1, 2], slaves: [SlaveSpec { address: 5, ident: 32929, cfgs: [[]], sync: false, freeze: false, user_max: 237, device: Counter, lists: Lists { lockers: None, readers: None }, failsafe: false }] }, listen: None, operator: None }] })",
     )?;
     reads(
         rt.alloc(),
         "",
         "",
         "cfg = \"\"\ndevice = \"mirror\"\n",
-        "Ok(Rack { workers: 4, lines: [RackLine { spec: LineSpec { number: 1, capacity: 1000, masters: [1, 2], slaves: [SlaveSpec { address: 5, ident: 32929, cfg: [], sync: false, freeze: false, user_max: 237, device: Mirror, lists: Lists { lockers: None, readers: None } }] }, listen: None, operator: None }] })",
+        "Ok(Rack { workers: 4, lines: [RackLine { spec: LineSpec { number: 1, capacity: 1000, masters: [1, 2], slaves: [SlaveSpec { address: 5, ident: 32929, cfgs: [[]], sync: false, freeze: false, user_max: 237, device: Mirror, lists: Lists { lockers: None, readers: None }, failsafe: false }] }, listen: None, operator: None }] })",
     )
 }
 
@@ -148,6 +167,67 @@ fn refuses_what_is_no_list_of_masters(rt: HostRuntime) -> Result<(), Fail> {
         "lockers = [1]\nreaders = [1]\nwriters = [1]\n",
         "Err(BadKey)",
     )
+}
+
+#[test]
+fn reads_configurations_in_the_order_of_the_file(rt: HostRuntime) -> Result<(), Fail> {
+    let alloc = rt.alloc();
+    reads_slave(
+        alloc,
+        "cfg = [\"2111\", \"aB\"]\n",
+        "[[33, 17], [171]]",
+        false,
+    )?;
+    reads_slave(
+        alloc,
+        "cfg = [\"21\", \"\", \"11\", \"21\"]\n",
+        "[[33], [], [17], [33]]",
+        false,
+    )?;
+    reads_slave(alloc, "cfg = [\"2111\"]\n", "[[33, 17]]", false)
+}
+
+#[test]
+fn refuses_no_configuration_and_more_than_four(rt: HostRuntime) -> Result<(), Fail> {
+    let alloc = rt.alloc();
+    refuses_slave(alloc, "cfg = []\n")?;
+    refuses_slave(
+        alloc,
+        "cfg = [\"21\", \"21\", \"21\", \"21\", \"21\"]\n",
+    )
+}
+
+#[test]
+fn refuses_what_is_no_configuration(rt: HostRuntime) -> Result<(), Fail> {
+    let alloc = rt.alloc();
+    refuses_slave(alloc, "cfg = 21\n")?;
+    refuses_slave(alloc, "cfg = [\"21\", 21]\n")?;
+    refuses_slave(alloc, "cfg = [\"21\", \"211\"]\n")?;
+    refuses_slave(alloc, "cfg = [[\"21\"]]\n")
+}
+
+#[test]
+fn each_configuration_has_to_end_with_an_identifier(rt: HostRuntime) -> Result<(), Fail> {
+    reads(
+        rt.alloc(),
+        "",
+        "",
+        "cfg = [\"21\", \"c101\"]\n",
+        "Err(Open(1, BadCfg))",
+    )
+}
+
+#[test]
+fn reads_whether_a_slave_is_fail_safe(rt: HostRuntime) -> Result<(), Fail> {
+    let alloc = rt.alloc();
+    reads_slave(alloc, "cfg = \"21\"\nfailsafe = true\n", "[[33]]", true)?;
+    reads_slave(
+        alloc,
+        "cfg = \"21\"\nfailsafe = false\n",
+        "[[33]]",
+        false,
+    )?;
+    refuses_slave(alloc, "cfg = \"21\"\nfailsafe = 1\n")
 }
 
 #[test]
