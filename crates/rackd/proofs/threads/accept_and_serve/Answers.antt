@@ -7,4 +7,4 @@ use Rattle.dp_shared.proofs.Sharing.{numbered_book_send}
 use Rattle.rackd.proofs.threads.accept_and_serve.Goals as goal
 
 pub accept_each-requires-send-O : goal.accept_each-requires-send-O
-accept_each-requires-send-O g c κs within = search (sendable, crosses, port.the_sync, slot.the_sync, claims.the_sync, numbered_book_send) depth 40 fits 100000
+accept_each-requires-send-O g c κs within = search (sendable, crosses, port.the_sync, slot.the_sync, claims.the_sync, numbered_book_send) depth 80 fits 200000
