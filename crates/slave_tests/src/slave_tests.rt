@@ -50,11 +50,17 @@ fn set_prm_locks(rt: HostRuntime) -> Result<(), Fail> {
         "\
 address => 5
 state => WaitPrm
+parameters => 11 None None
 set_prm 1 2 8802050b80a101 => done
 hold => WaitCfg Some(1) 2
 parameters => 11 Some(10) None
+tick 4 => kept
+chk_cfg 2111 => done
+parameters => 11 Some(10) Some(0)
 set_prm 1 9 8000000c80a101 => done
 hold => WaitCfg Some(1) 2
+parameters => 12 None None
+set_prm 1 10 8000000080a101 => done
 parameters => 12 None None
 ",
     )
