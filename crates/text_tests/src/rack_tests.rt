@@ -191,10 +191,7 @@ fn reads_configurations_in_the_order_of_the_file(rt: HostRuntime) -> Result<(), 
 fn refuses_no_configuration_and_more_than_four(rt: HostRuntime) -> Result<(), Fail> {
     let alloc = rt.alloc();
     refuses_slave(alloc, "cfg = []\n")?;
-    refuses_slave(
-        alloc,
-        "cfg = [\"21\", \"21\", \"21\", \"21\", \"21\"]\n",
-    )
+    refuses_slave(alloc, "cfg = [\"21\", \"21\", \"21\", \"21\", \"21\"]\n")
 }
 
 #[test]
@@ -221,12 +218,7 @@ fn each_configuration_has_to_end_with_an_identifier(rt: HostRuntime) -> Result<(
 fn reads_whether_a_slave_is_fail_safe(rt: HostRuntime) -> Result<(), Fail> {
     let alloc = rt.alloc();
     reads_slave(alloc, "cfg = \"21\"\nfailsafe = true\n", "[[33]]", true)?;
-    reads_slave(
-        alloc,
-        "cfg = \"21\"\nfailsafe = false\n",
-        "[[33]]",
-        false,
-    )?;
+    reads_slave(alloc, "cfg = \"21\"\nfailsafe = false\n", "[[33]]", false)?;
     refuses_slave(alloc, "cfg = \"21\"\nfailsafe = 1\n")
 }
 
