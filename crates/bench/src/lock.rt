@@ -26,7 +26,9 @@ pub(crate) fn described(alloc: Global, requests: u32) -> Result<LineSpec, OpenFa
         let _ = masters.try_push(master);
     }
     let mut slaves = Vec::new(alloc);
-    slaves.push(slave(SLAVE)).map_err(|_| OpenFault::OutOfMemory)?;
+    slaves
+        .push(slave(SLAVE))
+        .map_err(|_| OpenFault::OutOfMemory)?;
     Ok(LineSpec {
         number: 1,
         capacity: requests.saturating_add(2),
