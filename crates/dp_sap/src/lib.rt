@@ -3,8 +3,9 @@
 //! are marked busy.
 //!
 //! [`Points`] holds what decides this: the slave's [`State`], its holder, its output length, whether
-//! Data_Exchange may be empty too, the busy marks and the [`Lists`] of masters. [`Points::find`] tells the [`Point`] of a number, such as
-//! [`SLAVE_DIAG`], and [`Points::listed`] whom the lists let use it.
+//! Data_Exchange may be empty too, the busy marks and the [`Lists`] of masters. [`Points::find`]
+//! tells the [`Point`] of a number, such as [`SLAVE_DIAG`], and [`Points::listed`] whom the lists
+//! let use it.
 #![tactic(auto)]
 
 mod busy;

@@ -1,6 +1,6 @@
 //! The masters that a slave's lists name.
 
-ghost use Rattle.std.specs.Prelude.{◌≡◌, ◌==◌};
+ghost use Rattle.std.specs.Prelude.{◌≡◌, ◌==◌, true};
 ghost use Rattle.std.specs.List.{list_any};
 ghost use Rattle.std.specs.Option.{option_map_or};
 ghost use Rattle.dp_sap.specs.AccessTable.{may_lock, may_read};
@@ -26,25 +26,28 @@ impl Lists {
     pub(crate) fn let_lock(&self, sender: u8) -> bool
         ensures { result ≡ may_lock self.now sender }
     {
-        match &self.lockers {
-            Some(masters) => names(masters, sender),
-            None => true,
-        }
+        names(&self.lockers, sender)
     }
 
     /// By the lists the sender may use RD_Inp and RD_Outp without holding the slave.
     pub(crate) fn let_read(&self, sender: u8) -> bool
         ensures { result ≡ may_read self.now sender }
     {
-        match &self.readers {
-            Some(masters) => names(masters, sender),
-            None => true,
-        }
+        names(&self.readers, sender)
     }
 }
 
-/// The master is one of these.
-fn names(masters: &[u8], sender: u8) -> bool
+/// The master is on the list; every master is where there is none.
+fn names(list: &Option<ArrayVec<u8, MOST_LISTED>>, sender: u8) -> bool
+    ensures { result ≡ option_map_or (λ masters. list_any (λ master. master == sender) masters.items) list.now true }
+{
+    match list {
+        Some(masters) => is_among(masters, sender),
+        None => true,
+    }
+}
+
+fn is_among(masters: &[u8], sender: u8) -> bool
     ensures { result ≡ list_any (λ master. master == sender) masters.now }
 {
     masters.iter().any(|master| *master == sender)

@@ -121,8 +121,8 @@ impl Points {
     }
 
     /// The point of this number, which may be any octet, `None` being the default point: its row
-    /// of the access table with its busy mark, and whether it may be empty. A number outside the table gives a point that is
-    /// off and not busy.
+    /// of the access table with its busy mark, and whether it may be empty. A number outside the
+    /// table gives a point that is off and not busy.
     ///
     /// Of a point that is off only `active` and `busy` mean anything.
     pub fn find(&self, number: Option<u8>) -> Point
