@@ -1,6 +1,6 @@
 -- The first row that applies, and what comes of a request by its rule.
 use Rattle.std.proofs.Common.{◌≡◌, ◌≢◌, ℕ, Bool, true, false, ◌&&◌, cond, List, [], ◌∷◌, ◌++◌, Option, Some, None, inl, inr, refl, sym, ap, ◌∙◌}
-use Rattle.std.specs.Prelude.{◌↔◌, if◌then◌else◌}
+use Rattle.std.specs.Prelude.{◌↔◌, if◌then◌else◌, is_some, IfSome}
 use Rattle.std.specs.List.{AllByRecursion, list_any}
 use Rattle.std.proofs.lemmas.Bool.{cases_Bool, cond-true}
 use Rattle.dp_telegram.specs.declared.access.Parts.{Parts}
@@ -8,12 +8,18 @@ use Rattle.dp_telegram.specs.declared.function_code.Function.{Function}
 use Rattle.dp_telegram.specs.declared.function_code.Function.TheVariants.{SdnLow, SdnHigh}
 use Rattle.dp_telegram.specs.FunctionCode.{function_of, asks_sdn, asks_srd, frame_count_bit, frame_count_is_valid}
 use Rattle.dp_sap.specs.AccessTable.{PointsView, access_row, is_listed}
+use Rattle.dp_sap.specs.declared.point.Point.{Point}
 use Rattle.dp_responder.specs.Memory.{Remembered, is_repeat, same_bit}
 use Rattle.dp_responder.specs.Rules.{first_row}
 use Rattle.dp_responder.specs.Judgement.{judged_by, judged_in_silence, judgement, judgement_rows, refusal_function, refusal_rows}
 use Rattle.dp_responder.specs.declared.judgement.Judged.TheVariants as verdicts
 use Rattle.dp_responder.specs.declared.rule.Rule.{Rule}
 use Rattle.dp_responder.specs.declared.rule.Rule.TheVariants as rules
+
+-- the row of a point that is on
+pub on_is : (row : Option Point) (point : Point) → true ≡ is_some row → IfSome row (λ p. point ≡ p) → row ≡ Some point
+on_is None point on is = absurd cc
+on_is (Some p) point on is = ap Some (sym is)
 
 -- the first row
 pub first_applies : (before behind : List (Bool × Rule)) (row : Bool × Rule) → list_any (λ r. r.0) before ≡ false → row.0 ≡ true

@@ -75,42 +75,27 @@ fn repeated(last: &Last) -> Judged
     Judged::Repeat(reply)
 }
 
-/// The point that a request names, where it is on.
-fn open_point(points: &Points, number: Option<u8>) -> Option<Point>
-    ensures { result ≡ access_row points.now number }
-{
-    let point = points.find(number);
-    if point.active { Some(point) } else { None }
-}
-
 /// The rule that refuses a request which is no repeat; [`Rule::Done`] where none does.
 fn refusal(points: &Points, sender: u8, fc: u8, parts: &Parts) -> Rule
     ensures rule { result ≡ first_row (refusal_rows (access_row points.now parts.now.dsap) (is_listed points.now parts.now.dsap sender) sender fc parts.now.payload.items) }
     ensures repeat { result ≢ rules.Repeat }
 {
-    let listed = points.listed(parts.dsap, sender);
-    refusal_at(
-        open_point(points, parts.dsap),
-        listed,
-        sender,
-        fc,
-        &parts.payload,
-    )
+    let point = points.find(parts.dsap);
+    if !point.active {
+        return Rule::NotActive;
+    }
+    refusal_at(points, &point, sender, fc, parts)
 }
 
-/// The rule that refuses a request at this point, None where it is off, which the slave's lists let
-/// the sender use or not; [`Rule::Done`] where none does.
-fn refusal_at(point: Option<Point>, listed: bool, sender: u8, fc: u8, payload: &[u8]) -> Rule
-    ensures rule { result ≡ first_row (refusal_rows point listed sender fc payload.now) }
+/// The rule that refuses a request at this point, which is on; [`Rule::Done`] where none does.
+fn refusal_at(points: &Points, point: &Point, sender: u8, fc: u8, parts: &Parts) -> Rule
+    ensures rule { result ≡ first_row (refusal_rows (Some point.now) (is_listed points.now parts.now.dsap sender) sender fc parts.now.payload.items) }
     ensures repeat { result ≢ rules.Repeat }
 {
-    let Some(point) = point else {
-        return Rule::NotActive;
-    };
     if !admits(point.access, sender) {
         return Rule::NotHolder;
     }
-    if !listed {
+    if !points.listed(parts.dsap, sender) {
         return Rule::NotListed;
     }
     if !uses(fc, point.service) {
@@ -119,7 +104,7 @@ fn refusal_at(point: Option<Point>, listed: bool, sender: u8, fc: u8, payload: &
     if point.busy {
         return Rule::Busy;
     }
-    if !takes_length(&point, payload.len()) {
+    if !takes_length(point, parts.payload.len()) {
         return Rule::Length;
     }
     Rule::Done
