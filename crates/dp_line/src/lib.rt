@@ -24,7 +24,7 @@ pub use dp_owners::MOST_MASTERS;
 pub use dp_prm::MOST_USER_PARAMETERS;
 pub use dp_responder::Rule;
 pub use dp_sap::Lists;
-pub use dp_slave::{Device, MOST_CONFIGURATION, SlaveSpec, SlaveView};
+pub use dp_slave::{Device, SlaveSpec, SlaveView};
 pub use event::{Event, Facts, Op, Outcome, Step};
 pub use fault::{OpenFault, OperatorFault};
 pub use limits::MOST_SLAVES;

@@ -14,7 +14,6 @@ mod slave;
 mod view;
 
 pub use description::{Configuration, Device, MOST_CONFIGURATIONS, SlaveSpec};
-pub use dp_cfg::MOST_OCTETS as MOST_CONFIGURATION;
 pub use fault::InputFault;
 pub use slave::Slave;
 pub use view::SlaveView;
