@@ -121,7 +121,11 @@ fn modes_that_were_not_asked_for(rt: HostRuntime) -> Result<(), Fail> {
         &mut exchanging(rt.alloc())?,
         "\
 sync => done
+exchange 5678 => low
+rd_outp => 5678
 freeze => done
+input 0102 => done
+rd_inp => 0102
 parameters => 11 Some(10) Some(0)
 ",
     )
