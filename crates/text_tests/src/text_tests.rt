@@ -258,6 +258,8 @@ fn faults_are_shown_by_their_names(rt: HostRuntime) -> Result<(), Fail> {
     is_told(rt.alloc(), &OpenFault::TwiceAddress, "TwiceAddress")?;
     is_told(rt.alloc(), &FrameFault::Short, "Short")?;
     is_told(rt.alloc(), &RackFault::BadKey, "BadKey")?;
+    is_shown(rt.alloc(), &RackFault::BadKey.code(), "3")?;
+    is_shown(rt.alloc(), &RackFault::TwiceLine.code(), "4")?;
     let refused = RackFault::Open(2, OpenFault::Limit);
     is_told(rt.alloc(), &refused, "line 2 Limit")?;
     is_same(rt.alloc(), refused.name(), "Open")?;
