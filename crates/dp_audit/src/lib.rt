@@ -19,3 +19,4 @@ pub use checking::{check_text, is_header_of};
 pub use dp_text::WriteFault;
 pub use entry::{Entry, Receipt};
 pub use fault::AuditFault;
+pub use writing::{set_entry, set_header_line};

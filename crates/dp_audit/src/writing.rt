@@ -47,8 +47,17 @@ pub(crate) fn set_header(text: &mut Text, version: u8, number: u8)
     text.push_octet(number);
 }
 
+/// Makes it the header that [`Book::write_text`](crate::Book::write_text) writes of the line of this number,
+/// with its LF.
+pub fn set_header_line(text: &mut Text, number: u8)
+    ensures { text.new ≡ line_text (header_text 2 number) }
+{
+    set_header(text, VERSION, number);
+    text.push_str("\n");
+}
+
 /// Makes it the line of an entry, with its LF.
-fn set_entry(text: &mut Text, entry: &Entry)
+pub fn set_entry(text: &mut Text, entry: &Entry)
     ensures { text.new ≡ line_text (entry_text entry.now) }
 {
     text.clear();
