@@ -21,7 +21,7 @@ use Rattle.dp_shared.specs.Numbers.{under, times, once}
 use Rattle.dp_shared.specs.declared.line_view.PassView.{PassView}
 use Rattle.dp_shared.specs.declared.line_view.LineView.{LineView}
 use Rattle.dp_shared.specs.declared.line_view.Look.{Look}
-use Rattle.dp_shared.specs.LineLock.{FitsLook, FitsPass, Goes, IsAtHome, IsNumbered, IsOf, IsTaken, LineRule, Slotted, answer_in, blank, gives, learns, left_with, noted, numbers_of, receipt_for, sits, spent_view, takes, world_after}
+use Rattle.dp_shared.specs.LineLock.{FitsLook, FitsPass, Goes, IsAtHome, IsNumbered, IsOf, IsTaken, LineRule, Slotted, answer_in, blank, first_entries, gives, learns, left_with, noted, numbers_of, receipt_for, sits, spent_view, takes, world_after}
 use Rattle.dp_shared.proofs.Sums.{set_at, one_view, sum_set, sum_at, sum_two, each_two, each_map, each_append, under_other, times_append, times_none, once_small, once_zero, once_outside, once_not_zero, times_first, times_rest}
 
 abbrev number_of : PassView → ℕ
@@ -32,18 +32,18 @@ has_note v c n h = absurd (none-some c (sym n ∙ h))
 
 -- what another pass says holds on
 module _ (c c' : Content) (same : c'.book.opening ≡ c.book.opening) (halts : (world_now c).halted ≡ true → (world_now c').halted ≡ true) where
-  -- a look, where the line after its entries is the same
-  look_on : (l : Look) → l.count ≤ length c'.book.entries → world_after c' l.count ≡ world_after c l.count → FitsLook c l → FitsLook c' l
-  look_on l there moved f = record {
+  -- a look, where its entries are the same
+  look_on : (l : Look) → l.count ≤ length c'.book.entries → first_entries c' l.count ≡ first_entries c l.count → FitsLook c l → FitsLook c' l
+  look_on l there kept f = let moved : world_after c' l.count ≡ world_after c l.count = ap (λ (z : World × List Entry). after_entries z.0 z.1) (λ i. (same i, kept i)) in record {
     there = there;
-    value = f.value ∙ ap (λ w. answer_in w l.question) (sym moved);
+    value = f.value ∙ ap (λ (z : World × List Entry). answer_in z.0 z.1 l.question) (λ i. (sym moved i, sym kept i));
     told = λ t. ap (λ (w : World). w.halted) moved ∙ f.told t;
   }
 
   module _ (entries : c'.book.entries ≡ c.book.entries) (numbers : c'.numbers ≡ c.numbers) where
     look_same : (l : Look) → FitsLook c l → FitsLook c' l
     look_same l f = look_on l (subst (λ es. l.count ≤ length es) (sym entries) f.there)
-        (ap (λ (z : World × List Entry). after_entries z.0 (take l.count z.1)) (λ i. (same i, entries i))) f
+        (ap (take l.count) entries) f
 
     pub fits_same : (q : PassView) → FitsPass c q → FitsPass c' q
     fits_same q f = record {
@@ -57,8 +57,7 @@ module _ (c c' : Content) (same : c'.book.opening ≡ c.book.opening) (halts : (
     pub look_more : (l : Look) → FitsLook c l → FitsLook c' l
     look_more l f = let more = length-append c.book.entries (e ∷ []) in
         look_on l (subst (λ es. l.count ≤ length es) (sym entries) (let h = f.there in omega arith))
-        (ap (λ w. after_entries w (take l.count c'.book.entries)) same
-        ∙ ap (after_entries c.book.opening) (ap (take l.count) entries ∙ take-append-le l.count c.book.entries (e ∷ []) f.there)) f
+        (ap (take l.count) entries ∙ take-append-le l.count c.book.entries (e ∷ []) f.there) f
 
     pub fits_more : (q : PassView) → q.number ≢ n → FitsPass c q → FitsPass c' q
     fits_more q other f = record {

@@ -19,6 +19,7 @@ use Rattle.dp_audit.specs.declared.entry.Entry.{Entry}
 use Rattle.dp_audit.specs.declared.entry.Receipt.{Receipt}
 use Rattle.dp_audit.specs.Journal.{Journal}
 use Rattle.dp_audit.specs.Legal.{after_entries}
+use Rattle.dp_audit.specs.Records.{entry_at}
 use Rattle.dp_shared.specs.Numbers.{AllDiffer, under, times, once}
 use Rattle.dp_shared.specs.Content.{Content, IsHistory, world_now}
 use Rattle.dp_shared.specs.declared.line_view.PassView.{PassView}
@@ -46,19 +47,23 @@ says_halted (Silence rules.Halted) = true
 says_halted (Refused faults.Halted) = true
 says_halted outcome = false
 
--- what a look is answered in a world
-abbrev pub answer_in : World → Question → Answer
-answer_in world (asks.View address) = answers.View (option_map view_of (slave_at world address))
-answer_in world (asks.Owned master) = answers.Owned (record { items = owned world master })
+-- what a look is answered after these entries, which left the line in this world
+abbrev pub answer_in : World → List Entry → Question → Answer
+answer_in world entries (asks.View address) = answers.View (option_map view_of (slave_at world address))
+answer_in world entries (asks.Owned master) = answers.Owned (record { items = owned world master })
+answer_in world entries (asks.Entry place) = answers.Entry (entry_at entries place)
 
--- the line after the first entries, so many
+-- the first entries, so many, and the line after them
+abbrev pub first_entries : Content → ℕ → List Entry
+first_entries content count = take count content.book.entries
+
 abbrev pub world_after : Content → ℕ → World
-world_after content count = after_entries content.book.opening (take count content.book.entries)
+world_after content count = after_entries content.book.opening (first_entries content count)
 
 -- a look's entries are there, it was answered after them, and where the pass had been told so, the line is halted after them
 pub record FitsLook (content : Content) (look : Look) : Type 0 where
   pub there : look.count ≤ length content.book.entries
-  pub value : look.answer ≡ answer_in (world_after content look.count) look.question
+  pub value : look.answer ≡ answer_in (world_after content look.count) (first_entries content look.count) look.question
   pub told : look.told ≡ true → (world_after content look.count).halted ≡ true
 
 pub record FitsPass (content : Content) (pass : PassView) : Type 0 where

@@ -4,6 +4,7 @@ ghost use Rattle.std.specs.Prelude.{◌≡◌, [], ◌∷◌, length, option_map
 ghost use Rattle.dp_slave.specs.View.{view_of};
 ghost use Rattle.dp_line.specs.World.{slave_at};
 ghost use Rattle.dp_line.specs.Owned.{owned};
+ghost use Rattle.dp_audit.specs.Records.{entry_at};
 ghost use Rattle.dp_shared.specs.Content.{world_now};
 ghost use Rattle.dp_shared.specs.LineLock.{answer_in, left_with};
 ghost use Rattle.dp_shared.specs.Locks.{HasContent};
@@ -15,6 +16,7 @@ use crate::line_view::{Answer, Question};
 use crate::numbered_book::NumberedBook;
 use crate::pass::Pass;
 use arrayvec::ArrayVec;
+use dp_audit::Entry;
 use dp_line::{MOST_SLAVES, SlaveView};
 use std::marker::Brand;
 use std::sync::Wait;
@@ -72,6 +74,55 @@ impl Line {
         give_owned(self, &mut pass.seat, numbered_book, master, &seen);
         seen
     }
+
+    /// The entry at a place; None exactly where the place isn't one from 1 to the count. Any pass may
+    /// look. It waits until it has the journal, which stays as it is, and takes no memory.
+    pub fn entry<R: Wait>(&self, rt: &R, pass: &mut Pass, place: u32) -> Seen<Option<Entry>>
+        requires { pass.old.table ≡ table_of self.now }
+        ensures ours { pass.new.table ≡ pass.old.table }
+        ensures line { pass.new.line ≡ pass.old.line }
+        ensures look { pass.new.view ≡ with_look pass.old.view (look_by pass.old.view (Question.Entry place) result.count (Answer.Entry result.value)) }
+        ensures later { IsNoEarlier pass.old.view result.count }
+    {
+        let numbered_book = self.take(rt, &mut pass.seat);
+        numbered_book.prove_legal();
+        let seen = Seen {
+            count: numbered_book.count(),
+            value: numbered_book.book().entry(place),
+        };
+        give_entry(self, &mut pass.seat, numbered_book, place, &seen);
+        seen
+    }
+}
+
+/// A look at a place with what was seen, for the proof that picks the pass after it.
+#[derive(Drop)]
+struct AskedPlace<'a> {
+    place: u32,
+    seen: &'a Seen<Option<Entry>>,
+}
+
+/// The content goes home as it was, after a look at an entry.
+fn give_entry(
+    line: &Line,
+    seat: &mut LineSeat,
+    numbered_book: NumberedBook,
+    place: u32,
+    seen: &Seen<Option<Entry>>,
+)
+    requires ours { seat.old.table_id ≡ table_of line.now }
+    requires same { HasContent seat.old.me (λ content. (numbered_book ≡ content) × (seat.old.me.0.passes ≡ pass_in seat.old.me.0.passes ∷ [])
+        × (seen.now.count ≡ length content.book.entries) × (seen.now.value ≡ entry_at content.book.entries place)) }
+    ensures ours { seat.new.table_id ≡ seat.old.table_id }
+    ensures given { seat.new.me ≡ (
+      left_with seat.old.me.0 (with_look (pass_in seat.old.me.0.passes)
+          (look_by (pass_in seat.old.me.0.passes) (Question.Entry place) seen.now.count (Answer.Entry seen.now.value)) ∷ []),
+      [],
+    ) }
+{
+    numbered_book.prove_legal();
+    let about = AskedPlace { place, seen };
+    line.give::<Brand, AskedPlace>(seat, numbered_book, &about);
 }
 
 /// A look's question with what was seen, for the proof that picks the pass after it.
