@@ -1,0 +1,260 @@
+-- What one look more leaves of what a trail has written.
+use Rattle.std.specs.Prelude.{if◌then◌else◌, ◌==◌, Bool, get_or, option_map, slice_get, drop}
+use Rattle.std.specs.List.{AllByRecursion, flat_map, range_with_len}
+use Rattle.std.specs.Io.KnownBytes.{Appends}
+use Rattle.std.proofs.Common.{◌≡◌, ℕ, zero, suc, ◌+◌, ◌-◌, true, false, List, [], ◌∷◌, ◌++◌, length, map, take, sym, refl, ap, subst, ◌∙◌, Option, Some, None, arith}
+use Rattle.std.proofs.lemmas.List.{append-nil, append_assoc, map-append, length-append}
+use Rattle.std.proofs.lemmas.Grind.{flat_map-append}
+use Rattle.std.proofs.lemmas.Option.{same_Some, none-some}
+use Rattle.dp_text.specs.Writes.{WritesPrefix}
+use Rattle.dp_audit.specs.declared.entry.Entry.{Entry}
+use Rattle.dp_audit.specs.AuditText.{audit_text, entry_text, header_text, line_text}
+use Rattle.dp_audit.specs.Records.{entry_at}
+use Rattle.dp_shared.specs.Content.{Content}
+use Rattle.dp_shared.specs.LineLock.{FitsLook, FitsPass, IsPassAt, LineRule, Slotted, answer_in, first_entries, world_after}
+use Rattle.dp_line.specs.declared.description.LineSpec.{LineSpec}
+use mathlib.Core.Option.{some, some-injective, some-ne-none}
+use lib.ListN.{get_elem?}
+use Rattle.dp_shared.specs.declared.line_view.Look.{Look}
+use Rattle.dp_shared.specs.declared.line_view.PassView.{PassView}
+use Rattle.dp_shared.specs.declared.line_view.Question.{Question}
+use Rattle.dp_shared.specs.declared.line_view.Question.TheVariants as asks
+use Rattle.dp_shared.specs.declared.line_view.Answer.{Answer}
+use Rattle.dp_shared.specs.declared.line_view.Answer.TheVariants as answers
+use Rattle.dp_shared.specs.Passes.{new_pass, with_look}
+use Rattle.dp_trail.specs.declared.row.Next.{Next}
+use Rattle.dp_trail.specs.declared.row.Next.TheVariants as nexts
+use Rattle.dp_trail.specs.Trails.{AreFrom, Comes, IsBegun, IsWhole, found, found_by, seen_text}
+
+abbrev pub Seen : Type 0
+Seen = ℕ × Entry
+
+abbrev pub entry_of : Seen → Entry
+entry_of seen = seen.1
+
+-- ---- what was seen
+
+pub found_more : (looks : List Look) (l : Look) → found (looks ++ l ∷ []) ≡ found looks ++ found_by l.question l.answer
+unfolding found
+found_more looks l = flat_map-append (λ (k : Look). found_by k.question k.answer) looks (l ∷ [])
+    ∙ ap (λ (r : List Seen). flat_map (λ (k : Look). found_by k.question k.answer) looks ++ r) (append-nil (found_by l.question l.answer))
+
+abbrev place_of : Seen → ℕ
+place_of seen = seen.0
+
+last_place : (first count place : ℕ) → first + count ≡ place → range_with_len first (suc count) ≡ range_with_len first count ++ place ∷ []
+last_place first zero place is = let same : first ≡ place = omega arith in ap (λ (k : ℕ). k ∷ []) same
+last_place first (suc count) place is = ap (λ (l : List ℕ). first ∷ l) (last_place (first + 1) count place (omega arith))
+
+one_longer : (seen : List Seen) (place : ℕ) (entry : Entry) → suc (length seen) ≡ length (seen ++ (place, entry) ∷ [])
+one_longer [] place entry = refl
+one_longer (s ∷ seen) place entry = ap suc (one_longer seen place entry)
+
+from_more : (n : ℕ) (seen : List Seen) (place : ℕ) (entry : Entry) → AreFrom n seen → place ≡ n + length seen → AreFrom n (seen ++ (place, entry) ∷ [])
+from_more n seen place entry all is =
+    map-append place_of seen ((place, entry) ∷ [])
+    ∙ ap (λ (ps : List ℕ). ps ++ place ∷ []) all
+    ∙ sym (last_place n (length seen) place (sym is))
+    ∙ ap (λ (k : ℕ). range_with_len n k) (one_longer seen place entry)
+
+-- ---- what is out
+
+after_more : (now after : Option (List ℕ)) (out row : List ℕ) → now ≡ Some out → Appends now after row → after ≡ Some (out ++ row)
+after_more None after out row e a = absurd (none-some out e)
+after_more (Some xs) None out row e a = absurd a
+after_more (Some xs) (Some ys) out row e a = ap Some (a ∙ ap (λ (z : List ℕ). z ++ row) (same_Some xs out e))
+
+abbrev rows_of : List Entry → List ℕ
+rows_of entries = flat_map (λ (e : Entry). line_text (entry_text e)) entries
+
+text_more : (number : ℕ) (entries : List Entry) (entry : Entry) → audit_text number (entries ++ entry ∷ []) ≡ audit_text number entries ++ line_text (entry_text entry)
+unfolding audit_text
+text_more number entries entry =
+    ap (λ (r : List ℕ). line_text (header_text 2 number) ++ r)
+    (flat_map-append (λ (e : Entry). line_text (entry_text e)) entries (entry ∷ []) ∙ ap (λ (r : List ℕ). rows_of entries ++ r) (append-nil (line_text (entry_text entry))))
+    ∙ sym (append_assoc (line_text (header_text 2 number)) (rows_of entries) (line_text (entry_text entry)))
+
+-- the text of looks, one of them more, that saw this entry
+seen_more : (number : ℕ) (looks : List Look) (l : Look) (place : ℕ) (entry : Entry) → found_by l.question l.answer ≡ (place, entry) ∷ []
+    → seen_text number (looks ++ l ∷ []) ≡ seen_text number looks ++ line_text (entry_text entry)
+seen_more number looks l place entry is =
+    ap (λ (s : List Seen). audit_text number (map entry_of s)) (found_more looks l ∙ ap (λ (s : List Seen). found looks ++ s) is)
+    ∙ ap (audit_text number) (map-append entry_of (found looks) ((place, entry) ∷ []))
+    ∙ text_more number (map entry_of (found looks)) entry
+
+same_seen : (looks : List Look) (l : Look) → found_by l.question l.answer ≡ [] → found (looks ++ l ∷ []) ≡ found looks
+same_seen looks l is = found_more looks l ∙ ap (λ (s : List Seen). found looks ++ s) is ∙ append-nil (found looks)
+
+take_all : (xs : List ℕ) → take (length xs) xs ≡ xs
+take_all [] = refl
+take_all (x ∷ xs) = ap (λ (z : List ℕ). x ∷ z) (take_all xs)
+
+take_front : (xs ys : List ℕ) → take (length xs) (xs ++ ys) ≡ xs
+take_front [] ys = refl
+take_front (x ∷ xs) ys = ap (λ (z : List ℕ). x ∷ z) (take_front xs ys)
+
+out_of : (front all out : List ℕ) (now : Option (List ℕ)) → now ≡ Some out → take (length front) out ≡ front → take (length out) all ≡ out
+    → (option_map (λ (o : List ℕ). take (length front) o) now ≡ Some front) × (option_map (λ (o : List ℕ). take (length o) all) now ≡ now)
+out_of front all out None e f t = absurd (none-some out e)
+out_of front all out (Some xs) e f t = let s : xs ≡ out = same_Some xs out e in
+    (ap Some (ap (λ (z : List ℕ). take (length front) z) s ∙ f), ap Some (ap (λ (z : List ℕ). take (length z) all) s ∙ t ∙ sym s))
+
+pub begun_of_whole : (before now : Option (List ℕ)) (text : List ℕ) → IsWhole before now text → IsBegun before now text
+begun_of_whole before now text whole front is = out_of front (front ++ text) (front ++ text) now (whole front is) (take_front front text) (take_all (front ++ text))
+
+whole_and : (before now after : Option (List ℕ)) (text row : List ℕ) → IsWhole before now text → Appends now after row → IsWhole before after (text ++ row)
+whole_and before now after text row whole appends front is =
+    after_more now after (front ++ text) row (whole front is) appends ∙ ap Some (append_assoc front text row)
+
+begun_and : (before now after : Option (List ℕ)) (text row : List ℕ) → IsWhole before now text → WritesPrefix now after row → IsBegun before after (text ++ row)
+begun_and before now after text row whole (f, b, split, appends) front is =
+    let e : after ≡ Some (front ++ text ++ f) = after_more now after (front ++ text) f (whole front is) appends in
+    let all : front ++ (text ++ row) ≡ (front ++ text ++ f) ++ b =
+    sym (append_assoc front text row) ∙ ap (λ (z : List ℕ). front ++ text ++ z) split ∙ sym (append_assoc (front ++ text) f b) in
+    out_of front (front ++ (text ++ row)) (front ++ text ++ f) after e (ap (λ (z : List ℕ). take (length front) z) (append_assoc front text f) ∙ take_front front (text ++ f)) (ap (take (length (front ++ text ++ f))) all ∙ take_front (front ++ text ++ f) b)
+
+-- the header
+pub header_whole : (before after : Option (List ℕ)) (number : ℕ) (text : List ℕ) → text ≡ line_text (header_text 2 number) → Appends before after text
+    → IsWhole before after (seen_text number [])
+unfolding audit_text found
+header_whole before after number text is appends front e =
+    after_more before after front text e appends ∙ ap (λ (z : List ℕ). Some (front ++ z)) (is ∙ sym (append-nil (line_text (header_text 2 number))))
+
+-- ---- a step
+
+pub nothing_whole : (number : ℕ) (before now after : Option (List ℕ)) (looks : List Look) (l : Look) → found_by l.question l.answer ≡ [] → Appends now after []
+    → IsWhole before now (seen_text number looks) → IsWhole before after (seen_text number (looks ++ l ∷ []))
+nothing_whole number before now after looks l is appends whole =
+    subst (λ (s : List Seen). IsWhole before after (audit_text number (map entry_of s))) (sym (same_seen looks l is))
+    (subst (λ (t : List ℕ). IsWhole before after t) (append-nil (seen_text number looks)) (whole_and before now after (seen_text number looks) [] whole appends))
+
+pub row_whole : (number : ℕ) (before now after : Option (List ℕ)) (looks : List Look) (l : Look) (place : ℕ) (entry : Entry)
+    → found_by l.question l.answer ≡ (place, entry) ∷ [] → Appends now after (line_text (entry_text entry))
+    → IsWhole before now (seen_text number looks) → IsWhole before after (seen_text number (looks ++ l ∷ []))
+row_whole number before now after looks l place entry is appends whole =
+    subst (λ (t : List ℕ). IsWhole before after t) (sym (seen_more number looks l place entry is)) (whole_and before now after (seen_text number looks) (line_text (entry_text entry)) whole appends)
+
+pub cut_begun : (number : ℕ) (before now after : Option (List ℕ)) (looks : List Look) (l : Look) (place : ℕ) (entry : Entry)
+    → found_by l.question l.answer ≡ (place, entry) ∷ [] → WritesPrefix now after (line_text (entry_text entry))
+    → IsWhole before now (seen_text number looks) → IsBegun before after (seen_text number (looks ++ l ∷ []))
+cut_begun number before now after looks l place entry is written whole =
+    subst (λ (t : List ℕ). IsBegun before after t) (sym (seen_more number looks l place entry is)) (begun_and before now after (seen_text number looks) (line_text (entry_text entry)) whole written)
+
+pub nothing_from : (looks : List Look) (l : Look) (seen : ℕ) → found_by l.question l.answer ≡ [] → AreFrom 1 (found looks) → length (found looks) ≡ seen
+    → AreFrom 1 (found (looks ++ l ∷ [])) × (length (found (looks ++ l ∷ [])) ≡ seen)
+nothing_from looks l seen is all counted =
+    subst (λ (s : List Seen). AreFrom 1 s × (length s ≡ seen)) (sym (same_seen looks l is)) (all, counted)
+
+pub row_from : (looks : List Look) (l : Look) (place seen : ℕ) (entry : Entry) → found_by l.question l.answer ≡ (place, entry) ∷ [] → place ≡ seen + 1
+    → AreFrom 1 (found looks) → length (found looks) ≡ seen → AreFrom 1 (found (looks ++ l ∷ [])) × (length (found (looks ++ l ∷ [])) ≡ place)
+row_from looks l place seen entry is next all counted =
+    subst (λ (s : List Seen). AreFrom 1 s × (length s ≡ place)) (sym (found_more looks l ∙ ap (λ (s : List Seen). found looks ++ s) is))
+    (from_more 1 (found looks) place entry all (omega (arith, counted, next)), length-append (found looks) ((place, entry) ∷ []) ∙ omega (arith, counted, next))
+
+-- ---- the tail before and after a step
+
+abbrev Before : ℕ → ℕ → Option (List ℕ) → Option (List ℕ) → PassView → Type 0
+Before number seen before now pass = AreFrom 1 (found pass.looks) × (length (found pass.looks) ≡ seen) × IsWhole before now (seen_text number pass.looks)
+
+abbrev Looked : Next → ℕ → Option (List ℕ) → Option (List ℕ) → PassView → PassView → Type 0
+Looked next place now after old new = (look : Look) × (new ≡ with_look old look) × Comes next place look now after
+
+pub opened_tail : (pass : PassView) (own address number : ℕ) (before after : Option (List ℕ)) (text : List ℕ) → pass ≡ new_pass own address
+    → text ≡ line_text (header_text 2 number) → Appends before after text → Before number 0 before after pass
+unfolding found
+opened_tail pass own address number before after text is header appends =
+    subst (λ (p : PassView). Before number 0 before after p) (sym is) (refl, refl, header_whole before after number text header appends)
+
+pub after_nothing : (number seen place : ℕ) (before now after : Option (List ℕ)) (old new : PassView) → Looked nexts.Nothing place now after old new
+    → Before number seen before now old → Before number seen before after new
+after_nothing number seen place before now after old new (look, is, (unseen, appends)) (from, counted, whole) =
+    let now_seen = nothing_from old.looks look seen unseen from counted in
+    subst (λ (p : PassView). Before number seen before after p) (sym is) (now_seen.0, now_seen.1, nothing_whole number before now after old.looks look unseen appends whole)
+
+pub after_row : (number seen place : ℕ) (before now after : Option (List ℕ)) (old new : PassView) → Looked nexts.Row place now after old new
+    → place ≡ seen + 1 → Before number seen before now old → Before number place before after new
+after_row number seen place before now after old new (look, is, (entry, one, appends)) next (from, counted, whole) =
+    let now_seen = row_from old.looks look place seen entry one next from counted in
+    subst (λ (p : PassView). Before number place before after p) (sym is) (now_seen.0, now_seen.1, row_whole number before now after old.looks look place entry one appends whole)
+
+pub after_cut : (number seen place : ℕ) (before now after : Option (List ℕ)) (old new : PassView) → Looked nexts.Cut place now after old new
+    → place ≡ seen + 1 → Before number seen before now old
+    → AreFrom 1 (found new.looks) × (length (found new.looks) ≡ place) × IsBegun before after (seen_text number new.looks)
+after_cut number seen place before now after old new (look, is, (entry, one, written)) next (from, counted, whole) =
+    let now_seen = row_from old.looks look place seen entry one next from counted in
+    subst (λ (p : PassView). AreFrom 1 (found p.looks) × (length (found p.looks) ≡ place) × IsBegun before after (seen_text number p.looks)) (sym is)
+    (now_seen.0, now_seen.1, cut_begun number before now after old.looks look place entry one written whole)
+
+-- ---- what was seen, and the journal
+
+abbrev Stands : List Entry → Seen → Type 0
+Stands entries seen = slice_get entries (seen.0 - 1) ≡ Some seen.1
+
+got_in_front : (entries : List Entry) (count index : ℕ) (entry : Entry) → slice_get (take count entries) index ≡ Some entry → slice_get entries index ≡ Some entry
+got_in_front entries zero index entry is = absurd (none-some entry is)
+got_in_front [] (suc count) index entry is = absurd (none-some entry is)
+got_in_front (e ∷ entries) (suc count) zero entry is = is
+got_in_front (e ∷ entries) (suc count) (suc index) entry is = got_in_front entries count index entry is
+
+got_unless : (b : Bool) (entries : List Entry) (count index : ℕ) (entry : Entry) → (if b then None else slice_get (take count entries) index) ≡ Some entry
+    → slice_get entries index ≡ Some entry
+got_unless true entries count index entry is = absurd (none-some entry is)
+got_unless false entries count index entry is = got_in_front entries count index entry is
+
+at_front : (entries : List Entry) (count place : ℕ) (entry : Entry) → entry_at (take count entries) place ≡ Some entry → slice_get entries (place - 1) ≡ Some entry
+at_front entries count place entry is = got_unless (place == 0) entries count (place - 1) entry is
+
+stands_by : (entries : List Entry) (count place : ℕ) (o : Option Entry) → entry_at (take count entries) place ≡ o → AllByRecursion (Stands entries) (found_by (asks.Entry place) (answers.Entry o))
+stands_by entries count place None is = tt
+stands_by entries count place (Some entry) is = (at_front entries count place entry is, tt)
+
+module _ (content : Content) where
+  answered : (count : ℕ) (question : Question) → AllByRecursion (Stands content.book.entries) (found_by question (answer_in (world_after content count) (first_entries content count) question))
+  answered count (asks.View address) = tt
+  answered count (asks.Owned master) = tt
+  answered count (asks.Entry place) = stands_by content.book.entries count place (entry_at (take count content.book.entries) place) refl
+
+  look_stands : (l : Look) → FitsLook content l → AllByRecursion (Stands content.book.entries) (found_by l.question l.answer)
+  look_stands l fits = subst (λ (a : Answer). AllByRecursion (Stands content.book.entries) (found_by l.question a)) (sym fits.value) (answered l.count l.question)
+
+  all_and : (front back : List Seen) → AllByRecursion (Stands content.book.entries) front → AllByRecursion (Stands content.book.entries) back
+      → AllByRecursion (Stands content.book.entries) (front ++ back)
+  all_and [] back f b = b
+  all_and (s ∷ front) back f b = (f.0, all_and front back f.1 b)
+
+  all_stand : (looks : List Look) → AllByRecursion (FitsLook content) looks → AllByRecursion (Stands content.book.entries) (found looks)
+  unfolding found
+  all_stand [] fits = tt
+  all_stand (l ∷ looks) fits = all_and (found_by l.question l.answer) (found looks) (look_stands l fits.0) (all_stand looks fits.1)
+
+one_more : (entries : List Entry) (n : ℕ) (entry : Entry) → slice_get entries n ≡ Some entry → drop n entries ≡ entry ∷ drop (suc n) entries
+one_more [] n entry is = absurd (none-some entry is)
+one_more (e ∷ entries) zero entry is = ap (λ (x : Entry). x ∷ entries) (same_Some e entry is)
+one_more (e ∷ entries) (suc n) entry is = one_more entries n entry is
+
+in_order : (entries : List Entry) (n : ℕ) (seen : List Seen) → AreFrom (suc n) seen → AllByRecursion (Stands entries) seen → map entry_of seen ≡ take (length seen) (drop n entries)
+in_order entries n [] from stand = refl
+in_order entries n (s ∷ seen) from stand =
+    let first : s.0 ≡ suc n = ap (λ (ps : List ℕ). get_or ps 0 0) from in
+    let here : slice_get entries n ≡ Some s.1 = subst (λ (k : ℕ). slice_get entries k ≡ Some s.1) (omega arith) stand.0 in
+    let behind : AreFrom (suc n + 1) seen = ap (drop 1) from in
+    let later : AreFrom (suc (suc n)) seen = subst (λ (k : ℕ). AreFrom k seen) (omega arith) behind in
+    ap (λ (es : List Entry). s.1 ∷ es) (in_order entries (suc n) seen later stand.1)
+    ∙ sym (ap (take (suc (length seen))) (one_more entries n s.1 here))
+
+pub first_entries_of : (content : Content) (pass : PassView) → FitsPass content pass → AreFrom 1 (found pass.looks)
+    → map entry_of (found pass.looks) ≡ take (length (found pass.looks)) content.book.entries
+first_entries_of content pass fits from = in_order content.book.entries zero (found pass.looks) from (all_stand content pass.looks fits.looks)
+
+-- ---- between any two steps of the lock
+
+one_of : {X : Type 0} (P : X → Type 0) (xs : List X) (index : ℕ) (x : X) → AllByRecursion P xs → get_elem? xs index ≡ some x → P x
+one_of P [] index x all at = absurd (some-ne-none x (sym at))
+one_of P (y ∷ xs) zero x all at = subst P (some-injective y x at) all.0
+one_of P (y ∷ xs) (suc index) x all at = one_of P xs index x all.1 at
+
+pub first_entries_now : (line : LineSpec) (state : Slotted) (rule : LineRule line state) (seat index : ℕ) (pass : PassView)
+    → IsPassAt state seat index pass → AreFrom 1 (found pass.looks)
+    → map entry_of (found pass.looks) ≡ take (length (found pass.looks)) rule.content.book.entries
+first_entries_now line state rule seat index pass (view, seated, held) from =
+    first_entries_of rule.content pass (one_of (FitsPass rule.content) view.passes index pass (rule.each_fits seat view seated) held) from
