@@ -31,3 +31,5 @@ mod rows;
 mod sessions;
 #[cfg(test)]
 mod threads;
+#[cfg(test)]
+mod trails;
