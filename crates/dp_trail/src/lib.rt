@@ -2,7 +2,7 @@
 //!
 //! A [`Trail`] has a writer, which it gives the header at once, and the row of each entry when it catches up:
 //! in order, each once, and whole rows alone unless a write fails. Threads share it. What its writer has at any
-//! moment is the definition `IsTrail` of `specs/Trails`.
+//! moment is said by the facts of [`Tail`], in the words of `specs/Trails`.
 #![tactic(auto)]
 
 mod caught_up;
