@@ -108,12 +108,22 @@ impl LineState {
             return unrecorded(Outcome::Refused(fault), None, answer);
         }
         if self.capacity - self.count <= 1 {
-            return unrecorded(told_halted(event), Some(self.halt()), answer);
+            return self.halt_for(event, answer);
         }
         match event {
             Event::Request { master, octets } => self.take_request(*master, octets, answer),
             Event::Operator(op) => self.take_op(op, answer),
         }
+    }
+
+    /// Records the halt at the last place, where an event was to have it. What it releases lies here, so that no
+    /// other event clears room for that.
+    fn halt_for(&mut self, event: &Event, answer: &mut Step)
+        requires { self.old.world.halted ≡ false }
+        ensures line { self.new ≡ record self.old { world = halted_world self.old.world } }
+        ensures answer { answer.new ≡ unrecorded_step (told_by_halted event.now) (Some (held_addresses self.old.world)) }
+    {
+        unrecorded(told_halted(event), Some(self.halt()), answer)
     }
 
     /// How many events are recorded, the halt among them.

@@ -47,23 +47,20 @@ returns-then-self-le1-clause-world c =
     let running : c.args.self.now.world.halted ≡ false = search rules in
     let fits : misfit c.args.self.now.world c.args.event.now ≡ None = search rules in
     let last : is_last_place c.args.self.now.world ≡ true = grind (arith, common_steps) in
-    ap (λ (l : LineRecord). l.world) c.halt.ensures.line ∙ sym (ap (λ (s : Stepped). s.world) (step_at_last_place c.args.self.now.world c.args.event.now running fits last))
+    ap (λ (l : LineRecord). l.world) c.halt_for.ensures.line ∙ sym (ap (λ (s : Stepped). s.world) (step_at_last_place c.args.self.now.world c.args.event.now running fits last))
 
 pub returns-then-self-le1-clause-answer : goal.returns-then-self-le1-clause-answer
 returns-then-self-le1-clause-answer c =
     let running : c.args.self.now.world.halted ≡ false = search rules in
     let fits : misfit c.args.self.now.world c.args.event.now ≡ None = search rules in
     let last : is_last_place c.args.self.now.world ≡ true = grind (arith, common_steps) in
-    c.unrecorded-then-self-le1.ensures
-    ∙ ap (λ (o : Outcome). unrecorded o (Some c.halt.result.items)) c.told_halted-then-self-le1.ensures
-    ∙ ap (λ (addresses : List ℕ). unrecorded (told_halted c.args.event.now) (Some addresses)) c.halt.ensures.let_go
-    ∙ sym (ap (λ (s : Stepped). s.answer) (step_at_last_place c.args.self.now.world c.args.event.now running fits last))
+    c.halt_for.ensures.answer ∙ sym (ap (λ (s : Stepped). s.answer) (step_at_last_place c.args.self.now.world c.args.event.now running fits last))
 
 pub returns-then-self-le1-clause-walk : goal.returns-then-self-le1-clause-walk
 returns-then-self-le1-clause-walk c =
     let running : c.args.self.now.world.halted ≡ false = search rules in
     let last : is_last_place c.args.self.now.world ≡ true = grind (arith, common_steps) in
-    ap (λ (l : LineRecord). l.last_walk) c.halt.ensures.line
+    ap (λ (l : LineRecord). l.last_walk) c.halt_for.ensures.line
     ∙ over_walk c.args.self.now.world c.args.event.now c.args.self.now.last_walk (ap (λ b. b || is_last_place c.args.self.now.world) running ∙ last)
 
 pub returns-in-Request-clause-world : goal.returns-in-Request-clause-world
