@@ -1,4 +1,4 @@
-use Rattle.std.proofs.Common.{◌≡◌, true, false, None, Some, List, ℕ, ap, sym, ◌∙◌, arith, rules}
+use Rattle.std.proofs.Common.{◌≡◌, true, false, None, ap, sym, ◌∙◌, arith, rules}
 use Rattle.std.specs.Prelude.{◌||◌}
 use Rattle.std.proofs.lemmas.Grind.{common_steps}
 use Rattle.dp_line.specs.declared.event.Event.{Event}
@@ -7,7 +7,7 @@ use Rattle.dp_line.specs.Events.{misfit}
 use Rattle.dp_line.specs.World.{is_last_place}
 use Rattle.dp_line.specs.Effects.{Stepped, effect}
 use Rattle.dp_line.specs.Walk.{LineRecord}
-use Rattle.dp_line.specs.Steps.{told_halted, unrecorded}
+use Rattle.dp_line.specs.Steps.{unrecorded}
 use Rattle.dp_line.proofs.Events.{request_effect, step_halted, step_refused, step_at_last_place, step_is_effect}
 use Rattle.dp_line.proofs.Visits.{op_walk, over_walk, refused_walk, request_visits}
 use Rattle.dp_line.proofs.line_state.LineState.take_into.Goals as goal
