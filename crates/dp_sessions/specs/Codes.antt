@@ -1,5 +1,5 @@
--- The numbers of the ends of sessions, and of the faults of pools (own).
-use Rattle.std.specs.Prelude.{ℕ}
+-- The numbers and names of the ends of sessions, and the numbers of the faults of pools (own).
+use Rattle.std.specs.Prelude.{codes, ℕ, List}
 use Rattle.dp_sessions.specs.declared.session_end.SessionEnd.{SessionEnd}
 use Rattle.dp_sessions.specs.declared.session_end.SessionEnd.TheVariants as ends
 use Rattle.dp_sessions.specs.declared.pool_fault.PoolFault.{PoolFault}
@@ -13,6 +13,15 @@ session_end_code ends.AddressHeld = 4
 session_end_code ends.UnknownMaster = 5
 session_end_code ends.TurnLimit = 6
 session_end_code ends.NoPass = 7
+
+abbrev pub session_end_name : SessionEnd → List ℕ
+session_end_name ends.EndOfInput = codes "EndOfInput"
+session_end_name ends.ReadFault = codes "ReadFault"
+session_end_name ends.WriteFault = codes "WriteFault"
+session_end_name ends.AddressHeld = codes "AddressHeld"
+session_end_name ends.UnknownMaster = codes "UnknownMaster"
+session_end_name ends.TurnLimit = codes "TurnLimit"
+session_end_name ends.NoPass = codes "NoPass"
 
 abbrev pub pool_fault_code : PoolFault → ℕ
 pool_fault_code faults.OutOfMemory = 1

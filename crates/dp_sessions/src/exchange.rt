@@ -177,9 +177,13 @@ fn answer<T: Wait, W: Write, G: Gate>(
         Piece::Frame(octets) => {
             gate.enter(rt, pass.line(), pass.address());
             let receipt = line.exchange_lent(rt, pass, octets);
+            gate.answered(rt, pass.line(), &receipt);
             write_whole(writer, octets_in(&receipt.outcome))
         }
-        Piece::Dropped { .. } => Ok(()),
+        Piece::Dropped { fault, count } => {
+            gate.dropped(rt, pass.line(), pass.address(), fault, count);
+            Ok(())
+        }
     }
 }
 

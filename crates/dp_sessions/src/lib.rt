@@ -20,7 +20,7 @@ pub mod sharing;
 pub use dp_devices::next_inputs;
 pub use dp_text::{OpLine, TextFault, read_op};
 pub use gate::{Gate, OpenGate};
-pub use operator::serve_operator;
+pub use operator::{serve_operator, serve_operator_at};
 pub use pool::{Job, run_pool};
 pub use pool_fault::PoolFault;
 pub use port::{LineAndClaims, Port};

@@ -9,6 +9,7 @@ ghost use Rattle.dp_devices.specs.DrivenSlaves.{driven_slaves as all_driven};
 ghost use Rattle.dp_sessions.specs.Operators.{IsAnswered, IsOperatorSession, Operates};
 ghost use Rattle.dp_sessions.specs.Operating.{BreaksOff, GoesOn, kept};
 
+use crate::gate::{Gate, OpenGate};
 use crate::operator_line::{LONGEST_LINE, answer_line};
 use crate::port::Port;
 use crate::reads::Reads;
@@ -60,11 +61,29 @@ pub fn serve_operator<T: Wait, R: Read, W: Write>(
         (record { left = R.remaining reader.old; left_after = R.remaining reader.new; written = W.contents writer.old; written_after = W.contents writer.new })
         result }
 {
+    serve_operator_at(rt, reader, writer, port, line, &OpenGate, turns)
+}
+
+/// A session as [`serve_operator`] tells it, whose events a gate is told of.
+pub fn serve_operator_at<T: Wait, R: Read, W: Write, G: Gate>(
+    rt: &T,
+    reader: &mut R,
+    writer: &mut W,
+    port: &Port,
+    line: &LineSpec,
+    gate: &G,
+    turns: u32,
+) -> SessionEnd
+    requires described { line_of port.now.line ≡ line.now }
+    ensures session { IsOperatorSession (all_driven (line_of port.now.line).slaves.items) turns
+        (record { left = R.remaining reader.old; left_after = R.remaining reader.new; written = W.contents writer.old; written_after = W.contents writer.new })
+        result }
+{
     let Ok(pass) = port.line.open_pass(rt, GLOBAL_ADDRESS) else {
         return SessionEnd::NoPass;
     };
     let mut session = OperatorSession::open(pass, line);
-    let end = session.run(rt, &mut Reads::new(reader), writer, &port.line, turns);
+    let end = session.run(rt, &mut Reads::new(reader), writer, &port.line, gate, turns);
     port.line.hand_back(rt, session.close());
     end
 }
@@ -100,12 +119,13 @@ impl OperatorSession {
     }
 
     /// Reads until so many reads were made, and answers each line that ends.
-    fn run<T: Wait, R: Read, W: Write>(
+    fn run<T: Wait, R: Read, W: Write, G: Gate>(
         &mut self,
         rt: &T,
         reader: &mut Reads<'_, R>,
         writer: &mut W,
         line: &Line,
+        gate: &G,
         turns: u32,
     ) -> SessionEnd
         requires ours { self.old.pass.table ≡ table_of line.now }
@@ -123,7 +143,7 @@ impl OperatorSession {
             match reader.read(&mut chunk) {
                 Ok(0) => return SessionEnd::EndOfInput,
                 Ok(count) => {
-                    let Ok(()) = self.pass_octets(rt, writer, line, &chunk[..count]) else {
+                    let Ok(()) = self.pass_octets(rt, writer, line, gate, &chunk[..count]) else {
                         return SessionEnd::WriteFault;
                     };
                 }
@@ -134,11 +154,12 @@ impl OperatorSession {
     }
 
     /// Octets come, and the lines that they end are answered, each after the answer before it was written.
-    fn pass_octets<T: Wait, W: Write>(
+    fn pass_octets<T: Wait, W: Write, G: Gate>(
         &mut self,
         rt: &T,
         writer: &mut W,
         line: &Line,
+        gate: &G,
         octets: &[u8],
     ) -> Result<(), WriteFault>
         requires ours { self.old.pass.table ≡ table_of line.now }
@@ -154,18 +175,19 @@ impl OperatorSession {
         let mut text = Text::new();
         let mut left = octets;
         while let Some((octet, rest)) = left.split_first() {
-            self.take(rt, writer, line, *octet, &mut text)?;
+            self.take(rt, writer, line, gate, *octet, &mut text)?;
             left = rest;
         }
         Ok(())
     }
 
     /// An octet comes, and where it ends a line that is answered.
-    fn take<T: Wait, W: Write>(
+    fn take<T: Wait, W: Write, G: Gate>(
         &mut self,
         rt: &T,
         writer: &mut W,
         line: &Line,
+        gate: &G,
         octet: u8,
         text: &mut Text,
     ) -> Result<(), WriteFault>
@@ -180,7 +202,7 @@ impl OperatorSession {
             self.old.pass.view self.new.pass.view (W.contents writer.old) (W.contents writer.new)) }
     {
         if octet == LF {
-            return self.end_line(rt, writer, line, text);
+            return self.end_line(rt, writer, line, gate, text);
         }
         self.keep(octet);
         Ok(())
@@ -198,11 +220,12 @@ impl OperatorSession {
     }
 
     /// The line has ended: it is answered, and the answer is written.
-    fn end_line<T: Wait, W: Write>(
+    fn end_line<T: Wait, W: Write, G: Gate>(
         &mut self,
         rt: &T,
         writer: &mut W,
         line: &Line,
+        gate: &G,
         text: &mut Text,
     ) -> Result<(), WriteFault>
         requires ours { self.old.pass.table ≡ table_of line.now }
@@ -218,6 +241,7 @@ impl OperatorSession {
         answer_line(
             rt,
             line,
+            gate,
             self.driven.as_slice(),
             &mut self.pass,
             self.begun.as_slice(),

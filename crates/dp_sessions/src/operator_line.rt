@@ -6,6 +6,7 @@ ghost use Rattle.dp_shared.specs.Passes.{table_of};
 ghost use Rattle.dp_devices.specs.declared.driven_slave.TheConstants.{MOST_DRIVEN};
 ghost use Rattle.dp_sessions.specs.Operators.{AreFed, IsAnswered, IsFed, IsFedAsSeen, IsOperated, command_in as command_of, fault_text};
 
+use crate::gate::Gate;
 use crate::line_fault::LineFault;
 use dp_devices::DrivenSlave;
 use dp_line::{Op, SlaveView};
@@ -18,9 +19,10 @@ pub(crate) const LONGEST_LINE: usize = 1_024;
 
 /// Does what a line asks for, by an operator's pass, and makes the text the answer to it: none for an
 /// empty line or a comment. These are the slaves of the line that devices drive.
-pub(crate) fn answer_line<T: Wait>(
+pub(crate) fn answer_line<T: Wait, G: Gate>(
     rt: &T,
     line: &Line,
+    gate: &G,
     driven: &[DrivenSlave],
     pass: &mut Pass,
     octets: &[u8],
@@ -34,7 +36,7 @@ pub(crate) fn answer_line<T: Wait>(
     ensures answered { IsAnswered driven.now octets.now pass.old.view pass.new.view text.new }
 {
     match command_in(octets) {
-        Ok(op_line) => operate(rt, line, driven, pass, op_line, text),
+        Ok(op_line) => operate(rt, line, gate, driven, pass, op_line, text),
         Err(fault) => set_fault(text, fault),
     }
 }
@@ -66,9 +68,10 @@ fn set_fault(text: &mut Text, fault: LineFault)
 }
 
 /// Does what is asked for, and makes the text its answer.
-fn operate<T: Wait>(
+fn operate<T: Wait, G: Gate>(
     rt: &T,
     line: &Line,
+    gate: &G,
     driven: &[DrivenSlave],
     pass: &mut Pass,
     op_line: OpLine,
@@ -82,16 +85,26 @@ fn operate<T: Wait>(
     ensures operated { IsOperated driven.now op_line pass.old.view pass.new.view text.new }
 {
     match op_line {
-        OpLine::Event(op) => text.set_outcome(&line.operate(rt, pass, op).outcome),
+        OpLine::Event(op) => {
+            let receipt = line.operate(rt, pass, op);
+            gate.operated(rt, pass.line(), &receipt);
+            text.set_outcome(&receipt.outcome);
+        }
         OpLine::Owned(master) => text.set_owned(line.owned(rt, pass, master).value.as_slice()),
         OpLine::Show(address) => text.set_show(&line.snapshot(rt, pass, address).value),
-        OpLine::Step => text.set_stepped(feed_each(rt, line, driven, pass)),
+        OpLine::Step => text.set_stepped(feed_each(rt, line, gate, driven, pass)),
         OpLine::Nothing => text.clear(),
     }
 }
 
 /// The devices feed these slaves, one after another; how many inputs were recorded.
-fn feed_each<T: Wait>(rt: &T, line: &Line, driven: &[DrivenSlave], pass: &mut Pass) -> u8
+fn feed_each<T: Wait, G: Gate>(
+    rt: &T,
+    line: &Line,
+    gate: &G,
+    driven: &[DrivenSlave],
+    pass: &mut Pass,
+) -> u8
     requires ours { pass.old.table ≡ table_of line.now }
     requires operator { pass.old.view.address ≡ 127 }
     requires few { length driven.now ≤ MOST_DRIVEN }
@@ -102,7 +115,7 @@ fn feed_each<T: Wait>(rt: &T, line: &Line, driven: &[DrivenSlave], pass: &mut Pa
     let mut recorded = 0;
     let mut left = driven;
     while let Some((slave, rest)) = left.split_first() {
-        recorded += feed(rt, line, *slave, pass);
+        recorded += feed(rt, line, gate, *slave, pass);
         left = rest;
     }
     recorded
@@ -110,7 +123,7 @@ fn feed_each<T: Wait>(rt: &T, line: &Line, driven: &[DrivenSlave], pass: &mut Pa
 
 /// The device of a slave feeds it, by its inputs and outputs as they are then; how many inputs were
 /// recorded, 0 or 1.
-fn feed<T: Wait>(rt: &T, line: &Line, driven: DrivenSlave, pass: &mut Pass) -> u8
+fn feed<T: Wait, G: Gate>(rt: &T, line: &Line, gate: &G, driven: DrivenSlave, pass: &mut Pass) -> u8
     requires ours { pass.old.table ≡ table_of line.now }
     requires operator { pass.old.view.address ≡ 127 }
     ensures ours { pass.new.table ≡ pass.old.table }
@@ -119,13 +132,14 @@ fn feed<T: Wait>(rt: &T, line: &Line, driven: DrivenSlave, pass: &mut Pass) -> u
     ensures fed { IsFed driven pass.old.view pass.new.view result }
 {
     let seen = line.snapshot(rt, pass, driven.address).value;
-    feed_as_seen(rt, line, driven, &seen, pass)
+    feed_as_seen(rt, line, gate, driven, &seen, pass)
 }
 
 /// What is seen of a slave is fed to it by its device; how many inputs were recorded, 0 or 1.
-fn feed_as_seen<T: Wait>(
+fn feed_as_seen<T: Wait, G: Gate>(
     rt: &T,
     line: &Line,
+    gate: &G,
     driven: DrivenSlave,
     seen: &Option<SlaveView>,
     pass: &mut Pass,
@@ -141,6 +155,7 @@ fn feed_as_seen<T: Wait>(
         return 0;
     };
     let receipt = line.operate(rt, pass, driven.next_input(slave));
+    gate.operated(rt, pass.line(), &receipt);
     match receipt.place {
         Some(_) => 1,
         None => 0,

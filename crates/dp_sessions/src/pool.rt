@@ -8,8 +8,8 @@ ghost use Rattle.dp_sessions.specs.Pools.{HasSeats};
 use crate::gate::Gate;
 use crate::pool_fault::PoolFault;
 use crate::port::Port;
-use crate::serving::serve;
-use crate::session_end::SessionEnd;
+use crate::serving::serve_or_turn_away;
+use crate::session_end::{SessionEnd, TurnedAway};
 use crossbeam_channel::Receiver;
 use dp_shared::WorkerSeat;
 use std::io::{Read, Write};
@@ -42,7 +42,7 @@ trait Serve {
         writer: &mut W,
         gate: &G,
         turns: u32,
-    ) -> SessionEnd
+    ) -> Result<SessionEnd, TurnedAway>
         requires { Self.ours self.now seat.old }
         ensures { Self.ours self.now seat.new };
 }
@@ -60,8 +60,8 @@ impl Serve for Port {
         writer: &mut W,
         gate: &G,
         turns: u32,
-    ) -> SessionEnd {
-        serve(rt, reader, writer, self, seat, gate, turns)
+    ) -> Result<SessionEnd, TurnedAway> {
+        serve_or_turn_away(rt, reader, writer, self, seat, gate, turns)
     }
 }
 
@@ -179,9 +179,12 @@ fn serve_job<P: Serve, H: Wait, R: Read + Drop, W: Write + Drop, G: Gate>(
         mut writer,
     } = job;
     let index = usize::from(port);
-    let Some(port) = ports.get(index) else {
+    let Some(here) = ports.get(index) else {
         return false;
     };
-    port.serve(rt, &mut seats[index], &mut reader, &mut writer, gate, turns);
+    let served = here.serve(rt, &mut seats[index], &mut reader, &mut writer, gate, turns);
+    if let Err(away) = served {
+        gate.turned_away(rt, port, away.address, away.end);
+    }
     true
 }

@@ -5,12 +5,13 @@ ghost use Rattle.std.specs.Io.KnownBytes.{Consumes, Keeps};
 ghost use Rattle.dp_shared.specs.Claims.{claimed};
 ghost use Rattle.dp_shared.specs.Passes.{new_pass, table_of};
 ghost use Rattle.dp_sessions.specs.Sessions.{EndsAtOnce, IsSession, Refuses, is_master_of};
+ghost use Rattle.dp_sessions.specs.TurnedAway.{end_of};
 
 use crate::exchange::Session;
 use crate::gate::Gate;
 use crate::port::Port;
 use crate::reads::Reads;
-use crate::session_end::SessionEnd;
+use crate::session_end::{SessionEnd, TurnedAway};
 use dp_shared::{ClaimFault, Claims, Pass, WorkerSeat};
 use dp_telegram::is_station;
 use std::io::{Read, Write};
@@ -44,23 +45,58 @@ pub fn serve<T: Wait, R: Read, W: Write, G: Gate>(
         (record { left = R.remaining reader.old; left_after = R.remaining reader.new; written = W.contents writer.old; written_after = W.contents writer.new })
         seat.old.view seat.new.view result }
 {
+    match serve_or_turn_away(rt, reader, writer, port, seat, gate, turns) {
+        Ok(end) => end,
+        Err(away) => away.end,
+    }
+}
+
+/// A session as [`serve`] tells it; or that it wasn't accepted.
+pub(crate) fn serve_or_turn_away<T: Wait, R: Read, W: Write, G: Gate>(
+    rt: &T,
+    reader: &mut R,
+    writer: &mut W,
+    port: &Port,
+    seat: &mut WorkerSeat,
+    gate: &G,
+    turns: u32,
+) -> Result<SessionEnd, TurnedAway>
+    requires ours { seat.old.table ≡ port.now.claims.table }
+    requires free { seat.old.view.held ≡ None }
+    ensures ours { seat.new.table ≡ seat.old.table }
+    ensures free { seat.new.view.held ≡ None }
+    ensures session { IsSession port.now.claims.masters turns
+        (record { left = R.remaining reader.old; left_after = R.remaining reader.new; written = W.contents writer.old; written_after = W.contents writer.new })
+        seat.old.view seat.new.view (end_of result) }
+{
     if turns == 0 {
-        return SessionEnd::TurnLimit;
+        return Err(TurnedAway {
+            address: None,
+            end: SessionEnd::TurnLimit,
+        });
     }
     let mut reads = Reads::new(reader);
     let address = match first_octet(&mut reads) {
         Ok(address) => address,
-        Err(end) => return end,
+        Err(end) => return Err(TurnedAway { address: None, end }),
     };
     let pass = match admit(rt, port, seat, address) {
         Ok(pass) => pass,
-        Err(end) => return end,
+        Err(end) => {
+            return Err(TurnedAway {
+                address: Some(address),
+                end,
+            });
+        }
     };
+    let line = pass.line();
+    gate.accepted(rt, line, address);
     let mut session = Session::open(pass);
     let end = session.accept(rt, &mut reads, writer, &port.line, gate, turns);
     port.line.hand_back(rt, session.close());
+    gate.ended(rt, line, address, end);
     port.claims.release(seat);
-    end
+    Ok(end)
 }
 
 /// The first octet of a session, by one read; or how the session ends without one.

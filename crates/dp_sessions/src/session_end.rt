@@ -1,7 +1,7 @@
 //! How a session ends.
 
 ghost use Rattle.std.specs.Prelude.{◌≡◌};
-ghost use Rattle.dp_sessions.specs.Codes.{session_end_code};
+ghost use Rattle.dp_sessions.specs.Codes.{session_end_code, session_end_name};
 
 /// How a session ends (own).
 #[derive(Clone, Copy, Debug, PartialEq, Eq)]
@@ -22,6 +22,15 @@ pub enum SessionEnd {
     NoPass,
 }
 
+/// A session that was not accepted.
+#[derive(Clone, Copy, Debug, PartialEq, Eq)]
+pub(crate) struct TurnedAway {
+    /// The address that it gave, if it gave one.
+    pub(crate) address: Option<u8>,
+    /// How it ended.
+    pub(crate) end: SessionEnd,
+}
+
 impl SessionEnd {
     /// The number of the end, 1 to 7 (own).
     pub const fn code(self) -> u8
@@ -35,6 +44,21 @@ impl SessionEnd {
             SessionEnd::UnknownMaster => 5,
             SessionEnd::TurnLimit => 6,
             SessionEnd::NoPass => 7,
+        }
+    }
+
+    /// Its name in texts (own).
+    pub const fn name(self) -> &'static str
+        ensures { result.now ≡ session_end_name self }
+    {
+        match self {
+            SessionEnd::EndOfInput => "EndOfInput",
+            SessionEnd::ReadFault => "ReadFault",
+            SessionEnd::WriteFault => "WriteFault",
+            SessionEnd::AddressHeld => "AddressHeld",
+            SessionEnd::UnknownMaster => "UnknownMaster",
+            SessionEnd::TurnLimit => "TurnLimit",
+            SessionEnd::NoPass => "NoPass",
         }
     }
 }
