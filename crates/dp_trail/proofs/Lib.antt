@@ -1,1 +1,2 @@
+pub mod SeenAll
 pub mod Trailing

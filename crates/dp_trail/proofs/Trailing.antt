@@ -21,10 +21,9 @@ use Rattle.dp_shared.specs.declared.line_view.Question.{Question}
 use Rattle.dp_shared.specs.declared.line_view.Question.TheVariants as asks
 use Rattle.dp_shared.specs.declared.line_view.Answer.{Answer}
 use Rattle.dp_shared.specs.declared.line_view.Answer.TheVariants as answers
-use Rattle.dp_shared.specs.Passes.{new_pass, with_look}
-use Rattle.dp_trail.specs.declared.row.Next.{Next}
+use Rattle.dp_shared.specs.Passes.{new_pass}
 use Rattle.dp_trail.specs.declared.row.Next.TheVariants as nexts
-use Rattle.dp_trail.specs.Trails.{AreFrom, Comes, IsBegun, IsWhole, found, found_by, seen_text}
+use Rattle.dp_trail.specs.Trails.{AreFrom, FoundNone, IsBegun, IsWhole, Looks, SawAll, found, found_by, seen_text}
 
 abbrev pub Seen : Type 0
 Seen = ℕ × Entry
@@ -122,11 +121,10 @@ header_whole before after number text is appends front e =
 
 -- ---- a step
 
-pub nothing_whole : (number : ℕ) (before now after : Option (List ℕ)) (looks : List Look) (l : Look) → found_by l.question l.answer ≡ [] → Appends now after []
+pub nothing_whole : (number : ℕ) (before now after : Option (List ℕ)) (looks : List Look) (l : Look) → found_by l.question l.answer ≡ [] → after ≡ now
     → IsWhole before now (seen_text number looks) → IsWhole before after (seen_text number (looks ++ l ∷ []))
-nothing_whole number before now after looks l is appends whole =
-    subst (λ (s : List Seen). IsWhole before after (audit_text number (map entry_of s))) (sym (same_seen looks l is))
-    (subst (λ (t : List ℕ). IsWhole before after t) (append-nil (seen_text number looks)) (whole_and before now after (seen_text number looks) [] whole appends))
+nothing_whole number before now after looks l is same whole =
+    subst (λ (s : List Seen). IsWhole before after (audit_text number (map entry_of s))) (sym (same_seen looks l is)) (λ front e. same ∙ whole front e)
 
 pub row_whole : (number : ℕ) (before now after : Option (List ℕ)) (looks : List Look) (l : Look) (place : ℕ) (entry : Entry)
     → found_by l.question l.answer ≡ (place, entry) ∷ [] → Appends now after (line_text (entry_text entry))
@@ -156,8 +154,8 @@ row_from looks l place seen entry is next all counted =
 abbrev Before : ℕ → ℕ → Option (List ℕ) → Option (List ℕ) → PassView → Type 0
 Before number seen before now pass = AreFrom 1 (found pass.looks) × (length (found pass.looks) ≡ seen) × IsWhole before now (seen_text number pass.looks)
 
-abbrev Looked : Next → ℕ → Option (List ℕ) → Option (List ℕ) → PassView → PassView → Type 0
-Looked next place now after old new = (look : Look) × (new ≡ with_look old look) × Comes next place look now after
+none_found : (place : ℕ) (look : Look) → FoundNone place look → found_by look.question look.answer ≡ []
+none_found place look (asked, answered) = ap (λ (q : Question). found_by q look.answer) asked ∙ ap (found_by (asks.Entry place)) answered
 
 pub opened_tail : (pass : PassView) (own address number : ℕ) (before after : Option (List ℕ)) (text : List ℕ) → pass ≡ new_pass own address
     → text ≡ line_text (header_text 2 number) → Appends before after text → Before number 0 before after pass
@@ -165,25 +163,31 @@ unfolding found
 opened_tail pass own address number before after text is header appends =
     subst (λ (p : PassView). Before number 0 before after p) (sym is) (refl, refl, header_whole before after number text header appends)
 
-pub after_nothing : (number seen place : ℕ) (before now after : Option (List ℕ)) (old new : PassView) → Looked nexts.Nothing place now after old new
+pub after_nothing : (number seen place : ℕ) (before now after : Option (List ℕ)) (old new : PassView) → Looks nexts.Nothing place old new now after
     → Before number seen before now old → Before number seen before after new
-after_nothing number seen place before now after old new (look, is, (unseen, appends)) (from, counted, whole) =
+after_nothing number seen place before now after old new (look, is, later, (none, same)) (from, counted, whole) =
+    let unseen = none_found place look none in
     let now_seen = nothing_from old.looks look seen unseen from counted in
-    subst (λ (p : PassView). Before number seen before after p) (sym is) (now_seen.0, now_seen.1, nothing_whole number before now after old.looks look unseen appends whole)
+    subst (λ (p : PassView). Before number seen before after p) (sym is) (now_seen.0, now_seen.1, nothing_whole number before now after old.looks look unseen same whole)
 
-pub after_row : (number seen place : ℕ) (before now after : Option (List ℕ)) (old new : PassView) → Looked nexts.Row place now after old new
+pub after_row : (number seen place : ℕ) (before now after : Option (List ℕ)) (old new : PassView) → Looks nexts.Row place old new now after
     → place ≡ seen + 1 → Before number seen before now old → Before number place before after new
-after_row number seen place before now after old new (look, is, (entry, one, appends)) next (from, counted, whole) =
+after_row number seen place before now after old new (look, is, later, (entry, one, appends)) next (from, counted, whole) =
     let now_seen = row_from old.looks look place seen entry one next from counted in
     subst (λ (p : PassView). Before number place before after p) (sym is) (now_seen.0, now_seen.1, row_whole number before now after old.looks look place entry one appends whole)
 
-pub after_cut : (number seen place : ℕ) (before now after : Option (List ℕ)) (old new : PassView) → Looked nexts.Cut place now after old new
+pub after_cut : (number seen place : ℕ) (before now after : Option (List ℕ)) (old new : PassView) → Looks nexts.Cut place old new now after
     → place ≡ seen + 1 → Before number seen before now old
     → AreFrom 1 (found new.looks) × (length (found new.looks) ≡ place) × IsBegun before after (seen_text number new.looks)
-after_cut number seen place before now after old new (look, is, (entry, one, written)) next (from, counted, whole) =
+after_cut number seen place before now after old new (look, is, later, (entry, one, written)) next (from, counted, whole) =
     let now_seen = row_from old.looks look place seen entry one next from counted in
     subst (λ (p : PassView). AreFrom 1 (found p.looks) × (length (found p.looks) ≡ place) × IsBegun before after (seen_text number p.looks)) (sym is)
     (now_seen.0, now_seen.1, cut_begun number before now after old.looks look place entry one written whole)
+
+-- a look that found none at the next place saw all
+pub saw_all : (seen : ℕ) (now after : Option (List ℕ)) (old new : PassView) → Looks nexts.Nothing (seen + 1) old new now after → SawAll new.looks seen
+saw_all seen now after old new (look, is, later, (none, same)) =
+    record { earlier = old.looks; last = look; in_order = ap (λ (p : PassView). p.looks) is; none = none; latest = later.looks }
 
 -- ---- what was seen, and the journal
 
@@ -253,8 +257,11 @@ one_of P [] index x all at = absurd (some-ne-none x (sym at))
 one_of P (y ∷ xs) zero x all at = subst P (some-injective y x at) all.0
 one_of P (y ∷ xs) (suc index) x all at = one_of P xs index x all.1 at
 
+pub fits_now : (line : LineSpec) (state : Slotted) (rule : LineRule line state) (seat index : ℕ) (pass : PassView) → IsPassAt state seat index pass
+    → FitsPass rule.content pass
+fits_now line state rule seat index pass (view, seated, held) = one_of (FitsPass rule.content) view.passes index pass (rule.each_fits seat view seated) held
+
 pub first_entries_now : (line : LineSpec) (state : Slotted) (rule : LineRule line state) (seat index : ℕ) (pass : PassView)
     → IsPassAt state seat index pass → AreFrom 1 (found pass.looks)
     → map entry_of (found pass.looks) ≡ take (length (found pass.looks)) rule.content.book.entries
-first_entries_now line state rule seat index pass (view, seated, held) from =
-    first_entries_of rule.content pass (one_of (FitsPass rule.content) view.passes index pass (rule.each_fits seat view seated) held) from
+first_entries_now line state rule seat index pass at from = first_entries_of rule.content pass (fits_now line state rule seat index pass at) from

@@ -1,20 +1,20 @@
 -- What a trail saw, by hand.
-use Rattle.std.specs.Prelude.{◌≡◌, List, [], ◌∷◌, Some, None, false}
-use Rattle.std.proofs.Common.{refl}
+use Rattle.std.specs.Prelude.{◌≡◌, ℕ, List, [], ◌∷◌, ◌++◌, Option, Some, None, false}
+use Rattle.std.proofs.Common.{refl, arith}
 use Rattle.dp_audit.specs.declared.entry.Entry.{Entry}
 use Rattle.dp_shared.specs.declared.line_view.Look.{Look}
 use Rattle.dp_shared.specs.declared.line_view.Question.TheVariants as asks
 use Rattle.dp_shared.specs.declared.line_view.Answer.TheVariants as answers
-use Rattle.dp_trail.specs.Trails.{AreFrom, found}
+use Rattle.dp_trail.specs.Trails.{AreFrom, SawAll, found}
+
+-- a look at the entry of a place, where there were so many
+abbrev look_at : ℕ → ℕ → Option Entry → Look
+look_at place count entry = record { question = asks.Entry place; count = count; answer = answers.Entry entry; told = false }
 
 -- nothing at place 1 yet; then its entry; nothing at place 2, and then that one's
 abbrev pub example_looks : Entry → Entry → List Look
 example_looks first second =
-    (record { question = asks.Entry 1; count = 0; answer = answers.Entry None; told = false })
-    ∷ (record { question = asks.Entry 1; count = 1; answer = answers.Entry (Some first); told = false })
-    ∷ (record { question = asks.Entry 2; count = 1; answer = answers.Entry None; told = false })
-    ∷ (record { question = asks.Entry 2; count = 2; answer = answers.Entry (Some second); told = false })
-    ∷ []
+    look_at 1 0 None ∷ look_at 1 1 (Some first) ∷ look_at 2 1 None ∷ look_at 2 2 (Some second) ∷ []
 
 pub both_are_found : (first second : Entry) → found (example_looks first second) ≡ (1, first) ∷ (2, second) ∷ []
 unfolding found
@@ -23,3 +23,13 @@ both_are_found first second = refl
 pub in_order : (first second : Entry) → AreFrom 1 (found (example_looks first second))
 unfolding found
 in_order first second = refl
+
+-- and then nothing at place 3: both are all that there were
+pub both_are_all : (first second : Entry) → SawAll (example_looks first second ++ look_at 3 2 None ∷ []) 2
+both_are_all first second = record {
+  earlier = example_looks first second;
+  last = look_at 3 2 None;
+  in_order = refl;
+  none = (refl, refl);
+  latest = (omega arith, (omega arith, (omega arith, (omega arith, tt))));
+}

@@ -4,9 +4,8 @@ ghost use Rattle.std.specs.Prelude.{◌≡◌, OnErr, OnOk};
 ghost use Rattle.std.specs.Io.KnownBytes.{Appends};
 ghost use Rattle.dp_text.specs.Writes.{WritesPrefix};
 ghost use Rattle.dp_audit.specs.AuditText.{entry_text, line_text};
-ghost use Rattle.dp_shared.specs.Passes.{table_of, with_look};
-ghost use Rattle.dp_shared.specs.declared.line_view.Look.{Look};
-ghost use Rattle.dp_trail.specs.Trails.{Comes};
+ghost use Rattle.dp_shared.specs.Passes.{table_of};
+ghost use Rattle.dp_trail.specs.Trails.{Looks};
 
 use dp_audit::{Entry, set_entry};
 use dp_shared::{Line, Pass};
@@ -38,7 +37,7 @@ pub(crate) fn write_next<T: Wait, W: Write>(
     requires { pass.old.table ≡ table_of line.now }
     ensures ours { pass.new.table ≡ pass.old.table }
     ensures line { pass.new.line ≡ pass.old.line }
-    ensures comes { (look : Look) × (pass.new.view ≡ with_look pass.old.view look) × Comes result place look (W.contents writer.old) (W.contents writer.new) }
+    ensures looks { Looks result place pass.old.view pass.new.view (W.contents writer.old) (W.contents writer.new) }
 {
     let Some(entry) = line.entry(rt, pass, place).value else {
         return Next::Nothing;

@@ -1,8 +1,8 @@
 //! The audit text of a line in a writer, and how far it goes.
 
-ghost use Rattle.std.specs.Prelude.{◌≡◌, length, false};
-ghost use Rattle.dp_shared.specs.Passes.{line_of, table_of};
-ghost use Rattle.dp_trail.specs.Trails.{AreFrom, IsBegun, IsWhole, found, seen_text};
+ghost use Rattle.std.specs.Prelude.{◌≡◌, ◌≤◌, ◌<◌, ◌+◌, ◌^◌, ◌⊎◌, [], length, true, false, is_err, IfOk, IsErr, OnErr, OnOk};
+ghost use Rattle.dp_shared.specs.Passes.{line_of, new_pass, table_of};
+ghost use Rattle.dp_trail.specs.Trails.{AreFrom, IsBegun, IsWhole, OnlyLooks, SawAll, Steps, found, seen_text};
 
 use crate::caught_up::CaughtUp;
 use crate::fault::TrailFault;
@@ -40,7 +40,13 @@ impl<'l, W: Write + Drop> Tail<'l, W> {
     ///
     /// `NoPass` where the line gives no pass, and `WriteFault` where the header can't be written. It waits for
     /// the line.
-    pub fn open<T: Wait>(rt: &T, line: &'l Line, writer: W) -> Result<Tail<'l, W>, TrailFault> {
+    pub fn open<T: Wait>(rt: &T, line: &'l Line, writer: W) -> Result<Tail<'l, W>, TrailFault>
+        ensures line { IfOk result (λ tail. tail.line ≡ line.entry) }
+        ensures pass { IfOk result (λ tail. (tail.pass.line ≡ (line_of line.now).number)
+            × (tail.pass.view ≡ new_pass tail.pass.view.number 127)) }
+        ensures start { IfOk result (λ tail. (tail.seen ≡ 0) × (tail.broken ≡ false)) }
+        ensures opened { IfOk result (λ tail. tail.opened.value ≡ writer) }
+    {
         let Ok(pass) = line.open_pass(rt, GLOBAL_ADDRESS) else {
             return Err(TrailFault::NoPass);
         };
@@ -84,36 +90,59 @@ impl<'l, W: Write + Drop> Tail<'l, W> {
         self.seen
     }
 
-    /// Whether a write failed: then nothing more is written.
+    /// Whether a write failed, or no place was left: then nothing more is written.
     pub fn is_broken(&self) -> bool
         ensures { result ≡ self.now.broken }
     {
         self.broken
     }
 
-    /// Writes the rows of all entries that there are. It waits for the line.
+    /// Writes the rows of all entries that there are: its last look found no entry behind those that it has seen.
+    /// It only looks at the line, for which it waits.
     ///
-    /// `WriteFault` where a row could not be written whole, now or before.
-    pub fn catch_up<T: Wait>(&mut self, rt: &T) -> Result<CaughtUp, WriteFault> {
+    /// `WriteFault` where the tail was broken, which then stays as it is, and where it breaks: the row of an entry
+    /// more could not be written whole, or no place is left.
+    pub fn catch_up<T: Wait>(&mut self, rt: &T) -> Result<CaughtUp, WriteFault>
+        ensures line { self.new.line ≡ self.old.line }
+        ensures opened { self.new.opened ≡ self.old.opened }
+        ensures table { self.new.pass.table ≡ self.old.pass.table }
+        ensures number { self.new.pass.line ≡ self.old.pass.line }
+        ensures looks { OnlyLooks self.old.pass.view self.new.pass.view }
+        ensures grows { self.old.seen ≤ self.new.seen }
+        ensures ok { OnOk result ((self.new.broken ≡ false) × SawAll self.new.pass.view.looks self.new.seen) }
+        ensures err { OnErr result (self.new.broken ≡ true) }
+        ensures cut { OnErr result (self.old.broken ≡ false → (self.old.seen < self.new.seen) ⊎ (self.new.seen + 1 ≡ 2 ^ 32)) }
+        ensures broken { self.old.broken ≡ true → IsErr result × (self.new ≡ self.old) }
+    {
         for _ in rt.forever() {
-            if !self.step(rt) {
-                return if self.broken {
-                    Err(WriteFault)
-                } else {
-                    Ok(CaughtUp::new())
-                };
+            if !self.step(rt)? {
+                return Ok(CaughtUp::new());
             }
         }
         unreachable!()
     }
 
-    /// Writes the next row, if there is one; whether there may be another.
-    fn step<T: Wait>(&mut self, rt: &T) -> bool {
+    /// Writes the next row, if there is one; whether there was one.
+    ///
+    /// `WriteFault` where the tail was broken, and where it breaks: the row could not be written whole, or there is
+    /// no next place.
+    fn step<T: Wait>(&mut self, rt: &T) -> Result<bool, WriteFault>
+        ensures line { self.new.line ≡ self.old.line }
+        ensures opened { self.new.opened ≡ self.old.opened }
+        ensures table { self.new.pass.table ≡ self.old.pass.table }
+        ensures number { self.new.pass.line ≡ self.old.pass.line }
+        ensures looks { OnlyLooks self.old.pass.view self.new.pass.view }
+        ensures breaks { self.new.broken ≡ is_err result }
+        ensures broken { self.old.broken ≡ true → IsErr result × (self.new ≡ self.old) }
+        ensures steps { self.old.broken ≡ false → Steps result self.old.seen self.new.seen self.old.pass.view self.new.pass.view
+            (W.contents self.old.writer) (W.contents self.new.writer) }
+    {
         if self.broken {
-            return false;
+            return Err(WriteFault);
         }
         let Some(place) = self.seen.checked_add(1) else {
-            return false;
+            self.broken = true;
+            return Err(WriteFault);
         };
         match write_next(
             rt,
@@ -123,15 +152,15 @@ impl<'l, W: Write + Drop> Tail<'l, W> {
             &mut self.writer,
             place,
         ) {
-            Next::Nothing => false,
+            Next::Nothing => Ok(false),
             Next::Row => {
                 self.seen = place;
-                true
+                Ok(true)
             }
             Next::Cut => {
                 self.seen = place;
                 self.broken = true;
-                false
+                Err(WriteFault)
             }
         }
     }
