@@ -10,6 +10,7 @@ mod fault;
 mod guarded;
 pub mod laws;
 mod row;
+pub mod sharing;
 mod tail;
 mod trail;
 mod trailed;
