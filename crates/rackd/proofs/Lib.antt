@@ -1,4 +1,5 @@
 mod Writing
 mod Serving
+mod Sharing
 mod Opening
 mod RacksServed

@@ -104,11 +104,18 @@ refused_ports rack lines old (faults.Run (runs.Script line)) of_rack never = abs
 refused_ports rack lines old (faults.Run runs.WriteFault) of_rack never = absurd never
 refused_ports rack lines old faults.BadWord of_rack never = absurd never
 refused_ports rack lines old (faults.CannotRead path) of_rack never = absurd never
+refused_ports rack lines old (faults.CannotMake path) of_rack never = absurd never
+refused_ports rack lines old (faults.CannotWrite path) of_rack never = absurd never
 
--- lines that are served in part
-pub stopped : (rack : RackDescription) (lines : List ServedLine) (old new : Option (List ℕ)) (fault : RunFault) → AreLinesOf rack lines → ServesLines lines old new (Err fault)
-    → ServesRack rack old new (Err (faults.Run fault))
-stopped rack lines old new runs.OutOfMemory of_rack part = inr (lines, of_rack, part)
-stopped rack lines old new runs.WriteFault of_rack part = inr (lines, of_rack, part)
-stopped rack lines old new (runs.Rack fault) of_rack never = absurd never
-stopped rack lines old new (runs.Script line) of_rack never = absurd never
+-- lines that are served in part, or not recorded
+pub stopped : (rack : RackDescription) (lines : List ServedLine) (old new : Option (List ℕ)) (fault : Fault) → AreLinesOf rack lines → ServesLines lines old new (Err fault)
+    → ServesRack rack old new (Err fault)
+stopped rack lines old new (faults.CannotMake path) of_rack same = same
+stopped rack lines old new (faults.CannotWrite path) of_rack served = (lines, of_rack, served)
+stopped rack lines old new (faults.Run runs.OutOfMemory) of_rack part = inr (lines, of_rack, part)
+stopped rack lines old new (faults.Run runs.WriteFault) of_rack part = inr (lines, of_rack, part)
+stopped rack lines old new (faults.Run (runs.Rack fault)) of_rack never = absurd never
+stopped rack lines old new (faults.Run (runs.Script line)) of_rack never = absurd never
+stopped rack lines old new faults.BadWord of_rack never = absurd never
+stopped rack lines old new (faults.CannotRead path) of_rack never = absurd never
+stopped rack lines old new (faults.CannotListen port) of_rack never = absurd never

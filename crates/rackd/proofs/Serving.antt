@@ -1,5 +1,5 @@
 -- The lines of a rack that is served, and what is written of them.
-use Rattle.std.proofs.Common.{◌≡◌, ℕ, zero, suc, ◌+◌, ◌<◌, List, [], ◌∷◌, ◌++◌, map, length, take, slice_index_or, get_or, Option, Some, None, option_and_then, option_map, Ok, Err, Contains, inr, refl, sym, ap, subst, ◌∙◌, append_assoc, arith}
+use Rattle.std.proofs.Common.{◌≡◌, ℕ, zero, suc, ◌+◌, ◌<◌, List, [], ◌∷◌, ◌++◌, map, length, take, slice_index_or, get_or, Option, Some, None, option_and_then, option_map, Ok, Err, Contains, inl, inr, refl, sym, ap, subst, ◌∙◌, append_assoc, arith}
 use Rattle.std.specs.List.{AllZip, flat_map, range_with_len}
 use Rattle.std.specs.Io.KnownBytes.{Appends}
 use Rattle.std.proofs.lemmas.List.{append-nil, length_push, map-append, map-id, take_more}
@@ -12,10 +12,12 @@ use Rattle.dp_shared.specs.Content.{Content}
 use Rattle.rack_file.specs.declared.rack.RackLine.{RackLine}
 use Rattle.dp_script.specs.declared.run_fault.RunFault.{RunFault}
 use Rattle.dp_script.specs.declared.run_fault.RunFault.TheVariants as runs
+use Rattle.rackd.specs.declared.ending.Fault.{Fault}
+use Rattle.rackd.specs.declared.ending.Fault.TheVariants as faults
 use Rattle.rackd.specs.declared.served_line.ServedLine.{ServedLine}
 use Rattle.rackd.specs.ServedLines.{all_served, served_line}
-use Rattle.rackd.specs.ServeOutput.{AreBrokenOff, AreServed, AreServedInPart, AreWritten, EndsLines, IsLeftBy, ServesLines, WritesAudit, ports_of, ready, specs_of, text_of}
-use Rattle.rackd.proofs.Writing.{appends_more, appends_none, keeps_more}
+use Rattle.rackd.specs.ServeOutput.{Attends, AreBrokenOff, AreServed, AreServedInPart, AreWritten, EndsLines, IsLeftBy, IsRecordingFault, ServesLines, WritesAudit, ports_of, ready, specs_of, text_of}
+use Rattle.rackd.proofs.Writing.{appends_more, appends_none, keeps_more, keeps_nothing, keeps_same}
 
 -- ---- lines with their ports
 
@@ -198,8 +200,27 @@ served_uncounted lines specs a b c same said w = inr (
 
 -- or a part of it
 pub served_in_part : (lines : List ServedLine) (specs : List LineSpec) (a b c : Option (List ℕ)) (fault : RunFault) → specs ≡ specs_of lines → Appends a b ready
-    → EndsLines specs b c (Err fault) → ServesLines lines a c (Err fault)
+    → EndsLines specs b c (Err fault) → ServesLines lines a c (Err (faults.Run fault))
 served_in_part lines specs a b c runs.WriteFault same said w = inr (b, said, subst (λ ls. AreBrokenOff ls b c) same w)
 served_in_part lines specs a b c runs.OutOfMemory same said w = inr (b, said, subst (λ ls. AreBrokenOff ls b c) same w)
 served_in_part lines specs a b c (runs.Rack fault) same said never = absurd never
 served_in_part lines specs a b c (runs.Script at) same said never = absurd never
+
+-- nothing of it
+pub served_not_at_all : (lines : List ServedLine) (a b : Option (List ℕ)) (fault : RunFault) → Attends a b (Err fault) → ServesLines lines a b (Err (faults.Run fault))
+served_not_at_all lines a b runs.WriteFault cut = inl cut
+served_not_at_all lines a b runs.OutOfMemory same = inl ([], ready, refl, keeps_nothing a b same)
+served_not_at_all lines a b (runs.Rack fault) never = absurd never
+served_not_at_all lines a b (runs.Script at) never = absurd never
+
+-- the lines aren't recorded
+pub served_unopened : (lines : List ServedLine) (old : Option (List ℕ)) (fault : Fault) → IsRecordingFault fault → ServesLines lines old old (Err fault)
+served_unopened lines old (faults.CannotMake path) told = keeps_same old
+served_unopened lines old (faults.Run runs.OutOfMemory) told = inl ([], ready, refl, appends_none old)
+served_unopened lines old (faults.Run (runs.Rack fault)) never = absurd never
+served_unopened lines old (faults.Run (runs.Script at)) never = absurd never
+served_unopened lines old (faults.Run runs.WriteFault) never = absurd never
+served_unopened lines old faults.BadWord never = absurd never
+served_unopened lines old (faults.CannotRead path) never = absurd never
+served_unopened lines old (faults.CannotListen port) never = absurd never
+served_unopened lines old (faults.CannotWrite path) never = absurd never

@@ -24,6 +24,11 @@ pub keeps_same : (old : Option (List ℕ)) → Keeps old old
 keeps_same None = tt
 keeps_same (Some xs) = refl
 
+pub keeps_nothing : (old new : Option (List ℕ)) → Keeps old new → Appends old new []
+keeps_nothing None new same = tt
+keeps_nothing (Some xs) None same = absurd same
+keeps_nothing (Some xs) (Some ys) same = same ∙ sym (append-nil xs)
+
 -- a text is written, and then a prefix of more
 pub more_prefix : (old new newer : Option (List ℕ)) (text more rest all : List ℕ) → Appends old new text → WritesPrefix new newer more → text ++ (more ++ rest) ≡ all
     → WritesPrefix old newer all

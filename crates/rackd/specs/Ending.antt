@@ -4,23 +4,35 @@ use Rattle.std.specs.Fmt.{decimal}
 use Rattle.rack_file.specs.declared.fault.RackFault.TheVariants as racks
 use Rattle.dp_script.specs.declared.run_fault.RunFault.TheVariants as runs
 use Rattle.dp_script.specs.FaultTexts.{run_fault_text}
+use Rattle.rackd.specs.declared.ending.AuditPath.{AuditPath}
+use Rattle.rackd.specs.declared.ending.AuditPath.TheVariants as paths
 use Rattle.rackd.specs.declared.ending.Fault.{Fault}
 use Rattle.rackd.specs.declared.ending.Fault.TheVariants as faults
 
--- 2 for words, files, input and ports that can't be used, 3 where memory is out, 4 for a fault of standard output
+-- 2 for words, files, input and ports that can't be used, 3 where memory is out, 4 for a fault of standard output, 5 where a row can't be
+-- written to its file
 abbrev pub status_of : Fault → ℕ
 status_of faults.BadWord = 2
 status_of (faults.CannotRead path) = 2
 status_of (faults.CannotListen port) = 2
+status_of (faults.CannotMake path) = 2
+status_of (faults.CannotWrite path) = 5
 status_of (faults.Run (runs.Rack racks.OutOfMemory)) = 3
 status_of (faults.Run (runs.Rack other)) = 2
 status_of (faults.Run (runs.Script line)) = 2
 status_of (faults.Run runs.OutOfMemory) = 3
 status_of (faults.Run runs.WriteFault) = 4
 
+-- the path of a folder, or that of a line's file in it
+abbrev pub audit_path_text : AuditPath → List ℕ
+audit_path_text (paths.Folder folder) = folder.now
+audit_path_text (paths.File folder line number) = folder.now ++ codes "/line-" ++ decimal line ++ codes "-" ++ decimal number ++ codes ".audit"
+
 -- the line on standard error, without its LF
 abbrev pub fault_text : Fault → List ℕ
 fault_text faults.BadWord = codes "rackd: a word is not UTF-8"
 fault_text (faults.CannotRead path) = codes "rackd: cannot read " ++ path.now
 fault_text (faults.CannotListen port) = codes "rackd: cannot listen on " ++ decimal port
+fault_text (faults.CannotMake path) = codes "rackd: cannot make " ++ audit_path_text path
+fault_text (faults.CannotWrite path) = codes "rackd: cannot write " ++ audit_path_text path
 fault_text (faults.Run fault) = codes "rackd: " ++ run_fault_text fault

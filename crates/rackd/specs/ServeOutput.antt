@@ -35,6 +35,12 @@ IsListeningFault lines (faults.CannotListen port) = Contains (ports_of lines) po
 IsListeningFault lines (faults.Run runs.OutOfMemory) = Unit {0}
 IsListeningFault lines other = ⊥
 
+-- the folder or a file of audit texts can't be had, or memory is refused
+abbrev pub IsRecordingFault : Fault → Type 0
+IsRecordingFault (faults.CannotMake path) = Unit {0}
+IsRecordingFault (faults.Run runs.OutOfMemory) = Unit {0}
+IsRecordingFault other = ⊥
+
 -- ---- opened lines
 
 -- each port has the line that is described there
@@ -104,10 +110,20 @@ abbrev pub AreServedInPart : List ServedLine → Option (List ℕ) → Option (L
 AreServedInPart lines old new = WritesPrefix old new ready
     ⊎ ((between : Option (List ℕ)) × Appends old between ready × AreBrokenOff (specs_of lines) between new)
 
-abbrev pub ServesLines : List ServedLine → Option (List ℕ) → Option (List ℕ) → Result Served RunFault → Type 0
+-- `ready` is written once all that is needed can be had
+abbrev pub Attends : Option (List ℕ) → Option (List ℕ) → Result (Option ℕ) RunFault → Type 0
+Attends old new (Ok served) = Appends old new ready
+Attends old new (Err runs.WriteFault) = WritesPrefix old new ready
+Attends old new (Err runs.OutOfMemory) = Keeps old new
+Attends old new (Err other) = ⊥
+
+-- where a file for an audit text can't be had, nothing is written; where it took a row no more, all is
+abbrev pub ServesLines : List ServedLine → Option (List ℕ) → Option (List ℕ) → Result Served Fault → Type 0
 ServesLines lines old new (Ok served) = AreServed lines old new
-ServesLines lines old new (Err runs.WriteFault) = AreServedInPart lines old new
-ServesLines lines old new (Err runs.OutOfMemory) = AreServedInPart lines old new
+ServesLines lines old new (Err (faults.CannotMake path)) = Keeps old new
+ServesLines lines old new (Err (faults.CannotWrite path)) = AreServed lines old new
+ServesLines lines old new (Err (faults.Run runs.WriteFault)) = AreServedInPart lines old new
+ServesLines lines old new (Err (faults.Run runs.OutOfMemory)) = AreServedInPart lines old new
 ServesLines lines old new (Err other) = ⊥
 
 -- ---- a rack
@@ -132,12 +148,15 @@ abbrev pub IsServedInPart : RackDescription → Option (List ℕ) → Option (Li
 IsServedInPart rack old new = Keeps old new ⊎ ((lines : List ServedLine) × AreLinesOf rack lines × AreServedInPart lines old new)
 
 -- a rack that is accepted is served; a line without a port is a bad key, and then nothing is written, nor where a port of the rack can't be
--- had; and where memory, a thread or a write is refused, what is written is a part
+-- had, or the folder or a file for an audit text; where such a file took a row no more, all is served; and where memory, a thread or a write is
+-- refused, what is written is a part
 abbrev pub ServesRack : RackDescription → Option (List ℕ) → Option (List ℕ) → Result Served Fault → Type 0
 ServesRack rack old new (Ok served) = IsServed rack old new
 ServesRack rack old new (Err (faults.Run (runs.Rack racks.BadKey))) = (list_all has_ports rack.lines ≡ false) × Keeps old new
 ServesRack rack old new (Err (faults.CannotListen port)) =
     (lines : List ServedLine) × AreLinesOf rack lines × Contains (ports_of lines) port × Keeps old new
+ServesRack rack old new (Err (faults.CannotMake path)) = Keeps old new
+ServesRack rack old new (Err (faults.CannotWrite path)) = IsServed rack old new
 ServesRack rack old new (Err (faults.Run runs.OutOfMemory)) = IsServedInPart rack old new
 ServesRack rack old new (Err (faults.Run runs.WriteFault)) = IsServedInPart rack old new
 ServesRack rack old new (Err other) = ⊥

@@ -1,7 +1,10 @@
 //! The words of the command line.
 
 use crate::ending::Fault;
+use crate::notes::Telling;
+use crate::serve::Service;
 use clap::builder::ValueParser;
+use clap::error::ErrorKind as Refused;
 use clap::{Arg, ArgAction, ArgMatches, Command};
 use dp_script::RunFault;
 use std::alloc::{AllocError, Global};
@@ -14,10 +17,17 @@ const SCRIPT: &str = "SCRIPT";
 
 const AUDIT: &str = "AUDIT";
 
-/// The option of `serve`, and the most sessions that it may name.
+/// The options of `serve`, and the most sessions that it may name.
 const SESSIONS: &str = "sessions";
 
 const MOST_SESSIONS: u64 = 1_000_000;
+
+const FOLDER: &str = "audit";
+
+const LOG: &str = "log";
+
+/// What may be named behind `--log`; the first one is meant where nothing is.
+const TOLD: [&str; 2] = ["sessions", "requests"];
 
 /// What `--version` answers, behind the program's name.
 const VERSION: &str = "0.1.0";
@@ -29,7 +39,7 @@ rackd simulates a rack of PROFIBUS DP slaves.
 Usage: rackd < INPUT
        rackd run RACK SCRIPT
        rackd check RACK AUDIT
-       rackd serve RACK [--sessions N]
+       rackd serve RACK [--sessions N] [--audit FOLDER] [--log [requests]]
 
 Standard input is a rack file (TOML: lines with their masters and slaves), a line that is
 exactly %%, and a script: 'm M HEX' is what master M sends, 'owned M' lists the slaves that it
@@ -48,7 +58,14 @@ its operator, and writes 'ready'. A master sends its address as one octet and ge
 telegrams and gets the replies. An operator sends the lines of a script that aren't 'm', 'line' or
 'journal', and gets a line for each. Time passes only by the operator's 'tick'. With --sessions N
 (1 to 1000000) each port accepts N connections; when all have ended, the audit text of each line is
-written, in the order of their numbers. Without it the program doesn't end by itself.
+written, in the order of their numbers. Without it the program doesn't end by itself. A master that
+sends no address for ten seconds is disconnected.
+
+With --audit FOLDER the audit text of each line is written to a new file line-N-K.audit of the folder
+while it is served: the row of an event is there before its answer is sent. 'check' wants such a text
+from its header on, without 'ready'. With --log connections, ends of sessions and octets that are no
+telegram are told on standard error, with --log requests each request and its answer too. That a line
+is halted is always told.
 
 For example, the input
 
@@ -74,9 +91,11 @@ Options:
 Exit statuses:
   0  done
   1  a check that is not legal
-  2  wrong words, a file, input, a rack or a script that is not accepted, or a port that is taken
+  2  wrong words, a file, input, a rack or a script that is not accepted, a port that is taken, or a
+     file for an audit text that cannot be made
   3  out of memory
   4  standard output cannot be written
+  5  an audit text cannot be written to its file
 ";
 
 /// What the words ask for.
@@ -102,8 +121,8 @@ pub enum Invocation<'a> {
     Serve {
         /// The path of the rack.
         rack: &'a str,
-        /// How many connections each port accepts, 1 to 1,000,000; None where there's no end of them.
-        sessions: Option<u32>,
+        /// How it is served.
+        service: Service<'a>,
     },
     /// `clap` answers: help, the version, or what is wrong with the words.
     Answer(clap::Error),
@@ -126,8 +145,36 @@ pub fn read_words<'a>(alloc: Global, words: &'a [String]) -> Result<Invocation<'
         return Err(Fault::Run(RunFault::OutOfMemory));
     };
     match command.try_get_matches_from(words) {
-        Ok(matches) => Ok(invocation_of(&matches)),
+        Ok(matches) => match odd_count(&matches) {
+            Some(count) => refuse_count(alloc, count),
+            None => Ok(invocation_of(&matches)),
+        },
         Err(error) => Ok(Invocation::Answer(error)),
+    }
+}
+
+/// A number of sessions with a sign or a leading zero, which `clap` lets pass.
+fn odd_count<'a>(matches: &ArgMatches<'a>) -> Option<&'a str> {
+    let (_, words) = matches.subcommand()?;
+    match words.get_str(SESSIONS) {
+        Some(count) if count.starts_with('+') || count.starts_with('0') => Some(count),
+        _ => None,
+    }
+}
+
+/// The answer to such a number.
+fn refuse_count<'a>(alloc: Global, count: &str) -> Result<Invocation<'a>, Fault<'a>> {
+    let Ok(message) = format!(in alloc;
+        "invalid value '{count}' for '--sessions <sessions>': a number has no sign and no leading zero"
+    ) else {
+        return Err(Fault::Run(RunFault::OutOfMemory));
+    };
+    match serving(alloc) {
+        Ok(mut serve) => match serve.error(Refused::ValueValidation, message.as_str()) {
+            Ok(error) => Ok(Invocation::Answer(error)),
+            Err(_) => Err(Fault::Run(RunFault::OutOfMemory)),
+        },
+        Err(_) => Err(Fault::Run(RunFault::OutOfMemory)),
     }
 }
 
@@ -144,9 +191,22 @@ fn invocation_of<'a>(matches: &ArgMatches<'a>) -> Invocation<'a> {
         },
         Some((_, files)) => Invocation::Serve {
             rack: path_in(files, RACK),
-            sessions: files.get_one(SESSIONS),
+            service: Service {
+                sessions: files.get_one(SESSIONS),
+                audit: files.get_str(FOLDER),
+                telling: telling_of(files.get_str(LOG)),
+            },
         },
         None => Invocation::Input,
+    }
+}
+
+/// How much is told, by what stands behind `--log`; little without it.
+fn telling_of(told: Option<&str>) -> Telling {
+    match told {
+        None => Telling::Little,
+        Some("requests") => Telling::Requests,
+        Some(_) => Telling::Sessions,
     }
 }
 
@@ -185,15 +245,26 @@ fn with_files<'a>(alloc: Global, name: &'a str, other: &'a str) -> Result<Comman
         .arg(other)
 }
 
-/// The word `serve`: a rack, and how many sessions each port may have.
+/// The word `serve`: a rack, how many sessions each port may have, where its audit texts go, and what is told.
 fn serving<'a>(alloc: Global) -> Result<Command<'a>, AllocError> {
     let rack = Arg::new(alloc, RACK).required(true);
     let sessions = Arg::new(alloc, SESSIONS)
         .long(SESSIONS)
         .value_parser(ValueParser::unsigned(1, MOST_SESSIONS));
+    let folder = Arg::new(alloc, FOLDER)
+        .long(FOLDER)
+        .value_name("FOLDER")
+        .value_parser(ValueParser::NonEmptyString);
+    let log = Arg::new(alloc, LOG)
+        .long(LOG)
+        .num_args(0..=1)
+        .default_missing_value(TOLD[0])
+        .value_parser(ValueParser::Names(&TOLD));
     Command::new(alloc, "serve")
         .disable_help_flag(true)
         .disable_version_flag(true)
         .arg(rack)?
-        .arg(sessions)
+        .arg(sessions)?
+        .arg(folder)?
+        .arg(log)
 }

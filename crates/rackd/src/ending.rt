@@ -1,11 +1,42 @@
 //! How the program ends after a fault.
 
 ghost use Rattle.std.specs.Prelude.{◌≡◌, Some};
-ghost use Rattle.rackd.specs.Ending.{status_of, fault_text};
+ghost use Rattle.rackd.specs.Ending.{status_of, audit_path_text, fault_text};
 
 use dp_script::RunFault;
 use rack_file::RackFault;
 use std::fmt;
+
+/// A path of audit texts. Its `Display` takes no memory.
+#[derive(Clone, Copy, Debug, PartialEq, Eq)]
+pub enum AuditPath<'a> {
+    /// The folder, as the words name it.
+    Folder(&'a str),
+    /// A file of it: `FOLDER/line-N-K.audit`.
+    File {
+        /// The folder.
+        folder: &'a str,
+        /// The number of the line.
+        line: u8,
+        /// The number of the file among those of the line, from 1.
+        number: u32,
+    },
+}
+
+impl<'a> fmt::Display for AuditPath<'a> {
+    ghost output = { λ path. Some (audit_path_text path) };
+
+    fn fmt<W: fmt::Write>(&self, f: &mut fmt::Formatter<W>) -> fmt::Result {
+        match self {
+            AuditPath::Folder(folder) => f.write_str(folder),
+            AuditPath::File {
+                folder,
+                line,
+                number,
+            } => write!(f, "{folder}/line-{line}-{number}.audit"),
+        }
+    }
+}
 
 /// What kept the program from its work. Its `Display` is the line on standard error without its LF, and
 /// takes no memory.
@@ -17,6 +48,10 @@ pub enum Fault<'a> {
     CannotRead(&'a str),
     /// This port can't be listened at.
     CannotListen(u16),
+    /// The folder of audit texts, or a file of it, can't be had, or doesn't take its header.
+    CannotMake(AuditPath<'a>),
+    /// A row can't be written to this file.
+    CannotWrite(AuditPath<'a>),
     /// The run ended early.
     Run(RunFault),
 }
@@ -28,7 +63,7 @@ impl<'a> From<RunFault> for Fault<'a> {
 }
 
 /// The exit status: 2 for words, files, input and ports that can't be used, 3 where memory is out, 4 for a
-/// fault of standard output.
+/// fault of standard output, 5 where a row of an audit text can't be written to its file.
 pub fn status(fault: Fault<'_>) -> u8
     ensures { result ≡ status_of fault.entry }
 {
@@ -36,6 +71,8 @@ pub fn status(fault: Fault<'_>) -> u8
         Fault::Run(RunFault::OutOfMemory | RunFault::Rack(RackFault::OutOfMemory)) => 3,
         Fault::Run(RunFault::WriteFault) => 4,
         Fault::BadWord | Fault::CannotRead(_) | Fault::CannotListen(_) => 2,
+        Fault::CannotMake(_) => 2,
+        Fault::CannotWrite(_) => 5,
         Fault::Run(RunFault::Rack(_) | RunFault::Script(_)) => 2,
     }
 }
@@ -48,6 +85,8 @@ impl<'a> fmt::Display for Fault<'a> {
             Fault::BadWord => f.write_str("rackd: a word is not UTF-8"),
             Fault::CannotRead(path) => write!(f, "rackd: cannot read {path}"),
             Fault::CannotListen(port) => write!(f, "rackd: cannot listen on {port}"),
+            Fault::CannotMake(path) => write!(f, "rackd: cannot make {path}"),
+            Fault::CannotWrite(path) => write!(f, "rackd: cannot write {path}"),
             Fault::Run(fault) => write!(f, "rackd: {fault}"),
         }
     }

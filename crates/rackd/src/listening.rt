@@ -49,3 +49,35 @@ pub(crate) fn listen_at_lines<'a, N: Net>(
 fn listen_at<N: Net>(net: &N, port: u16) -> io::Result<N::Listener> {
     TcpListener::bind(net, (Ipv4Addr::LOCALHOST, port))
 }
+
+/// Makes sure that each worker and the operator of each line can have a connection at one time, which takes two
+/// descriptors, and that each line can have a file and wait for one more connection, for which the system sets a
+/// descriptor aside: as many are taken, and given back.
+///
+/// `CannotListen` with the first port where they can't be had, or `OutOfMemory`.
+pub(crate) fn try_connections<'a>(
+    alloc: Global,
+    lines: &[ServedLine],
+    listening: &[Listening<TcpListener>],
+    workers: u8,
+) -> Result<(), Fault<'a>>
+    ensures { IfErr result (IsListeningFault lines.now) }
+{
+    let Some(line) = lines.first() else {
+        return Ok(());
+    };
+    let Some(here) = listening.first() else {
+        return Ok(());
+    };
+    let connections = usize::from(workers) + lines.len();
+    let mut held = Vec::new(alloc);
+    for _ in 0..2 * (connections + lines.len()) {
+        let Ok(descriptor) = here.masters.try_clone() else {
+            return Err(Fault::CannotListen(line.listen));
+        };
+        if held.push(descriptor).is_err() {
+            return Err(Fault::Run(RunFault::OutOfMemory));
+        }
+    }
+    Ok(())
+}

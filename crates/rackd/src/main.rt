@@ -6,14 +6,22 @@
 #![tactic(auto)]
 
 mod acceptors;
+mod attendance;
+mod audit_files;
 mod audits;
 mod command_line;
+mod desk;
+mod doors;
 mod ending;
 mod listening;
+mod notes;
 mod opened_lines;
+mod patient;
+mod recorder;
 mod serve;
 mod served_line;
 mod threads;
+mod time_of_day;
 
 use clap::error::ErrorKind as Answer;
 use command_line::{Invocation, read_words, words_of};
@@ -22,14 +30,20 @@ pub use dp_script::{RunFault, run_check, run_text};
 use ending::{Fault, status};
 use log::{Log, info};
 pub use rack_file::{Rack, RackFault, RackLine, read_rack};
-use serve::{Served, serve_text};
-use std::fs;
+use serve::{Served, Service, serve_text};
+use std::fs::{self, File, Files};
 use std::io::{self, BufWriter, ErrorKind, Printer, Write};
 use std::net::{Net, TcpListener, TcpStream};
 use std::process::ExitCode;
 use std::rt::Runtime;
 use std::sync::Wait;
 use std::thread::Threads;
+
+/// How every audit text begins.
+const HEADER: &str = "rack-audit ";
+
+/// What is told of a text that isn't legal and has no header.
+const NO_HEADER: &str = "  row 1: no header; does the text begin with \"ready\"?";
 
 fn main(rt: HostRuntime) -> ExitCode {
     match words_of(&rt) {
@@ -55,6 +69,7 @@ fn obey<
         + AllocGlobal
         + Log
         + Net<Listener = TcpListener, Stream = TcpStream>
+        + Files<File = File>
         + Threads
         + Wait
         + Sync,
@@ -63,7 +78,7 @@ fn obey<
         Invocation::Input => run_input(rt),
         Invocation::Run { rack, script } => run_files(rt, rack, script),
         Invocation::Check { rack, audit } => check_files(rt, rack, audit),
-        Invocation::Serve { rack, sessions } => serve_file(rt, rack, sessions),
+        Invocation::Serve { rack, service } => serve_file(rt, rack, service),
         Invocation::Answer(answer) => Ok(tell(rt, &answer)?),
     }
 }
@@ -123,13 +138,14 @@ fn serve_file<
         + AllocGlobal
         + Log
         + Net<Listener = TcpListener, Stream = TcpStream>
+        + Files<File = File>
         + Threads
         + Wait
         + Sync,
->(rt: &H, rack: &'a str, sessions: Option<u32>) -> Result<ExitCode, Fault<'a>> {
+>(rt: &H, rack: &'a str, service: Service<'a>) -> Result<ExitCode, Fault<'a>> {
     let rack = read_file(rt, rack)?;
     let mut output = buffered(rt)?;
-    let served = serve_text(rt, rt.alloc(), rack.as_str(), sessions, &mut output);
+    let served = serve_text(rt, rt.alloc(), rack.as_str(), service, &mut output);
     flushed(output)?;
     let Served { masters, operators } = served?;
     info!(rt; "served {masters} sessions of masters and {operators} of operators");
@@ -170,7 +186,11 @@ fn check_out(
     let mut output = buffered(rt)?;
     let checked = run_check(rt.alloc(), rack, audit, &mut output);
     flushed(output)?;
-    checked.map(|status| ExitCode::from(status))
+    let status = checked?;
+    if status != 0 && !audit.starts_with(HEADER) {
+        let _ = rt.eprintln(NO_HEADER);
+    }
+    Ok(ExitCode::from(status))
 }
 
 /// Standard output behind a buffer.

@@ -7,24 +7,33 @@ ghost use Rattle.dp_sessions.specs.Pools.{HasSeats};
 ghost use Rattle.dp_line.specs.World.{opening_fault};
 ghost use Rattle.rack_file.specs.Rack.{rack_described};
 ghost use Rattle.rack_file.specs.RackFile.{rack_in};
-ghost use Rattle.rackd.specs.ServeOutput.{AreOpened, Serves, ServesLines, ServesRack, ready};
+ghost use Rattle.rackd.specs.ServeOutput.{AreOpened, Attends, Serves, ServesLines, ServesRack, ready};
 
 use crate::acceptors::Acceptors;
+use crate::attendance::Attendance;
 use crate::audits::write_audits;
+use crate::doors::Doors;
 use crate::ending::Fault;
-use crate::listening::{Listening, listen_at_lines};
+use crate::listening::{Listening, listen_at_lines, try_connections};
+use crate::notes::{Notes, Telling};
 use crate::opened_lines::{OpenedLines, open_lines};
+use crate::recorder::{first_incomplete, record_lines};
 use crate::served_line::{ServedLine, lines_to_serve};
 use crate::threads::{accept_and_serve, can_start};
 use crossbeam_channel::bounded;
 use dp_script::RunFault;
+use dp_sessions::Port;
+use dp_shared::WorkerSeat;
 use dp_text::write_whole;
+use dp_trail::CatchUp;
+use log::Log;
 use rack_file::laws::{
     accepted_lines_can_be_opened, accepted_racks_have_1_to_8_lines,
     accepted_racks_have_1_to_32_workers,
 };
 use rack_file::{Rack, RackFault, read_rack};
 use std::alloc::Global;
+use std::fs::{File, Files};
 use std::io::Write;
 use std::net::{Net, TcpListener, TcpStream};
 use std::sync::Wait;
@@ -37,6 +46,17 @@ const WAITING: usize = 64;
 
 /// What is written once every port is listened at.
 const READY: &[u8] = b"ready\n";
+
+/// How a rack is served.
+#[derive(Clone, Copy, Debug, PartialEq, Eq)]
+pub struct Service<'a> {
+    /// How many connections each port accepts, 1 to 1,000,000; None where there's no end of them.
+    pub sessions: Option<u32>,
+    /// The folder that gets the audit text of each line while it is served.
+    pub audit: Option<&'a str>,
+    /// How much is told on standard error.
+    pub telling: Telling,
+}
 
 /// How many sessions were served.
 #[derive(Clone, Copy, Debug, PartialEq, Eq)]
@@ -51,18 +71,26 @@ pub(crate) struct Served {
 /// each port, or without end. It writes `ready`, and when all sessions have ended the audit text of each line,
 /// in ascending order of their numbers.
 ///
-/// `Rack` where the rack isn't accepted or a line has no port, `CannotListen` where a port can't be had, and
-/// then nothing is written; `WriteFault`; `OutOfMemory` also where a thread is refused. Where that is so only
-/// behind `ready`, the audit texts are written before the end all the same.
+/// `Rack` where the rack isn't accepted or a line has no port, `CannotListen` where a port can't be had, or descriptors for its connections,
+/// `CannotMake` where the folder or a file for an audit text can't be had, and then nothing is written;
+/// `WriteFault`; `OutOfMemory` also where a thread is refused. Where that is so only behind
+/// `ready`, the audit texts are written before the end all the same. `CannotWrite` where a file of an audit text
+/// took a row no more: what was being served ends then, and the audit texts are written.
 pub(crate) fn serve_text<
     'a,
-    H: Net<Listener = TcpListener, Stream = TcpStream> + Threads + Wait + Clock + Sync,
+    H: Net<Listener = TcpListener, Stream = TcpStream>
+        + Files<File = File>
+        + Threads
+        + Wait
+        + Clock
+        + Log
+        + Sync,
     W: Write,
 >(
     rt: &H,
     alloc: Global,
     rack: &str,
-    sessions: Option<u32>,
+    service: Service<'a>,
     writer: &mut W,
 ) -> Result<Served, Fault<'a>>
     ensures { Serves (rack_in rack.now) (W.contents writer.old) (W.contents writer.new) result }
@@ -71,7 +99,7 @@ pub(crate) fn serve_text<
     accepted_racks_have_1_to_32_workers();
     accepted_lines_can_be_opened();
     match read_rack(alloc, rack) {
-        Ok(rack) => serve_rack(rt, alloc, rack, sessions, writer),
+        Ok(rack) => serve_rack(rt, alloc, rack, service, writer),
         Err(RackFault::OutOfMemory) => Err(Fault::Run(RunFault::OutOfMemory)),
         Err(fault) => Err(Fault::Run(RunFault::Rack(fault))),
     }
@@ -80,13 +108,19 @@ pub(crate) fn serve_text<
 /// Serves a rack that is accepted.
 fn serve_rack<
     'a,
-    H: Net<Listener = TcpListener, Stream = TcpStream> + Threads + Wait + Clock + Sync,
+    H: Net<Listener = TcpListener, Stream = TcpStream>
+        + Files<File = File>
+        + Threads
+        + Wait
+        + Clock
+        + Log
+        + Sync,
     W: Write,
 >(
     rt: &H,
     alloc: Global,
     rack: Rack,
-    sessions: Option<u32>,
+    service: Service<'a>,
     writer: &mut W,
 ) -> Result<Served, Fault<'a>>
     requires few { length (rack_described rack).lines ≤ 8 }
@@ -103,26 +137,40 @@ fn serve_rack<
         Ok(listening) => listening,
         Err(fault) => return Err(fault),
     };
+    match try_connections(alloc, &lines, &listening, workers) {
+        Ok(()) => {}
+        Err(fault) => return Err(fault),
+    }
     let Ok(opened) = open_lines(alloc, &lines, workers) else {
         return Err(Fault::Run(RunFault::OutOfMemory));
     };
-    let sessions = sessions.map_or(u64::MAX, |count| u64::from(count));
-    match serve_lines(rt, alloc, &lines, listening, opened, sessions, writer) {
+    match serve_lines(rt, alloc, &lines, listening, opened, service, writer) {
         Ok(served) => Ok(served),
-        Err(fault) => Err(Fault::Run(fault)),
+        Err(fault) => Err(fault),
     }
 }
 
-/// Serves the lines that are listened at.
-pub(crate) fn serve_lines<H: Net + Threads + Wait + Clock + Sync, W: Write>(
-    rt: &H,
+/// Serves the lines that are listened at, and records them.
+pub(crate) fn serve_lines<
+    'a,
+    's,
+    H: Net<Listener = TcpListener, Stream = TcpStream>
+        + Files<File = File>
+        + Threads
+        + Wait
+        + Clock
+        + Log
+        + Sync,
+    W: Write,
+>(
+    rt: &'s H,
     alloc: Global,
-    lines: &[ServedLine],
+    lines: &'s [ServedLine],
     listening: Vec<Listening<TcpListener>>,
     opened: OpenedLines,
-    sessions: u64,
+    service: Service<'a>,
     writer: &mut W,
-) -> Result<Served, RunFault>
+) -> Result<Served, Fault<'a>>
     requires few { length lines.now ≤ 8 }
     requires each { length listening.items ≡ length lines.now }
     requires opened { AreOpened lines.now opened.ports.items }
@@ -131,31 +179,91 @@ pub(crate) fn serve_lines<H: Net + Threads + Wait + Clock + Sync, W: Write>(
     ensures { ServesLines lines.now (W.contents writer.old) (W.contents writer.new) result }
 {
     let OpenedLines { ports, seats } = opened;
-    let operators = AtomicU32::new(0);
+    let doors = Doors::unopened(&listening);
+    let recorders = match record_lines(rt, alloc, &doors, service.audit, lines, &ports) {
+        Ok(recorders) => recorders,
+        Err(fault) => return Err(fault),
+    };
+    let notes = Notes::new(rt, service.telling, lines, seats.len() as u32);
+    let attendance = Attendance {
+        rt,
+        doors: &doors,
+        notes: &notes,
+        operators: AtomicU32::new(0),
+    };
+    let sessions = service.sessions.map_or(u64::MAX, |count| u64::from(count));
+    let masters = match attend(
+        &attendance,
+        alloc,
+        lines,
+        listening,
+        &ports,
+        seats,
+        &recorders,
+        sessions,
+        writer,
+    ) {
+        Ok(masters) => masters,
+        Err(fault) => return Err(Fault::Run(fault)),
+    };
+    let operators = attendance.operators.into_inner();
+    let incomplete = first_incomplete(rt, recorders);
+    match write_audits(alloc, ports, writer) {
+        Ok(()) => {}
+        Err(fault) => return Err(Fault::Run(fault)),
+    }
+    if let Some(path) = incomplete {
+        return Err(Fault::CannotWrite(path));
+    }
+    match masters {
+        Some(masters) => Ok(Served { masters, operators }),
+        None => Err(Fault::Run(RunFault::OutOfMemory)),
+    }
+}
+
+/// Writes `ready`, and accepts and serves connections: how many sessions of masters were served, or None where a
+/// thread was refused meanwhile.
+///
+/// `OutOfMemory` where memory or threads for all sessions can't be had, and then nothing is written;
+/// `WriteFault`.
+fn attend<'a, H: Net + Threads + Wait + Clock + Log + Sync, C: CatchUp + Sync, W: Write>(
+    attendance: &'a Attendance<'a, H>,
+    alloc: Global,
+    lines: &'a [ServedLine],
+    listening: Vec<Listening<TcpListener>>,
+    ports: &'a [Port],
+    seats: Vec<Vec<WorkerSeat>>,
+    recorders: &'a [C],
+    sessions: u64,
+    writer: &mut W,
+) -> Result<Option<u32>, RunFault>
+    requires few { length lines.now ≤ 8 }
+    requires each { length listening.items ≡ length lines.now }
+    requires opened { AreOpened lines.now ports.now }
+    requires recorded { length recorders.now ≡ length lines.now }
+    requires workers { (1 ≤ length seats.items) × (length seats.items ≤ 32) }
+    requires seats { All (λ own. HasSeats ports.now own.items) seats.items }
+    ensures { Attends (W.contents writer.old) (W.contents writer.new) result }
+{
+    if !can_start(attendance.rt, seats.len() + 2 * lines.len()) {
+        return Err(RunFault::OutOfMemory);
+    }
     let Ok((sender, jobs)) = bounded(alloc, WAITING) else {
         return Err(RunFault::OutOfMemory);
     };
-    let Ok(acceptors) = Acceptors::of(alloc, listening, lines, &ports, sender, &operators) else {
+    let opened = Acceptors::of(
+        alloc, listening, lines, ports, recorders, sender, attendance,
+    );
+    let Ok(acceptors) = opened else {
         return Err(RunFault::OutOfMemory);
     };
-    if !can_start(rt, seats.len() + 2 * lines.len()) {
-        return Err(RunFault::OutOfMemory);
-    }
     let Ok(()) = write_ready(writer) else {
         return Err(RunFault::WriteFault);
     };
-    let served = accept_and_serve(rt, acceptors, &ports, seats, jobs, sessions);
-    match write_audits(alloc, ports, writer) {
-        Ok(()) => {}
-        Err(fault) => return Err(fault),
+    match accept_and_serve(attendance, acceptors, ports, seats, jobs, sessions) {
+        Ok(masters) => Ok(Some(masters)),
+        Err(_) => Ok(None),
     }
-    let Ok(masters) = served else {
-        return Err(RunFault::OutOfMemory);
-    };
-    Ok(Served {
-        masters,
-        operators: operators.into_inner(),
-    })
 }
 
 /// Writes `ready`, and has it leave.

@@ -3,22 +3,20 @@
 ghost use Rattle.std.specs.Prelude.{◌≡◌, ◌≤◌, All, length};
 ghost use Rattle.dp_sessions.specs.Pools.{HasSeats};
 
-use crate::acceptors::{Accept, Acceptors, Doors, MasterJob, TURNS};
-use arrayvec::ArrayVec;
+use crate::acceptors::{Accept, Acceptors, MasterJob, TURNS};
+use crate::attendance::Attendance;
+use crate::doors::{Door, Doors};
 use crossbeam_channel::Receiver;
-use dp_sessions::{OpenGate, PoolFault, Port, run_pool};
+use dp_sessions::{Gate, Job, PoolFault, Port, run_pool};
 use dp_shared::WorkerSeat;
-use std::net::{Ipv4Addr, Net, TcpStream};
+use dp_trail::CatchUp;
+use log::Log;
+use std::io::{Read, Write};
+use std::net::Net;
 use std::sync::{Mutex, Wait};
 use std::thread;
 use std::thread::Threads;
 use std::time::Clock;
-
-/// The most ports of a rack: two for each of its lines.
-const MOST_PORTS: usize = 16;
-
-/// Ports that are listened at.
-type OpenPorts = ArrayVec<u16, MOST_PORTS>;
 
 /// Whether so many threads can be had at one time: they are started, and end.
 pub(crate) fn can_start<H: Threads + Wait + Sync>(rt: &H, count: usize) -> bool {
@@ -42,26 +40,32 @@ pub(crate) fn can_start<H: Threads + Wait + Sync>(rt: &H, count: usize) -> bool 
 ///
 /// Where the thread of an acceptor is refused no connection is accepted, and where that of a worker is, none
 /// any more.
-pub(crate) fn accept_and_serve<H: Net + Threads + Wait + Clock + Sync>(
-    rt: &H,
-    acceptors: Acceptors<'_>,
+pub(crate) fn accept_and_serve<'a, H: Net + Threads + Wait + Clock + Log + Sync, C: CatchUp + Sync>(
+    attendance: &'a Attendance<'a, H>,
+    acceptors: Acceptors<'a, H, C>,
     ports: &[Port],
     seats: Vec<Vec<WorkerSeat>>,
-    jobs: Receiver<MasterJob>,
+    jobs: Receiver<MasterJob<'a, H, C>>,
     sessions: u64,
 ) -> Result<u32, PoolFault>
     requires workers { (1 ≤ length seats.items) × (length seats.items ≤ 32) }
     requires seats { All (λ own. HasSeats ports.now own.items) seats.items }
 {
     let Acceptors { masters, operators } = acceptors;
-    let doors = Doors::closed();
-    accept_each(rt, masters, operators, ports, seats, jobs, &doors, sessions)
+    let (rt, doors) = (attendance.rt, attendance.doors);
+    let notes = attendance.notes;
+    accept_each(
+        rt, masters, operators, ports, seats, jobs, doors, notes, sessions,
+    )
 }
 
-/// Starts and serves with acceptors of any type.
+/// Starts and serves with acceptors, connections and notes of any type.
 fn accept_each<
     M: Accept + Send + Drop,
     O: Accept + Send + Drop,
+    R: Read + Send + Drop,
+    W: Write + Send + Drop,
+    G: Gate + Sync,
     H: Net + Threads + Wait + Clock + Sync,
 >(
     rt: &H,
@@ -69,16 +73,14 @@ fn accept_each<
     operators: Vec<O>,
     ports: &[Port],
     seats: Vec<Vec<WorkerSeat>>,
-    jobs: Receiver<MasterJob>,
+    jobs: Receiver<Job<R, W>>,
     doors: &Doors,
+    gate: &G,
     sessions: u64,
 ) -> Result<u32, PoolFault>
     requires workers { (1 ≤ length seats.items) × (length seats.items ≤ 32) }
     requires seats { All (λ own. HasSeats ports.now own.items) seats.items }
 {
-    let mut open_ports = OpenPorts::new();
-    note_ports(&masters, &mut open_ports);
-    note_ports(&operators, &mut open_ports);
     thread::scope(
         thread::scope_env(),
         rt,
@@ -86,7 +88,7 @@ fn accept_each<
             requires { (1 ≤ length seats.items) × (length seats.items ≤ 32)
                 × All (λ own. HasSeats ports.now own.items) seats.items }
         {
-            let mut open = doors.hold(rt);
+            let mut door = doors.hold(rt);
             for acceptor in masters {
                 let accepting = move || acceptor.accept_all(rt, doors, sessions);
                 if scope.spawn(accepting).is_err() {
@@ -99,31 +101,13 @@ fn accept_each<
                     return Err(PoolFault::NoThread);
                 }
             }
-            *open = true;
-            drop(open);
-            let served = run_pool(rt, ports, seats, jobs, &OpenGate, TURNS);
+            *door = Door::Open;
+            drop(door);
+            let served = run_pool(rt, ports, seats, jobs, gate, TURNS);
             if served.is_err() {
-                doors.close(rt);
-                knock(rt, &open_ports);
+                doors.shut(rt, rt);
             }
             served
         },
     )
-}
-
-/// Notes the ports that are listened at. For port 0 the system chose one, which the rack file doesn't say.
-fn note_ports<A: Accept>(acceptors: &[A], open_ports: &mut OpenPorts) {
-    for acceptor in acceptors {
-        if let Ok(address) = acceptor.listener().local_addr() {
-            let _ = open_ports.try_push(address.port());
-        }
-    }
-}
-
-/// Connects to each of these ports once, so that who waits for a connection there sees that the doors are
-/// closed. A port that is listened at no more is left.
-fn knock<N: Net>(net: &N, open_ports: &[u16]) {
-    for port in open_ports {
-        let _ = TcpStream::connect(net, (Ipv4Addr::LOCALHOST, *port));
-    }
 }

@@ -1,0 +1,18 @@
+//! What all acceptors of a rack share.
+
+use crate::doors::Doors;
+use crate::notes::Notes;
+use std::sync::atomic::AtomicU32;
+
+/// What all acceptors of a rack share.
+#[derive(Drop)]
+pub(crate) struct Attendance<'a, H> {
+    /// The runtime.
+    pub(crate) rt: &'a H,
+    /// The doors of the rack.
+    pub(crate) doors: &'a Doors,
+    /// What is told of the rack.
+    pub(crate) notes: &'a Notes<'a, H>,
+    /// How many sessions of operators were served, over all lines.
+    pub(crate) operators: AtomicU32,
+}

@@ -1,0 +1,105 @@
+//! The files that get the audit texts of lines while these are served.
+
+ghost use Rattle.std.specs.Prelude.{IfErr};
+ghost use Rattle.rackd.specs.ServeOutput.{IsRecordingFault};
+
+use crate::ending::{AuditPath, Fault};
+use dp_script::RunFault;
+use dp_shared::Line;
+use dp_trail::{Tail, Trail, TrailFault};
+use std::alloc::Global;
+use std::fs::{self, File, Files};
+use std::io::{self, ErrorKind, Write};
+use std::sync::Wait;
+
+/// The trail of a line in a file. It is generic, since the check finds that threads may share it by the facts of
+/// its type parameter.
+#[derive(Drop)]
+pub(crate) struct AuditFile<'a, T> {
+    /// The path of the file.
+    pub(crate) path: AuditPath<'a>,
+    /// The trail.
+    pub(crate) trail: T,
+}
+
+/// Makes the folder, where it is missing, and those above it.
+///
+/// `CannotMake` with its path.
+pub(crate) fn make_folder<'a>(files: &impl Files, folder: &'a str) -> Result<(), Fault<'a>>
+    ensures { IfErr result IsRecordingFault }
+{
+    match fs::create_dir_all(files, folder) {
+        Ok(()) => Ok(()),
+        Err(_) => Err(Fault::CannotMake(AuditPath::Folder(folder))),
+    }
+}
+
+/// A new file of a folder for the line of this number, by the first number that is free for it, with the header
+/// of the line's audit text. Nothing that is there is changed.
+///
+/// `CannotMake` with the path of the file that can't be had or doesn't take the header, or `OutOfMemory`.
+pub(crate) fn open_file<'a, 'l, H: Files<File = File> + Wait>(
+    rt: &H,
+    alloc: Global,
+    folder: &'a str,
+    line: &'l Line,
+    number: u8,
+) -> Result<AuditFile<'a, Trail<'l, File>>, Fault<'a>>
+    ensures { IfErr result IsRecordingFault }
+{
+    for of_file in 1..=u32::MAX {
+        let path = AuditPath::File {
+            folder,
+            line: number,
+            number: of_file,
+        };
+        match create(rt, alloc, path) {
+            Ok(file) => return begin(rt, line, file, path),
+            Err(error) => match error.kind() {
+                ErrorKind::AlreadyExists => {}
+                ErrorKind::OutOfMemory => return Err(Fault::Run(RunFault::OutOfMemory)),
+                _ => return Err(Fault::CannotMake(path)),
+            },
+        }
+    }
+    Err(Fault::CannotMake(AuditPath::Folder(folder)))
+}
+
+/// Creates a file where nothing has its path.
+fn create<H: Files<File = File>>(
+    files: &H,
+    alloc: Global,
+    path: AuditPath<'_>,
+) -> io::Result<File> {
+    let Ok(path) = format!(in alloc; "{path}") else {
+        return Err(io::Error::from(ErrorKind::OutOfMemory));
+    };
+    File::create_new(files, path.as_str())
+}
+
+/// Begins the trail of a line in its file.
+fn begin<'a, 'l, H: Wait, F: Write + Drop>(
+    rt: &H,
+    line: &'l Line,
+    file: F,
+    path: AuditPath<'a>,
+) -> Result<AuditFile<'a, Trail<'l, F>>, Fault<'a>>
+    ensures { IfErr result IsRecordingFault }
+{
+    match Tail::open(rt, line, file) {
+        Ok(tail) => Ok(AuditFile {
+            path,
+            trail: Trail::of(tail),
+        }),
+        Err(TrailFault::NoPass) => Err(Fault::Run(RunFault::OutOfMemory)),
+        Err(TrailFault::WriteFault) => Err(Fault::CannotMake(path)),
+    }
+}
+
+/// Has a trail catch up a last time, and gives its pass back; whether all its rows are written.
+pub(crate) fn complete<H: Wait, F: Write + Drop>(rt: &H, trail: Trail<'_, F>) -> bool {
+    let mut tail = trail.into_tail();
+    let complete = tail.catch_up(rt).is_ok();
+    let _ = tail.close(rt);
+    complete
+}

@@ -1,0 +1,285 @@
+//! What is told on standard error while a rack is served.
+
+use crate::served_line::ServedLine;
+use crate::time_of_day::TimeOfDay;
+use arrayvec::ArrayVec;
+use dp_audit::Receipt;
+use dp_line::{Event, Op, OperatorFault, Outcome, Rule};
+use dp_sessions::{Gate, SessionEnd};
+use dp_telegram::FrameFault;
+use dp_text::Text;
+use log::{Log, info, warn};
+use std::fmt::Display;
+use std::io::Error;
+use std::sync::atomic::AtomicU32;
+use std::sync::atomic::Ordering::SeqCst;
+use std::sync::{Mutex, Wait};
+use std::time::Clock;
+
+/// The most lines of a rack.
+const MOST_LINES: usize = 8;
+
+/// The most sessions of masters at one time: one for each worker.
+const MOST_SESSIONS: usize = 32;
+
+/// How much is told.
+#[derive(Clone, Copy, Debug, PartialEq, Eq)]
+pub enum Telling {
+    /// That a line is halted.
+    Little,
+    /// Connections and sessions too.
+    Sessions,
+    /// Each request and its answer too.
+    Requests,
+}
+
+/// What a session under way has asked for.
+#[derive(Clone, Copy, Debug, Default, PartialEq, Eq)]
+struct Asked {
+    line: u8,
+    master: u8,
+    requests: u32,
+    refused: u32,
+}
+
+/// What was told or counted, and is needed again.
+#[derive(Drop)]
+struct Noted {
+    /// The lines of which it was told that they are halted.
+    halted: ArrayVec<u8, MOST_LINES>,
+    /// What the sessions under way have asked for.
+    asked: ArrayVec<Asked, MOST_SESSIONS>,
+}
+
+/// What is told of the lines of a rack, a row on standard error for each thing, with the time of day (UTC).
+#[derive(Drop)]
+pub(crate) struct Notes<'a, L> {
+    log: &'a L,
+    telling: Telling,
+    lines: &'a [ServedLine],
+    workers: u32,
+    attended: AtomicU32,
+    noted: Mutex<Noted>,
+}
+
+impl<'a, L: Log + Clock> Notes<'a, L> {
+    /// Nothing was told yet of these lines, which so many workers serve.
+    pub(crate) fn new(
+        log: &'a L,
+        telling: Telling,
+        lines: &'a [ServedLine],
+        workers: u32,
+    ) -> Notes<'a, L> {
+        Notes {
+            log,
+            telling,
+            lines,
+            workers,
+            attended: AtomicU32::new(0),
+            noted: Mutex::new(Noted {
+                halted: ArrayVec::new(),
+                asked: ArrayVec::new(),
+            }),
+        }
+    }
+
+    /// A connection of a master waits for a worker, at a port by its place.
+    pub(crate) fn waits<W: Wait>(&self, rt: &W, port: u8) {
+        if self.attended.fetch_add(1, SeqCst) >= self.workers {
+            let (line, workers) = (self.line_at(port), self.workers);
+            self.tell(
+                rt,
+                format_args!("line {line}: a connection waits, all {workers} workers are busy"),
+            );
+        }
+    }
+
+    /// An operator's session begins.
+    pub(crate) fn operator_connected<W: Wait>(&self, rt: &W, line: u8) {
+        self.tell(rt, format_args!("line {line}: operator connected"));
+    }
+
+    /// An operator's session has ended.
+    pub(crate) fn operator_ended<W: Wait>(&self, rt: &W, line: u8, end: SessionEnd) {
+        let end = end.name();
+        self.tell(rt, format_args!("line {line}: operator ended: {end}"));
+    }
+
+    /// A connection can't be accepted.
+    pub(crate) fn cannot_accept<W: Wait>(&self, rt: &W, line: u8, error: Error) {
+        self.tell(
+            rt,
+            format_args!("line {line}: cannot accept a connection: {error}"),
+        );
+    }
+
+    /// The number of the line whose port has this place.
+    fn line_at(&self, port: u8) -> u8 {
+        match self.lines.get(usize::from(port)) {
+            Some(line) => line.spec.number,
+            None => 0,
+        }
+    }
+
+    /// Tells a thing of connections, sessions or requests.
+    fn tell<W: Wait>(&self, rt: &W, row: impl Display + Drop) {
+        if self.telling != Telling::Little {
+            let _one_row_at_a_time = self.noted.lock(rt);
+            let time = TimeOfDay::now(self.log);
+            info!(self.log; target: "rackd", "{time} {row}");
+        }
+    }
+
+    /// Tells that a line is halted, once.
+    fn tell_halt<W: Wait>(&self, rt: &W, line: u8, receipt: &Receipt) {
+        let Some(cause) = cause_of_halt(receipt) else {
+            return;
+        };
+        let mut noted = self.noted.lock(rt);
+        if !noted.halted.contains(&line) {
+            let _ = noted.halted.try_push(line);
+            let time = TimeOfDay::now(self.log);
+            warn!(self.log; target: "rackd", "{time} line {line}: halted, {cause}");
+        }
+    }
+
+    /// Tells an event and its answer.
+    fn tell_receipt<W: Wait>(&self, rt: &W, line: u8, receipt: &Receipt) {
+        let mut text = Text::new();
+        text.push_event(&receipt.event);
+        text.push_str(" -> ");
+        text.push_outcome(&receipt.outcome);
+        if let Ok(row) = std::str::from_utf8(text.as_bytes()) {
+            self.tell(rt, format_args!("line {line}: {row}"));
+        }
+    }
+
+    /// Counts a request of a session.
+    fn count<W: Wait>(&self, rt: &W, line: u8, receipt: &Receipt) {
+        let Event::Request { master, .. } = &receipt.event else {
+            return;
+        };
+        let mut noted = self.noted.lock(rt);
+        for asked in &mut noted.asked {
+            if asked.line == line && asked.master == *master {
+                asked.requests = asked.requests.saturating_add(1);
+                if is_refused(&receipt.outcome) {
+                    asked.refused = asked.refused.saturating_add(1);
+                }
+            }
+        }
+    }
+
+    /// A session is under way, which has asked for nothing.
+    fn begin<W: Wait>(&self, rt: &W, line: u8, master: u8) {
+        let _ = self.noted.lock(rt).asked.try_push(Asked {
+            line,
+            master,
+            requests: 0,
+            refused: 0,
+        });
+    }
+
+    /// What a session has asked for, which is under way no more.
+    fn finish<W: Wait>(&self, rt: &W, line: u8, master: u8) -> Asked {
+        let mut noted = self.noted.lock(rt);
+        let place = noted
+            .asked
+            .iter()
+            .position(|asked| asked.line == line && asked.master == master);
+        match place {
+            Some(place) => noted.asked.swap_remove(place),
+            None => Asked::default(),
+        }
+    }
+}
+
+impl<L: Log + Clock> Gate for Notes<'_, L> {
+    fn enter<W: Wait>(&self, _rt: &W, _line: u8, _master: u8) {}
+
+    fn accepted<W: Wait>(&self, rt: &W, line: u8, master: u8) {
+        if self.telling != Telling::Little {
+            self.begin(rt, line, master);
+            self.tell(rt, format_args!("line {line}: master {master} connected"));
+        }
+    }
+
+    fn answered<W: Wait>(&self, rt: &W, line: u8, receipt: &Receipt) {
+        self.tell_halt(rt, line, receipt);
+        if self.telling != Telling::Little {
+            self.count(rt, line, receipt);
+        }
+        if self.telling == Telling::Requests {
+            self.tell_receipt(rt, line, receipt);
+        }
+    }
+
+    fn dropped<W: Wait>(&self, rt: &W, line: u8, master: u8, fault: FrameFault, count: u8) {
+        self.tell(
+            rt,
+            format_args!("line {line} master {master}: dropped {fault} {count}"),
+        );
+    }
+
+    fn ended<W: Wait>(&self, rt: &W, line: u8, master: u8, end: SessionEnd) {
+        self.attended.fetch_sub(1, SeqCst);
+        if self.telling != Telling::Little {
+            let Asked {
+                requests,
+                refused,
+                ..
+            } = self.finish(rt, line, master);
+            let end = end.name();
+            self.tell(
+                rt,
+                format_args!(
+                    "line {line}: master {master} ended: {end}, {requests} requests, {refused} refused"
+                ),
+            );
+        }
+    }
+
+    fn turned_away<W: Wait>(&self, rt: &W, port: u8, address: Option<u8>, end: SessionEnd) {
+        self.attended.fetch_sub(1, SeqCst);
+        let (line, end) = (self.line_at(port), end.name());
+        match address {
+            Some(master) => self.tell(
+                rt,
+                format_args!("line {line}: master {master} refused: {end}"),
+            ),
+            None => self.tell(rt, format_args!("line {line}: no address came: {end}")),
+        }
+    }
+
+    fn operated<W: Wait>(&self, rt: &W, line: u8, receipt: &Receipt) {
+        self.tell_halt(rt, line, receipt);
+        if self.telling == Telling::Requests {
+            self.tell_receipt(rt, line, receipt);
+        }
+    }
+}
+
+/// Why a line is halted, as far as an event shows it: its operator halted it, or it answers so.
+fn cause_of_halt(receipt: &Receipt) -> Option<&'static str> {
+    match (&receipt.event, &receipt.outcome) {
+        (Event::Operator(Op::Halt), Outcome::Released(_)) => Some("by its operator"),
+        (_, Outcome::Silence(Rule::Halted)) => Some("its journal is full"),
+        (_, Outcome::Refused(OperatorFault::Halted)) => Some("its journal is full"),
+        _ => None,
+    }
+}
+
+/// A request got nothing of what it asked for.
+fn is_refused(outcome: &Outcome) -> bool {
+    match outcome {
+        Outcome::Reply { rule, .. } => !is_good(*rule),
+        Outcome::Silence(rule) => !is_good(*rule),
+        Outcome::Refused(_) => true,
+        Outcome::Spread(_) | Outcome::Released(_) | Outcome::Done => false,
+    }
+}
+
+/// A request by this rule got what it asked for, or asked for nothing.
+fn is_good(rule: Rule) -> bool {
+    matches!(rule, Rule::Done | Rule::Status | Rule::Repeat | Rule::Token)
+}
