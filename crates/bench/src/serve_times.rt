@@ -1,16 +1,17 @@
-//! What a session over a socket costs, beside a bare exchange of the same octets.
+//! What a session over a socket costs, beside a bare exchange of the same octets, and with its audit text in a file.
 
 ghost use Rattle.std.specs.Prelude.{◌≡◌};
 
 use crate::ROUNDS;
 use crate::line::slave;
-use crate::sockets::{Bare, Connection, Served, ask_all, connect};
+use crate::sockets::{Bare, Connection, Recorded, Served, ask_all, connect};
 use arrayvec::ArrayVec;
 use dp_line::{LineSpec, OpenFault};
 use dp_sessions::Port;
 use dp_shared::{Claims, Line, WorkerSeat};
 use std::alloc::Global;
 use std::fmt;
+use std::fs::{self, File, Files};
 use std::io::{self, Print};
 use std::net::{Net, TcpListener, TcpStream};
 use std::sync::Wait;
@@ -20,22 +21,34 @@ use std::time::{Clock, Instant};
 /// Requests of one measurement, over all sessions.
 const REQUESTS: u32 = 48_000;
 
-/// Prints how many requests a second are answered, bare and by sessions with lines of their own.
+/// Prints how many requests a second are answered, bare, by sessions with lines of their own, and by such sessions
+/// whose audit texts go to files: the ratio of the second to the first, and of the third to the second.
 pub(crate) fn measure<
-    R: Threads + Wait + Clock + Print + Net<Listener = TcpListener, Stream = TcpStream> + Sync,
+    R: Threads
+        + Wait
+        + Clock
+        + Print
+        + Net<Listener = TcpListener, Stream = TcpStream>
+        + Files<File = File>
+        + Sync,
 >(rt: &R, alloc: Global) -> io::Result<()> {
-    println!(rt; "| Sessions | bare, requests a second | sessions, requests a second | ratio |")?;
-    println!(rt; "|---|---|---|---|")?;
+    println!(rt;
+        "| Sessions | bare, requests a second | sessions | ratio | with audit texts | ratio |"
+    )?;
+    println!(rt; "|---|---|---|---|---|---|")?;
     for sessions in [1, 2, 4, 8, 16] {
         let mut bare = u64::MAX;
         let mut served = u64::MAX;
+        let mut recorded = u64::MAX;
         for _ in 0..ROUNDS {
             bare = bare.min(bare_round(rt, alloc, sessions)?);
             served = served.min(served_round(rt, alloc, sessions)?);
+            recorded = recorded.min(recorded_round(rt, alloc, sessions)?);
         }
         let ratio = Hundredths(bare.saturating_mul(100) / served.max(1));
-        let (bare, served) = (rate(bare), rate(served));
-        println!(rt; "| {sessions} | {bare} | {served} | {ratio} |")?;
+        let slower = Hundredths(served.saturating_mul(100) / recorded.max(1));
+        let (bare, served, recorded) = (rate(bare), rate(served), rate(recorded));
+        println!(rt; "| {sessions} | {bare} | {served} | {ratio} | {recorded} | {slower} |")?;
     }
     Ok(())
 }
@@ -84,6 +97,34 @@ fn served_round<R: Threads + Wait + Clock + Net<Listener = TcpListener, Stream =
     for _ in 0..sessions {
         let (client, stream) = connect(rt)?;
         let answers = opened(alloc, &line, stream)?;
+        connections.push(Connection { client, answers })?;
+    }
+    let start = Instant::now(rt)?;
+    let replies = ask_all(rt, connections, share(sessions));
+    let spent = start.elapsed(rt)?.as_nanos();
+    whole(replies.unwrap_or(0), spent)
+}
+
+/// One round of sessions, each with a line of its own, whose audit text goes to a file of its own.
+fn recorded_round<
+    R: Threads
+        + Wait
+        + Clock
+        + Net<Listener = TcpListener, Stream = TcpStream>
+        + Files<File = File>
+        + Sync,
+>(rt: &R, alloc: Global, sessions: u8) -> io::Result<u64> {
+    let line = described(alloc, share(sessions))?;
+    let mut connections = Vec::new(alloc);
+    for place in 0..sessions {
+        let (client, stream) = connect(rt)?;
+        let path = format!(in alloc; "bench-{place}.audit")?;
+        let answers = Recorded {
+            replies: stream.try_clone()?,
+            session: opened(alloc, &line, stream)?,
+            file: File::create(rt, path.as_str())?,
+        };
+        fs::remove_file(rt, path.as_str())?;
         connections.push(Connection { client, answers })?;
     }
     let start = Instant::now(rt)?;

@@ -5,6 +5,7 @@ ghost use Rattle.dp_sessions.specs.Pools.{IsSeatAt};
 use crate::cutter::SLAVE_DIAG;
 use dp_sessions::{OpenGate, Port, serve};
 use dp_shared::WorkerSeat;
+use dp_trail::{Tail, Trail, Trailed};
 use std::io::{self, Read, Write};
 use std::net::{Net, TcpListener, TcpStream};
 use std::sync::Wait;
@@ -78,6 +79,47 @@ impl Answers for Served {
             rt,
             &mut &stream,
             &mut &stream,
+            &port,
+            &mut seat,
+            &OpenGate,
+            u32::MAX,
+        );
+    }
+}
+
+/// A session with a line of its own, whose audit text goes to a file before its replies leave.
+#[derive(Drop)]
+pub(crate) struct Recorded<F> {
+    /// The session.
+    pub(crate) session: Served,
+    /// Its end of the connection, to write to.
+    pub(crate) replies: TcpStream,
+    /// The file.
+    pub(crate) file: F,
+}
+
+impl<F: Write + Drop> Answers for Recorded<F> {
+    fn answer<R: Wait>(self, rt: &R) {
+        let Recorded {
+            session,
+            replies,
+            file,
+        } = self;
+        let Served {
+            stream,
+            port,
+            mut seat,
+        } = session;
+        let Ok(tail) = Tail::open(rt, &port.line, file) else {
+            return;
+        };
+        let trail = Trail::of(tail);
+        let mut reader = Trailed::new(rt, &trail, stream);
+        let mut writer = Trailed::new(rt, &trail, replies);
+        serve(
+            rt,
+            &mut reader,
+            &mut writer,
             &port,
             &mut seat,
             &OpenGate,
