@@ -129,7 +129,9 @@ for words in word -h -V --hel --help=1 --version=1 '' '--line 1' help 'play rack
   'run --help' 'run --line rack script' check 'check rack' 'check rack audit word' 'check rack audit --version' \
   serve 'serve rack word' 'serve --help' 'serve --sessions 1' 'serve rack --sessions' 'serve rack --sessions 0' \
   'serve rack --sessions 1000001' 'serve rack --sessions x' 'serve rack --sessions -1' \
-  'serve rack --sessions 1 --sessions 1' 'serve rack --session 1'; do
+  'serve rack --sessions 1 --sessions 1' 'serve rack --session 1' 'serve rack --sessions +5' 'serve rack --sessions 05' \
+  'serve rack --audit' 'serve rack --audit a --audit b' 'serve --audit a' 'serve --log' 'serve rack --log loud' \
+  'serve rack --log --log'; do
   if [ "$words" ]; then read -ra list <<<"$words"; else list=(''); fi
   run "$rack%%%%\n$slave_diag\n" "${list[@]}"
   hold "wrong words: $words" eval '[ "$status" = 2 ] && [ ! -s "$work/out" ] && [ -s "$work/err" ]'
@@ -158,7 +160,10 @@ printf '%%%%\n' >"$work/mark"
 run '' run "$work/rack" "$work/mark"; expect 'two percent signs in a script file' 2 '' 'rackd: script line 1'
 run '' check "$work/rack" "$work/audit"; expect 'a legal audit text' 0 'legal 1' ''
 run 'x' check "$work/rack" "$work/audit"; expect 'a check leaves standard input' 0 'legal 1' ''
-run '' check "$work/rack" "$work/empty"; expect 'an empty audit text' 1 'bad line 1' ''
+no_header='  row 1: no header; does the text begin with "ready"?'
+run '' check "$work/rack" "$work/empty"; expect 'an empty audit text' 1 'bad line 1' "$no_header"
+printf 'ready\nrack-audit 2 line 1\n%s\n' "$entry" >"$work/served"
+run '' check "$work/rack" "$work/served"; expect 'an audit text with ready above it' 1 'bad line 1' "$no_header"
 printf 'rack-audit 2 line 2\n%s\n' "$entry" >"$work/other"
 run '' check "$work/rack" "$work/other"; expect 'an audit text of another line' 1 'bad line 1' ''
 printf 'rack-audit 2 line 1\n%s' "$entry" >"$work/short"

@@ -73,13 +73,13 @@ slave() {
 # ---- the program that serves
 
 # serve NAME RACK [SESSIONS]: starts the program on a rack, and waits until it is ready; with SESSIONS it ends when each
-# port has had so many connections. Its standard error goes to $errors where that is set, and it gets no more than $threads
-# threads where that is.
+# port has had so many connections. Its standard error goes to $errors where that is set, it gets no more than $threads
+# threads where that is, and the words of $options.
 serve() {
   rack=$2 sessions=${3:-} used=()
   rm -f "$work/output"
   mkfifo "$work/output"
-  ${threads:+"$refuse" "$threads"} "$program" serve "$rack" ${sessions:+--sessions "$sessions"} </dev/null >"$work/output" 2>"${errors:-$work/told}" &
+  ${threads:+"$refuse" "$threads"} "$program" serve "$rack" ${sessions:+--sessions "$sessions"} ${options:-} </dev/null >"$work/output" 2>"${errors:-$work/told}" &
   server=$!
   alive[$server]=1
   exec {output}<"$work/output"
@@ -123,7 +123,7 @@ finish() {
   done
   ended "$name" 0
   [ ! "${errors:-}" ] || return
-  expect "$name: one note" 1 "$(grep -c . "$work/told")"
+  expect "$name: one note" 1 "$(grep -vc "halted, " "$work/told")"
   expect "$name: the note counts the sessions of masters" "$count" "$(grep -ow "$count" "$work/told" | head -n 1)"
 }
 
@@ -487,6 +487,59 @@ hang_up "$one"; hang_up "$operator"
 errors=/dev/full finish 'a full journal' "$masters" "$operators"
 audits 'a full journal' 1 2
 expect 'its last entry is the halt' '2 halt | none | released' "$(tail -n 1 "$work/audit")"
+
+# ---- what is told on standard error
+
+# told: the rows with a time of day, without it
+told() { sed -nE 's/^\[(INFO |WARN ) rackd\] ([01][0-9]|2[0-3]):[0-5][0-9]:[0-5][0-9]\.[0-9]{3} /\1/p' "$work/notes"; }
+
+# tells COUNT ROW: so many rows are this one
+tells() { expect "told: $2" "$1" "$(told | grep -cxF "$2")"; }
+
+# noted WORD..: a rack of one line with four places and two workers is served with these words: a master, an address that
+# is held and one of nobody, dropped octets, connections that say nothing, and a journal that is full
+noted() {
+  local one mute late operator
+  errors=$work/notes options="$*" serve "told with: $*" "$work/noted" 5
+  master 'a master' "$masters" 1; one=$fd
+  asks 'a diagnosis' "$one" "$diag_1" "$fresh_1"
+  connect "$masters"; send "$fd" 01; closed 'an address that is held' "$fd"; hang_up "$fd"
+  connect "$masters"; send "$fd" 09; closed 'an address of nobody' "$fd"; hang_up "$fd"
+  connect "$masters"; mute=$fd
+  sleep "$moment"
+  connect "$masters"; late=$fd
+  connect "$operators"; operator=$fd
+  orders 'the second place' "$operator" 'tick 1' released
+  orders 'the third place' "$operator" 'tick 2' released
+  orders 'the last place' "$operator" 'tick 3' 'refused Halted'
+  orders 'and on' "$operator" 'tick 4' 'refused Halted'
+  send "$one" "01$diag_1"
+  quiet 'a halted line' "$one"
+  hang_up "$mute"; hang_up "$late"; hang_up "$one"; hang_up "$operator"
+  errors=$work/notes finish "told with: $*" "$masters" "$operators"
+  tells 1 'WARN line 1: halted, its journal is full'
+}
+
+{ echo 'workers = 2'; line 1 "$masters" "$operators" '1, 2' 4; slave 5; } >"$work/noted"
+noted
+expect 'nothing else is told without --log' 1 "$(told | wc -l)"
+for words in --log '--log requests'; do
+  noted $words
+  tells 1 'INFO line 1: master 1 connected'
+  tells 1 'INFO line 1: master 1 refused: AddressHeld'
+  tells 1 'INFO line 1: master 9 refused: UnknownMaster'
+  tells 1 'INFO line 1: a connection waits, all 2 workers are busy'
+  tells 2 'INFO line 1: no address came: EndOfInput'
+  tells 1 'INFO line 1 master 1: dropped NoStart 1'
+  tells 1 'INFO line 1: master 1 ended: EndOfInput, 2 requests, 1 refused'
+  tells 5 'INFO line 1: operator connected'
+  tells 5 'INFO line 1: operator ended: EndOfInput'
+  expect "told with $words: how many" "$([ "$words" = --log ] && echo 19 || echo 25)" "$(told | wc -l)"
+done
+tells 1 "INFO line 1: req 1 $diag_1 -> reply $fresh_1 Done"
+tells 1 "INFO line 1: req 1 $diag_1 -> silence Halted"
+tells 1 'INFO line 1: tick 2 -> released'
+tells 1 'INFO line 1: tick 4 -> refused Halted'
 
 # ---- threads that are refused: a line with two workers needs four, which are tried before they are started
 
