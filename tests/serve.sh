@@ -488,6 +488,42 @@ errors=/dev/full finish 'a full journal' "$masters" "$operators"
 audits 'a full journal' 1 2
 expect 'its last entry is the halt' '2 halt | none | released' "$(tail -n 1 "$work/audit")"
 
+# ---- the examples: a master in Python, and a bridge for a stack that speaks to a serial port
+
+{ echo 'workers = 4'; line 1 "$masters" "$operators" '1, 2, 3'; slave 5; } >"$work/example"
+serve 'the examples' "$work/example"
+expect 'the master in Python' "master 1 exchanges data with slave 5
+outputs 1234, inputs 0000
+outputs 5678, inputs 0000
+master 2 sees that master 1 holds slave 5
+master 2 is refused: RS: not for this master, or not now" "$(timeout "$limit" "$top/examples/serve/master.py" "$masters" 2>&1)"
+
+bridge=$top/examples/serve/serial-bridge.py
+"$bridge" "$work/serial" 3 "$masters" 2>"$work/said" &
+bridged=$!
+alive[$bridged]=1
+until [ -e "$work/serial" ] || ! kill -0 "$bridged" 2>/dev/null; do sleep 0.05; done
+held_3=680b0b688385083e3c0004000180a1b016
+for again in 'a stack opens the bridge' 'a stack opens the bridge again'; do
+  exec {fd}<>"$work/serial"
+  expect "$again" "$held_3" "$(ask "$fd" "$diag_3" "$held_3")"
+  send "$fd" 6805056886836d3c3ef016
+  quiet "$again: no reply of a slave that isn't there" "$fd"
+  hang_up "$fd"
+done
+# says WORD..: what the bridge says, and ends
+says() { timeout "$limit" "$bridge" "$@" 2>&1 >/dev/null; }
+expect 'an address that is no master' "serial-bridge: ADDRESS is 0 to 126, and not '300'" "$(says "$work/other" 300 "$masters")"
+expect 'too few words' 'serial-bridge: usage: serial-bridge.py PATH ADDRESS PORT' "$(says "$work/other" 3)"
+expect 'an address that has a session' "serial-bridge: master 3 is not accepted at port $masters: it is no master of the line, or has a session" \
+  "$(says "$work/other" 3 "$masters")"
+expect 'a path that is there' "serial-bridge: $work/example can't be made: File exists" "$(says "$work/example" 2 "$masters")"
+expect 'the bridge still has its path' yes "$([ -e "$work/serial" ] && echo yes)"
+kill "$bridged"; wait "$bridged"
+expect 'a signal ends the bridge, and its path is gone' '0, no' "$?, $([ -e "$work/serial" ] && echo yes || echo no)"
+unset "alive[$bridged]"
+stop
+
 # ---- what is told on standard error
 
 # told: the rows with a time of day, without it
