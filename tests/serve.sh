@@ -499,29 +499,34 @@ master 2 sees that master 1 holds slave 5
 master 2 is refused: RS: not for this master, or not now" "$(timeout "$limit" "$top/examples/serve/master.py" "$masters" 2>&1)"
 
 bridge=$top/examples/serve/serial-bridge.py
-"$bridge" "$work/serial" 3 "$masters" 2>"$work/said" &
-bridged=$!
-alive[$bridged]=1
-until [ -e "$work/serial" ] || ! kill -0 "$bridged" 2>/dev/null; do sleep 0.05; done
-held_3=680b0b688385083e3c0004000180a1b016
-for again in 'a stack opens the bridge' 'a stack opens the bridge again'; do
-  exec {fd}<>"$work/serial"
-  expect "$again" "$held_3" "$(ask "$fd" "$diag_3" "$held_3")"
-  send "$fd" 6805056886836d3c3ef016
-  quiet "$again: no reply of a slave that isn't there" "$fd"
-  hang_up "$fd"
-done
-# says WORD..: what the bridge says, and ends
-says() { timeout "$limit" "$bridge" "$@" 2>&1 >/dev/null; }
-expect 'an address that is no master' "serial-bridge: ADDRESS is 0 to 126, and not '300'" "$(says "$work/other" 300 "$masters")"
-expect 'too few words' 'serial-bridge: usage: serial-bridge.py PATH ADDRESS PORT' "$(says "$work/other" 3)"
-expect 'an address that has a session' "serial-bridge: master 3 is not accepted at port $masters: it is no master of the line, or has a session" \
-  "$(says "$work/other" 3 "$masters")"
-expect 'a path that is there' "serial-bridge: $work/example can't be made: File exists" "$(says "$work/example" 2 "$masters")"
-expect 'the bridge still has its path' yes "$([ -e "$work/serial" ] && echo yes)"
-kill "$bridged"; wait "$bridged"
-expect 'a signal ends the bridge, and its path is gone' '0, no' "$?, $([ -e "$work/serial" ] && echo yes || echo no)"
-unset "alive[$bridged]"
+# bridge WORD..: what the bridge says, which ends
+bridge() { timeout "$limit" "$bridge" "$@" 2>&1 >/dev/null; }
+
+# bridges: a bridge in front of a stack, which opens and closes it
+bridges() {
+  local again bridged held=680b0b688385083e3c0004000180a1b016
+  "$bridge" "$work/serial" 3 "$masters" 2>"$work/said" &
+  bridged=$!
+  alive[$bridged]=1
+  until [ -e "$work/serial" ] || ! kill -0 "$bridged" 2>/dev/null; do sleep 0.05; done
+  for again in 'a stack opens the bridge' 'a stack opens the bridge again'; do
+    exec {fd}<>"$work/serial"
+    expect "$again" "$held" "$(ask "$fd" "$diag_3" "$held")"
+    send "$fd" 6805056886836d3c3ef016
+    quiet "$again: no reply of a slave that isn't there" "$fd"
+    hang_up "$fd"
+  done
+  expect 'an address that is no master' "serial-bridge: ADDRESS is 0 to 126, and not '300'" "$(bridge "$work/other" 300 "$masters")"
+  expect 'too few words' 'serial-bridge: usage: serial-bridge.py PATH ADDRESS PORT' "$(bridge "$work/other" 3)"
+  expect 'an address that has a session' "serial-bridge: master 3 is not accepted at port $masters: it is no master of the line, or has a session" \
+    "$(bridge "$work/other" 3 "$masters")"
+  expect 'a path that is there' "serial-bridge: $work/example can't be made: File exists" "$(bridge "$work/example" 2 "$masters")"
+  expect 'the bridge still has its path' yes "$([ -e "$work/serial" ] && echo yes)"
+  kill "$bridged"; wait "$bridged"
+  expect 'a signal ends the bridge, and its path is gone' '0, no' "$?, $([ -e "$work/serial" ] && echo yes || echo no)"
+  unset "alive[$bridged]"
+}
+if python3 -c 'import os; os.openpty()' 2>/dev/null; then bridges; else echo 'no pseudo terminal can be had here: the bridge is not tried'; fi
 stop
 
 # ---- what is told on standard error
