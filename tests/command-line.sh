@@ -161,7 +161,7 @@ run '' run "$work/rack" "$work/mark"; expect 'two percent signs in a script file
 run '' check "$work/rack" "$work/audit"; expect 'a legal audit text' 0 'legal 1' ''
 run 'x' check "$work/rack" "$work/audit"; expect 'a check leaves standard input' 0 'legal 1' ''
 no_header='  row 1: no header; does the text begin with "ready"?'
-run '' check "$work/rack" "$work/empty"; expect 'an empty audit text' 1 'bad line 1' "$no_header"
+run '' check "$work/rack" "$work/empty"; expect 'an empty audit text' 1 'bad line 1' ''
 printf 'ready\nrack-audit 2 line 1\n%s\n' "$entry" >"$work/served"
 run '' check "$work/rack" "$work/served"; expect 'an audit text with ready above it' 1 'bad line 1' "$no_header"
 printf 'rack-audit 2 line 2\n%s\n' "$entry" >"$work/other"

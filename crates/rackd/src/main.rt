@@ -187,7 +187,8 @@ fn check_out(
     let checked = run_check(rt.alloc(), rack, audit, &mut output);
     flushed(output)?;
     let status = checked?;
-    if status != 0 && !audit.starts_with(HEADER) {
+    // A text that is cut in its header is told on standard output alone.
+    if status != 0 && !audit.starts_with(HEADER) && !HEADER.starts_with(audit) {
         let _ = rt.eprintln(NO_HEADER);
     }
     Ok(ExitCode::from(status))
