@@ -1,0 +1,4 @@
+pub mod Rounds
+pub mod Telling
+pub mod Stepping
+pub mod Asking

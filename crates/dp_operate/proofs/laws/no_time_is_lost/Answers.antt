@@ -1,0 +1,5 @@
+use Rattle.dp_operate.proofs.Telling.{none_lost}
+use Rattle.dp_operate.proofs.laws.no_time_is_lost.Goals as goal
+
+pub returns : goal.returns
+returns c = none_lost

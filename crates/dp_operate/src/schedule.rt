@@ -1,0 +1,88 @@
+//! What is due by the clock.
+
+ghost use Rattle.std.specs.Prelude.{◌≡◌, Some, option_map};
+ghost use Rattle.dp_operate.specs.Moments.{due_at, due_text, first_schedule, schedule_after, schedule_units_at, ticks_after, wait_for_both};
+
+use crate::beat::Beat;
+use crate::ticks::Ticks;
+use std::fmt;
+
+/// What is sent to the line. Its `Display` is the line of an operator without its LF.
+#[derive(Clone, Copy, Debug, PartialEq, Eq)]
+pub enum Due {
+    /// So many units of 10 ms have passed, 1 to 2^32 - 1.
+    Tick(u32),
+    /// The devices feed their slaves.
+    Step,
+}
+
+impl fmt::Display for Due {
+    ghost output = { λ due. Some (due_text due) };
+
+    fn fmt<W: fmt::Write>(&self, f: &mut fmt::Formatter<W>) -> fmt::Result {
+        match self {
+            Due::Tick(units) => write!(f, "tick {units}"),
+            Due::Step => f.write_str("step"),
+        }
+    }
+}
+
+/// Ticks and steps that are sent by the clock, each of them or neither.
+#[derive(Clone, Copy, Debug, PartialEq, Eq)]
+pub struct Schedule {
+    ticks: Option<Ticks>,
+    steps: Option<Beat>,
+}
+
+impl Schedule {
+    /// Ticks and steps each so many milliseconds, at moment 0.
+    pub fn new(tick: Option<u32>, step: Option<u32>) -> Schedule
+        ensures { result ≡ first_schedule tick step }
+    {
+        Schedule {
+            ticks: tick.map(|every| Ticks::new(every)),
+            steps: step.map(|every| Beat::new(every)),
+        }
+    }
+
+    /// What is sent next at a moment, if anything is due: a tick goes before a step. What is told here is sent.
+    pub fn next(&mut self, moment: u64) -> Option<Due>
+        ensures due { result ≡ due_at self.old moment }
+        ensures after { self.new ≡ schedule_after self.old moment }
+    {
+        let units = self.take_units(moment);
+        if units > 0 {
+            return Some(Due::Tick(units));
+        }
+        let steps = self.steps.as_mut()?;
+        if !steps.is_due(moment) {
+            return None;
+        }
+        steps.pass(moment);
+        Some(Due::Step)
+    }
+
+    /// The units that a tick tells at a moment, 0 where none is sent.
+    fn take_units(&mut self, moment: u64) -> u32
+        ensures units { result ≡ schedule_units_at self.old moment }
+        ensures after { self.new ≡ record self.old { ticks = option_map (λ ticks. ticks_after ticks moment) (self.old).ticks } }
+    {
+        match &mut self.ticks {
+            Some(ticks) => ticks.take(moment),
+            None => 0,
+        }
+    }
+
+    /// How many milliseconds are left at a moment until something is due; None where nothing ever is.
+    pub fn wait(&self, moment: u64) -> Option<u64>
+        ensures { result ≡ wait_for_both self.now moment }
+    {
+        let tick = self.ticks.map(|ticks| ticks.beat().wait(moment));
+        let step = self.steps.map(|beat| beat.wait(moment));
+        match (tick, step) {
+            (Some(tick), Some(step)) => Some(tick.min(step)),
+            (Some(tick), None) => Some(tick),
+            (None, step) => step,
+        }
+    }
+}
