@@ -2,3 +2,5 @@ mod Elements
 mod Each
 mod Folds
 mod Accepted
+mod Places
+mod Rows

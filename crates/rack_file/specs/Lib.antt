@@ -1,6 +1,10 @@
 pub mod Codes
 pub mod Names
+pub mod KeyFault
+pub mod Misreads
 pub mod Rack
 pub mod TomlKeys
+pub mod Gives
 pub mod RackFile
+pub mod Causes
 pub mod RackFileExamples

@@ -1,19 +1,27 @@
--- The rack of one line with masters 1 and 2 and slave 5, ident number 80A1, as a document.
-use Rattle.std.specs.Prelude.{◌≡◌, ⊤, ℕ, zero, suc, pos, List, [], ◌∷◌, codes, true, false, None, Some, Ok, Err, refl}
+-- The rack of one line with masters 1 and 2 and slave 5, ident number 80A1, as a document; and what is told of documents that describe none.
+use Rattle.std.specs.Prelude.{◌≡◌, ⊤, ℕ, zero, suc, pos, negsuc, List, [], ◌∷◌, ◌++◌, codes, true, false, None, Some, Ok, Err, refl, option_map}
+use Rattle.std.specs.Fmt.{digits}
 use Rattle.hex.proofs.OnLiterals.{hex_on_literals}
 use Rattle.toml.proofs.OnLiterals.{toml_on_literals}
 use Rattle.toml.specs.Data.{Data, string, integer, boolean, array, table, Items, no_items, item, Members, no_members, member}
+use Rattle.toml.specs.Parse.{parse_document}
 use Rattle.dp_sap.specs.AccessTable.{no_lists}
 use Rattle.dp_slave.specs.declared.description.Device.TheVariants.{Still, Mirror}
 use Rattle.dp_line.specs.declared.fault.OpenFault.TheVariants.{TwiceAddress, BadCfg}
 use Rattle.rack_file.specs.declared.fault.RackFault.TheVariants.{NotToml, BadKey, TwiceLine, Open}
+use Rattle.rack_file.specs.declared.misread.Place.{Place}
+use Rattle.rack_file.specs.declared.misread.Place.TheVariants.{Rack, Line, Slave}
+use Rattle.rack_file.specs.declared.misread.Cause.{Cause}
+use Rattle.rack_file.specs.declared.misread.Cause.TheVariants.{NoSuchKey, Missing, NoNumber, NoText, NoTextOrArray, NoHex, ManyOctets, NoFlag, NoArray, Count, NoTable, NoDevice}
 use Rattle.rack_file.specs.Rack.{LineDescription}
-use Rattle.rack_file.specs.TomlKeys.{required, optional, array_of, text_or_array_of, number_to, octets_of, each_of}
-use Rattle.rack_file.specs.RackFile.{masters_of, configuration_of, configurations_of, device_of, list_of, slave_of, slaves_of, port_of, line_of, workers_of, lines_of, all_open, rack_of, rack_in}
+use Rattle.rack_file.specs.Misreads.{bad_key, key_fault_text, shown}
+use Rattle.rack_file.specs.TomlKeys.{required, optional, elements_of, text_or_array_of, number_from, octets_of, each_from}
+use Rattle.rack_file.specs.RackFile.{masters_of, configuration_of, configurations_of, device_of, list_of, slave_of, slave_at, slaves_of, port_of, line_of, line_at, lines_of, all_open, rack_of, rack_of_document, rack_in}
+use Rattle.rack_file.specs.Causes.{cause_of, row_at}
 
 -- what computes a document's rack
 unfoldable rack_on_literals : ⊤
-unfolding hex_on_literals toml_on_literals required optional array_of text_or_array_of number_to octets_of each_of masters_of configuration_of configurations_of device_of list_of slave_of slaves_of port_of line_of workers_of lines_of all_open rack_of
+unfolding hex_on_literals toml_on_literals digits required optional elements_of text_or_array_of number_from octets_of each_from masters_of configuration_of configurations_of device_of list_of slave_of slave_at slaves_of port_of line_of line_at lines_of all_open rack_of
 rack_on_literals = tt
 
 -- `[[line.slave]]` with this ident number
@@ -62,31 +70,31 @@ pub one_line : rack_of (file (item (line_with 1 2 (slave_5 0x80A1)) no_items)) �
 unfolding rack_on_literals
 one_line = refl
 
-pub no_key : rack_of no_members ≡ Err BadKey
+pub no_key : rack_of_document (Some no_members) ≡ Err BadKey
 unfolding rack_on_literals
 no_key = refl
 
-pub unknown_key : rack_of (member (codes "lines") (array no_items) no_members) ≡ Err BadKey
+pub unknown_key : rack_of_document (Some (member (codes "lines") (array no_items) no_members)) ≡ Err BadKey
 unfolding rack_on_literals
 unknown_key = refl
 
-pub wide_ident : rack_of (file (item (line_with 1 2 (slave_5 65536)) no_items)) ≡ Err BadKey
+pub wide_ident : rack_of_document (Some (file (item (line_with 1 2 (slave_5 65536)) no_items))) ≡ Err BadKey
 unfolding rack_on_literals
 wide_ident = refl
 
-pub one_number_twice : rack_of (file (item (line_with 1 2 (slave_5 1)) (item (line_with 1 3 (slave_5 2)) no_items))) ≡ Err TwiceLine
+pub one_number_twice : rack_of_document (Some (file (item (line_with 1 2 (slave_5 1)) (item (line_with 1 3 (slave_5 2)) no_items)))) ≡ Err TwiceLine
 unfolding rack_on_literals
 one_number_twice = refl
 
-pub master_with_the_slaves_address : rack_of (file (item (line_with 1 2 (slave_5 1)) (item (line_with 2 5 (slave_5 2)) no_items))) ≡ Err (Open 2 TwiceAddress)
+pub master_with_the_slaves_address : rack_of_document (Some (file (item (line_with 1 2 (slave_5 1)) (item (line_with 2 5 (slave_5 2)) no_items)))) ≡ Err (Open 2 TwiceAddress)
 unfolding rack_on_literals
 master_with_the_slaves_address = refl
 
 -- the configuration `c101` ends within its identifier
 pub cut_configuration :
-    rack_of (file (item (line_with 1 2 (table (member (codes "address") (integer (pos 5))
+    rack_of_document (Some (file (item (line_with 1 2 (table (member (codes "address") (integer (pos 5))
     (member (codes "cfg") (string (codes "c101"))
-    (member (codes "ident") (integer (pos 1)) no_members))))) no_items))
+    (member (codes "ident") (integer (pos 1)) no_members))))) no_items)))
     ≡ Err (Open 1 BadCfg)
 unfolding rack_on_literals
 cut_configuration = refl
@@ -144,15 +152,15 @@ pub each_key : rack_of (whole_file 32 (string (codes "mirror"))) ≡ Ok (record 
 unfolding rack_on_literals
 each_key = refl
 
-pub no_worker : rack_of (whole_file 0 (string (codes "mirror"))) ≡ Err BadKey
+pub no_worker : rack_of_document (Some (whole_file 0 (string (codes "mirror")))) ≡ Err BadKey
 unfolding rack_on_literals
 no_worker = refl
 
-pub many_workers : rack_of (whole_file 33 (string (codes "mirror"))) ≡ Err BadKey
+pub many_workers : rack_of_document (Some (whole_file 33 (string (codes "mirror")))) ≡ Err BadKey
 unfolding rack_on_literals
 many_workers = refl
 
-pub unknown_device : rack_of (whole_file 32 (string (codes "Mirror"))) ≡ Err BadKey
+pub unknown_device : rack_of_document (Some (whole_file 32 (string (codes "Mirror")))) ≡ Err BadKey
 unfolding rack_on_literals
 unknown_device = refl
 
@@ -170,7 +178,7 @@ abbrev texts : ℕ → List ℕ → Items
 texts zero text = no_items
 texts (suc n) text = item (string text) (texts n text)
 
-pub one_text_in_an_array : slave_of (slave_with_cfg (array (texts 1 (codes "2111")))) ≡ slave_of (slave_with_cfg (string (codes "2111")))
+pub one_text_in_an_array : slave_at 1 1 (slave_with_cfg (array (texts 1 (codes "2111")))) ≡ slave_at 1 1 (slave_with_cfg (string (codes "2111")))
 unfolding rack_on_literals
 one_text_in_an_array = refl
 
@@ -180,15 +188,15 @@ pub four_configurations :
 unfolding rack_on_literals
 four_configurations = refl
 
-pub no_configuration : slave_of (slave_with_cfg (array no_items)) ≡ Err BadKey
+pub no_configuration : slave_at 1 1 (slave_with_cfg (array no_items)) ≡ Err (bad_key (Slave 1 1) (codes "cfg") (Count 1 4))
 unfolding rack_on_literals
 no_configuration = refl
 
-pub five_configurations : slave_of (slave_with_cfg (array (texts 5 (codes "21")))) ≡ Err BadKey
+pub five_configurations : slave_at 1 1 (slave_with_cfg (array (texts 5 (codes "21")))) ≡ Err (bad_key (Slave 1 1) (codes "cfg") (Count 1 4))
 unfolding rack_on_literals
 five_configurations = refl
 
-pub number_among_configurations : slave_of (slave_with_cfg (array (item (string (codes "21")) (item (integer (pos 21)) no_items)))) ≡ Err BadKey
+pub number_among_configurations : slave_at 1 1 (slave_with_cfg (array (item (string (codes "21")) (item (integer (pos 21)) no_items)))) ≡ Err (bad_key (Slave 1 1) (codes "cfg") NoText)
 unfolding rack_on_literals
 number_among_configurations = refl
 
@@ -203,7 +211,7 @@ slave_with_readers readers =
     (member (codes "readers") readers no_members))))
 
 pub nobody_reads :
-    slave_of (slave_with_readers (array no_items))
+    slave_at 1 1 (slave_with_readers (array no_items))
     ≡ Ok (record {
       address = 5;
       ident = 1;
@@ -218,7 +226,7 @@ pub nobody_reads :
 unfolding rack_on_literals
 nobody_reads = refl
 
-pub wide_reader : slave_of (slave_with_readers (array (item (integer (pos 256)) no_items))) ≡ Err BadKey
+pub wide_reader : slave_at 1 1 (slave_with_readers (array (item (integer (pos 256)) no_items))) ≡ Err (bad_key (Slave 1 1) (codes "readers") (NoNumber 0 255))
 unfolding rack_on_literals
 wide_reader = refl
 
@@ -237,3 +245,127 @@ pub one_text :
     ≡ Ok (record { workers = 4; lines = line_1 ∷ [] })
 unfolding rack_on_literals
 one_text = refl
+
+-- ---- each cause, where it stands and its text
+
+-- a document tells this key in this place for this cause, and this is the text
+abbrev Tells : Members → Place → List ℕ → Cause → List ℕ → Type 0
+Tells file place key cause text =
+    (rack_of file ≡ Err (bad_key place key cause)) × (key_fault_text (record { place = place; key = key; cause = cause }) ≡ text)
+
+-- a file of one line with number 1, capacity 1 and no masters, and these slaves
+abbrev file_with_slaves : Items → Members
+file_with_slaves slaves =
+    file (item (table (member (codes "capacity") (integer (pos 1))
+    (member (codes "masters") (array no_items)
+    (member (codes "number") (integer (pos 1))
+    (member (codes "slave") (array slaves) no_members))))) no_items)
+
+-- the third slave of the second line has `cgf` for `cfg`
+abbrev misspelt_slave : Data
+misspelt_slave =
+    table (member (codes "address") (integer (pos 5))
+    (member (codes "cgf") (string (codes "2111"))
+    (member (codes "ident") (integer (pos 1)) no_members)))
+
+abbrev misspelt_line : Data
+misspelt_line =
+    table (member (codes "capacity") (integer (pos 1000))
+    (member (codes "masters") (array no_items)
+    (member (codes "number") (integer (pos 2))
+    (member (codes "slave") (array (item (slave_5 1) (item (slave_5 2) (item misspelt_slave no_items)))) no_members))))
+
+pub misspelt_key :
+    Tells (file (item (line_with 1 2 (slave_5 1)) (item misspelt_line no_items)))
+    (Slave 2 3) (codes "cgf") NoSuchKey (codes "line 2, slave 3, key \"cgf\": no such key")
+unfolding rack_on_literals
+misspelt_key = (refl, refl)
+
+pub missing_key : Tells no_members Rack (codes "line") Missing (codes "key \"line\": missing")
+unfolding rack_on_literals
+missing_key = (refl, refl)
+
+pub wide_number :
+    Tells (file_with_slaves (item (slave_5 65536) no_items))
+    (Slave 1 1) (codes "ident") (NoNumber 0 65535) (codes "line 1, slave 1, key \"ident\": no number from 0 to 65535")
+unfolding rack_on_literals
+wide_number = (refl, refl)
+
+pub negative_number :
+    Tells (member (codes "workers") (integer (negsuc 0)) no_members)
+    Rack (codes "workers") (NoNumber 1 32) (codes "key \"workers\": no number from 1 to 32")
+unfolding rack_on_literals
+negative_number = (refl, refl)
+
+pub number_for_a_text :
+    Tells (file_with_slaves (item (slave_with_cfg (array (item (integer (pos 21)) no_items))) no_items))
+    (Slave 1 1) (codes "cfg") NoText (codes "line 1, slave 1, key \"cfg\": no text")
+unfolding rack_on_literals
+number_for_a_text = (refl, refl)
+
+pub number_for_a_configuration :
+    Tells (file_with_slaves (item (slave_with_cfg (integer (pos 21))) no_items))
+    (Slave 1 1) (codes "cfg") NoTextOrArray (codes "line 1, slave 1, key \"cfg\": neither a text nor an array")
+unfolding rack_on_literals
+number_for_a_configuration = (refl, refl)
+
+pub cut_pair :
+    Tells (file_with_slaves (item (slave_with_cfg (string (codes "211"))) no_items))
+    (Slave 1 1) (codes "cfg") NoHex (codes "line 1, slave 1, key \"cfg\": no pairs of hex digits")
+unfolding rack_on_literals
+cut_pair = (refl, refl)
+
+-- so many octets 0 in hex text
+abbrev zeros : ℕ → List ℕ
+zeros zero = []
+zeros (suc n) = codes "00" ++ zeros n
+
+pub long_configuration :
+    Tells (file_with_slaves (item (slave_with_cfg (string (zeros 245))) no_items))
+    (Slave 1 1) (codes "cfg") ManyOctets (codes "line 1, slave 1, key \"cfg\": more than 244 octets")
+unfolding rack_on_literals
+long_configuration = (refl, refl)
+
+pub number_for_a_flag :
+    Tells (file_with_slaves (item (table (member (codes "address") (integer (pos 5))
+    (member (codes "cfg") (string [])
+    (member (codes "ident") (integer (pos 1))
+    (member (codes "sync") (integer (pos 1)) no_members))))) no_items))
+    (Slave 1 1) (codes "sync") NoFlag (codes "line 1, slave 1, key \"sync\": neither true nor false")
+unfolding rack_on_literals
+number_for_a_flag = (refl, refl)
+
+pub number_for_masters :
+    Tells (file (item (table (member (codes "capacity") (integer (pos 1))
+    (member (codes "masters") (integer (pos 1))
+    (member (codes "number") (integer (pos 1)) no_members)))) no_items))
+    (Line 1) (codes "masters") NoArray (codes "line 1, key \"masters\": no array")
+unfolding rack_on_literals
+number_for_masters = (refl, refl)
+
+pub no_line : Tells (file no_items) Rack (codes "line") (Count 1 8) (codes "key \"line\": not 1 to 8 elements")
+unfolding rack_on_literals
+no_line = (refl, refl)
+
+pub number_for_a_slave :
+    Tells (file_with_slaves (item (slave_5 1) (item (integer (pos 5)) no_items)))
+    (Line 1) (codes "slave") NoTable (codes "line 1, key \"slave\": an element is no table")
+unfolding rack_on_literals
+number_for_a_slave = (refl, refl)
+
+pub device_in_capitals :
+    Tells (whole_file 32 (string (codes "Mirror")))
+    (Slave 1 1) (codes "device") NoDevice (codes "line 1, slave 1, key \"device\": none of \"still\", \"counter\" and \"mirror\"")
+unfolding rack_on_literals
+device_in_capitals = (refl, refl)
+
+-- the key is `a`, a quotation mark, a line end, a backslash and u with two dots
+pub key_in_one_row : shown (0x61 ∷ 0x22 ∷ 0x0A ∷ 0x5C ∷ 0xC3 ∷ 0xBC ∷ []) ≡ codes "a\\x22\\x0a\\x5c\\xc3\\xbc"
+key_in_one_row = refl
+
+pub cause_of_a_text : option_map (λ file. cause_of (rack_of file)) (parse_document (codes "lines = 1\n")) ≡ Some (Some (codes "key \"lines\": no such key"))
+unfolding rack_on_literals
+cause_of_a_text = refl
+
+pub third_row : row_at (codes "a = 1\nb = 2\n[[line") 15 ≡ 3
+third_row = refl

@@ -1,9 +1,16 @@
-//! What holds of every accepted rack.
+//! What holds of every accepted rack, and of every key that isn't read.
 
-ghost use Rattle.std.specs.Prelude.{◌≡◌, ◌≤◌, ℕ, List, false, None, Ok, length, All};
+ghost use Rattle.std.specs.Prelude.{◌≡◌, ◌≤◌, ℕ, List, ◌≢◌, ◌⊎◌, ◌<◌, IsTrue, false, None, Some, Ok, Err, length, All};
+ghost use Rattle.toml.specs.Data.{Members};
+ghost use Rattle.toml.specs.Parse.{parse_document};
 ghost use Rattle.dp_line.specs.World.{opening_fault, has_twice};
 ghost use Rattle.rack_file.specs.Rack.{RackDescription};
-ghost use Rattle.rack_file.specs.RackFile.{numbers, rack_in};
+ghost use Rattle.rack_file.specs.declared.fault.RackFault.TheVariants as faults;
+ghost use Rattle.rack_file.specs.declared.misread.Misread.TheVariants as misreads;
+ghost use Rattle.rack_file.specs.KeyFault.{KeyFault, IsWithin};
+ghost use Rattle.rack_file.specs.Misreads.{shown, stands_for_itself};
+ghost use Rattle.rack_file.specs.RackFile.{numbers, rack_of, rack_in};
+ghost use Rattle.rack_file.specs.Causes.{TellsCause};
 
 /// An accepted rack has 1 to 8 lines.
 pub fn accepted_racks_have_1_to_8_lines()
@@ -26,4 +33,32 @@ pub fn accepted_lines_differ_in_number()
 pub fn accepted_lines_can_be_opened()
     ensures { (text : List ℕ) (rack : RackDescription) → rack_in text ≡ Ok rack
         → All (λ line. opening_fault line.line ≡ None) rack.lines }
+{}
+
+/// A text is refused as `BadKey` exactly where it is a document with a key that isn't read.
+pub fn bad_keys_are_told()
+    ensures told { (text : List ℕ) → rack_in text ≡ Err faults.BadKey
+        → (file : Members) × (bad : KeyFault) × (parse_document text ≡ Some file) × (rack_of file ≡ Err (misreads.BadKey bad)) }
+    ensures refused { (text : List ℕ) (file : Members) (bad : KeyFault) → parse_document text ≡ Some file
+        → rack_of file ≡ Err (misreads.BadKey bad) → rack_in text ≡ Err faults.BadKey }
+{}
+
+/// A key that isn't read is one of the file itself, of its line 1 to 8, or of a slave of such a line, from 1.
+pub fn bad_keys_stand_in_lines_1_to_8()
+    ensures { (file : Members) (bad : KeyFault) → rack_of file ≡ Err (misreads.BadKey bad) → IsWithin 8 bad.place }
+{}
+
+/// A cause is told exactly of the texts that are refused as `BadKey` or `NotToml`.
+pub fn causes_are_told_of_bad_keys_and_of_no_toml()
+    ensures told { (text cause : List ℕ) → TellsCause text (parse_document text) (Some cause)
+        → (rack_in text ≡ Err faults.BadKey) ⊎ (rack_in text ≡ Err faults.NotToml) }
+    ensures untold { (text : List ℕ) → TellsCause text (parse_document text) None
+        → (rack_in text ≢ Err faults.BadKey) × (rack_in text ≢ Err faults.NotToml) }
+{}
+
+/// A key or a message that is shown ends no row and no quotation: its octets are those that stand for
+/// themselves, and `\`.
+pub fn shown_texts_stay_in_their_row()
+    ensures { (text : List ℕ) → All (λ octet. octet < 256) text
+        → All (λ octet. IsTrue (stands_for_itself octet) ⊎ (octet ≡ 0x5C)) (shown text) }
 {}

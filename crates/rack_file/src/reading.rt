@@ -6,14 +6,16 @@ ghost use Rattle.toml.specs.View.{view, table_view};
 ghost use Rattle.dp_slave.specs.declared.description.Device.TheVariants.{Still};
 ghost use Rattle.dp_line.specs.World.{description_of, opening_fault, has_twice};
 ghost use Rattle.rack_file.specs.Rack.{line_described, rack_described};
-ghost use Rattle.rack_file.specs.TomlKeys.{Gives, Fails, required, optional, number_to, each_of};
-ghost use Rattle.rack_file.specs.RackFile.{masters_of, configuration_of, configurations_of, device_named, device_of, list_of, slave_of, slaves_of, port_of, line_of, workers_of, lines_of, numbers, opened, all_open, rack_of, rack_in};
+ghost use Rattle.rack_file.specs.Gives.{Gives, Fails, told, wrong};
+ghost use Rattle.rack_file.specs.TomlKeys.{seen, required, optional, number_from, each_of, each_from};
+ghost use Rattle.rack_file.specs.RackFile.{masters_of, configuration_of, configurations_of, device_named, device_of, list_of, slave_of, slave_at, slaves_of, port_of, line_of, line_at, lines_of, numbers, opened, all_open, rack_of, with_fault, rack_in};
 
 use crate::fault::RackFault;
+use crate::misread::{Cause, Misread, Place, Unread};
 use crate::rack::{Rack, RackLine};
 use crate::toml_keys::{
-    array_in, number_in, octets_in, only_keys, optional_flag, required_number, required_value,
-    table_in, text_in, text_or_array_in, value_at,
+    array_in, at_key, counted, number_in, octets_in, only_keys, optional_flag, required_array,
+    required_number, required_value, table_in, text_in, text_or_array_in, value_at,
 };
 use arrayvec::ArrayVec;
 use dp_line::{Device, LineSpec, MOST_MASTERS, MOST_USER_PARAMETERS, SlaveSpec};
@@ -32,41 +34,37 @@ const MOST_WORKERS: u32 = 32;
 const USER_PARAMETERS: u8 = MOST_USER_PARAMETERS as u8;
 
 /// The most lines of a rack.
-const MOST_LINES: usize = 8;
+const MOST_LINES: u8 = 8;
 
 /// The addresses of masters.
-fn addresses_in(values: &[Value]) -> Result<ArrayVec<u8, MOST_MASTERS>, RackFault>
+fn addresses_in(values: &[Value]) -> Result<ArrayVec<u8, MOST_MASTERS>, Cause>
     requires { length values.now ≤ 16 }
-    ensures { Gives (λ masters. masters.items) result (each_of (number_to 255) (map view values.now)) }
+    ensures { seen (λ masters. masters.items) result ≡ each_of (number_from 0 255) (map view values.now) }
 {
     let mut masters = ArrayVec::new();
     for value in values {
-        masters.push(number_in(value, 255)? as u8);
+        masters.push(number_in(value, 0, 255)? as u8);
     }
     Ok(masters)
 }
 
 /// The masters that a value names, at most 16.
 #[tactic(auto, unfolding(crate::specs::RackFile::masters_of))]
-fn masters_in(value: &Value) -> Result<ArrayVec<u8, MOST_MASTERS>, RackFault>
-    ensures { Gives (λ masters. masters.items) result (masters_of (view value.now)) }
+fn masters_in(value: &Value) -> Result<ArrayVec<u8, MOST_MASTERS>, Cause>
+    ensures { seen (λ masters. masters.items) result ≡ masters_of (view value.now) }
 {
-    let values = array_in(value)?;
-    if values.len() > MOST_MASTERS {
-        return Err(RackFault::BadKey);
-    }
-    addresses_in(values)
+    addresses_in(counted(array_in(value)?, 0, MOST_MASTERS as u8)?)
 }
 
 /// A configuration: at most 244 octets in hex text.
 #[tactic(auto, unfolding(crate::specs::RackFile::configuration_of))]
-fn configuration_in(alloc: Global, value: &Value) -> Result<Configuration, RackFault>
-    ensures { Gives (λ cfg. cfg) result (configuration_of (view value.now)) }
+fn configuration_in(alloc: Global, value: &Value) -> Result<Configuration, Unread>
+    ensures { Gives wrong (λ cfg. cfg) result (configuration_of (view value.now)) }
 {
     let octets = octets_in(alloc, value)?;
     match ArrayVec::try_from(octets.as_slice()) {
         Ok(cfg) => Ok(cfg),
-        Err(_) => Err(RackFault::BadKey),
+        Err(_) => Err(Unread::Wrong(Cause::ManyOctets)),
     }
 }
 
@@ -75,13 +73,10 @@ fn configuration_in(alloc: Global, value: &Value) -> Result<Configuration, RackF
 fn configurations_in(
     alloc: Global,
     value: &Value,
-) -> Result<ArrayVec<Configuration, MOST_CONFIGURATIONS>, RackFault>
-    ensures { Gives (λ cfgs. cfgs.items) result (configurations_of (view value.now)) }
+) -> Result<ArrayVec<Configuration, MOST_CONFIGURATIONS>, Unread>
+    ensures { Gives wrong (λ cfgs. cfgs.items) result (configurations_of (view value.now)) }
 {
-    let values = text_or_array_in(value)?;
-    if values.is_empty() || values.len() > MOST_CONFIGURATIONS {
-        return Err(RackFault::BadKey);
-    }
+    let values = counted(text_or_array_in(value)?, 1, MOST_CONFIGURATIONS as u8)?;
     let mut cfgs = ArrayVec::new();
     for value in values {
         cfgs.push(configuration_in(alloc, value)?);
@@ -91,28 +86,33 @@ fn configurations_in(
 
 /// A slave's configurations, which it has to have.
 #[tactic(auto, unfolding(crate::specs::TomlKeys::required))]
-fn required_configurations(
+fn required_configurations<'a>(
     alloc: Global,
-    slave: &Table,
-) -> Result<ArrayVec<Configuration, MOST_CONFIGURATIONS>, RackFault>
-    ensures { Gives (λ cfgs. cfgs.items) result (required configurations_of (codes "cfg") (table_view slave.now)) }
+    place: Place,
+    slave: &'a Table,
+) -> Result<ArrayVec<Configuration, MOST_CONFIGURATIONS>, Misread<'a>>
+    ensures { Gives told (λ cfgs. cfgs.items) result (required configurations_of place (codes "cfg") (table_view slave.now)) }
 {
-    configurations_in(alloc, required_value(slave, "cfg")?)
+    match configurations_in(alloc, required_value(place, slave, "cfg")?) {
+        Ok(cfgs) => Ok(cfgs),
+        Err(Unread::OutOfMemory) => Err(Misread::OutOfMemory),
+        Err(Unread::Wrong(cause)) => Err(Misread::of_key(place, "cfg", cause)),
+    }
 }
 
 /// User parameters that a slave takes, in octets, 237 where it doesn't say how many.
 #[tactic(auto, unfolding(crate::specs::TomlKeys::optional))]
-fn optional_user_parameters(slave: &Table) -> Result<u8, RackFault>
-    ensures { result ≡ optional 237 (number_to 255) (codes "user_max") (table_view slave.now) }
+fn optional_user_parameters<'a>(place: Place, slave: &'a Table) -> Result<u8, Misread<'a>>
+    ensures { result ≡ optional 237 (number_from 0 255) place (codes "user_max") (table_view slave.now) }
 {
     match value_at(slave, "user_max") {
-        Some(value) => Ok(number_in(value, 255)? as u8),
+        Some(value) => Ok(at_key(place, "user_max", number_in(value, 0, 255))? as u8),
         None => Ok(USER_PARAMETERS),
     }
 }
 
 /// The device of this name.
-fn device_by_name(name: &str) -> Result<Device, RackFault>
+fn device_by_name(name: &str) -> Result<Device, Cause>
     ensures { result ≡ device_named name.now }
 {
     if name == "still" {
@@ -122,39 +122,59 @@ fn device_by_name(name: &str) -> Result<Device, RackFault>
     } else if name == "mirror" {
         Ok(Device::Mirror)
     } else {
-        Err(RackFault::BadKey)
+        Err(Cause::NoDevice)
     }
 }
 
+/// The device that a value names.
+#[tactic(auto, unfolding(crate::specs::RackFile::device_of))]
+fn device_in(value: &Value) -> Result<Device, Cause>
+    ensures { result ≡ device_of (view value.now) }
+{
+    device_by_name(text_in(value)?)
+}
+
 /// What feeds a slave's inputs, nothing where it doesn't say.
-#[tactic(auto, unfolding(crate::specs::TomlKeys::optional, crate::specs::RackFile::device_of))]
-fn optional_device(slave: &Table) -> Result<Device, RackFault>
-    ensures { result ≡ optional Still device_of (codes "device") (table_view slave.now) }
+#[tactic(auto, unfolding(crate::specs::TomlKeys::optional))]
+fn optional_device<'a>(place: Place, slave: &'a Table) -> Result<Device, Misread<'a>>
+    ensures { result ≡ optional Still device_of place (codes "device") (table_view slave.now) }
 {
     match value_at(slave, "device") {
-        Some(value) => device_by_name(text_in(value)?),
+        Some(value) => at_key(place, "device", device_in(value)),
         None => Ok(Device::Still),
     }
 }
 
-/// The list of masters at a key, if the slave has it; one that names nobody is a list too.
-#[tactic(auto, unfolding(crate::specs::TomlKeys::optional, crate::specs::RackFile::list_of))]
-fn optional_list(slave: &Table, key: &str) -> Result<Option<ArrayVec<u8, MOST_LISTED>>, RackFault>
-    ensures { Gives (λ list. list) result (optional None list_of key.now (table_view slave.now)) }
+/// The list of masters that a value is; one that names nobody is a list too.
+#[tactic(auto, unfolding(crate::specs::RackFile::list_of))]
+fn list_in(value: &Value) -> Result<Option<ArrayVec<u8, MOST_LISTED>>, Cause>
+    ensures { result ≡ list_of (view value.now) }
+{
+    Ok(Some(masters_in(value)?))
+}
+
+/// The list of masters at a key, if the slave has it.
+#[tactic(auto, unfolding(crate::specs::TomlKeys::optional))]
+fn optional_list<'a>(
+    place: Place,
+    slave: &'a Table,
+    key: &'a str,
+) -> Result<Option<ArrayVec<u8, MOST_LISTED>>, Misread<'a>>
+    ensures { result ≡ optional None list_of place key.now (table_view slave.now) }
 {
     match value_at(slave, key) {
-        Some(value) => Ok(Some(masters_in(value)?)),
+        Some(value) => at_key(place, key, list_in(value)),
         None => Ok(None),
     }
 }
 
-/// The slave that a value describes.
+/// The slave that the table in this place describes.
 #[tactic(auto, unfolding(crate::specs::RackFile::slave_of))]
-fn slave_in(alloc: Global, value: &Value) -> Result<SlaveSpec, RackFault>
-    ensures { Gives (λ slave. slave) result (slave_of (view value.now)) }
+fn slave_in<'a>(alloc: Global, place: Place, slave: &'a Table) -> Result<SlaveSpec, Misread<'a>>
+    ensures { Gives told (λ slave. slave) result (slave_of place (table_view slave.now)) }
 {
-    let slave = table_in(value)?;
     only_keys(
+        place,
         slave,
         &[
             "address", "ident", "cfg", "sync", "freeze", "user_max", "device", "lockers",
@@ -162,132 +182,170 @@ fn slave_in(alloc: Global, value: &Value) -> Result<SlaveSpec, RackFault>
         ],
     )?;
     Ok(SlaveSpec {
-        address: required_number(slave, "address", 255)? as u8,
-        ident: required_number(slave, "ident", 65_535)? as u16,
-        cfgs: required_configurations(alloc, slave)?,
-        sync: optional_flag(slave, "sync")?,
-        freeze: optional_flag(slave, "freeze")?,
-        user_max: optional_user_parameters(slave)?,
-        device: optional_device(slave)?,
+        address: required_number(place, slave, "address", 255)? as u8,
+        ident: required_number(place, slave, "ident", 65_535)? as u16,
+        cfgs: required_configurations(alloc, place, slave)?,
+        sync: optional_flag(place, slave, "sync")?,
+        freeze: optional_flag(place, slave, "freeze")?,
+        user_max: optional_user_parameters(place, slave)?,
+        device: optional_device(place, slave)?,
         lists: Lists {
-            lockers: optional_list(slave, "lockers")?,
-            readers: optional_list(slave, "readers")?,
+            lockers: optional_list(place, slave, "lockers")?,
+            readers: optional_list(place, slave, "readers")?,
         },
-        failsafe: optional_flag(slave, "failsafe")?,
+        failsafe: optional_flag(place, slave, "failsafe")?,
     })
 }
 
-/// The masters of a line.
-#[tactic(auto, unfolding(crate::specs::TomlKeys::required))]
-fn required_masters(line: &Table) -> Result<ArrayVec<u8, MOST_MASTERS>, RackFault>
-    ensures { Gives (λ masters. masters.items) result (required masters_of (codes "masters") (table_view line.now)) }
+/// The slave that an element of `slave` describes, at this position among those of the line at this position.
+#[tactic(auto, unfolding(crate::specs::RackFile::slave_at))]
+fn slave_at<'a>(
+    alloc: Global,
+    line: u8,
+    position: usize,
+    value: &'a Value,
+) -> Result<SlaveSpec, Misread<'a>>
+    ensures { Gives told (λ slave. slave) result (slave_at line position (view value.now)) }
 {
-    masters_in(required_value(line, "masters")?)
+    let slave = at_key(Place::Line(line), "slave", table_in(value))?;
+    slave_in(alloc, Place::Slave(line, position), slave)
 }
 
-/// The slaves of a line.
-fn slaves_in(alloc: Global, values: &[Value]) -> Result<Vec<SlaveSpec>, RackFault>
-    ensures { Gives (λ slaves. slaves.items) result (each_of slave_of (map view values.now)) }
+/// The slaves of the line at this position.
+fn slaves_in<'a>(
+    alloc: Global,
+    line: u8,
+    values: &'a [Value],
+) -> Result<Vec<SlaveSpec>, Misread<'a>>
+    ensures { Gives told (λ slaves. slaves.items) result (each_from (slave_at line) 1 (map view values.now)) }
 {
     let mut slaves = Vec::new(alloc);
-    for value in values {
-        let slave = slave_in(alloc, value)?;
-        slaves.push(slave).map_err(|_| RackFault::OutOfMemory)?;
+    for (index, value) in values.iter().enumerate() {
+        let slave = slave_at(alloc, line, index + 1, value)?;
+        slaves.push(slave).map_err(|_| Misread::OutOfMemory)?;
     }
     Ok(slaves)
 }
 
-/// The slaves at the key `slave` of a line.
-#[tactic(auto, unfolding(crate::specs::TomlKeys::required, crate::specs::RackFile::slaves_of))]
-fn required_slaves(alloc: Global, line: &Table) -> Result<Vec<SlaveSpec>, RackFault>
-    ensures { Gives (λ slaves. slaves.items) result (required slaves_of (codes "slave") (table_view line.now)) }
+/// The slaves at the key `slave` of the line at this position.
+#[tactic(auto, unfolding(crate::specs::RackFile::slaves_of))]
+fn required_slaves<'a>(
+    alloc: Global,
+    position: u8,
+    line: &'a Table,
+) -> Result<Vec<SlaveSpec>, Misread<'a>>
+    ensures { Gives told (λ slaves. slaves.items) result (slaves_of position (table_view line.now)) }
 {
-    slaves_in(alloc, array_in(required_value(line, "slave")?)?)
+    let values = required_array(Place::Line(position), line, "slave")?;
+    slaves_in(alloc, position, values)
+}
+
+/// The masters of a line.
+#[tactic(auto, unfolding(crate::specs::TomlKeys::required))]
+fn required_masters<'a>(
+    place: Place,
+    line: &'a Table,
+) -> Result<ArrayVec<u8, MOST_MASTERS>, Misread<'a>>
+    ensures { seen (λ masters. masters.items) result ≡ required masters_of place (codes "masters") (table_view line.now) }
+{
+    let value = required_value(place, line, "masters")?;
+    at_key(place, "masters", masters_in(value))
+}
+
+/// The port that a value is.
+#[tactic(auto, unfolding(crate::specs::RackFile::port_of))]
+fn port_in(value: &Value) -> Result<Option<u16>, Cause>
+    ensures { result ≡ port_of (view value.now) }
+{
+    Ok(Some(number_in(value, 0, 65_535)? as u16))
 }
 
 /// The port at a key, if the line has it.
-#[tactic(auto, unfolding(crate::specs::TomlKeys::optional, crate::specs::RackFile::port_of))]
-fn optional_port(line: &Table, key: &str) -> Result<Option<u16>, RackFault>
-    ensures { result ≡ optional None port_of key.now (table_view line.now) }
+#[tactic(auto, unfolding(crate::specs::TomlKeys::optional))]
+fn optional_port<'a>(
+    place: Place,
+    line: &'a Table,
+    key: &'a str,
+) -> Result<Option<u16>, Misread<'a>>
+    ensures { result ≡ optional None port_of place key.now (table_view line.now) }
 {
     match value_at(line, key) {
-        Some(value) => Ok(Some(number_in(value, 65_535)? as u16)),
+        Some(value) => at_key(place, key, port_in(value)),
         None => Ok(None),
     }
 }
 
-/// The line that a value describes.
+/// The line at this position, which the table describes.
 #[tactic(auto, unfolding(crate::specs::RackFile::line_of))]
-fn line_in(alloc: Global, value: &Value) -> Result<RackLine, RackFault>
-    ensures { Gives line_described result (line_of (view value.now)) }
+fn line_in<'a>(alloc: Global, position: u8, line: &'a Table) -> Result<RackLine, Misread<'a>>
+    ensures { Gives told line_described result (line_of position (table_view line.now)) }
 {
-    let line = table_in(value)?;
+    let place = Place::Line(position);
     only_keys(
+        place,
         line,
         &[
             "number", "capacity", "masters", "listen", "operator", "slave",
         ],
     )?;
     let spec = LineSpec {
-        number: required_number(line, "number", 255)? as u8,
-        capacity: required_number(line, "capacity", u32::MAX)?,
-        masters: required_masters(line)?,
-        slaves: required_slaves(alloc, line)?,
+        number: required_number(place, line, "number", 255)? as u8,
+        capacity: required_number(place, line, "capacity", u32::MAX)?,
+        masters: required_masters(place, line)?,
+        slaves: required_slaves(alloc, position, line)?,
     };
     Ok(RackLine {
         spec,
-        listen: optional_port(line, "listen")?,
-        operator: optional_port(line, "operator")?,
+        listen: optional_port(place, line, "listen")?,
+        operator: optional_port(place, line, "operator")?,
     })
 }
 
-/// The workers that a value is, 1 to 32.
-#[tactic(auto, unfolding(crate::specs::RackFile::workers_of))]
-fn workers_in(value: &Value) -> Result<u8, RackFault>
-    ensures { result ≡ workers_of (view value.now) }
+/// The line that an element of `line` describes, at this position of the file.
+#[tactic(auto, unfolding(crate::specs::RackFile::line_at))]
+fn line_at<'a>(alloc: Global, position: u8, value: &'a Value) -> Result<RackLine, Misread<'a>>
+    ensures { Gives told line_described result (line_at position (view value.now)) }
 {
-    let workers = number_in(value, MOST_WORKERS)?;
-    if workers == 0 {
-        return Err(RackFault::BadKey);
-    }
-    Ok(workers as u8)
-}
-
-/// The workers of a rack, 4 where it doesn't say how many.
-#[tactic(auto, unfolding(crate::specs::TomlKeys::optional))]
-fn optional_workers(file: &Table) -> Result<u8, RackFault>
-    ensures { result ≡ optional 4 workers_of (codes "workers") (table_view file.now) }
-{
-    match value_at(file, "workers") {
-        Some(value) => workers_in(value),
-        None => Ok(WORKERS),
-    }
+    let line = at_key(Place::Rack, "line", table_in(value))?;
+    line_in(alloc, position, line)
 }
 
 /// The lines of a rack.
-fn lines_in(alloc: Global, values: &[Value]) -> Result<Vec<RackLine>, RackFault>
-    ensures lines { Gives (λ lines. map line_described lines.items) result (each_of line_of (map view values.now)) }
+fn lines_in<'a>(alloc: Global, values: &'a [Value]) -> Result<Vec<RackLine>, Misread<'a>>
+    requires { length values.now ≤ 8 }
+    ensures lines { Gives told (λ lines. map line_described lines.items) result (each_from line_at 1 (map view values.now)) }
     ensures count { IfOk result (λ lines. vec_len lines ≡ length values.now) }
 {
     let mut lines = Vec::new(alloc);
-    for value in values {
-        let line = line_in(alloc, value)?;
-        lines.push(line).map_err(|_| RackFault::OutOfMemory)?;
+    for (index, value) in values.iter().enumerate() {
+        let line = line_at(alloc, index as u8 + 1, value)?;
+        lines.push(line).map_err(|_| Misread::OutOfMemory)?;
     }
     Ok(lines)
 }
 
 /// The lines of a rack, 1 to 8.
-#[tactic(auto, unfolding(crate::specs::TomlKeys::required, crate::specs::RackFile::lines_of))]
-fn required_lines(alloc: Global, file: &Table) -> Result<Vec<RackLine>, RackFault>
-    ensures lines { Gives (λ lines. map line_described lines.items) result (required lines_of (codes "line") (table_view file.now)) }
+#[tactic(auto, unfolding(crate::specs::RackFile::lines_of))]
+fn required_lines<'a>(alloc: Global, file: &'a Table) -> Result<Vec<RackLine>, Misread<'a>>
+    ensures lines { Gives told (λ lines. map line_described lines.items) result (lines_of (table_view file.now)) }
     ensures few { IfOk result (λ lines. vec_len lines ≤ 8) }
 {
-    let values = array_in(required_value(file, "line")?)?;
-    if values.is_empty() || values.len() > MOST_LINES {
-        return Err(RackFault::BadKey);
-    }
+    let all = required_array(Place::Rack, file, "line")?;
+    let values = at_key(Place::Rack, "line", counted(all, 1, MOST_LINES))?;
     lines_in(alloc, values)
+}
+
+/// The workers of a rack, 1 to 32, and 4 where it doesn't say how many.
+#[tactic(auto, unfolding(crate::specs::TomlKeys::optional))]
+fn optional_workers<'a>(file: &'a Table) -> Result<u8, Misread<'a>>
+    ensures { result ≡ optional 4 (number_from 1 32) Place.Rack (codes "workers") (table_view file.now) }
+{
+    match value_at(file, "workers") {
+        Some(value) => {
+            Ok(at_key(Place::Rack, "workers", number_in(value, 1, MOST_WORKERS))? as u8)
+        }
+        None => Ok(WORKERS),
+    }
 }
 
 /// Two of the lines have one number.
@@ -308,18 +366,18 @@ fn has_number(lines: &[RackLine], number: u8) -> bool
 }
 
 /// The line at this position of the file can be opened.
-fn check_opening(position: u8, line: &LineSpec) -> Result<(), RackFault>
+fn check_opening<'a>(position: u8, line: &LineSpec) -> Result<(), Misread<'a>>
     ensures { result ≡ opened position (opening_fault (description_of line.now)) }
 {
     match line.fault() {
         None => Ok(()),
-        Some(fault) => Err(RackFault::Open(position, fault)),
+        Some(fault) => Err(Misread::Open(position, fault)),
     }
 }
 
 /// Every line can be opened; the first of them stands at this position of the file.
 #[tactic(auto, unfolding(crate::specs::RackFile::all_open))]
-fn check_openings(position: u8, lines: &[RackLine]) -> Result<(), RackFault>
+fn check_openings<'a>(position: u8, lines: &[RackLine]) -> Result<(), Misread<'a>>
     requires { position + length lines.now < 256 }
     ensures { result ≡ all_open position (map line_described lines.now) }
 {
@@ -332,19 +390,30 @@ fn check_openings(position: u8, lines: &[RackLine]) -> Result<(), RackFault>
     }
 }
 
-/// The rack that a document describes.
+/// The rack that a document describes, or where and why it describes none.
 #[tactic(auto, unfolding(crate::specs::RackFile::rack_of))]
-fn rack_in_document(alloc: Global, file: &Table) -> Result<Rack, RackFault>
-    ensures { Gives rack_described result (rack_of (table_view file.now)) }
+pub(crate) fn rack_in_document<'a>(alloc: Global, file: &'a Table) -> Result<Rack, Misread<'a>>
+    ensures { Gives told rack_described result (rack_of (table_view file.now)) }
 {
-    only_keys(file, &["workers", "line"])?;
+    only_keys(Place::Rack, file, &["workers", "line"])?;
     let workers = optional_workers(file)?;
     let lines = required_lines(alloc, file)?;
     if has_number_twice(&lines) {
-        return Err(RackFault::TwiceLine);
+        return Err(Misread::TwiceLine);
     }
     check_openings(1, &lines)?;
     Ok(Rack { workers, lines })
+}
+
+/// The rack that a document describes, or its fault.
+fn rack_or_fault(alloc: Global, file: &Table) -> Result<Rack, RackFault>
+    ensures ok { IfOk result (λ rack. with_fault (rack_of (table_view file.now)) ≡ Ok (rack_described rack)) }
+    ensures refused { IfErr result (λ fault. Fails fault (with_fault (rack_of (table_view file.now)))) }
+{
+    match rack_in_document(alloc, file) {
+        Ok(rack) => Ok(rack),
+        Err(misread) => Err(misread.fault()),
+    }
 }
 
 /// The rack that a text describes. The text is TOML with these keys and no other (own):
@@ -370,7 +439,7 @@ pub fn read_rack(alloc: Global, text: &str) -> Result<Rack, RackFault>
     ensures refused { IfErr result (λ fault. Fails fault (rack_in text.now)) }
 {
     match toml::table_from_str(alloc, text) {
-        Ok(file) => rack_in_document(alloc, &file),
+        Ok(file) => rack_or_fault(alloc, &file),
         Err(error) if error.is_memory() => Err(RackFault::OutOfMemory),
         Err(_) => Err(RackFault::NotToml),
     }

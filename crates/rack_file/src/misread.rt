@@ -1,0 +1,204 @@
+//! Why a document describes no rack: which key of which table isn't read, and why.
+
+ghost use Rattle.std.specs.Prelude.{◌≡◌, Some};
+ghost use Rattle.rack_file.specs.Misreads.{bad_key, fault_of, cause_text, place_text, stands_for_itself, shown_octet, shown, key_fault_text};
+
+use crate::fault::RackFault;
+use dp_line::OpenFault;
+use std::fmt;
+use std::marker::Model;
+
+/// Where a table of a rack file stands.
+#[derive(Clone, Copy)]
+pub(crate) enum Place {
+    /// The file itself.
+    Rack,
+    /// The line at this position of the file, from 1.
+    Line(u8),
+    /// The slave at this position, from 1, among those of the line at this position of the file.
+    Slave(u8, usize),
+}
+
+impl fmt::Display for Place {
+    ghost output = { λ place. Some (place_text place) };
+
+    fn fmt<W: fmt::Write>(&self, f: &mut fmt::Formatter<W>) -> fmt::Result {
+        match self {
+            Place::Rack => Ok(()),
+            Place::Line(line) => write!(f, "line {line}, "),
+            Place::Slave(line, slave) => write!(f, "line {line}, slave {slave}, "),
+        }
+    }
+}
+
+/// Why a key isn't read.
+#[derive(Clone, Copy)]
+pub(crate) enum Cause {
+    /// The table may not have such a key.
+    NoSuchKey,
+    /// The table has to have this key.
+    Missing,
+    /// The value is no number from the first of these to the second.
+    NoNumber(u32, u32),
+    /// The value is no text.
+    NoText,
+    /// The value is neither a text nor an array.
+    NoTextOrArray,
+    /// The text isn't pairs of hex digits.
+    NoHex,
+    /// The text writes more than 244 octets.
+    ManyOctets,
+    /// The value is no truth value.
+    NoFlag,
+    /// The value is no array.
+    NoArray,
+    /// The array has fewer elements than the first of these, or more than the second.
+    Count(u8, u8),
+    /// An element of the array is no table.
+    NoTable,
+    /// The text names no device.
+    NoDevice,
+}
+
+impl fmt::Display for Cause {
+    ghost output = { λ cause. Some (cause_text cause) };
+
+    fn fmt<W: fmt::Write>(&self, f: &mut fmt::Formatter<W>) -> fmt::Result {
+        match self {
+            Cause::NoSuchKey => f.write_str("no such key"),
+            Cause::Missing => f.write_str("missing"),
+            Cause::NoNumber(least, most) => write!(f, "no number from {least} to {most}"),
+            Cause::NoText => f.write_str("no text"),
+            Cause::NoTextOrArray => f.write_str("neither a text nor an array"),
+            Cause::NoHex => f.write_str("no pairs of hex digits"),
+            Cause::ManyOctets => f.write_str("more than 244 octets"),
+            Cause::NoFlag => f.write_str("neither true nor false"),
+            Cause::NoArray => f.write_str("no array"),
+            Cause::Count(least, most) => write!(f, "not {least} to {most} elements"),
+            Cause::NoTable => f.write_str("an element is no table"),
+            Cause::NoDevice => f.write_str("none of \"still\", \"counter\" and \"mirror\""),
+        }
+    }
+}
+
+/// An octet as it is shown in a row: ASCII that prints stands for itself, but for `"` and `\`; each other
+/// octet is written `\xNN`.
+#[derive(Drop)]
+struct ShownOctet(u8);
+
+impl fmt::Display for ShownOctet {
+    ghost output = { λ octet. Some (shown_octet octet.0) };
+
+    fn fmt<W: fmt::Write>(&self, f: &mut fmt::Formatter<W>) -> fmt::Result {
+        let octet = self.0;
+        if stands_for_itself(octet) {
+            f.write_char(char::from(octet))
+        } else {
+            write!(f, "\\x{octet:02x}")
+        }
+    }
+}
+
+/// The octet is ASCII that prints, and neither `"` nor `\`.
+fn stands_for_itself(octet: u8) -> bool
+    ensures { result ≡ stands_for_itself octet }
+{
+    b' ' <= octet && octet <= b'~' && octet != b'"' && octet != b'\\'
+}
+
+/// A text as it is shown in a row, octet by octet.
+#[derive(Drop)]
+pub(crate) struct Shown<'a>(pub(crate) &'a str);
+
+impl<'a> fmt::Display for Shown<'a> {
+    ghost output = { λ text. Some (shown text.0.now) };
+
+    fn fmt<W: fmt::Write>(&self, f: &mut fmt::Formatter<W>) -> fmt::Result {
+        for octet in self.0.as_bytes() {
+            let octet = ShownOctet(*octet);
+            write!(f, "{octet}")?;
+        }
+        Ok(())
+    }
+}
+
+/// A key of a rack file that isn't read.
+#[derive(Drop)]
+pub(crate) struct BadKey<'a> {
+    place: Place,
+    key: &'a str,
+    cause: Cause,
+}
+
+impl<'a> Model for BadKey<'a> {
+    ghost use Rattle.rack_file.specs.KeyFault.{KeyFault};
+
+    ghost Value = { KeyFault };
+
+    ghost view = { λ bad. record { place = bad.place; key = bad.key.now; cause = bad.cause } };
+}
+
+impl<'a> fmt::Display for BadKey<'a> {
+    ghost output = { λ bad. Some (key_fault_text bad) };
+
+    fn fmt<W: fmt::Write>(&self, f: &mut fmt::Formatter<W>) -> fmt::Result {
+        let place = self.place;
+        let key = Shown(self.key);
+        let cause = self.cause;
+        write!(f, "{place}key \"{key}\": {cause}")
+    }
+}
+
+/// Why a document describes no rack.
+#[derive(Drop)]
+pub(crate) enum Misread<'a> {
+    /// Memory was refused.
+    OutOfMemory,
+    /// A key isn't read.
+    BadKey(BadKey<'a>),
+    /// Two lines have one number.
+    TwiceLine,
+    /// The line at this position of the file, from 1, can't be opened for this reason.
+    Open(u8, OpenFault),
+}
+
+impl<'a> Misread<'a> {
+    /// This key of the table in this place isn't read.
+    pub(crate) fn of_key(place: Place, key: &'a str, cause: Cause) -> Misread<'a>
+        ensures { result ≡ bad_key place key.entry.now cause }
+    {
+        Misread::BadKey(BadKey { place, key, cause })
+    }
+
+    /// The fault that the rack file is refused with.
+    pub(crate) fn fault(self) -> RackFault
+        ensures { result ≡ fault_of self.entry }
+    {
+        match self {
+            Misread::OutOfMemory => RackFault::OutOfMemory,
+            Misread::BadKey(_) => RackFault::BadKey,
+            Misread::TwiceLine => RackFault::TwiceLine,
+            Misread::Open(position, fault) => RackFault::Open(position, fault),
+        }
+    }
+}
+
+/// Why a value isn't read, where reading it takes memory.
+#[derive(Drop)]
+pub(crate) enum Unread {
+    /// Memory was refused.
+    OutOfMemory,
+    /// The value is wrong.
+    Wrong(Cause),
+}
+
+impl From<Cause> for Unread {
+    ghost use Rattle.std.specs.Prelude.{◌≡◌};
+    ghost use Rattle.rack_file.specs.declared.misread.Unread.TheVariants.{Wrong};
+
+    ghost from_gives = { λ cause unread. unread ≡ Wrong cause };
+
+    fn from(cause: Cause) -> Unread {
+        Unread::Wrong(cause)
+    }
+}
