@@ -85,6 +85,7 @@ rack() {
 { rack 1 1 1; printf '%%%%\n'; for n in $(seq 5000); do printf '# a comment, which is read and does nothing: %s\n' "$n"; done; } >"$work/comments"
 { rack 1 1 1; printf '%%%%\nm 100'; for _ in $(seq 3000); do printf ' 33'; done; } >"$work/noise"
 printf 'what is no rack' >"$work/bad"
+{ rack 1 1 1; printf 'colour = "%s"\n' red; } >"$work/bad-key"
 rack 1 1 1 >"$work/rack"
 printf 'm 100 68 05 05 68 81 E4 6D 3C 3E 4C 16\njournal\n' >"$work/script"
 printf 'rack-audit 2 line 1\n' >"$work/audit"
@@ -93,11 +94,13 @@ sweep 'help' 4 /dev/null --help
 sweep 'version' 4 /dev/null --version
 sweep 'a wrong word' 4 /dev/null word
 sweep 'a bad rack' 4 "$work/bad"
+sweep 'a bad key' 4 "$work/bad-key"
 sweep 'a small rack' 4 "$work/small"
 sweep 'eight lines' 4 "$work/lines"
 sweep 'many comments' 64 "$work/comments"
 sweep 'noise' 16 "$work/noise"
 sweep 'two files' 4 /dev/null run "$work/rack" "$work/script"
+sweep 'an operator and nobody' 4 /dev/null operate 1 --tick 10
 sweep 'a check' 4 /dev/null check "$work/rack" "$work/audit"
 
 # ports that a rack is served at; while the program runs each of them is connected to once
@@ -167,6 +170,7 @@ else
   in_turn 'help' /dev/null --help
   in_turn 'a wrong word' /dev/null word
   in_turn 'a bad rack' "$work/bad"
+  in_turn 'a bad key' "$work/bad-key"
   in_turn 'a small rack' "$work/small"
   in_turn 'noise' "$work/noise"
   in_turn 'two files' /dev/null run "$work/rack" "$work/script"

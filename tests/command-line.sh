@@ -70,19 +70,19 @@ run "$rack%%%%\n\n# a comment\nline 1\nm 1 6805056885816d3c3eed16\n"; expect 'co
 run "$rack"; expect 'no script' 0 '' ''
 run "$rack%%%%"; expect 'an empty script' 0 '' ''
 run "$rack%%%%\n%%%%\n"; expect 'a second line of two percent signs' 2 '' 'rackd: script line 1'
-run ''; expect 'an empty rack text' 2 '' 'rackd: rack BadKey'
-run '%%%%\n'; expect 'a script alone' 2 '' 'rackd: rack BadKey'
-run "colour = 1\n$rack"; expect 'an unknown key' 2 '' 'rackd: rack BadKey'
-run "${rack/number = 1\\n/}"; expect 'a missing key' 2 '' 'rackd: rack BadKey'
-run '[[line'; expect 'broken TOML' 2 '' 'rackd: rack NotToml'
-run "$rack$rack"; expect 'two lines with one number' 2 '' 'rackd: rack TwiceLine'
-run "${rack/0x80A1/65536}"; expect 'ident 65536' 2 '' 'rackd: rack BadKey'
-run "workers = 33\n$rack"; expect '33 workers' 2 '' 'rackd: rack BadKey'
-run "${rack}user_max = 238\n"; expect '238 octets of user parameters' 2 '' 'rackd: rack line 1 Limit'
-run "${rack}device = \"Still\"\n"; expect 'no device' 2 '' 'rackd: rack BadKey'
-run "${rack/"[1, 2]"/"[1, 5]"}"; expect 'an address of a master and a slave' 2 '' 'rackd: rack line 1 TwiceAddress'
-run "${rack/1000/1}"; expect 'capacity 1' 2 '' 'rackd: rack line 1 Limit'
-run "$rack${rack/number = 1/number = 2}${rack/number = 1\\ncapacity = 1000/number = 3\\ncapacity = 0}"; expect 'the third line is refused' 2 '' 'rackd: rack line 3 Limit'
+run ''; expect 'an empty rack text' 2 '' $'rackd: rack BadKey\n  key "line": missing'
+run '%%%%\n'; expect 'a script alone' 2 '' $'rackd: rack BadKey\n  key "line": missing'
+run "colour = 1\n$rack"; expect 'an unknown key' 2 '' $'rackd: rack BadKey\n  key "colour": no such key'
+run "${rack/number = 1\\n/}"; expect 'a missing key' 2 '' $'rackd: rack BadKey\n  line 1, key "number": missing'
+run '[[line'; expect 'broken TOML' 2 '' $'rackd: rack NotToml\n  row 1: unclosed table, expected `]`'
+run "$rack$rack"; expect 'two lines with one number' 2 '' $'rackd: rack TwiceLine\n  two lines have one number'
+run "${rack/0x80A1/65536}"; expect 'ident 65536' 2 '' $'rackd: rack BadKey\n  line 1, slave 1, key "ident": no number from 0 to 65535'
+run "workers = 33\n$rack"; expect '33 workers' 2 '' $'rackd: rack BadKey\n  key "workers": no number from 1 to 32'
+run "${rack}user_max = 238\n"; expect '238 octets of user parameters' 2 '' $'rackd: rack line 1 Limit\n  2 to 65536 places, 1 to 16 masters, 1 to 64 slaves, addresses 0 to 126, at most 237 user parameters'
+run "${rack}device = \"Still\"\n"; expect 'no device' 2 '' $'rackd: rack BadKey\n  line 1, slave 1, key "device": none of "still", "counter" and "mirror"'
+run "${rack/"[1, 2]"/"[1, 5]"}"; expect 'an address of a master and a slave' 2 '' $'rackd: rack line 1 TwiceAddress\n  two stations, masters and slaves together, have one address'
+run "${rack/1000/1}"; expect 'capacity 1' 2 '' $'rackd: rack line 1 Limit\n  2 to 65536 places, 1 to 16 masters, 1 to 64 slaves, addresses 0 to 126, at most 237 user parameters'
+run "$rack${rack/number = 1/number = 2}${rack/number = 1\\ncapacity = 1000/number = 3\\ncapacity = 0}"; expect 'the third line is refused' 2 '' $'rackd: rack line 3 Limit\n  2 to 65536 places, 1 to 16 masters, 1 to 64 slaves, addresses 0 to 126, at most 237 user parameters'
 run "$rack%%%%\n$slave_diag\nx\n$slave_diag\n"; expect 'a line that is no command' 2 "$reply" 'rackd: script line 2'
 run "$rack%%%%\nm 3 E5\n"; expect 'a master that is not the line'"'"'s' 2 '' 'rackd: script line 1'
 run "$rack%%%%\nm 01 E5\n"; expect 'a leading zero' 2 '' 'rackd: script line 1'
@@ -100,16 +100,16 @@ expect 'the last place is the halt'"'"'s' 0 "$reply"$'\n1: silence Halted\n1: si
 two="$rack${rack/number = 1/number = 2}"
 run "${two/1000/2}%%%%\nline 2\n$slave_diag\n$slave_diag\nline 1\n$slave_diag\n$slave_diag\n"
 expect 'each line has its own world' 0 "$reply"$'\n'"$reply"$'\n'"$reply"$'\n1: silence Halted' ''
-run '\xff\n'; expect 'input that is not UTF-8' 2 '' 'rackd: cannot read -'
-run "$rack%%%%\n\xff\n"; expect 'a script that is not UTF-8' 2 '' 'rackd: cannot read -'
+run '\xff\n'; expect 'input that is not UTF-8' 2 '' $'rackd: cannot read -\n  not UTF-8'
+run "$rack%%%%\n\xff\n"; expect 'a script that is not UTF-8' 2 '' $'rackd: cannot read -\n  not UTF-8'
 
 # ---- parting
 
 crlf=${rack//'\n'/'\r\n'}
 run "$crlf"; expect 'a rack with CR LF' 0 '' ''
 run "$crlf%%%%\n$slave_diag\n"; expect 'a rack with CR LF and a script' 0 "$reply" ''
-run "$crlf%%%%\r\n"; expect 'two percent signs and CR part nothing' 2 '' 'rackd: rack NotToml'
-run "$rack %%%%\n$slave_diag\n"; expect 'a space and two percent signs part nothing' 2 '' 'rackd: rack NotToml'
+run "$crlf%%%%\r\n"; expect 'two percent signs and CR part nothing' 2 '' $'rackd: rack NotToml\n  row 11: invalid key, expected letters, numbers, `-`, `_` or a quoted key'
+run "$rack %%%%\n$slave_diag\n"; expect 'a space and two percent signs part nothing' 2 '' $'rackd: rack NotToml\n  row 11: invalid key, expected letters, numbers, `-`, `_` or a quoted key'
 run "${rack}# %%%%\n%%%%\n$slave_diag\n"; expect 'two percent signs within a line part nothing' 0 "$reply" ''
 run "$rack%%%%\n\n"; expect 'an empty line as script' 0 '' ''
 run "${rack%'\n'}"; expect 'a rack without its last LF' 0 '' ''
@@ -117,7 +117,7 @@ run "${rack%'\n'}"; expect 'a rack without its last LF' 0 '' ''
 # ---- words
 
 run '' --help
-hold 'help' eval '[ "$status" = 0 ] && [ ! -s "$work/err" ] && [[ $(cat "$work/out") == *"rackd run RACK SCRIPT"*"rackd check RACK AUDIT"*"rackd serve RACK [--sessions N]"*"exactly %%"*"'journal'"*"Exit statuses"*"  1  a check that is not legal"* ]]'
+hold 'help' eval '[ "$status" = 0 ] && [ ! -s "$work/err" ] && [[ $(cat "$work/out") == *"rackd run RACK SCRIPT"*"rackd check RACK AUDIT"*"rackd serve RACK [--sessions N]"*"rackd operate PORT [--tick MS] [--step MS]"*"exactly %%"*"'journal'"*"Exit statuses"*"  1  a check that is not legal"* ]]'
 cp "$work/out" "$work/help"
 help=$(cat "$work/help")
 example='[[line]]'${help#*'[[line]]'}
@@ -153,9 +153,9 @@ run '' run "$work/rack" "$work/script"; expect 'a rack and a script in files' 0 
 run 'x' run "$work/rack" "$work/script"; expect 'standard input is left' 0 "$reply" ''
 run '' run "$work/rack" "$work/empty"; expect 'an empty file as script' 0 '' ''
 run '' run "$work/rack" "$work/wrong"; expect 'a file with a line that is no command' 2 "$reply" 'rackd: script line 2'
-run '' run "$work/script" "$work/wrong"; expect 'a file that is no rack' 2 '' 'rackd: rack NotToml'
+run '' run "$work/script" "$work/wrong"; expect 'a file that is no rack' 2 '' $'rackd: rack NotToml\n  row 1: key with no value, expected `=`'
 printf "$rack%%%%\n" >"$work/both"
-run '' run "$work/both" "$work/script"; expect 'two percent signs in a rack file' 2 '' 'rackd: rack NotToml'
+run '' run "$work/both" "$work/script"; expect 'two percent signs in a rack file' 2 '' $'rackd: rack NotToml\n  row 11: invalid key, expected letters, numbers, `-`, `_` or a quoted key'
 printf '%%%%\n' >"$work/mark"
 run '' run "$work/rack" "$work/mark"; expect 'two percent signs in a script file' 2 '' 'rackd: script line 1'
 run '' check "$work/rack" "$work/audit"; expect 'a legal audit text' 0 'legal 1' ''
@@ -172,20 +172,20 @@ printf 'rack-audit 2 line 1\r\n%s\r\n' "$entry" >"$work/crlf"
 run '' check "$work/rack" "$work/crlf"; expect 'an audit text with CR LF' 1 'bad line 1' ''
 printf 'rack-audit 2 line 1\n%s\n' "${entry/WaitPrm/WaitCfg}" >"$work/facts"
 run '' check "$work/rack" "$work/facts"; expect 'other facts' 1 'not the policy 2' ''
-run '' check "$work/script" "$work/audit"; expect 'a check on a file that is no rack' 2 '' 'rackd: rack NotToml'
-run '' check "$work/script" "$work/empty"; expect 'the rack comes before the audit text' 2 '' 'rackd: rack NotToml'
+run '' check "$work/script" "$work/audit"; expect 'a check on a file that is no rack' 2 '' $'rackd: rack NotToml\n  row 1: key with no value, expected `=`'
+run '' check "$work/script" "$work/empty"; expect 'the rack comes before the audit text' 2 '' $'rackd: rack NotToml\n  row 1: key with no value, expected `=`'
 
 for word in run check; do
-  run '' "$word" "$work/none" "$work/audit"; expect "$word: no rack file" 2 '' "rackd: cannot read $work/none"
-  run '' "$word" "$work/rack" "$work/none"; expect "$word: no second file" 2 '' "rackd: cannot read $work/none"
-  run '' "$word" "$work/nothing" "$work/none"; expect "$word: the rack file comes first" 2 '' "rackd: cannot read $work/nothing"
-  run '' "$word" "$work/script" "$work/none"; expect "$word: files come before what they hold" 2 '' "rackd: cannot read $work/none"
+  run '' "$word" "$work/none" "$work/audit"; expect "$word: no rack file" 2 '' "rackd: cannot read $work/none"$'\n  nothing is there'
+  run '' "$word" "$work/rack" "$work/none"; expect "$word: no second file" 2 '' "rackd: cannot read $work/none"$'\n  nothing is there'
+  run '' "$word" "$work/nothing" "$work/none"; expect "$word: the rack file comes first" 2 '' "rackd: cannot read $work/nothing"$'\n  nothing is there'
+  run '' "$word" "$work/script" "$work/none"; expect "$word: files come before what they hold" 2 '' "rackd: cannot read $work/none"$'\n  nothing is there'
   run '' "$word" "$work/none" "$work/none" word
   hold "$word: words come before files" eval '[ "$status" = 2 ] && ! grep -q "cannot read" "$work/err"'
-  run '' "$word" "$work/latin" "$work/audit"; expect "$word: a rack that is not UTF-8" 2 '' "rackd: cannot read $work/latin"
-  run '' "$word" "$work/rack" "$work/latin"; expect "$word: a second file that is not UTF-8" 2 '' "rackd: cannot read $work/latin"
-  run '' "$word" "$work" "$work/audit"; expect "$word: a folder" 2 '' "rackd: cannot read $work"
-  run "$rack" "$word" - "$work/audit"; expect "$word: a word - is no standard input" 2 '' 'rackd: cannot read -'
+  run '' "$word" "$work/latin" "$work/audit"; expect "$word: a rack that is not UTF-8" 2 '' "rackd: cannot read $work/latin"$'\n  not UTF-8'
+  run '' "$word" "$work/rack" "$work/latin"; expect "$word: a second file that is not UTF-8" 2 '' "rackd: cannot read $work/latin"$'\n  not UTF-8'
+  run '' "$word" "$work" "$work/audit"; expect "$word: a folder" 2 '' "rackd: cannot read $work"$'\n  a folder'
+  run "$rack" "$word" - "$work/audit"; expect "$word: a word - is no standard input" 2 '' $'rackd: cannot read -\n  nothing is there'
 done
 printf "$rack" >"$work/-"
 cd "$work" || exit 1
@@ -197,28 +197,43 @@ cd "$OLDPWD" || exit 1
 # ports LISTEN OPERATOR: the two keys of a line
 ports() { printf 'masters = [1, 2]\\nlisten = %s\\noperator = %s' "$1" "$2"; }
 line_2=${rack/number = 1/number = 2}
-run '' serve "$work/none"; expect 'serve: no rack file' 2 '' "rackd: cannot read $work/none"
-run '' serve "$work/none" --sessions 1000000; expect 'serve: a million sessions, and no rack file' 2 '' "rackd: cannot read $work/none"
-run '' serve "$work/latin"; expect 'serve: a rack that is not UTF-8' 2 '' "rackd: cannot read $work/latin"
-run '' serve "$work"; expect 'serve: a folder' 2 '' "rackd: cannot read $work"
-run '' serve "$work/script"; expect 'serve: a file that is no rack' 2 '' 'rackd: rack NotToml'
-run '' serve "$work/rack"; expect 'serve: a line without ports' 2 '' 'rackd: rack BadKey'
+run '' serve "$work/none"; expect 'serve: no rack file' 2 '' "rackd: cannot read $work/none"$'\n  nothing is there'
+run '' serve "$work/none" --sessions 1000000; expect 'serve: a million sessions, and no rack file' 2 '' "rackd: cannot read $work/none"$'\n  nothing is there'
+run '' serve "$work/latin"; expect 'serve: a rack that is not UTF-8' 2 '' "rackd: cannot read $work/latin"$'\n  not UTF-8'
+run '' serve "$work"; expect 'serve: a folder' 2 '' "rackd: cannot read $work"$'\n  a folder'
+run '' serve "$work/script"; expect 'serve: a file that is no rack' 2 '' $'rackd: rack NotToml\n  row 1: key with no value, expected `=`'
+run '' serve "$work/rack"; expect 'serve: a line without ports' 2 '' $'rackd: rack BadKey\n  line 1, key "listen": missing'
 printf "${rack/masters/listen = 47601\\nmasters}" >"$work/half"
-run '' serve "$work/half"; expect 'serve: a line without a port for its operator' 2 '' 'rackd: rack BadKey'
+run '' serve "$work/half"; expect 'serve: a line without a port for its operator' 2 '' $'rackd: rack BadKey\n  line 1, key "operator": missing'
 printf "${rack/masters/operator = 47601\\nmasters}" >"$work/half"
-run '' serve "$work/half"; expect 'serve: a line without a port for masters' 2 '' 'rackd: rack BadKey'
+run '' serve "$work/half"; expect 'serve: a line without a port for masters' 2 '' $'rackd: rack BadKey\n  line 1, key "listen": missing'
 printf "${rack/"masters = [1, 2]"/$(ports 47601 47602)}$line_2" >"$work/half"
-run '' serve "$work/half"; expect 'serve: a second line without ports' 2 '' 'rackd: rack BadKey'
+run '' serve "$work/half"; expect 'serve: a second line without ports' 2 '' $'rackd: rack BadKey\n  line 2, key "listen": missing'
 printf "${rack/"masters = [1, 2]"/$(ports 47601 65536)}" >"$work/half"
-run '' serve "$work/half"; expect 'serve: port 65536' 2 '' 'rackd: rack BadKey'
+run '' serve "$work/half"; expect 'serve: port 65536' 2 '' $'rackd: rack BadKey\n  line 1, key "operator": no number from 0 to 65535'
 printf "$rack$rack" >"$work/half"
-run '' serve "$work/half"; expect 'serve: the rack comes before its ports' 2 '' 'rackd: rack TwiceLine'
+run '' serve "$work/half"; expect 'serve: the rack comes before its ports' 2 '' $'rackd: rack TwiceLine\n  two lines have one number'
 printf "${rack/"masters = [1, 2]"/$(ports 47601 47601)}" >"$work/same"
-run '' serve "$work/same"; expect 'serve: one port twice' 2 '' 'rackd: cannot listen on 47601'
+run '' serve "$work/same"; expect 'serve: one port twice' 2 '' $'rackd: cannot listen on 47601\n  twice in this rack'
 printf "${line_2/"masters = [1, 2]"/$(ports 47601 47602)}${rack/"masters = [1, 2]"/$(ports 47603 47601)}" >"$work/same"
-run '' serve "$work/same"; expect 'serve: the port of two lines' 2 '' 'rackd: cannot listen on 47601'
+run '' serve "$work/same"; expect 'serve: the port of two lines' 2 '' $'rackd: cannot listen on 47601\n  twice in this rack'
 printf "${line_2/"masters = [1, 2]"/$(ports 47601 47601)}${rack/"masters = [1, 2]"/$(ports 47602 47602)}" >"$work/same"
-run '' serve "$work/same"; expect 'serve: ports in the order of line numbers' 2 '' 'rackd: cannot listen on 47602'
+run '' serve "$work/same"; expect 'serve: ports in the order of line numbers' 2 '' $'rackd: cannot listen on 47602\n  twice in this rack'
+
+# ---- operate: words, and a port that nobody listens at
+
+for words in '' x 0 65536 07 +7 -7 '7 8' '7 --tick 9' '7 --tick 010' '7 --tick +10' '7 --tick 86400001' '7 --tick' '7 --step 0' \
+  '7 --step 01' '7 --step x' '7 --step 86400001' '7 --tick 10 --tick 10' '7 --step 1 --step 1' '7 --sessions 1' '7 --help'; do
+  read -ra list <<<"$words"
+  run '' operate "${list[@]}"
+  hold "wrong words: operate $words" eval \
+    '[ "$status" = 2 ] && [ ! -s "$work/out" ] && [ -s "$work/err" ] && ! grep -q "cannot connect" "$work/err"'
+done
+for words in 1 '1 --tick 10' '--step 1 1' '1 --step 86400000 --tick 86400000'; do
+  read -ra list <<<"$words"
+  run '' operate "${list[@]}"
+  expect "operate $words: nobody listens" 2 '' $'rackd: cannot connect to 1\n  nobody listens there'
+done
 
 # ---- standard error closed or full: no status changes
 # silent NAME STATUS INPUT WORD..

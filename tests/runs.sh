@@ -132,18 +132,23 @@ refuse_rows() {
   if [ "$number" = 0 ]; then fail "$1" 'there is no row'; fi
 }
 
-# refuse_racks NAME: each of the racks that rows --- part, alone with the script of their folder
+# refuse_racks NAME: each of the racks that rows --- part, alone with the script of their folder; behind the fault comes
+# where this rack is wrong, which is a row of the file .causes
 refuse_racks() {
-  local text number=0
+  local text causes fault number=0
   fault_of "$1" || return
+  fault=$error
+  mapfile -t causes <"$1.causes"
   load text "$1.racks"
   text+=$'---\n'
   while [ "$text" ]; do
-    number=$((number + 1))
     printf '%s' "${text%%---$'\n'*}" >"$work/rack"
+    error=$fault${causes[number]-}$'\n'
+    number=$((number + 1))
     refuse "$1" "$number" "$work/rack" "${1%/*}/script"
     text=${text#*---$'\n'}
   done
+  if [ "$number" != "${#causes[@]}" ]; then fail "$1" "${#causes[@]} causes for $number racks"; fi
 }
 
 # names KIND: sets $names to those of all cases of this kind of file
@@ -180,7 +185,7 @@ find_unknown() {
   local file
   for file in "$runs"/*/*; do
     case ${file##*/} in
-      rack.toml | script | *.script | *.audit | *.cut | *.rows | *.racks | *.out | *.err) ;;
+      rack.toml | script | *.script | *.audit | *.cut | *.rows | *.racks | *.causes | *.out | *.err) ;;
       *) fail "$file" 'there is no such kind of file' ;;
     esac
   done
@@ -198,6 +203,7 @@ done
 if [ $((passed + failed)) = 0 ]; then fail "$runs" 'there is no case'; fi
 find_strays out script audit
 find_strays err script audit rows racks
+find_strays causes racks
 find_unknown
 echo "$passed passed, $failed failed"
 [ "$failed" = 0 ]

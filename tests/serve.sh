@@ -260,24 +260,24 @@ for words in '' "$work/rack $work/rack" '--sessions 1' "$work/rack --sessions" "
   grep -q 'cannot read' "$work/told" || [ ! -s "$work/told" ] && told=no || told=yes
   expect "wrong words: serve ${words//"$work/"/}" "2, '', told yes" "$status, '$(cat "$work/said")', told $told"
 done
-run serve "$work/none"; ends 'no file' 2 "rackd: cannot read $work/none"
-run serve "$work"; ends 'a folder' 2 "rackd: cannot read $work"
+run serve "$work/none"; ends 'no file' 2 "rackd: cannot read $work/none"$'\n  nothing is there'
+run serve "$work"; ends 'a folder' 2 "rackd: cannot read $work"$'\n  a folder'
 printf '\xff\n' >"$work/latin"
-run serve "$work/latin"; ends 'a rack that is not UTF-8' 2 "rackd: cannot read $work/latin"
+run serve "$work/latin"; ends 'a rack that is not UTF-8' 2 "rackd: cannot read $work/latin"$'\n  not UTF-8'
 printf '[[line' >"$work/wrong"
-run serve "$work/wrong"; ends 'broken TOML' 2 'rackd: rack NotToml'
+run serve "$work/wrong"; ends 'broken TOML' 2 $'rackd: rack NotToml\n  row 1: unclosed table, expected `]`'
 for key in listen operator; do
   grep -v "^$key" "$work/rack" >"$work/wrong"
-  run serve "$work/wrong"; ends "a line without $key" 2 'rackd: rack BadKey'
+  run serve "$work/wrong"; ends "a line without $key" 2 $'rackd: rack BadKey\n  line 1, key "'"$key\": missing"
   { cat "$work/rack"; line 2 "$masters_2" "$operators_2" | grep -v "^$key"; slave 5; } >"$work/wrong"
-  run serve "$work/wrong"; ends "a second line without $key" 2 'rackd: rack BadKey'
+  run serve "$work/wrong"; ends "a second line without $key" 2 $'rackd: rack BadKey\n  line 2, key "'"$key\": missing"
 done
 cat "$work/rack" "$work/rack" | grep -v ^listen >"$work/wrong"
-run serve "$work/wrong"; ends 'two lines with one number come before a port' 2 'rackd: rack TwiceLine'
+run serve "$work/wrong"; ends 'two lines with one number come before a port' 2 $'rackd: rack TwiceLine\n  two lines have one number'
 { line 1 "$masters" "$operators" '1, 5'; slave 5; } | grep -v ^listen >"$work/wrong"
-run serve "$work/wrong"; ends 'a line that is refused comes before a port' 2 'rackd: rack line 1 TwiceAddress'
+run serve "$work/wrong"; ends 'a line that is refused comes before a port' 2 $'rackd: rack line 1 TwiceAddress\n  two stations, masters and slaves together, have one address'
 { line 1 "$masters" "$masters"; slave 5; } >"$work/wrong"
-run serve "$work/wrong"; ends 'one port for both' 2 "rackd: cannot listen on $masters"
+run serve "$work/wrong"; ends 'one port for both' 2 "rackd: cannot listen on $masters"$'\n  twice in this rack'
 timeout "$limit" "$program" serve "$work/rack" >/dev/full 2>"$work/told"; status=$?; : >"$work/said"
 ends 'standard output full' 4 'rackd: cannot write'
 
@@ -285,10 +285,10 @@ ends 'standard output full' 4 'rackd: cannot write'
 
 { line 2 "$masters_2" "$operators_2"; slave 5; line 1 "$masters" "$operators"; slave 5; } >"$work/two"
 serve 'two lines' "$work/two" 50
-run serve "$work/rack"; ends 'a port that is taken' 2 "rackd: cannot listen on $masters"
+run serve "$work/rack"; ends 'a port that is taken' 2 "rackd: cannot listen on $masters"$'\n  in use'
 ports free other
 { line 2 "$operators" "$other"; slave 5; line 1 "$free" "$masters_2"; slave 5; } >"$work/wrong"
-run serve "$work/wrong"; ends 'ports go by the numbers of their lines' 2 "rackd: cannot listen on $masters_2"
+run serve "$work/wrong"; ends 'ports go by the numbers of their lines' 2 "rackd: cannot listen on $masters_2"$'\n  in use'
 
 master 'master 1' "$masters" 1; one=$fd
 master 'master 2 beside it' "$masters" 2; two=$fd

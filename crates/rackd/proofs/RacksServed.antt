@@ -97,25 +97,29 @@ refused_lines workers lines old runs.WriteFault never = absurd never
 -- lines that aren't listened at
 pub refused_ports : (rack : RackDescription) (lines : List ServedLine) (old : Option (List ℕ)) (fault : Fault) → AreLinesOf rack lines → IsListeningFault lines fault
     → ServesRack rack old old (Err fault)
-refused_ports rack lines old (faults.CannotListen port) of_rack among = (lines, of_rack, among, keeps_same old)
+refused_ports rack lines old (faults.CannotListen port cause) of_rack among = (lines, of_rack, among, keeps_same old)
 refused_ports rack lines old (faults.Run runs.OutOfMemory) of_rack told = inl (keeps_same old)
 refused_ports rack lines old (faults.Run (runs.Rack fault)) of_rack never = absurd never
 refused_ports rack lines old (faults.Run (runs.Script line)) of_rack never = absurd never
 refused_ports rack lines old (faults.Run runs.WriteFault) of_rack never = absurd never
 refused_ports rack lines old faults.BadWord of_rack never = absurd never
-refused_ports rack lines old (faults.CannotRead path) of_rack never = absurd never
-refused_ports rack lines old (faults.CannotMake path) of_rack never = absurd never
-refused_ports rack lines old (faults.CannotWrite path) of_rack never = absurd never
+refused_ports rack lines old (faults.CannotRead path cause) of_rack never = absurd never
+refused_ports rack lines old (faults.CannotConnect port cause) of_rack never = absurd never
+refused_ports rack lines old (faults.PortEnded port) of_rack never = absurd never
+refused_ports rack lines old (faults.CannotMake path cause) of_rack never = absurd never
+refused_ports rack lines old (faults.CannotWrite path cause) of_rack never = absurd never
 
 -- lines that are served in part, or not recorded
 pub stopped : (rack : RackDescription) (lines : List ServedLine) (old new : Option (List ℕ)) (fault : Fault) → AreLinesOf rack lines → ServesLines lines old new (Err fault)
     → ServesRack rack old new (Err fault)
-stopped rack lines old new (faults.CannotMake path) of_rack same = same
-stopped rack lines old new (faults.CannotWrite path) of_rack served = (lines, of_rack, served)
+stopped rack lines old new (faults.CannotMake path cause) of_rack same = same
+stopped rack lines old new (faults.CannotWrite path cause) of_rack served = (lines, of_rack, served)
 stopped rack lines old new (faults.Run runs.OutOfMemory) of_rack part = inr (lines, of_rack, part)
 stopped rack lines old new (faults.Run runs.WriteFault) of_rack part = inr (lines, of_rack, part)
 stopped rack lines old new (faults.Run (runs.Rack fault)) of_rack never = absurd never
 stopped rack lines old new (faults.Run (runs.Script line)) of_rack never = absurd never
 stopped rack lines old new faults.BadWord of_rack never = absurd never
-stopped rack lines old new (faults.CannotRead path) of_rack never = absurd never
-stopped rack lines old new (faults.CannotListen port) of_rack never = absurd never
+stopped rack lines old new (faults.CannotRead path cause) of_rack never = absurd never
+stopped rack lines old new (faults.CannotListen port cause) of_rack never = absurd never
+stopped rack lines old new (faults.CannotConnect port cause) of_rack never = absurd never
+stopped rack lines old new (faults.PortEnded port) of_rack never = absurd never

@@ -2,7 +2,7 @@
 use Rattle.std.proofs.Common.{◌≡◌, ℕ, zero, suc, ◌+◌, ◌<◌, List, [], ◌∷◌, ◌++◌, map, length, take, slice_index_or, get_or, Option, Some, None, option_and_then, option_map, Ok, Err, Contains, inl, inr, refl, sym, ap, subst, ◌∙◌, append_assoc, arith}
 use Rattle.std.specs.List.{AllZip, flat_map, range_with_len}
 use Rattle.std.specs.Io.KnownBytes.{Appends}
-use Rattle.std.proofs.lemmas.List.{append-nil, length_push, map-append, map-id, take_more}
+use Rattle.std.proofs.lemmas.List.{append-nil, map-append, map-id, take_more}
 use Rattle.std.proofs.lemmas.List.Concat.{flat_map-append}
 use Rattle.std.proofs.lemmas.List.Elements.{Contains-append_right}
 use Rattle.std.proofs.lemmas.List.FromFn.{map-range_with_len_more}
@@ -94,16 +94,15 @@ range_more : (a n j : ℕ) → a + n ≡ j → range_with_len a (n + 1) ≡ rang
 range_more a n j is =
     sym (map-id (range_with_len a (n + 1))) ∙ map-range_with_len_more (λ k. k) a n j is ∙ ap (λ ks. ks ++ j ∷ []) (map-id (range_with_len a n))
 
--- an element more whose number is its place
-pub one_more_numbered : {A : Type 0} (f : A → ℕ) (xs : List A) (x : A) → map f xs ≡ range_with_len 0 (length xs) → f x ≡ length xs
-    → map f (xs ++ x ∷ []) ≡ range_with_len 0 (length (xs ++ x ∷ []))
-one_more_numbered f xs x so_far here = rw (map-append f xs (x ∷ []), so_far, here, length_push xs x) (sym (range_more 0 (length xs) (length xs) (omega arith)))
+-- a number more, which is its place
+pub one_more_numbered : (before after : List ℕ) (n m : ℕ) → before ≡ range_with_len 0 n → after ≡ before ++ n ∷ [] → m ≡ n + 1 → after ≡ range_with_len 0 m
+one_more_numbered before after n m so_far more longer = rw (more, so_far, longer) (sym (range_more 0 n n (omega arith)))
 
 -- an element more, of the next place of a list
-pub one_more_of : {A B : Type 0} (f : A → B) (xs : List A) (x : A) (ys : List B) → map f xs ≡ take (length xs) ys → length xs < length ys
-    → f x ≡ slice_index_or ys (length xs) (f x) → map f (xs ++ x ∷ []) ≡ take (length (xs ++ x ∷ [])) ys
-one_more_of f xs x ys so_far within here =
-    rw (map-append f xs (x ∷ []), so_far, length_push xs x) (ap (λ y. take (length xs) ys ++ y ∷ []) here ∙ sym (take_more ys (length xs) (f x) within))
+pub one_more_of : {B : Type 0} (before after ys : List B) (y : B) (n m : ℕ) → before ≡ take n ys → after ≡ before ++ y ∷ [] → m ≡ n + 1 → n < length ys
+    → y ≡ slice_index_or ys n y → after ≡ take m ys
+one_more_of before after ys y n m so_far more longer within here =
+    rw (more, so_far, longer) (ap (λ x. take n ys ++ x ∷ []) here ∙ sym (take_more ys n y within))
 
 -- ---- what lines leave
 
@@ -183,19 +182,18 @@ pub served_whole : (lines : List ServedLine) (specs : List LineSpec) (a b c : Op
 served_whole lines specs a b c same said w = (b, said, subst (λ ls. AreWritten ls b c) same w)
 
 -- and so it is where the program can't say how many were served
-pub served_uncounted : (lines : List ServedLine) (specs : List LineSpec) (a b c : Option (List ℕ)) → specs ≡ specs_of lines → Appends a b ready → AreWritten specs b c
-    → AreServedInPart lines a c
-served_uncounted lines specs a b c same said w = inr (
+pub served_uncounted : (lines : List ServedLine) (a c : Option (List ℕ)) → AreServed lines a c → AreServedInPart lines a c
+served_uncounted lines a c (b, said, w) = inr (
   b,
   said,
-  subst (λ ls. AreBrokenOff ls b c) same (record {
-    first = specs;
+  record {
+    first = specs_of lines;
     later = [];
-    lines_are = sym (append-nil specs);
+    lines_are = sym (append-nil (specs_of lines));
     left = w.left;
     each = w.each;
     written = (flat_map text_of w.left, [], sym (append-nil (flat_map text_of w.left)), w.written);
-  }),
+  },
 )
 
 -- or a part of it
@@ -215,12 +213,14 @@ served_not_at_all lines a b (runs.Script at) never = absurd never
 
 -- the lines aren't recorded
 pub served_unopened : (lines : List ServedLine) (old : Option (List ℕ)) (fault : Fault) → IsRecordingFault fault → ServesLines lines old old (Err fault)
-served_unopened lines old (faults.CannotMake path) told = keeps_same old
+served_unopened lines old (faults.CannotMake path cause) told = keeps_same old
 served_unopened lines old (faults.Run runs.OutOfMemory) told = inl ([], ready, refl, appends_none old)
 served_unopened lines old (faults.Run (runs.Rack fault)) never = absurd never
 served_unopened lines old (faults.Run (runs.Script at)) never = absurd never
 served_unopened lines old (faults.Run runs.WriteFault) never = absurd never
 served_unopened lines old faults.BadWord never = absurd never
-served_unopened lines old (faults.CannotRead path) never = absurd never
-served_unopened lines old (faults.CannotListen port) never = absurd never
-served_unopened lines old (faults.CannotWrite path) never = absurd never
+served_unopened lines old (faults.CannotRead path cause) never = absurd never
+served_unopened lines old (faults.CannotListen port cause) never = absurd never
+served_unopened lines old (faults.CannotConnect port cause) never = absurd never
+served_unopened lines old (faults.PortEnded port) never = absurd never
+served_unopened lines old (faults.CannotWrite path cause) never = absurd never

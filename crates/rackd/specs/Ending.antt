@@ -1,9 +1,10 @@
--- How the program ends: its status, and the line on standard error (own).
-use Rattle.std.specs.Prelude.{codes, ℕ, List, ◌++◌}
+-- How the program ends: its status, and the first row on standard error (own).
+use Rattle.std.specs.Prelude.{codes, ℕ, List, ◌++◌, Option, Some, None}
 use Rattle.std.specs.Fmt.{decimal}
 use Rattle.rack_file.specs.declared.fault.RackFault.TheVariants as racks
 use Rattle.dp_script.specs.declared.run_fault.RunFault.TheVariants as runs
 use Rattle.dp_script.specs.FaultTexts.{run_fault_text}
+use Rattle.rackd.specs.declared.cause.Cause.{Cause}
 use Rattle.rackd.specs.declared.ending.AuditPath.{AuditPath}
 use Rattle.rackd.specs.declared.ending.AuditPath.TheVariants as paths
 use Rattle.rackd.specs.declared.ending.Fault.{Fault}
@@ -13,10 +14,12 @@ use Rattle.rackd.specs.declared.ending.Fault.TheVariants as faults
 -- written to its file
 abbrev pub status_of : Fault → ℕ
 status_of faults.BadWord = 2
-status_of (faults.CannotRead path) = 2
-status_of (faults.CannotListen port) = 2
-status_of (faults.CannotMake path) = 2
-status_of (faults.CannotWrite path) = 5
+status_of (faults.CannotRead path cause) = 2
+status_of (faults.CannotListen port cause) = 2
+status_of (faults.CannotConnect port cause) = 2
+status_of (faults.PortEnded port) = 2
+status_of (faults.CannotMake path cause) = 2
+status_of (faults.CannotWrite path cause) = 5
 status_of (faults.Run (runs.Rack racks.OutOfMemory)) = 3
 status_of (faults.Run (runs.Rack other)) = 2
 status_of (faults.Run (runs.Script line)) = 2
@@ -31,8 +34,21 @@ audit_path_text (paths.File folder line number) = folder.now ++ codes "/line-" +
 -- the line on standard error, without its LF
 abbrev pub fault_text : Fault → List ℕ
 fault_text faults.BadWord = codes "rackd: a word is not UTF-8"
-fault_text (faults.CannotRead path) = codes "rackd: cannot read " ++ path.now
-fault_text (faults.CannotListen port) = codes "rackd: cannot listen on " ++ decimal port
-fault_text (faults.CannotMake path) = codes "rackd: cannot make " ++ audit_path_text path
-fault_text (faults.CannotWrite path) = codes "rackd: cannot write " ++ audit_path_text path
+fault_text (faults.CannotRead path cause) = codes "rackd: cannot read " ++ path.now
+fault_text (faults.CannotListen port cause) = codes "rackd: cannot listen on " ++ decimal port
+fault_text (faults.CannotConnect port cause) = codes "rackd: cannot connect to " ++ decimal port
+fault_text (faults.PortEnded port) = codes "rackd: port " ++ decimal port ++ codes " has ended"
+fault_text (faults.CannotMake path cause) = codes "rackd: cannot make " ++ audit_path_text path
+fault_text (faults.CannotWrite path cause) = codes "rackd: cannot write " ++ audit_path_text path
 fault_text (faults.Run fault) = codes "rackd: " ++ run_fault_text fault
+
+-- why a file or a port can't be had, where that is the fault
+abbrev pub cause_of : Fault → Option Cause
+cause_of faults.BadWord = None
+cause_of (faults.CannotRead path cause) = Some cause
+cause_of (faults.CannotListen port cause) = Some cause
+cause_of (faults.CannotConnect port cause) = Some cause
+cause_of (faults.PortEnded port) = None
+cause_of (faults.CannotMake path cause) = Some cause
+cause_of (faults.CannotWrite path cause) = Some cause
+cause_of (faults.Run fault) = None

@@ -31,13 +31,13 @@ ports_of lines = flat_map (λ line. line.listen ∷ line.operator ∷ []) lines
 
 -- a port of these lines can't be had, or memory is refused
 abbrev pub IsListeningFault : List ServedLine → Fault → Type 0
-IsListeningFault lines (faults.CannotListen port) = Contains (ports_of lines) port
+IsListeningFault lines (faults.CannotListen port cause) = Contains (ports_of lines) port
 IsListeningFault lines (faults.Run runs.OutOfMemory) = Unit {0}
 IsListeningFault lines other = ⊥
 
 -- the folder or a file of audit texts can't be had, or memory is refused
 abbrev pub IsRecordingFault : Fault → Type 0
-IsRecordingFault (faults.CannotMake path) = Unit {0}
+IsRecordingFault (faults.CannotMake path cause) = Unit {0}
 IsRecordingFault (faults.Run runs.OutOfMemory) = Unit {0}
 IsRecordingFault other = ⊥
 
@@ -120,8 +120,8 @@ Attends old new (Err other) = ⊥
 -- where a file for an audit text can't be had, nothing is written; where it took a row no more, all is
 abbrev pub ServesLines : List ServedLine → Option (List ℕ) → Option (List ℕ) → Result Served Fault → Type 0
 ServesLines lines old new (Ok served) = AreServed lines old new
-ServesLines lines old new (Err (faults.CannotMake path)) = Keeps old new
-ServesLines lines old new (Err (faults.CannotWrite path)) = AreServed lines old new
+ServesLines lines old new (Err (faults.CannotMake path cause)) = Keeps old new
+ServesLines lines old new (Err (faults.CannotWrite path cause)) = AreServed lines old new
 ServesLines lines old new (Err (faults.Run runs.WriteFault)) = AreServedInPart lines old new
 ServesLines lines old new (Err (faults.Run runs.OutOfMemory)) = AreServedInPart lines old new
 ServesLines lines old new (Err other) = ⊥
@@ -153,10 +153,10 @@ IsServedInPart rack old new = Keeps old new ⊎ ((lines : List ServedLine) × Ar
 abbrev pub ServesRack : RackDescription → Option (List ℕ) → Option (List ℕ) → Result Served Fault → Type 0
 ServesRack rack old new (Ok served) = IsServed rack old new
 ServesRack rack old new (Err (faults.Run (runs.Rack racks.BadKey))) = (list_all has_ports rack.lines ≡ false) × Keeps old new
-ServesRack rack old new (Err (faults.CannotListen port)) =
+ServesRack rack old new (Err (faults.CannotListen port cause)) =
     (lines : List ServedLine) × AreLinesOf rack lines × Contains (ports_of lines) port × Keeps old new
-ServesRack rack old new (Err (faults.CannotMake path)) = Keeps old new
-ServesRack rack old new (Err (faults.CannotWrite path)) = IsServed rack old new
+ServesRack rack old new (Err (faults.CannotMake path cause)) = Keeps old new
+ServesRack rack old new (Err (faults.CannotWrite path cause)) = IsServed rack old new
 ServesRack rack old new (Err (faults.Run runs.OutOfMemory)) = IsServedInPart rack old new
 ServesRack rack old new (Err (faults.Run runs.WriteFault)) = IsServedInPart rack old new
 ServesRack rack old new (Err other) = ⊥

@@ -1,6 +1,6 @@
 //! Threads that accept connections.
 
-ghost use Rattle.std.specs.Prelude.{◌≡◌, ◌≤◌, IfOk, length, map};
+ghost use Rattle.std.specs.Prelude.{◌≡◌, ◌≤◌, ◌+◌, [], ◌∷◌, ◌++◌, IfOk, OnOk, length, map};
 ghost use Rattle.std.specs.List.{range_with_len};
 ghost use Rattle.rackd.specs.ServeOutput.{AreOpened};
 
@@ -226,28 +226,50 @@ impl<'a, H: Wait, C: CatchUp> Acceptors<'a, H, C> {
         ensures masters { IfOk result (λ all. map (λ acceptor. acceptor.port) all.masters.items ≡ range_with_len 0 (length ports.now)) }
         ensures operators { IfOk result (λ all. map (λ acceptor. acceptor.desk.port.now) all.operators.items ≡ ports.now) }
     {
-        let mut masters = Vec::new(alloc);
-        let mut operators = Vec::new(alloc);
+        let mut all = Acceptors {
+            masters: Vec::new(alloc),
+            operators: Vec::new(alloc),
+        };
         for here in listening {
-            let place = masters.len();
-            masters.push(MasterAcceptor {
-                listener: here.masters,
-                port: place as u8,
-                line: lines[place].spec.number,
-                jobs: jobs.clone()?,
-                recorder: &recorders[place],
-                attendance,
-            })?;
-            operators.push(OperatorAcceptor {
-                listener: here.operators,
-                desk: Desk {
-                    port: &ports[place],
-                    line: &lines[place].spec,
-                },
-                recorder: &recorders[place],
-                attendance,
-            })?;
+            let place = all.masters.len();
+            let desk = Desk {
+                port: &ports[place],
+                line: &lines[place].spec,
+            };
+            let jobs = jobs.clone()?;
+            all.add(here, place as u8, desk, jobs, &recorders[place], attendance)?;
         }
-        Ok(Acceptors { masters, operators })
+        Ok(all)
+    }
+
+    /// Adds those of one line more, whose port has this place.
+    fn add(
+        &mut self,
+        here: Listening<TcpListener>,
+        port: u8,
+        desk: Desk<'a>,
+        jobs: Sender<MasterJob<'a, H, C>>,
+        recorder: &'a C,
+        attendance: &'a Attendance<'a, H>,
+    ) -> Result<(), AllocError>
+        ensures masters { OnOk result (map (λ acceptor. acceptor.port) self.new.masters.items ≡ map (λ acceptor. acceptor.port) self.old.masters.items ++ port ∷ []) }
+        ensures operators { OnOk result (map (λ acceptor. acceptor.desk.port.now) self.new.operators.items ≡ map (λ acceptor. acceptor.desk.port.now) self.old.operators.items ++ desk.entry.port.now ∷ []) }
+        ensures longer { OnOk result (length self.new.masters.items ≡ length self.old.masters.items + 1) }
+    {
+        self.masters.push(MasterAcceptor {
+            listener: here.masters,
+            port,
+            line: desk.line.number,
+            jobs,
+            recorder,
+            attendance,
+        })?;
+        self.operators.push(OperatorAcceptor {
+            listener: here.operators,
+            desk,
+            recorder,
+            attendance,
+        })?;
+        Ok(())
     }
 }

@@ -3,6 +3,7 @@
 ghost use Rattle.std.specs.Prelude.{IfErr};
 ghost use Rattle.rackd.specs.ServeOutput.{IsRecordingFault};
 
+use crate::cause::Cause;
 use crate::ending::{AuditPath, Fault};
 use dp_script::RunFault;
 use dp_shared::Line;
@@ -30,7 +31,7 @@ pub(crate) fn make_folder<'a>(files: &impl Files, folder: &'a str) -> Result<(),
 {
     match fs::create_dir_all(files, folder) {
         Ok(()) => Ok(()),
-        Err(_) => Err(Fault::CannotMake(AuditPath::Folder(folder))),
+        Err(error) => Err(Fault::CannotMake(AuditPath::Folder(folder), Cause::of(&error))),
     }
 }
 
@@ -58,11 +59,11 @@ pub(crate) fn open_file<'a, 'l, H: Files<File = File> + Wait>(
             Err(error) => match error.kind() {
                 ErrorKind::AlreadyExists => {}
                 ErrorKind::OutOfMemory => return Err(Fault::Run(RunFault::OutOfMemory)),
-                _ => return Err(Fault::CannotMake(path)),
+                _ => return Err(Fault::CannotMake(path, Cause::of(&error))),
             },
         }
     }
-    Err(Fault::CannotMake(AuditPath::Folder(folder)))
+    Err(Fault::CannotMake(AuditPath::Folder(folder), Cause::Unknown))
 }
 
 /// Creates a file where nothing has its path.
@@ -92,7 +93,7 @@ fn begin<'a, 'l, H: Wait, F: Write + Drop>(
             trail: Trail::of(tail),
         }),
         Err(TrailFault::NoPass) => Err(Fault::Run(RunFault::OutOfMemory)),
-        Err(TrailFault::WriteFault) => Err(Fault::CannotMake(path)),
+        Err(TrailFault::WriteFault) => Err(Fault::CannotMake(path, Cause::NotTaken)),
     }
 }
 

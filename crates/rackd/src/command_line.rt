@@ -2,6 +2,7 @@
 
 use crate::ending::Fault;
 use crate::notes::Telling;
+use crate::operate::Operation;
 use crate::serve::Service;
 use clap::builder::ValueParser;
 use clap::error::ErrorKind as Refused;
@@ -26,6 +27,28 @@ const FOLDER: &str = "audit";
 
 const LOG: &str = "log";
 
+/// The word and the options of `operate`, and the least milliseconds of each.
+const PORT: &str = "PORT";
+
+const TICK: &str = "tick";
+
+const STEP: &str = "step";
+
+const LEAST_TICK: u64 = 10;
+
+const LEAST_STEP: u64 = 1;
+
+/// The most milliseconds: a day.
+const MOST_MILLISECONDS: u64 = 86_400_000;
+
+/// The words that are numbers, and how messages name them.
+const NUMBERS: [(&str, &str); 4] = [
+    (SESSIONS, "--sessions <sessions>"),
+    (PORT, "<PORT>"),
+    (TICK, "--tick <MS>"),
+    (STEP, "--step <MS>"),
+];
+
 /// What may be named behind `--log`; the first one is meant where nothing is.
 const TOLD: [&str; 2] = ["sessions", "requests"];
 
@@ -40,6 +63,7 @@ Usage: rackd < INPUT
        rackd run RACK SCRIPT
        rackd check RACK AUDIT
        rackd serve RACK [--sessions N] [--audit FOLDER] [--log [requests]]
+       rackd operate PORT [--tick MS] [--step MS]
 
 Standard input is a rack file (TOML: lines with their masters and slaves), a line that is
 exactly %%, and a script: 'm M HEX' is what master M sends, 'owned M' lists the slaves that it
@@ -67,6 +91,12 @@ from its header on, without 'ready'. With --log connections, ends of sessions an
 telegram are told on standard error, with --log requests each request and its answer too. That a line
 is halted is always told.
 
+'operate' is an operator at hand of a line that is served: the lines of standard input go to its port
+'operator', and the answers to standard output. With --tick MS (10 to 86400000) the time that passes
+is told to the line each MS milliseconds, so watchdogs run; with --step MS (1 to 86400000) the devices
+feed their slaves. An answer to these is written only where it tells something. It ends with standard
+input, with --tick or --step with a signal or the end of the port.
+
 For example, the input
 
 [[line]]
@@ -91,8 +121,8 @@ Options:
 Exit statuses:
   0  done
   1  a check that is not legal
-  2  wrong words, a file, input, a rack or a script that is not accepted, a port that is taken, or a
-     file for an audit text that cannot be made
+  2  wrong words, a file, input, a rack or a script that is not accepted, a port that is taken, that
+     nobody listens at or that ends too early, or a file for an audit text that cannot be made
   3  out of memory
   4  standard output cannot be written
   5  an audit text cannot be written to its file
@@ -124,8 +154,20 @@ pub enum Invocation<'a> {
         /// How it is served.
         service: Service<'a>,
     },
+    /// `operate PORT`: standard input and the clock operate a line that is served.
+    Operate(Operation),
     /// `clap` answers: help, the version, or what is wrong with the words.
     Answer(clap::Error),
+}
+
+/// A number that isn't written plainly.
+struct OddNumber<'a> {
+    /// The word that it stands behind.
+    command: &'a str,
+    /// How messages name what it is.
+    shown: &'a str,
+    /// The number.
+    number: &'a str,
 }
 
 /// The words, the program's own name among them.
@@ -145,32 +187,49 @@ pub fn read_words<'a>(alloc: Global, words: &'a [String]) -> Result<Invocation<'
         return Err(Fault::Run(RunFault::OutOfMemory));
     };
     match command.try_get_matches_from(words) {
-        Ok(matches) => match odd_count(&matches) {
-            Some(count) => refuse_count(alloc, count),
+        Ok(matches) => match odd_number(&matches) {
+            Some(odd) => refuse_number(alloc, odd),
             None => Ok(invocation_of(&matches)),
         },
         Err(error) => Ok(Invocation::Answer(error)),
     }
 }
 
-/// A number of sessions with a sign or a leading zero, which `clap` lets pass.
-fn odd_count<'a>(matches: &ArgMatches<'a>) -> Option<&'a str> {
-    let (_, words) = matches.subcommand()?;
-    match words.get_str(SESSIONS) {
-        Some(count) if count.starts_with('+') || count.starts_with('0') => Some(count),
-        _ => None,
+/// A number with a sign or a leading zero, which `clap` lets pass, and how messages name what it is.
+fn odd_number<'a>(matches: &ArgMatches<'a>) -> Option<OddNumber<'a>> {
+    let (command, words) = matches.subcommand()?;
+    for (name, shown) in NUMBERS {
+        if let Some(number) = words.get_str(name)
+            && (number.starts_with('+') || number.starts_with('0'))
+        {
+            return Some(OddNumber {
+                command,
+                shown,
+                number,
+            });
+        }
     }
+    None
 }
 
 /// The answer to such a number.
-fn refuse_count<'a>(alloc: Global, count: &str) -> Result<Invocation<'a>, Fault<'a>> {
+fn refuse_number<'a>(alloc: Global, odd: OddNumber<'_>) -> Result<Invocation<'a>, Fault<'a>> {
+    let OddNumber {
+        command,
+        shown,
+        number,
+    } = odd;
     let Ok(message) = format!(in alloc;
-        "invalid value '{count}' for '--sessions <sessions>': a number has no sign and no leading zero"
+        "invalid value '{number}' for '{shown}': a number has no sign and no leading zero"
     ) else {
         return Err(Fault::Run(RunFault::OutOfMemory));
     };
-    match serving(alloc) {
-        Ok(mut serve) => match serve.error(Refused::ValueValidation, message.as_str()) {
+    let command = match command {
+        "operate" => operating(alloc),
+        _ => serving(alloc),
+    };
+    match command {
+        Ok(mut command) => match command.error(Refused::ValueValidation, message.as_str()) {
             Ok(error) => Ok(Invocation::Answer(error)),
             Err(_) => Err(Fault::Run(RunFault::OutOfMemory)),
         },
@@ -189,6 +248,11 @@ fn invocation_of<'a>(matches: &ArgMatches<'a>) -> Invocation<'a> {
             rack: path_in(files, RACK),
             audit: path_in(files, AUDIT),
         },
+        Some(("operate", words)) => Invocation::Operate(Operation {
+            port: words.get_one(PORT).unwrap_or(0),
+            tick: words.get_one(TICK),
+            step: words.get_one(STEP),
+        }),
         Some((_, files)) => Invocation::Serve {
             rack: path_in(files, RACK),
             service: Service {
@@ -215,7 +279,7 @@ fn path_in<'a>(files: &ArgMatches<'a>, name: &str) -> &'a str {
     files.get_str(name).unwrap_or("")
 }
 
-/// The words that are known: `run`, `check` and `serve` with their files, `--help` and `--version`.
+/// The words that are known: `run`, `check` and `serve` with their files, `operate`, `--help` and `--version`.
 fn command<'a>(alloc: Global) -> Result<Command<'a>, AllocError> {
     let help = Arg::new(alloc, "help").long("help").action(ArgAction::Help);
     let version = Arg::new(alloc, "version")
@@ -231,7 +295,8 @@ fn command<'a>(alloc: Global) -> Result<Command<'a>, AllocError> {
         .arg(version)?
         .subcommand(with_files(alloc, "run", SCRIPT)?)?
         .subcommand(with_files(alloc, "check", AUDIT)?)?
-        .subcommand(serving(alloc)?)
+        .subcommand(serving(alloc)?)?
+        .subcommand(operating(alloc)?)
 }
 
 /// A word behind which two files stand, a rack and another.
@@ -267,4 +332,25 @@ fn serving<'a>(alloc: Global) -> Result<Command<'a>, AllocError> {
         .arg(sessions)?
         .arg(folder)?
         .arg(log)
+}
+
+/// The word `operate`: a port, and how often a tick and a step are sent.
+fn operating<'a>(alloc: Global) -> Result<Command<'a>, AllocError> {
+    let port = Arg::new(alloc, PORT)
+        .required(true)
+        .value_parser(ValueParser::unsigned(1, u64::from(u16::MAX)));
+    let tick = Arg::new(alloc, TICK)
+        .long(TICK)
+        .value_name("MS")
+        .value_parser(ValueParser::unsigned(LEAST_TICK, MOST_MILLISECONDS));
+    let step = Arg::new(alloc, STEP)
+        .long(STEP)
+        .value_name("MS")
+        .value_parser(ValueParser::unsigned(LEAST_STEP, MOST_MILLISECONDS));
+    Command::new(alloc, "operate")
+        .disable_help_flag(true)
+        .disable_version_flag(true)
+        .arg(port)?
+        .arg(tick)?
+        .arg(step)
 }

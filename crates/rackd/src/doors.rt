@@ -12,7 +12,7 @@ const MOST_PORTS: usize = 16;
 type OpenPorts = ArrayVec<u16, MOST_PORTS>;
 
 /// How far the doors of a rack are open.
-#[derive(Clone, Copy, Debug, PartialEq, Eq)]
+#[derive(Clone, Copy, PartialEq, Eq)]
 pub(crate) enum Door {
     /// Not yet: threads are being started.
     Unopened,

@@ -1,8 +1,9 @@
 //! How the program ends after a fault.
 
 ghost use Rattle.std.specs.Prelude.{◌≡◌, Some};
-ghost use Rattle.rackd.specs.Ending.{status_of, audit_path_text, fault_text};
+ghost use Rattle.rackd.specs.Ending.{status_of, audit_path_text, cause_of, fault_text};
 
+use crate::cause::Cause;
 use dp_script::RunFault;
 use rack_file::RackFault;
 use std::fmt;
@@ -45,13 +46,17 @@ pub enum Fault<'a> {
     /// A word isn't UTF-8.
     BadWord,
     /// The file at this path, or standard input for `-`, can't be read, or isn't UTF-8.
-    CannotRead(&'a str),
+    CannotRead(&'a str, Cause),
     /// This port can't be listened at.
-    CannotListen(u16),
+    CannotListen(u16, Cause),
+    /// This port can't be connected to.
+    CannotConnect(u16, Cause),
+    /// The connection to this port has ended before standard input has, or before a line of it was answered.
+    PortEnded(u16),
     /// The folder of audit texts, or a file of it, can't be had, or doesn't take its header.
-    CannotMake(AuditPath<'a>),
+    CannotMake(AuditPath<'a>, Cause),
     /// A row can't be written to this file.
-    CannotWrite(AuditPath<'a>),
+    CannotWrite(AuditPath<'a>, Cause),
     /// The run ended early.
     Run(RunFault),
 }
@@ -70,10 +75,23 @@ pub fn status(fault: Fault<'_>) -> u8
     match fault {
         Fault::Run(RunFault::OutOfMemory | RunFault::Rack(RackFault::OutOfMemory)) => 3,
         Fault::Run(RunFault::WriteFault) => 4,
-        Fault::BadWord | Fault::CannotRead(_) | Fault::CannotListen(_) => 2,
-        Fault::CannotMake(_) => 2,
-        Fault::CannotWrite(_) => 5,
+        Fault::BadWord | Fault::CannotRead(_, _) | Fault::CannotListen(_, _) => 2,
+        Fault::CannotConnect(_, _) | Fault::PortEnded(_) => 2,
+        Fault::CannotMake(_, _) => 2,
+        Fault::CannotWrite(_, _) => 5,
         Fault::Run(RunFault::Rack(_) | RunFault::Script(_)) => 2,
+    }
+}
+
+/// Why a file or a port can't be had, where that is the fault.
+pub fn cause(fault: Fault<'_>) -> Option<Cause>
+    ensures { result ≡ cause_of fault.entry }
+{
+    match fault {
+        Fault::CannotRead(_, cause) | Fault::CannotListen(_, cause) => Some(cause),
+        Fault::CannotConnect(_, cause) => Some(cause),
+        Fault::CannotMake(_, cause) | Fault::CannotWrite(_, cause) => Some(cause),
+        Fault::BadWord | Fault::PortEnded(_) | Fault::Run(_) => None,
     }
 }
 
@@ -83,10 +101,12 @@ impl<'a> fmt::Display for Fault<'a> {
     fn fmt<W: fmt::Write>(&self, f: &mut fmt::Formatter<W>) -> fmt::Result {
         match self {
             Fault::BadWord => f.write_str("rackd: a word is not UTF-8"),
-            Fault::CannotRead(path) => write!(f, "rackd: cannot read {path}"),
-            Fault::CannotListen(port) => write!(f, "rackd: cannot listen on {port}"),
-            Fault::CannotMake(path) => write!(f, "rackd: cannot make {path}"),
-            Fault::CannotWrite(path) => write!(f, "rackd: cannot write {path}"),
+            Fault::CannotRead(path, _) => write!(f, "rackd: cannot read {path}"),
+            Fault::CannotListen(port, _) => write!(f, "rackd: cannot listen on {port}"),
+            Fault::CannotConnect(port, _) => write!(f, "rackd: cannot connect to {port}"),
+            Fault::PortEnded(port) => write!(f, "rackd: port {port} has ended"),
+            Fault::CannotMake(path, _) => write!(f, "rackd: cannot make {path}"),
+            Fault::CannotWrite(path, _) => write!(f, "rackd: cannot write {path}"),
             Fault::Run(fault) => write!(f, "rackd: {fault}"),
         }
     }

@@ -3,11 +3,11 @@
 ghost use Rattle.std.specs.Prelude.{◌≡◌, IfErr, IfOk, length};
 ghost use Rattle.rackd.specs.ServeOutput.{IsListeningFault};
 
+use crate::cause::Cause;
 use crate::ending::Fault;
 use crate::served_line::ServedLine;
 use dp_script::RunFault;
 use std::alloc::Global;
-use std::io;
 use std::net::{Ipv4Addr, Net, TcpListener};
 
 /// Where a line listens.
@@ -32,11 +32,13 @@ pub(crate) fn listen_at_lines<'a, N: Net>(
 {
     let mut all = Vec::new(alloc);
     for line in lines {
-        let Ok(masters) = listen_at(net, line.listen) else {
-            return Err(Fault::CannotListen(line.listen));
+        let masters = match listen_at(net, lines, line.listen) {
+            Ok(masters) => masters,
+            Err(cause) => return Err(Fault::CannotListen(line.listen, cause)),
         };
-        let Ok(operators) = listen_at(net, line.operator) else {
-            return Err(Fault::CannotListen(line.operator));
+        let operators = match listen_at(net, lines, line.operator) {
+            Ok(operators) => operators,
+            Err(cause) => return Err(Fault::CannotListen(line.operator, cause)),
         };
         if all.push(Listening { masters, operators }).is_err() {
             return Err(Fault::Run(RunFault::OutOfMemory));
@@ -45,9 +47,22 @@ pub(crate) fn listen_at_lines<'a, N: Net>(
     Ok(all)
 }
 
-/// Listens at a port of this machine, for clients on it.
-fn listen_at<N: Net>(net: &N, port: u16) -> io::Result<N::Listener> {
-    TcpListener::bind(net, (Ipv4Addr::LOCALHOST, port))
+/// Listens at a port of this machine, for clients on it; or why that can't be had.
+fn listen_at<N: Net>(net: &N, lines: &[ServedLine], port: u16) -> Result<N::Listener, Cause> {
+    match TcpListener::bind(net, (Ipv4Addr::LOCALHOST, port)) {
+        Ok(listener) => Ok(listener),
+        Err(error) => match Cause::of(&error) {
+            Cause::InUse if is_twice(lines, port) => Err(Cause::TwiceInRack),
+            cause => Err(cause),
+        },
+    }
+}
+
+/// Two ports of these lines have this number.
+fn is_twice(lines: &[ServedLine], port: u16) -> bool {
+    let masters = lines.iter().filter(|line| line.listen == port).count();
+    let operators = lines.iter().filter(|line| line.operator == port).count();
+    masters > 1 || operators > 1 || masters == 1 && operators == 1
 }
 
 /// Makes sure that each worker and the operator of each line can have a connection at one time, which takes two
@@ -72,8 +87,9 @@ pub(crate) fn try_connections<'a>(
     let connections = usize::from(workers) + lines.len();
     let mut held = Vec::new(alloc);
     for _ in 0..2 * (connections + lines.len()) {
-        let Ok(descriptor) = here.masters.try_clone() else {
-            return Err(Fault::CannotListen(line.listen));
+        let descriptor = match here.masters.try_clone() {
+            Ok(descriptor) => descriptor,
+            Err(error) => return Err(Fault::CannotListen(line.listen, Cause::of(&error))),
         };
         if held.push(descriptor).is_err() {
             return Err(Fault::Run(RunFault::OutOfMemory));

@@ -2,37 +2,46 @@
 //!
 //! Without words it reads a rack text, a line `%%` and a script from standard input, and writes the
 //! answers of the script. `run` reads rack and script from two files, `check` a rack and an audit text,
-//! which it checks, and `serve` a rack, whose lines it serves at sockets. `--help` and `--version` are answered on standard output.
+//! which it checks, and `serve` a rack, whose lines it serves at sockets. `operate` is an operator at hand of a line that
+//! is served. `--help` and `--version` are answered on standard output.
 #![tactic(auto)]
 
 mod acceptors;
 mod attendance;
 mod audit_files;
 mod audits;
+mod cause;
 mod command_line;
 mod desk;
 mod doors;
 mod ending;
+mod incoming;
 mod listening;
+mod missing_port;
 mod notes;
 mod opened_lines;
+mod operate;
 mod patient;
+mod rack_cause;
 mod recorder;
 mod serve;
 mod served_line;
 mod threads;
 mod time_of_day;
 
+use cause::Cause;
 use clap::error::ErrorKind as Answer;
 use command_line::{Invocation, read_words, words_of};
 use dp_script::split_input;
 pub use dp_script::{RunFault, run_check, run_text};
-use ending::{Fault, status};
+use ending::{Fault, cause, status};
 use log::{Log, info};
+use operate::{Operation, operate};
+use rack_cause::rack_cause;
 pub use rack_file::{Rack, RackFault, RackLine, read_rack};
 use serve::{Served, Service, serve_text};
 use std::fs::{self, File, Files};
-use std::io::{self, BufWriter, ErrorKind, Printer, Write};
+use std::io::{self, BufWriter, ErrorKind, Printer, Read, Write};
 use std::net::{Net, TcpListener, TcpStream};
 use std::process::ExitCode;
 use std::rt::Runtime;
@@ -47,7 +56,7 @@ const NO_HEADER: &str = "  row 1: no header; does the text begin with \"ready\"?
 
 fn main(rt: HostRuntime) -> ExitCode {
     match words_of(&rt) {
-        Ok(words) => match obey(&rt, words.as_slice()) {
+        Ok(words) => match obey(&rt, rt.stdin(), words.as_slice()) {
             Ok(code) => code,
             Err(fault) => report(&rt, fault),
         },
@@ -55,11 +64,34 @@ fn main(rt: HostRuntime) -> ExitCode {
     }
 }
 
-/// Reports a fault on standard error, and answers its exit status.
+/// Reports a fault on standard error, and its cause in a second row, and answers its exit status.
 fn report(rt: &impl Eprint, fault: Fault<'_>) -> ExitCode {
     // A closed or full standard error changes no status.
     let _ = rt.eprintln(fault);
+    if let Some(cause) = cause(fault) {
+        let _ = rt.eprintln(cause);
+    }
     ExitCode::from(status(fault))
+}
+
+/// The exit status of what was done with a rack. Where the rack isn't accepted, that is reported here, and where it
+/// is wrong in a second row.
+fn reported<'a>(
+    rt: &(impl Runtime + AllocGlobal),
+    rack: &str,
+    done: Result<ExitCode, Fault<'a>>,
+) -> Result<ExitCode, Fault<'a>> {
+    let Err(Fault::Run(RunFault::Rack(refused))) = done else {
+        return done;
+    };
+    let Ok(cause) = rack_cause(rt.alloc(), rack, refused) else {
+        return Err(Fault::Run(RunFault::OutOfMemory));
+    };
+    let code = report(rt, Fault::Run(RunFault::Rack(refused)));
+    if let Some(cause) = cause {
+        let _ = eprintln!(rt; "  {cause}");
+    }
+    Ok(code)
 }
 
 /// Does what the words ask for.
@@ -72,13 +104,18 @@ fn obey<
         + Files<File = File>
         + Threads
         + Wait
-        + Sync,
->(rt: &H, words: &'a [String]) -> Result<ExitCode, Fault<'a>> {
+        + Sync
+        + Copy
+        + Send
+        + 'static,
+    I: Read + Send + Drop + 'static,
+>(rt: &H, input: I, words: &'a [String]) -> Result<ExitCode, Fault<'a>> {
     match read_words(rt.alloc(), words)? {
         Invocation::Input => run_input(rt),
         Invocation::Run { rack, script } => run_files(rt, rack, script),
         Invocation::Check { rack, audit } => check_files(rt, rack, audit),
         Invocation::Serve { rack, service } => serve_file(rt, rack, service),
+        Invocation::Operate(operation) => operate_line(rt, operation, input),
         Invocation::Answer(answer) => Ok(tell(rt, &answer)?),
     }
 }
@@ -101,12 +138,9 @@ fn tell(rt: &(impl Print + Eprint), answer: &clap::Error) -> Result<ExitCode, Ru
 
 /// Runs the script of standard input on its rack.
 fn run_input<'a>(rt: &(impl Runtime + AllocGlobal)) -> Result<ExitCode, Fault<'a>> {
-    let text = io::read_to_string(rt.alloc(), rt.reader()).map_err(|error| read_fault(
-        error.kind(),
-        "-",
-    ))?;
+    let text = io::read_to_string(rt.alloc(), rt.reader()).map_err(|error| read_fault(error, "-"))?;
     let (rack, script) = split_input(text.as_str());
-    Ok(run_out(rt, rack, script)?)
+    reported(rt, rack, run_out(rt, rack, script))
 }
 
 /// Runs the script of a file on the rack of another.
@@ -117,7 +151,8 @@ fn run_files<'a>(
 ) -> Result<ExitCode, Fault<'a>> {
     let rack = read_file(rt, rack)?;
     let script = read_file(rt, script)?;
-    Ok(run_out(rt, rack.as_str(), script.as_str())?)
+    let ran = run_out(rt, rack.as_str(), script.as_str());
+    reported(rt, rack.as_str(), ran)
 }
 
 /// Checks the audit text of a file on the rack of another.
@@ -128,7 +163,8 @@ fn check_files<'a>(
 ) -> Result<ExitCode, Fault<'a>> {
     let rack = read_file(rt, rack)?;
     let audit = read_file(rt, audit)?;
-    Ok(check_out(rt, rack.as_str(), audit.as_str())?)
+    let checked = check_out(rt, rack.as_str(), audit.as_str());
+    reported(rt, rack.as_str(), checked)
 }
 
 /// Serves the rack of a file, and notes how many sessions were served.
@@ -147,42 +183,68 @@ fn serve_file<
     let mut output = buffered(rt)?;
     let served = serve_text(rt, rt.alloc(), rack.as_str(), service, &mut output);
     flushed(output)?;
-    let Served { masters, operators } = served?;
+    let noted = served.map(|served| note_served(rt, served));
+    reported(rt, rack.as_str(), noted)
+}
+
+/// Notes how many sessions were served.
+fn note_served(rt: &impl Log, served: Served) -> ExitCode {
+    let Served { masters, operators } = served;
     info!(rt; "served {masters} sessions of masters and {operators} of operators");
+    ExitCode::SUCCESS
+}
+
+/// Is an operator at hand of a line, by standard input and output.
+fn operate_line<
+    'a,
+    H: Runtime
+        + AllocGlobal
+        + Log
+        + Net<Listener = TcpListener, Stream = TcpStream>
+        + Threads
+        + Wait
+        + Copy
+        + Send
+        + 'static,
+    I: Read + Send + Drop + 'static,
+>(rt: &H, operation: Operation, input: I) -> Result<ExitCode, Fault<'a>> {
+    let mut output = io::writer(rt);
+    operate(*rt, rt.alloc(), operation, input, &mut output)?;
     Ok(ExitCode::SUCCESS)
 }
 
 /// All of a file.
 fn read_file<'a>(rt: &(impl Runtime + AllocGlobal), path: &'a str) -> Result<String, Fault<'a>> {
-    fs::read_to_string(rt, path).map_err(|error| read_fault(error.kind(), path))
+    fs::read_to_string(rt, path).map_err(|error| read_fault(error, path))
 }
 
 /// The fault of a file that can't be read, for this reason.
-fn read_fault(reason: ErrorKind, path: &str) -> Fault<'_> {
-    match reason {
+fn read_fault(error: io::Error, path: &str) -> Fault<'_> {
+    match error.kind() {
         ErrorKind::OutOfMemory => Fault::Run(RunFault::OutOfMemory),
-        _ => Fault::CannotRead(path),
+        _ => Fault::CannotRead(path, Cause::of(&error)),
     }
 }
 
 /// Runs a script on a rack, and writes the answers on standard output.
-fn run_out(
+fn run_out<'a>(
     rt: &(impl Runtime + AllocGlobal),
     rack: &str,
     script: &str,
-) -> Result<ExitCode, RunFault> {
+) -> Result<ExitCode, Fault<'a>> {
     let mut output = buffered(rt)?;
     let ran = run_text(rt.alloc(), rack, script, &mut output);
     flushed(output)?;
-    ran.map(|()| ExitCode::SUCCESS)
+    ran?;
+    Ok(ExitCode::SUCCESS)
 }
 
 /// Checks an audit text on a rack, and writes what it is found to be on standard output.
-fn check_out(
+fn check_out<'a>(
     rt: &(impl Runtime + AllocGlobal),
     rack: &str,
     audit: &str,
-) -> Result<ExitCode, RunFault> {
+) -> Result<ExitCode, Fault<'a>> {
     let mut output = buffered(rt)?;
     let checked = run_check(rt.alloc(), rack, audit, &mut output);
     flushed(output)?;

@@ -34,7 +34,7 @@ pub enum Telling {
 }
 
 /// What a session under way has asked for.
-#[derive(Clone, Copy, Debug, Default, PartialEq, Eq)]
+#[derive(Clone, Copy, Default)]
 struct Asked {
     line: u8,
     master: u8,

@@ -1,23 +1,25 @@
 //! A rack, served at sockets.
 
-ghost use Rattle.std.specs.Prelude.{◌≡◌, ◌≤◌, All, IfErr, None, OnErr, OnOk, length};
+ghost use Rattle.std.specs.Prelude.{◌≡◌, ◌≤◌, ℕ, List, Option, All, Err, IfErr, None, OnErr, OnOk, length};
 ghost use Rattle.std.specs.Io.KnownBytes.{Appends};
 ghost use Rattle.dp_text.specs.Writes.{WritesPrefix};
 ghost use Rattle.dp_sessions.specs.Pools.{HasSeats};
 ghost use Rattle.dp_line.specs.World.{opening_fault};
 ghost use Rattle.rack_file.specs.Rack.{rack_described};
 ghost use Rattle.rack_file.specs.RackFile.{rack_in};
-ghost use Rattle.rackd.specs.ServeOutput.{AreOpened, Attends, Serves, ServesLines, ServesRack, ready};
+ghost use Rattle.rackd.specs.declared.served_line.ServedLine.{ServedLine};
+ghost use Rattle.rackd.specs.ServeOutput.{AreOpened, AreServed, Attends, Serves, ServesLines, ServesRack, ready};
 
 use crate::acceptors::Acceptors;
 use crate::attendance::Attendance;
 use crate::audits::write_audits;
+use crate::cause::Cause;
 use crate::doors::Doors;
-use crate::ending::Fault;
+use crate::ending::{AuditPath, Fault};
 use crate::listening::{Listening, listen_at_lines, try_connections};
 use crate::notes::{Notes, Telling};
 use crate::opened_lines::{OpenedLines, open_lines};
-use crate::recorder::{first_incomplete, record_lines};
+use crate::recorder::{Recorder, first_incomplete, record_lines};
 use crate::served_line::{ServedLine, lines_to_serve};
 use crate::threads::{accept_and_serve, can_start};
 use crossbeam_channel::bounded;
@@ -25,7 +27,7 @@ use dp_script::RunFault;
 use dp_sessions::Port;
 use dp_shared::WorkerSeat;
 use dp_text::write_whole;
-use dp_trail::CatchUp;
+use dp_trail::{CatchUp, Trail};
 use log::Log;
 use rack_file::laws::{
     accepted_lines_can_be_opened, accepted_racks_have_1_to_8_lines,
@@ -59,7 +61,7 @@ pub struct Service<'a> {
 }
 
 /// How many sessions were served.
-#[derive(Clone, Copy, Debug, PartialEq, Eq)]
+#[derive(Clone, Copy)]
 pub(crate) struct Served {
     /// Those of masters.
     pub(crate) masters: u32,
@@ -185,40 +187,114 @@ pub(crate) fn serve_lines<
         Err(fault) => return Err(fault),
     };
     let notes = Notes::new(rt, service.telling, lines, seats.len() as u32);
+    let attended = attend_recorded(
+        rt,
+        alloc,
+        &doors,
+        &notes,
+        lines,
+        listening,
+        &ports,
+        seats,
+        recorders,
+        service.sessions.map_or(u64::MAX, |count| u64::from(count)),
+        writer,
+    );
+    match attended {
+        Ok(attended) => match write_audits(alloc, ports, writer) {
+            Ok(()) => attended.outcome(),
+            Err(fault) => Err(Fault::Run(fault)),
+        },
+        Err(fault) => Err(Fault::Run(fault)),
+    }
+}
+
+/// What came of lines while they were served.
+#[derive(Clone, Copy)]
+struct Attended<'a> {
+    /// How many sessions of masters were served; None where a thread was refused meanwhile.
+    masters: Option<u32>,
+    /// How many sessions of operators were served.
+    operators: u32,
+    /// The file of an audit text that took a row no more.
+    incomplete: Option<AuditPath<'a>>,
+}
+
+impl<'a> Attended<'a> {
+    /// How the program ends, once the audit texts are written.
+    fn outcome(self) -> Result<Served, Fault<'a>>
+        ensures { (lines : List ServedLine) → (old new : Option (List ℕ)) → AreServed lines old new → ServesLines lines old new result }
+    {
+        let Attended {
+            masters,
+            operators,
+            incomplete,
+        } = self;
+        if let Some(path) = incomplete {
+            return Err(Fault::CannotWrite(path, Cause::NotTaken));
+        }
+        match masters {
+            Some(masters) => Ok(Served { masters, operators }),
+            None => Err(Fault::Run(RunFault::OutOfMemory)),
+        }
+    }
+}
+
+/// Attends lines, each with what records it, and closes the records.
+fn attend_recorded<
+    'a,
+    's,
+    H: Net<Listener = TcpListener, Stream = TcpStream> + Threads + Wait + Clock + Log + Sync,
+    W: Write,
+>(
+    rt: &'s H,
+    alloc: Global,
+    doors: &'s Doors,
+    notes: &'s Notes<'s, H>,
+    lines: &'s [ServedLine],
+    listening: Vec<Listening<TcpListener>>,
+    ports: &'s [Port],
+    seats: Vec<Vec<WorkerSeat>>,
+    recorders: Vec<Recorder<'a, 's, H, Trail<'s, File>>>,
+    sessions: u64,
+    writer: &mut W,
+) -> Result<Attended<'a>, RunFault>
+    requires few { length lines.now ≤ 8 }
+    requires each { length listening.items ≡ length lines.now }
+    requires opened { AreOpened lines.now ports.now }
+    requires recorded { length recorders.items ≡ length lines.now }
+    requires workers { (1 ≤ length seats.items) × (length seats.items ≤ 32) }
+    requires seats { All (λ own. HasSeats ports.now own.items) seats.items }
+    ensures ok { OnOk result (Appends (W.contents writer.old) (W.contents writer.new) ready) }
+    ensures err { IfErr result (λ fault. Attends (W.contents writer.old) (W.contents writer.new) (Err fault)) }
+{
+    let operators = AtomicU32::new(0);
     let attendance = Attendance {
         rt,
-        doors: &doors,
-        notes: &notes,
-        operators: AtomicU32::new(0),
+        doors,
+        notes,
+        operators,
     };
-    let sessions = service.sessions.map_or(u64::MAX, |count| u64::from(count));
     let masters = match attend(
         &attendance,
         alloc,
         lines,
         listening,
-        &ports,
+        ports,
         seats,
         &recorders,
         sessions,
         writer,
     ) {
         Ok(masters) => masters,
-        Err(fault) => return Err(Fault::Run(fault)),
+        Err(fault) => return Err(fault),
     };
     let operators = attendance.operators.into_inner();
-    let incomplete = first_incomplete(rt, recorders);
-    match write_audits(alloc, ports, writer) {
-        Ok(()) => {}
-        Err(fault) => return Err(Fault::Run(fault)),
-    }
-    if let Some(path) = incomplete {
-        return Err(Fault::CannotWrite(path));
-    }
-    match masters {
-        Some(masters) => Ok(Served { masters, operators }),
-        None => Err(Fault::Run(RunFault::OutOfMemory)),
-    }
+    Ok(Attended {
+        masters,
+        operators,
+        incomplete: first_incomplete(rt, recorders),
+    })
 }
 
 /// Writes `ready`, and accepts and serves connections: how many sessions of masters were served, or None where a

@@ -9,7 +9,7 @@ use rack_file::{RackFault, RackLine};
 use std::alloc::Global;
 
 /// A line with both its ports.
-#[derive(Debug, Drop)]
+#[derive(Drop)]
 pub(crate) struct ServedLine {
     /// The line.
     pub(crate) spec: LineSpec,

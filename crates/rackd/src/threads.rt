@@ -15,7 +15,7 @@ use std::io::{Read, Write};
 use std::net::Net;
 use std::sync::{Mutex, Wait};
 use std::thread;
-use std::thread::Threads;
+use std::thread::{Scope, Threads};
 use std::time::Clock;
 
 /// Whether so many threads can be had at one time: they are started, and end.
@@ -54,60 +54,92 @@ pub(crate) fn accept_and_serve<'a, H: Net + Threads + Wait + Clock + Log + Sync,
     let Acceptors { masters, operators } = acceptors;
     let (rt, doors) = (attendance.rt, attendance.doors);
     let notes = attendance.notes;
-    accept_each(
-        rt, masters, operators, ports, seats, jobs, doors, notes, sessions,
+    serve_while_accepting(
+        rt,
+        doors,
+        masters,
+        operators,
+        sessions,
+        || -> Result<u32, PoolFault>
+            requires { (1 ≤ length seats.items) × (length seats.items ≤ 32)
+                × All (λ own. HasSeats ports.now own.items) seats.items }
+        { serve_masters(rt, doors, ports, seats, jobs, notes) },
     )
 }
 
-/// Starts and serves with acceptors, connections and notes of any type.
-fn accept_each<
-    M: Accept + Send + Drop,
-    O: Accept + Send + Drop,
+/// Serves the sessions of masters. Where the thread of a worker is refused, the doors are shut.
+fn serve_masters<
     R: Read + Send + Drop,
     W: Write + Send + Drop,
     G: Gate + Sync,
-    H: Net + Threads + Wait + Clock + Sync,
+    H: Net + Threads + Wait + Sync,
 >(
     rt: &H,
-    masters: Vec<M>,
-    operators: Vec<O>,
+    doors: &Doors,
     ports: &[Port],
     seats: Vec<Vec<WorkerSeat>>,
     jobs: Receiver<Job<R, W>>,
-    doors: &Doors,
     gate: &G,
-    sessions: u64,
 ) -> Result<u32, PoolFault>
     requires workers { (1 ≤ length seats.items) × (length seats.items ≤ 32) }
     requires seats { All (λ own. HasSeats ports.now own.items) seats.items }
+{
+    let served = run_pool(rt, ports, seats, jobs, gate, TURNS);
+    if served.is_err() {
+        doors.shut(rt, rt);
+    }
+    served
+}
+
+/// Serves while acceptors of any type accept so many connections each, in threads of their own. The doors open
+/// once these have all started.
+fn serve_while_accepting<
+    M: Accept + Send + Drop,
+    O: Accept + Send + Drop,
+    H: Threads + Wait + Clock + Sync,
+    S: FnOnce() -> Result<u32, PoolFault>,
+>(
+    rt: &H,
+    doors: &Doors,
+    masters: Vec<M>,
+    operators: Vec<O>,
+    sessions: u64,
+    serve: S,
+) -> Result<u32, PoolFault>
+    requires { S.pre serve }
 {
     thread::scope(
         thread::scope_env(),
         rt,
         |scope| -> Result<u32, PoolFault>
-            requires { (1 ≤ length seats.items) × (length seats.items ≤ 32)
-                × All (λ own. HasSeats ports.now own.items) seats.items }
+            requires { S.pre serve }
         {
             let mut door = doors.hold(rt);
-            for acceptor in masters {
-                let accepting = move || acceptor.accept_all(rt, doors, sessions);
-                if scope.spawn(accepting).is_err() {
-                    return Err(PoolFault::NoThread);
-                }
-            }
-            for acceptor in operators {
-                let accepting = move || acceptor.accept_all(rt, doors, sessions);
-                if scope.spawn(accepting).is_err() {
-                    return Err(PoolFault::NoThread);
-                }
+            if !start_acceptors(scope, rt, doors, masters, sessions)
+                || !start_acceptors(scope, rt, doors, operators, sessions)
+            {
+                return Err(PoolFault::NoThread);
             }
             *door = Door::Open;
             drop(door);
-            let served = run_pool(rt, ports, seats, jobs, gate, TURNS);
-            if served.is_err() {
-                doors.shut(rt, rt);
-            }
-            served
+            serve()
         },
     )
+}
+
+/// Starts a thread for each acceptor; whether none was refused.
+fn start_acceptors<'s, E, A: Accept + Send + Drop + 's, H: Wait + Clock + Sync>(
+    scope: &Scope<'s, E>,
+    rt: &'s H,
+    doors: &'s Doors,
+    acceptors: Vec<A>,
+    sessions: u64,
+) -> bool {
+    for acceptor in acceptors {
+        let accepting = move || acceptor.accept_all(rt, doors, sessions);
+        if scope.spawn(accepting).is_err() {
+            return false;
+        }
+    }
+    true
 }

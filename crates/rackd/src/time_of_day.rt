@@ -7,7 +7,7 @@ use std::time::Clock;
 const DAY: u64 = 86_400;
 
 /// A time of day (UTC): `HH:MM:SS.mmm`.
-#[derive(Clone, Copy, Debug, PartialEq, Eq)]
+#[derive(Clone, Copy)]
 pub(crate) struct TimeOfDay {
     hours: u64,
     minutes: u64,

@@ -1,0 +1,82 @@
+//! A port that a line of a rack lacks, so that it can't be served.
+
+ghost use Rattle.std.specs.Prelude.{◌≡◌, ◌+◌, ◌<◌, Some, is_none, length, map};
+ghost use Rattle.std.specs.List.{list_all};
+ghost use Rattle.rack_file.specs.Rack.{line_described};
+ghost use Rattle.rackd.specs.Causes.{key_text, lacked, missing_from, missing_port_text};
+ghost use Rattle.rackd.specs.ServeOutput.{has_ports};
+
+use rack_file::RackLine;
+use std::fmt;
+
+/// Which port of a line is missing.
+#[derive(Clone, Copy, Debug, PartialEq, Eq)]
+pub(crate) enum PortKey {
+    /// That for masters.
+    Listen,
+    /// That for its operator.
+    Operator,
+}
+
+impl PortKey {
+    /// The key in a rack file.
+    fn name(self) -> &'static str
+        ensures { result.now ≡ key_text self }
+    {
+        match self {
+            PortKey::Listen => "listen",
+            PortKey::Operator => "operator",
+        }
+    }
+}
+
+/// A port that a line of a rack lacks. Its `Display` says which.
+#[derive(Clone, Copy, Debug, PartialEq, Eq)]
+pub(crate) struct MissingPort {
+    /// The position of the line in the file, from 1.
+    pub(crate) line: u8,
+    /// The key that it lacks.
+    pub(crate) key: PortKey,
+}
+
+impl fmt::Display for MissingPort {
+    ghost output = { λ missing. Some (missing_port_text missing) };
+
+    fn fmt<W: fmt::Write>(&self, f: &mut fmt::Formatter<W>) -> fmt::Result {
+        let key = self.key.name();
+        write!(f, "line {}, key \"{key}\": missing", self.line)
+    }
+}
+
+/// The first line that lacks a port, and which; the first of these lines has this position.
+pub(crate) fn first_missing(position: u8, lines: &[RackLine]) -> Option<MissingPort>
+    requires { position + length lines.now < 256 }
+    ensures first { result ≡ missing_from position (map line_described lines.now) }
+    // There is none exactly where each line has both.
+    ensures none { is_none result ≡ list_all has_ports (map line_described lines.now) }
+{
+    match lines {
+        [] => None,
+        [first, others @ ..] => match lacked_key(first) {
+            Some(key) => Some(MissingPort {
+                line: position,
+                key,
+            }),
+            None => first_missing(position + 1, others),
+        },
+    }
+}
+
+/// The key that a line lacks, if it lacks one.
+fn lacked_key(line: &RackLine) -> Option<PortKey>
+    ensures key { result ≡ lacked (line.now).listen (line.now).operator }
+    ensures none { is_none result ≡ has_ports (line_described line.now) }
+{
+    if line.listen.is_none() {
+        return Some(PortKey::Listen);
+    }
+    if line.operator.is_none() {
+        return Some(PortKey::Operator);
+    }
+    None
+}

@@ -1,0 +1,307 @@
+//! An operator at hand: lines of standard input go to the operator port of a line, and time and steps by the clock.
+
+use crate::cause::Cause;
+use crate::ending::Fault;
+use crate::incoming::{Incoming, LF, Side, Taken, hand_on, without_end};
+use crossbeam_channel::{Receiver, Sender, bounded};
+use dp_operate::{Due, Schedule, is_answered, is_news};
+use dp_script::RunFault;
+use log::{Log, info, warn};
+use std::alloc::Global;
+use std::io::{BufReader, Read, Write};
+use std::net::{Ipv4Addr, Net, TcpStream};
+use std::sync::Wait;
+use std::thread;
+use std::thread::Threads;
+use std::time::{Clock, Duration, Instant};
+
+/// How many things that came wait to be looked at, at most.
+const WAITING: usize = 4;
+
+/// After how many milliseconds without any answer the operator is told what it waits for.
+const PATIENCE: u64 = 2_000;
+
+/// What is sent where, and how often.
+#[derive(Clone, Copy, Debug, PartialEq, Eq)]
+pub(crate) struct Operation {
+    /// The operator port of the line.
+    pub(crate) port: u16,
+    /// Milliseconds from tick to tick.
+    pub(crate) tick: Option<u32>,
+    /// Milliseconds from step to step.
+    pub(crate) step: Option<u32>,
+}
+
+/// What an answer is awaited to.
+#[derive(Clone, Copy, Debug, PartialEq, Eq)]
+enum Asked {
+    /// A line of the input.
+    Line,
+    /// A tick.
+    Tick,
+    /// A step.
+    Step,
+}
+
+/// Where the input stands.
+#[derive(Clone, Copy, Debug, PartialEq, Eq)]
+enum Input {
+    /// No line of it was asked for.
+    Resting,
+    /// A line was asked for, and hasn't come.
+    Asked,
+    /// It has ended.
+    Ended,
+}
+
+/// Sends lines of the input to a port of this machine, and ticks and steps by the clock, each once the one before is
+/// answered, and writes the answers: each one to a line, and those to ticks and steps that tell something. It ends
+/// with the input, or, with ticks or steps, with the port.
+///
+/// `CannotConnect` where nothing listens at the port; `PortEnded` where the connection ends before the input, or
+/// before a line is answered; `CannotRead` of the input; `WriteFault`; `OutOfMemory` also where a thread is refused.
+pub(crate) fn operate<
+    'a,
+    H: Net<Stream = TcpStream> + Threads + Wait + Clock + Log + Copy + Send + 'static,
+    R: Read + Send + Drop + 'static,
+    W: Write,
+>(rt: H, alloc: Global, operation: Operation, input: R, output: &mut W) -> Result<(), Fault<'a>> {
+    let Operation { port, tick, step } = operation;
+    let (stream, answers) = match connect(&rt, port) {
+        Ok(both) => both,
+        Err(cause) => return Err(Fault::CannotConnect(port, cause)),
+    };
+    let Ok((ask, incoming)) = listen(rt, alloc, input, answers) else {
+        return Err(Fault::Run(RunFault::OutOfMemory));
+    };
+    let mut operator = Operator {
+        rt,
+        alloc,
+        port,
+        stream,
+        schedule: Schedule::new(tick, step),
+        start: Instant::now(&rt).ok(),
+        ask,
+        incoming,
+        input: Input::Resting,
+        line: None,
+        awaited: None,
+        is_served: false,
+        ticked: Vec::new(alloc),
+        stepped: Vec::new(alloc),
+    };
+    operator.run(output)
+}
+
+/// A connection to a port of this machine, to be written and to be read.
+fn connect<N: Net<Stream = TcpStream>>(
+    net: &N,
+    port: u16,
+) -> Result<(TcpStream, TcpStream), Cause> {
+    let connected = TcpStream::connect(net, (Ipv4Addr::LOCALHOST, port));
+    let stream = connected.map_err(|error| Cause::of(&error))?;
+    stream.set_nodelay(true).map_err(|error| Cause::of(&error))?;
+    let answers = stream.try_clone().map_err(|error| Cause::of(&error))?;
+    Ok((stream, answers))
+}
+
+/// Starts the threads that read the input, a line each time that one is asked for, and the answers. Memory or a
+/// thread may be refused.
+fn listen<
+    H: Threads + Wait + Copy + Send + 'static,
+    R: Read + Send + Drop + 'static,
+    A: Read + Send + Drop + 'static,
+>(
+    rt: H,
+    alloc: Global,
+    input: R,
+    answers: A,
+) -> Result<(Sender<()>, Receiver<Incoming>), RunFault> {
+    let (ask, asked) = bounded(alloc, 1).map_err(|_| RunFault::OutOfMemory)?;
+    let (sender, incoming) = bounded(alloc, WAITING).map_err(|_| RunFault::OutOfMemory)?;
+    let of_input = sender.clone().map_err(|_| RunFault::OutOfMemory)?;
+    let lines = BufReader::new(alloc, input).map_err(|_| RunFault::OutOfMemory)?;
+    let typed = move || hand_on(rt, alloc, Side::Input, lines, Some(asked), of_input);
+    thread::spawn(&rt, typed).map_err(|_| RunFault::OutOfMemory)?;
+    let rows = BufReader::new(alloc, answers).map_err(|_| RunFault::OutOfMemory)?;
+    let answered = move || hand_on(rt, alloc, Side::Port, rows, None, sender);
+    thread::spawn(&rt, answered).map_err(|_| RunFault::OutOfMemory)?;
+    Ok((ask, incoming))
+}
+
+/// An operator under way.
+#[derive(Drop)]
+struct Operator<H: Copy> {
+    rt: H,
+    alloc: Global,
+    port: u16,
+    stream: TcpStream,
+    schedule: Schedule,
+    start: Option<Instant>,
+    ask: Sender<()>,
+    incoming: Receiver<Incoming>,
+    input: Input,
+    /// A line that has come, and isn't sent.
+    line: Option<Vec<u8>>,
+    awaited: Option<Asked>,
+    /// An answer has come, or what is waited for is told.
+    is_served: bool,
+    /// The last answers to a tick and to a step.
+    ticked: Vec<u8>,
+    stepped: Vec<u8>,
+}
+
+impl<H: Wait + Clock + Log + Copy> Operator<H> {
+    /// Sends and takes what comes, until it ends.
+    fn run<'a, W: Write>(&mut self, output: &mut W) -> Result<(), Fault<'a>> {
+        let rt = self.rt;
+        for _ in rt.forever() {
+            if self.go_on(output)? {
+                return Ok(());
+            }
+        }
+        unreachable!()
+    }
+
+    /// Sends what can be sent, or takes what comes next; whether all is done.
+    fn go_on<'a, W: Write>(&mut self, output: &mut W) -> Result<bool, Fault<'a>> {
+        let moment = self.moment();
+        if self.awaited.is_none() {
+            if let Some(due) = self.schedule.next(moment) {
+                return self.send_due(due);
+            }
+            if let Some(line) = self.line.take() {
+                return self.send_line(line);
+            }
+            if self.input == Input::Ended && self.schedule.wait(moment).is_none() {
+                return Ok(true);
+            }
+            self.ask_for_line();
+        }
+        match self.receive(moment) {
+            Some(incoming) => self.take(incoming, output),
+            None => Ok(false),
+        }
+    }
+
+    /// The moment, in milliseconds from the start; a clock that can't be read stands still.
+    fn moment(&self) -> u64 {
+        let Some(start) = self.start else {
+            return 0;
+        };
+        match start.elapsed(&self.rt) {
+            Ok(passed) => u64::try_from(passed.as_millis()).unwrap_or(u64::MAX),
+            Err(_) => 0,
+        }
+    }
+
+    /// Sends what is due by the clock; whether all is done.
+    fn send_due<'a>(&mut self, due: Due) -> Result<bool, Fault<'a>> {
+        self.awaited = match due {
+            Due::Tick(_) => Some(Asked::Tick),
+            Due::Step => Some(Asked::Step),
+        };
+        match format!(in self.alloc; "{due}\n") {
+            Ok(text) => self.send(text.as_bytes()),
+            Err(_) => Err(Fault::Run(RunFault::OutOfMemory)),
+        }
+    }
+
+    /// Sends a line of the input, with an LF; whether all is done.
+    fn send_line<'a>(&mut self, mut line: Vec<u8>) -> Result<bool, Fault<'a>> {
+        if without_end(&line).len() == line.len() && line.push(LF).is_err() {
+            return Err(Fault::Run(RunFault::OutOfMemory));
+        }
+        if is_answered(without_end(&line)) {
+            self.awaited = Some(Asked::Line);
+        }
+        self.send(&line)
+    }
+
+    /// Sends octets; whether all is done, since the port has ended.
+    fn send<'a>(&mut self, octets: &[u8]) -> Result<bool, Fault<'a>> {
+        match self.stream.write_all(octets) {
+            Ok(()) => Ok(false),
+            Err(_) => self.end_of_port(),
+        }
+    }
+
+    /// Asks for a line of the input, where none is asked for and it hasn't ended.
+    fn ask_for_line(&mut self) {
+        if self.input == Input::Resting && self.ask.send(&self.rt, ()).is_ok() {
+            self.input = Input::Asked;
+        }
+    }
+
+    /// What comes next, if anything comes before something is due.
+    fn receive(&mut self, moment: u64) -> Option<Incoming> {
+        let wait = match self.awaited {
+            None => self.schedule.wait(moment),
+            Some(_) if !self.is_served => Some(PATIENCE),
+            Some(_) => None,
+        };
+        let Some(milliseconds) = wait else {
+            return self.incoming.recv(&self.rt).ok();
+        };
+        let time = Duration::from_millis(milliseconds);
+        let came = self.incoming.recv_timeout(&self.rt, time).ok();
+        if came.is_none() && self.awaited.is_some() {
+            warn!(&self.rt; "no answer yet: a line serves one operator after another");
+            self.is_served = true;
+        }
+        came
+    }
+
+    /// Takes what came; whether all is done.
+    fn take<'a, W: Write>(
+        &mut self,
+        incoming: Incoming,
+        output: &mut W,
+    ) -> Result<bool, Fault<'a>> {
+        let Incoming { side, taken } = incoming;
+        match (side, taken) {
+            (Side::Input, Taken::Line(line)) => {
+                self.line = Some(line);
+                self.input = Input::Resting;
+                Ok(false)
+            }
+            (Side::Input, Taken::End) => {
+                self.input = Input::Ended;
+                Ok(false)
+            }
+            (Side::Input, Taken::Fault(cause)) => Err(Fault::CannotRead("-", cause)),
+            (Side::Port, Taken::Line(row)) => self.show(row, output),
+            (Side::Port, Taken::End | Taken::Fault(_)) => self.end_of_port(),
+            (_, Taken::OutOfMemory) => Err(Fault::Run(RunFault::OutOfMemory)),
+        }
+    }
+
+    /// Writes an answer, where it tells something; all isn't done.
+    fn show<'a, W: Write>(&mut self, row: Vec<u8>, output: &mut W) -> Result<bool, Fault<'a>> {
+        self.is_served = true;
+        let asked = self.awaited.take();
+        let is_shown = match asked {
+            Some(Asked::Line) | None => true,
+            Some(Asked::Tick) => is_news(without_end(&row), without_end(&self.ticked)),
+            Some(Asked::Step) => is_news(without_end(&row), without_end(&self.stepped)),
+        };
+        if is_shown && (output.write_all(&row).is_err() || output.flush().is_err()) {
+            return Err(Fault::Run(RunFault::WriteFault));
+        }
+        match asked {
+            Some(Asked::Tick) => self.ticked = row,
+            Some(Asked::Step) => self.stepped = row,
+            Some(Asked::Line) | None => {}
+        }
+        Ok(false)
+    }
+
+    /// The port has ended: all is done where the input has ended and each line of it is answered.
+    fn end_of_port<'a>(&self) -> Result<bool, Fault<'a>> {
+        if self.input != Input::Ended || self.line.is_some() || self.awaited == Some(Asked::Line) {
+            return Err(Fault::PortEnded(self.port));
+        }
+        info!(&self.rt; "port {} has ended", self.port);
+        Ok(true)
+    }
+}

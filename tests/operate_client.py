@@ -1,0 +1,995 @@
+#!/usr/bin/env python3
+"""Tries 'rackd operate' at lines that 'rackd serve' serves, and at ports that a case plays itself, one case at a time.
+
+usage: operate_client.py CASE PROGRAM FOLDER
+
+CASE is a function of this file, in the list CASES at its end. What the case needs is written to FOLDER, which is there
+and empty. Where the case holds nothing or one row is written, and the status is 0; else it is told what doesn't hold,
+and the status is 1.
+
+No case wants anything within less than PATIENCE. When the program sends a line is known but as between two moments (see
+Line), and of the clock a case wants what is so on a machine that is slow at any moment too.
+"""
+import contextlib
+import itertools
+import os
+import re
+import select
+import signal
+import socket
+import struct
+import subprocess
+import sys
+import termios
+import threading
+import time
+from typing import NamedTuple
+
+sys.dont_write_bytecode = True
+from refuse_threads import libc
+from trail_client import ACCEPTED, PDEATHSIG, Master, Operator, Trial, Wrong, expect, hold, lock, short_of, write
+
+# Seconds that anything is waited for, and that very many lines may take.
+PATIENCE, LONG_PATIENCE = 8, 40
+# Seconds between two pieces of input, in which what must not come would come, and that a late answer or a stopped
+# program takes.
+PIECE, SETTLED, LATE = 0.02, 0.3, 0.3
+# Seconds after which the operator is told that others are served before, and in which that might be told again.
+TOLD_AFTER, TOLD_AGAIN = 2, 2.3
+# Seconds of a unit of a tick, and those that two clocks may differ by.
+UNIT, SLACK = 0.01, 0.005
+# How often ports are chosen for a rack, since another program may take one of them before it is listened at.
+TRIES = 5
+# The most octets that are read at once, and the lines that are very many.
+CHUNK, VERY_MANY = 65536, 20000
+# The status of a program that a signal ends.
+BY_SIGNAL = -signal.SIGTERM
+# How many ticks or steps come behind the end of the input.
+OUTLASTING = 15
+# At the begin of a line it ends the input that a terminal hands on; within a line it hands on the line so far.
+END_OF_INPUT = b"\x04"
+
+# ---- what the program writes
+
+
+class Stream(threading.Thread):
+    """What comes from a file, as it comes; nothing where there is none."""
+
+    def __init__(self, file):
+        super().__init__(daemon=True)
+        self.file, self.octets, self.taken = file, bytearray(), 0
+        self.is_over, self.news = file is None, threading.Condition()
+        if file:
+            self.start()
+
+    def run(self):
+        while not self.is_over:
+            try:
+                more = os.read(self.file.fileno(), CHUNK)
+            except OSError:
+                # nobody has the other side of the terminal any more
+                more = b""
+            with self.news:
+                self.octets += more
+                self.is_over = not more
+                self.news.notify_all()
+
+    def row(self):
+        """The next row, without its LF."""
+        with self.news:
+            self.news.wait_for(lambda: self.is_over or self.has_row(), PATIENCE)
+            hold(f"no row comes behind {short_of(bytes(self.octets))}", self.has_row())
+            end = self.octets.index(b"\n", self.taken)
+            row, self.taken = self.octets[self.taken:end], end + 1
+            return row.decode(errors="replace")
+
+    def has_row(self):
+        return self.octets.find(b"\n", self.taken) >= 0
+
+    def rest(self):
+        """What was not taken as rows, once nothing comes any more."""
+        with self.news:
+            hold("standard output or standard error isn't closed", self.news.wait_for(lambda: self.is_over, PATIENCE))
+            return self.so_far()
+
+    def so_far(self):
+        """What has come, and was not taken as rows."""
+        return self.octets[self.taken:].decode(errors="replace")
+
+
+# ---- the program
+
+
+class Operate:
+    """The program that operates a port. Where its `with` ends before it, it is killed."""
+
+    def __init__(self, trial, port, *words, stdin=subprocess.PIPE, stdout=subprocess.PIPE, stderr=subprocess.PIPE):
+        def before():
+            libc.prctl(PDEATHSIG, signal.SIGKILL)
+
+        self.begun = time.monotonic()
+        self.process = subprocess.Popen([trial.program, "operate", str(port), *map(str, words)], bufsize=0, stdin=stdin,
+                                        stdout=stdout, stderr=stderr, preexec_fn=before)
+        self.input = self.process.stdin
+        self.output, self.errors = Stream(self.process.stdout), Stream(self.process.stderr)
+
+    def __enter__(self):
+        return self
+
+    def __exit__(self, *_):
+        self.process.kill()
+        self.process.wait()
+        for stream in self.output, self.errors:
+            if stream.ident:
+                stream.join(PATIENCE)
+        for pipe in self.process.stdin, self.process.stdout, self.process.stderr:
+            if pipe:
+                pipe.close()
+
+    def type(self, octets):
+        """Gives it input. Where it has ended already, how it did is wanted elsewhere."""
+        with contextlib.suppress(BrokenPipeError):
+            self.input.write(octets)
+
+    def end_input(self):
+        self.input.close()
+
+    def type_all(self, octets):
+        """Gives it all of its input."""
+        self.type(octets)
+        self.end_input()
+
+    def ask(self, text):
+        """Types a line: the next row that is written."""
+        self.type(text.encode() + b"\n")
+        return self.output.row()
+
+    def signal(self, number):
+        self.process.send_signal(number)
+
+    @contextlib.contextmanager
+    def stopped(self):
+        """It stands still meanwhile."""
+        self.signal(signal.SIGSTOP)
+        os.waitid(os.P_PID, self.process.pid, os.WSTOPPED | os.WEXITED | os.WNOWAIT)
+        yield
+        self.signal(signal.SIGCONT)
+
+    def status(self, within=PATIENCE):
+        """Its status, once it has ended."""
+        try:
+            return self.process.wait(within)
+        except subprocess.TimeoutExpired:
+            raise Wrong(f"it doesn't end within {within} seconds; it told {self.errors.so_far()!r}") from None
+
+    def ends(self, status, *rows, output=""):
+        """Ends the case where it doesn't end with this status and these rows on standard error, or this isn't what it
+        wrote to standard output behind the rows that were read."""
+        got = self.status()
+        expect("status and rows on standard error", (status, list(rows)), (got, self.errors.rest().splitlines()))
+        if output is not None:
+            expect("what is written at the end", output, self.output.rest())
+
+    def ends_with_note(self, words, output=""):
+        """The same with status 0 and one row on standard error that has these words."""
+        got = self.status()
+        rows = self.errors.rest().splitlines()
+        hold(f"it ends with {got} and tells {rows}; wanted are 0 and a row with '{words}'",
+             got == 0 and len(rows) == 1 and words in rows[0])
+        expect("what is written at the end", output, self.output.rest())
+
+
+class AtTerminal(Operate):
+    """The program at a terminal, which hands on what is typed line by line, and shows what is written alone."""
+
+    def __init__(self, trial, port, *words):
+        terminal, side = os.openpty()
+        self.terminal = os.fdopen(terminal, "r+b", buffering=0)
+        _, _, control, _, *others = termios.tcgetattr(side)
+        termios.tcsetattr(side, termios.TCSANOW, [0, 0, control, termios.ICANON, *others])
+        super().__init__(trial, port, *words, stdin=side, stdout=side)
+        os.close(side)
+        self.output = Stream(self.terminal)
+
+    def __exit__(self, *words):
+        super().__exit__(*words)
+        self.terminal.close()
+
+    def type(self, octets):
+        self.terminal.write(octets)
+
+    def end_input(self):
+        self.type(END_OF_INPUT)
+
+
+# ---- ports
+
+
+class Line(NamedTuple):
+    """A line that has come. It was sent between two moments: `free`, when the answer before it was sent, or a moment
+    before the program was started; and `came`."""
+
+    text: str
+    free: float
+    came: float
+
+
+class Port:
+    """A port of operators that a case plays, for one connection. It has all lines that have come."""
+
+    def __init__(self):
+        self.listener = socket.create_server(("127.0.0.1", 0))
+        self.number = self.listener.getsockname()[1]
+        self.connection, self.octets, self.lines = None, b"", []
+        self.free = time.monotonic()
+
+    def __enter__(self):
+        return self
+
+    def __exit__(self, *_):
+        self.end()
+
+    def accept(self):
+        hold("nobody connects", select.select([self.listener], [], [], PATIENCE)[0])
+        self.connection, _ = self.listener.accept()
+        self.connection.setsockopt(socket.IPPROTO_TCP, socket.TCP_NODELAY, 1)
+        return self
+
+    def end(self):
+        for one in self.listener, self.connection:
+            if one:
+                one.close()
+
+    def reset(self):
+        """Ends with a reset, as where octets were not read."""
+        self.connection.setsockopt(socket.SOL_SOCKET, socket.SO_LINGER, struct.pack("ii", 1, 0))
+        self.end()
+
+    def take(self):
+        """The next octets that come; none where the connection has ended."""
+        hold(f"nothing comes behind {self.lines[-1:]}", select.select([self.connection], [], [], PATIENCE)[0])
+        try:
+            return self.connection.recv(CHUNK)
+        except ConnectionError:
+            return b""
+
+    def line(self):
+        """The next line that comes and is neither empty nor a comment."""
+        text = ""
+        while not text or text.startswith("#"):
+            text = self.row().decode(errors="replace")
+        self.lines.append(Line(text, self.free, time.monotonic()))
+        return self.lines[-1]
+
+    def row(self):
+        """The octets of the next line that comes."""
+        while b"\n" not in self.octets:
+            more = self.take()
+            hold(f"the connection has ended behind {self.lines[-1:]}", more)
+            self.octets += more
+        octets, _, self.octets = self.octets.partition(b"\n")
+        return octets
+
+    def answer(self, row):
+        self.free = time.monotonic()
+        self.connection.sendall(row.encode() + b"\n")
+
+    def is_left(self):
+        """Ends the case where the connection isn't closed, or a line that has to be answered comes before that."""
+        while more := self.take():
+            self.octets += more
+        left = [line for line in self.octets.split(b"\n") if line and not line.startswith(b"#")]
+        expect("what comes before the connection is closed", [], left)
+
+    def is_silent(self, seconds):
+        """Ends the case where anything comes within so many seconds, or the connection ends."""
+        come = self.octets or select.select([self.connection], [], [], max(0, seconds))[0]
+        hold(f"something comes before the answer to {self.lines[-1:]}", not come)
+
+    def answer_late(self, row, seconds=LATE):
+        """Answers after so many seconds, in which nothing comes."""
+        self.is_silent(seconds)
+        self.answer(row)
+
+    def play(self, count):
+        """Answers so many lines as a line does where nothing happens."""
+        for _ in range(count):
+            self.answer(usual(self.line()))
+
+    def wait_for(self, text):
+        """Answers what comes by the clock, until this line has come."""
+        until = time.monotonic() + PATIENCE
+        while (line := self.line()).text != text:
+            hold(f"{line.text} comes in place of {text}", is_by_clock(line) and time.monotonic() < until)
+            self.answer(usual(line))
+
+
+def is_tick(line):
+    return re.fullmatch("tick (0|[1-9][0-9]*)", line.text)
+
+
+def is_step(line):
+    return line.text == "step"
+
+
+def is_by_clock(line):
+    return is_tick(line) or is_step(line)
+
+
+def usual(line):
+    """The answer of a line where nothing happens."""
+    return "released" if is_tick(line) else "stepped 2" if is_step(line) else "done"
+
+
+class Start(NamedTuple):
+    """When the clock was started, as ticks tell it: after one moment, and before the other one. `told` is how many
+    seconds they have told in all."""
+
+    after: float
+    before: float
+    told: float
+
+
+def start_of_clock(lines, every):
+    """When the clock was started. Ends the case where no moment agrees with each tick: the units that it and those
+    before it tell have passed when it is sent, and one more hasn't."""
+    ticks = list(filter(is_tick, lines))
+    start = Start(lines[0].free, ticks[0].came - every, 0)
+    for number, tick in enumerate(ticks, 1):
+        told = start.told + int(tick.text.split()[1]) * UNIT
+        start = Start(max(start.after, tick.free - told - UNIT), min(start.before, tick.came - told), told)
+        hold(f"{number} ticks of {every:.3f} s tell {told:.2f} s, by which the clock starts after {start.after:.3f} "
+             f"and before {start.before:.3f}", start.after <= start.before + SLACK)
+    return start
+
+
+def expect_beat(lines, every):
+    """Ends the case where one of these lines is sent though its time didn't come again: from any of them to the next
+    but one there is more than once that time, to the one behind it more than twice, and so on."""
+    bound = 0
+    for number, line in enumerate(lines):
+        hold(f"line {number + 1}, {line.text}, comes {bound - line.came:.3f} s too early", line.came >= bound - SLACK)
+        bound = max(bound + every, line.free)
+
+
+# ---- lines that are served
+
+
+@contextlib.contextmanager
+def served(trial, *lines):
+    """A rack with these lines, and the program that serves it."""
+    for left in reversed(range(TRIES)):
+        rack = trial.rack(*lines)
+        try:
+            server = trial.serve(rack)
+            break
+        except Wrong as wrong:
+            if not left or "cannot listen" not in str(wrong):
+                raise
+    with server:
+        yield rack, server
+
+
+def locked(rack):
+    """Master 1 of line 1, which has locked slave 5 with a watchdog of 10 units."""
+    master = Master(rack.masters[1], 1)
+    expect("the reply to Set_Prm", ACCEPTED, master.ask(lock(1, 5, 0x6D)))
+    return master
+
+
+# ---- lines of an operator
+
+
+def comment(count, character="x"):
+    """A comment of so many octets."""
+    return b"# " + character.encode() * ((count - 2) // len(character.encode()))
+
+
+MOST_OCTETS = 1024
+# Lines with their answers. These are nearly empty, or nearly comments.
+NEARLY_COMMENTS = (
+    (b" ", "fault NotACommand"),
+    (b"\r", "fault NotACommand"),
+    (b" # in 5 aa", "fault NotACommand"),
+    (b"# \xff", "fault NotACommand"),
+    (b"# \xc3", "fault NotACommand"),
+    (b"# \xed\xa0\x80", "fault NotACommand"),
+    (comment(MOST_OCTETS + 1), "fault TooLong"),
+    (comment(MOST_OCTETS + 2, "\xe4"), "fault TooLong"),
+)
+# These are answered so where master 1 has locked slave 5, or not at all.
+SHORT_LINES = (
+    (b"owned 1", "owned 5"),
+    (b"in 5 aa55", "done"),
+    (b"in 5 AA56", "done"),
+    (b"", None),
+    (b"show 5", "show 5 WaitCfg 1 in aa56 out 0000 wd 10"),
+    (b"in 5 aa", "refused WrongLength"),
+    (b"# in 5 aa", None),
+    (b"in 9 aa55", "refused NoStation"),
+    (b"in 5 aa5", "fault NotACommand"),
+    (b"#", None),
+    (b"diag 5 es 0301ff", "done"),
+    (b"diag 9 - -", "refused NoStation"),
+    (b"diag 5 se 00", "fault NotACommand"),
+    (b"busy 5 default on", "done"),
+    (b"busy 5 60 off", "done"),
+    (b"busy 5 7 on", "refused UnknownPoint"),
+    (b"busy 5 256 on", "fault NotACommand"),
+    (b"tick 0", "released"),
+    (b"tick 9", "released"),
+    (b"show 5", "show 5 WaitCfg 1 in aa56 out 0000 wd 1"),
+    (b"tick 1", "released 5"),
+    (b"tick 4294967295", "released"),
+    (b"tick 4294967296", "fault NotACommand"),
+    (b"step", "stepped 2"),
+    (b"step", "stepped 2"),
+    (b"show 7", "show 7 WaitPrm none in 0002 out 0000 wd off"),
+    (b"show 9", "refused NoStation"),
+    (b"owned 1", "owned"),
+    (b"owned 256", "fault NotACommand"),
+    (b"journal", "fault NotACommand"),
+    (b"line 1", "fault NotACommand"),
+    (b"m 1 E5", "fault NotACommand"),
+    (b"show 5 ", "fault NotACommand"),
+    (b"show 5\r", "fault NotACommand"),
+    (b"show 5\xff", "fault NotACommand"),
+    (b"# \xc3\xa4 \xf0\x9f\x98\x80", None),
+    (b"#\0", None),
+    (comment(MOST_OCTETS), None),
+    (comment(MOST_OCTETS, "\xe4"), None),
+    (b"x" * MOST_OCTETS, "fault NotACommand"),
+    (b"x" * (MOST_OCTETS + 1), "fault TooLong"),
+    (b"\xff" * (MOST_OCTETS + 1), "fault TooLong"),
+    *NEARLY_COMMENTS,
+)
+LAST_LINES = (
+    (b"halt", "released"),
+    (b"halt", "refused Halted"),
+    (b"tick 1", "refused Halted"),
+    (b"in 5 aa55", "refused Halted"),
+    (b"step", "stepped 0"),
+    (b"show 5", "show 5 WaitPrm none in aa56 out 0000 wd off"),
+    (b"owned 1", "owned"),
+)
+LONG_LINES = (
+    # longer than what a terminal hands on, and than what a pipe has room for
+    (b"x" * 5000, "fault TooLong"),
+    (comment(100000), "fault TooLong"),
+)
+# What is typed at once, and which rows are then written.
+PIECES = (
+    (b"sh", ()),
+    (b"ow 5\nowned", ("show 5 WaitCfg 1 in 0000 out 0000 wd 10",)),
+    (b" 1\nin 5 1", ("owned 5",)),
+    (b"234", ()),
+    (b"\n# \xc3", ("done",)),
+    (b"\xa4 a comment\nsho", ()),
+    (b"w 5", ()),
+    (b"\n\n\n# tick 1\nowned 2\nin 9 00\n# \xff\nstep", ("show 5 WaitCfg 1 in 1234 out 0000 wd 10", "owned",
+                                                        "refused NoStation", "fault NotACommand")),
+    (b"\n", ("stepped 2",)),
+    (comment(MOST_OCTETS), ()),
+    (b"x", ()),
+    (b"\nowned 1\nowned 3\nowned 1\n", ("fault TooLong", "owned 5", "owned", "owned 5")),
+)
+# Input whose last line has no LF, and the rows that are written.
+WITHOUT_END = (
+    (b"owned 1", "owned 5\n"),
+    (b"owned 1\nowned 2", "owned 5\nowned\n"),
+    (b"# owned 1", ""),
+    (b"# \xff", "fault NotACommand\n"),
+    (comment(MOST_OCTETS + 1), "fault TooLong\n"),
+    (b"owned", "fault NotACommand\n"),
+)
+
+
+def expect_rows(wanted, got):
+    """Ends the case at the first row that isn't the one that is wanted."""
+    for number, (one, other) in enumerate(itertools.zip_longest(wanted, got), 1):
+        expect(f"row {number}", one, other)
+
+
+# ---- cases: answers
+
+
+def script_of_a_file(trial):
+    """A file of all operator lines, among them wrong, empty, too long ones and comments, is answered in order."""
+    lines, path = SHORT_LINES + LONG_LINES + LAST_LINES, trial.path("script")
+    write(path, b"".join(line + b"\n" for line, _ in lines))
+    with served(trial, 1) as (rack, _), locked(rack).connection, open(path, "rb") as script:
+        with Operate(trial, rack.operators[1], stdin=script) as operate:
+            operate.status()
+            expect_rows([answer for _, answer in lines if answer], operate.output.rest().splitlines())
+            operate.ends(0, output=None)
+    return f"{len(lines)} lines"
+
+
+def typed_at_a_terminal(trial):
+    """The same lines at a terminal, typed one by one: each is answered before the next one is typed."""
+    lines = SHORT_LINES + LAST_LINES
+    with served(trial, 1) as (rack, _), locked(rack).connection, AtTerminal(trial, rack.operators[1]) as operate:
+        for line, answer in lines:
+            operate.type(line + b"\n")
+            if answer:
+                expect(f"the answer to {line[:20]}", answer, operate.output.row())
+        # a line without its LF
+        operate.type(b"owned 1" + END_OF_INPUT)
+        operate.end_input()
+        operate.ends(0, output="owned\n")
+    return f"{len(lines)} lines"
+
+
+def input_in_pieces(trial):
+    """Lines that are cut, and several in one piece, are answered as soon as they are whole; so is a last one without
+    its LF, at the end of the input."""
+    with served(trial, 1) as (rack, _), locked(rack).connection:
+        with Operate(trial, rack.operators[1]) as operate:
+            for piece, answers in PIECES:
+                operate.type(piece)
+                expect_rows(answers, [operate.output.row() for _ in answers])
+                time.sleep(PIECE)
+                expect(f"what is written before its line behind {piece[:20]}", "", operate.output.so_far())
+            operate.end_input()
+            operate.ends(0)
+        for text, answers in WITHOUT_END:
+            with Operate(trial, rack.operators[1]) as operate:
+                operate.type_all(text)
+                operate.ends(0, output=answers)
+
+
+def very_many_lines(trial):
+    """No line is lost where very many come at once, and no answer comes in another's place."""
+    numbers = range(VERY_MANY // 2)
+    text = "".join(f"in 5 {number:04x}\nshow 5\n" for number in numbers).encode()
+    answers = (("done", f"show 5 WaitPrm none in {number:04x} out 0000 wd off") for number in numbers)
+    with served(trial, 1) as (rack, _), Operate(trial, rack.operators[1]) as operate:
+        typing = threading.Thread(target=operate.type_all, args=[text], daemon=True)
+        typing.start()
+        operate.status(LONG_PATIENCE)
+        typing.join(PATIENCE)
+        expect_rows(itertools.chain(*answers), operate.output.rest().splitlines())
+        operate.ends(0, output=None)
+        took = time.monotonic() - operate.begun
+    return f"{VERY_MANY} lines in {took:.1f} seconds"
+
+
+def one_line_at_a_time(trial):
+    """A line is sent as it is, once the one before is answered and no sooner; what is no comment is waited for too."""
+    lines = [b"owned 1", *(line for line, _ in NEARLY_COMMENTS), b"owned 2"]
+    with Port() as port, Operate(trial, port.number) as operate:
+        operate.type(b"".join(line + b"\n" for line in lines))
+        port.accept()
+        for number, line in enumerate(lines):
+            expect("the line that comes", line, port.row())
+            port.answer_late(f"row {number}", PIECE)
+            expect("the answer", f"row {number}", operate.output.row())
+        port.is_silent(PIECE)
+        operate.end_input()
+        operate.ends(0)
+
+
+# ---- cases: the clock
+
+
+# Milliseconds of tick and step. The odd one is no multiple of a unit, and of the longest none comes within a test.
+TICK, STEP = 10, 10
+ODD_TICK, LONGEST = 25, 86400000
+
+
+def watchdog_by_the_clock(trial):
+    """The watchdog of a slave runs out by ticks alone: this is written once, and nothing else."""
+    with served(trial, 1) as (rack, _), Operate(trial, rack.operators[1], "--tick", TICK) as operate:
+        with locked(rack).connection:
+            expect("what is written", "released 5", operate.output.row())
+            time.sleep(SETTLED)
+            operate.signal(signal.SIGTERM)
+            operate.ends(BY_SIGNAL)
+
+
+def devices_by_the_clock(trial):
+    """The device of a slave counts by steps alone, no more often than the clock lets it; nothing is written of it."""
+    seen, enough = [0], 5
+    with served(trial, 1) as (rack, _), Operate(trial, rack.operators[1], "--step", STEP) as operate:
+        until = time.monotonic() + PATIENCE
+        while len(set(seen)) < enough and time.monotonic() < until:
+            row = operate.ask("show 7")
+            shown = re.fullmatch("show 7 WaitPrm none in ([0-9a-f]{4}) out 0000 wd off", row)
+            hold(f"what is written is '{row}'", shown)
+            seen.append(int(shown[1], 16))
+            most = (time.monotonic() - operate.begun) * 1000 // STEP
+            hold(f"the inputs count {seen}, which is at most {most} at the end",
+                 seen == sorted(seen) and seen[-1] <= most)
+            time.sleep(SETTLED / enough)
+        hold(f"the inputs count {seen}", len(set(seen)) >= enough)
+        operate.signal(signal.SIGTERM)
+        operate.ends(BY_SIGNAL)
+
+
+def halt_by_hand(trial):
+    """On a halted line it is written once that ticks are refused, and once that steps do nothing."""
+    with served(trial, 1) as (rack, _):
+        with Operate(trial, rack.operators[1], "--tick", TICK, "--step", STEP) as operate:
+            expect("the answer to an input", "done", operate.ask("in 5 aa55"))
+            time.sleep(SETTLED)
+            expect("the answer to the halt", "released", operate.ask("halt"))
+            rows = [operate.output.row(), operate.output.row()]
+            expect("what is written behind the halt", ["refused Halted", "stepped 0"], sorted(rows))
+            time.sleep(SETTLED)
+            expect("the answer behind it", "refused Halted", operate.ask("tick 1"))
+            operate.signal(signal.SIGTERM)
+            operate.ends(BY_SIGNAL)
+
+
+def time_is_told_once(trial):
+    """Ticks tell all time that has passed, and none twice, also where answers are late and the program stands still."""
+    rounds, late_each = 24, 8
+    for every in TICK, ODD_TICK:
+        with Port() as port, Operate(trial, port.number, "--tick", every) as operate:
+            port.accept()
+            operate.type(b"owned 1\nowned 2\n")
+            for number in range(rounds):
+                line = port.line()
+                port.answer_late(usual(line), 0 if number % late_each else LATE)
+            with operate.stopped():
+                time.sleep(LATE)
+            port.play(rounds // 2)
+            start_of_clock(port.lines, every / 1000)
+            expect_beat(list(filter(is_tick, port.lines)), every / 1000)
+
+
+STEP_APART, PAUSE = 20, 0.5
+
+
+def steps_are_not_made_up_for(trial):
+    """Behind a pause one step comes at once, before a line that waits, and those that were missed don't."""
+    rounds, steps = 2, 10
+    with Port() as port, Operate(trial, port.number, "--step", STEP_APART) as operate:
+        port.accept()
+        for number in range(rounds):
+            port.play(steps)
+            step = port.line()
+            operate.type(f"owned {number}\n".encode())
+            port.answer_late(usual(step), PAUSE)
+            hold("a line comes before the step that is due", is_step(port.line()))
+            port.answer("stepped 2")
+            port.wait_for(f"owned {number}")
+            port.answer("owned")
+        with operate.stopped():
+            time.sleep(PAUSE)
+        port.play(2 * steps)
+        expect_beat(list(filter(is_step, port.lines)), STEP_APART / 1000)
+
+
+# Milliseconds of tick and step; the seconds that an answer takes, so that a tick is late; and those after which one is
+# due for sure.
+FAR_APART, MUCH_LATER, SURELY = 400, 0.7, 0.02
+
+
+def order_by_the_clock(trial):
+    """A tick goes before a step, and both before a line that waits. They are due at multiples of their time, however
+    late those before were."""
+    every = FAR_APART / 1000
+    with Port() as port, Operate(trial, port.number, "--tick", FAR_APART, "--step", FAR_APART) as operate:
+        port.accept()
+        expect_tick_and_step(port)
+        operate.type(b"owned 1\n")
+        port.wait_for("owned 1")
+        port.answer_late("owned", MUCH_LATER)
+        expect_tick_and_step(port)
+        operate.type(b"owned 2\nowned 3\n")
+        port.wait_for("owned 2")
+        start = start_of_clock(port.lines, every)
+        passed = (int(start.told / UNIT + 0.5) // (FAR_APART // 10) + 1) * every
+        port.answer_late("owned", start.before + passed + SURELY - time.monotonic())
+        step = list(filter(is_step, port.lines))[-1]
+        # but for a machine so slow that the step was sent in the next round
+        expect_tick_and_step(port, has_step=step.came < start.after + passed)
+        port.wait_for("owned 3")
+        port.answer("owned")
+        expect_beat(list(filter(is_tick, port.lines)), every)
+        expect_beat(list(filter(is_step, port.lines)), every)
+
+
+def expect_tick_and_step(port, has_step=True):
+    """Ends the case where the lines that come next aren't a tick and, where that is wanted, a step; answers them."""
+    tick = port.line()
+    hold(f"{tick.text} comes in place of a tick", is_tick(tick))
+    port.answer(usual(tick))
+    if has_step:
+        # on a machine so slow that a tick is due again that goes first
+        while is_tick(line := port.line()) and line.came > tick.free + FAR_APART / 1000:
+            port.answer(usual(line))
+        hold(f"{line.text} comes in place of a step", is_step(line))
+        port.answer(usual(line))
+
+
+# Answers in their order, and whether each is written.
+ANSWERS_TO_TICKS = (("released", False), ("released 5", True), ("released 5", False), ("released", False),
+                    ("released 5", True), ("released 5 6", True), ("released 6", True), ("released", False),
+                    ("refused Halted", True), ("refused Halted", False), ("released", False), ("refused Halted", True))
+ANSWERS_TO_STEPS = (("stepped 2", False), ("stepped 0", True), ("stepped 0", False), ("stepped 0", False),
+                    ("stepped 10", False), ("stepped 0", True), ("stepped 1", False), ("stepped 64", False),
+                    ("stepped 0", True), ("stepped 0", False))
+
+
+def what_tells_something(trial):
+    """Answers to ticks and steps are written where they tell something and aren't those of the time before; answers to
+    lines always are."""
+    ticks, steps, wanted, line_each = list(ANSWERS_TO_TICKS), list(ANSWERS_TO_STEPS), [], 7
+    with Port() as port, Operate(trial, port.number, "--tick", STEP_APART, "--step", STEP_APART) as operate:
+        port.accept()
+        for number in itertools.count():
+            if number % line_each == 0:
+                operate.type(b"owned 1\n")
+            wanted += answer_next(port, ticks, steps)
+            if not ticks and not steps:
+                break
+        operate.end_input()
+        for _ in range(OUTLASTING):
+            wanted += answer_next(port, ticks, steps)
+        port.end()
+        operate.ends_with_note(f"port {port.number} has ended", output="".join(row + "\n" for row in wanted))
+    return f"{len(wanted)} rows"
+
+
+def answer_next(port, ticks, steps):
+    """Answers the next line with the first of these answers, or as is usual: a list of what is to be written of it."""
+    line = port.line()
+    left = ticks if is_tick(line) else steps if is_step(line) else None
+    answer, is_written = left.pop(0) if left else (usual(line), left is None)
+    port.answer(answer)
+    return [answer] if is_written else []
+
+
+# ---- cases: ends
+
+
+def clock_outlasts_input(trial):
+    """With ticks or steps the end of the input ends nothing; that of the port does, with status 0 and a note."""
+    for words in ("--tick", TICK), ("--step", STEP), ("--tick", TICK, "--step", STEP):
+        for text, output in (b"", ""), (b"owned 1\n", "done\n"), (b"# owned 1\nowned 1", "done\n"):
+            with Port() as port, Operate(trial, port.number, *words) as operate:
+                port.accept()
+                operate.type_all(text)
+                port.play(OUTLASTING)
+                port.end()
+                operate.ends_with_note(f"port {port.number} has ended", output)
+
+
+def clock_ends_with_serve(trial):
+    """The same at a real line, whose program is killed, and with an input that was empty from the start."""
+    with served(trial, 1) as (rack, server), locked(rack).connection:
+        port = rack.operators[1]
+        with Operate(trial, port, "--tick", TICK, stdin=subprocess.DEVNULL) as operate:
+            expect("what is written", "released 5", operate.output.row())
+            server.kill()
+            operate.ends_with_note(f"port {port} has ended")
+
+
+def port_ends_behind_the_input(trial):
+    """The same where nothing is sent for long, and where a tick is sent that is never answered: it is no line."""
+    for every in LONGEST, TICK:
+        with Port() as port, Operate(trial, port.number, "--tick", every) as operate:
+            port.accept()
+            operate.type_all(b"owned 1")
+            port.wait_for("owned 1")
+            port.answer("owned")
+            expect("the answer", "owned", operate.output.row())
+            if every == TICK:
+                port.play(OUTLASTING)
+                port.line()
+            else:
+                port.is_silent(SETTLED)
+            port.end()
+            operate.ends_with_note(f"port {port.number} has ended")
+
+
+def input_ends(trial):
+    """Without ticks and steps the end of the input ends it with status 0, once all is answered, and the connection."""
+    inputs = (b"", ()), (b"# owned 1\n\n", ()), (b"owned 1\n", ("owned",)), (b"owned 1\nowned 2", ("owned", "owned 3"))
+    for text, answers in inputs:
+        with Port() as port, Operate(trial, port.number) as operate:
+            port.accept()
+            operate.type_all(text)
+            for answer in answers:
+                port.line()
+                port.answer_late(answer)
+            operate.ends(0, output="".join(row + "\n" for row in answers))
+            port.is_left()
+    with Port() as port, Operate(trial, port.number, stdin=subprocess.DEVNULL) as operate:
+        operate.ends(0)
+
+
+def ended(port):
+    """The row that tells that a port has ended."""
+    return f"rackd: port {port} has ended"
+
+
+def port_ends_with_input_open(trial):
+    """Where the port ends before the input the program ends with status 2 at once, also where nobody types anything."""
+    kinds = (Operate, ()), (AtTerminal, ()), (Operate, ("--tick", LONGEST)), (AtTerminal, ("--step", LONGEST))
+    for (kind, words), end, text in itertools.product(kinds, (Port.end, Port.reset), (b"", b"owned 1\n", b"# own")):
+        with Port() as port, kind(trial, port.number, *words) as operate:
+            port.accept()
+            operate.type(text)
+            if text.endswith(b"\n"):
+                port.wait_for("owned 1")
+                port.answer("owned")
+                expect("the answer", "owned", operate.output.row())
+            time.sleep(PIECE)
+            end(port)
+            operate.ends(2, ended(port.number))
+
+
+def serve_ends_with_input_open(trial):
+    """The same at a real line, whose program is killed."""
+    for kind, words in (Operate, ()), (AtTerminal, ("--tick", TICK)):
+        with served(trial, 1) as (rack, server), kind(trial, rack.operators[1], *words) as operate:
+            expect("an answer", "owned", operate.ask("owned 1"))
+            server.kill()
+            operate.ends(2, ended(rack.operators[1]))
+
+
+def port_ends_while_lines_come(trial):
+    """Where lines come in the moment in which the port ends the program ends in no other way."""
+    for end in Port.end, Port.reset:
+        for text in b"# one\n# two\n# three\nowned 1\n", b"owned 1\n" * OUTLASTING:
+            with Port() as port, Operate(trial, port.number) as operate:
+                port.accept()
+                with operate.stopped():
+                    end(port)
+                    operate.type(text)
+                operate.ends(2, ended(port.number))
+
+
+def port_ends_before_an_answer(trial):
+    """Where the port ends before a line is answered, or before all of the answer has come, the status is 2, also where
+    the input has ended."""
+    for words in (), ("--tick", TICK):
+        for is_open, end, half in itertools.product((False, True), (Port.end, Port.reset), (b"", b"own")):
+            with Port() as port, Operate(trial, port.number, *words) as operate:
+                port.accept()
+                operate.type(b"owned 1\nowned 2" + b"\n" * is_open)
+                if not is_open:
+                    operate.end_input()
+                port.wait_for("owned 1")
+                port.answer("owned")
+                expect("the first answer", "owned", operate.output.row())
+                port.wait_for("owned 2")
+                port.connection.sendall(half)
+                time.sleep(PIECE)
+                end(port)
+                operate.ends(2, ended(port.number), output=None)
+
+
+def nobody_listens(trial):
+    """A port at which nobody listens has two rows and status 2."""
+    with socket.socket() as nobody:
+        nobody.bind(("127.0.0.1", 0))
+        port = nobody.getsockname()[1]
+        rows = [f"rackd: cannot connect to {port}", "  nobody listens there"]
+        for words, streams in ((), {}), ((), {"stdin": subprocess.DEVNULL}), (("--tick", TICK), {}):
+            with Operate(trial, port, *words, **streams) as operate:
+                operate.ends(2, *rows)
+        with open("/dev/full", "wb") as full, Operate(trial, port, stderr=full) as operate:
+            operate.ends(2)
+
+
+def input_is_a_folder(trial):
+    """An input that can't be read has two rows and status 2."""
+    for words in (), ("--tick", TICK), ("--step", STEP):
+        folder = os.open(trial.folder, os.O_RDONLY)
+        with Port() as port, Operate(trial, port.number, *words, stdin=folder) as operate:
+            os.close(folder)
+            operate.ends(2, "rackd: cannot read -", "  a folder")
+
+
+def output_is_full(trial):
+    """Where an answer can't be written the program ends with status 4 at once. Where none is to be written, nothing is
+    wrong."""
+    full = os.open("/dev/full", os.O_WRONLY)
+    reader, closed = os.pipe()
+    os.close(reader)
+    for output in full, closed:
+        for words, answer in ((), "owned"), (("--tick", TICK), "refused Halted"), (("--step", STEP), "stepped 0"):
+            with Port() as port, Operate(trial, port.number, *words, stdout=output) as operate:
+                port.accept()
+                if words:
+                    port.play(OUTLASTING)
+                else:
+                    operate.type(b"owned 1\n")
+                port.line()
+                port.answer(answer)
+                operate.ends(4, "rackd: cannot write")
+        with Port() as port, Operate(trial, port.number, stdout=output) as operate:
+            operate.type_all(b"# owned 1\n")
+            operate.ends(0)
+    os.close(full)
+    os.close(closed)
+
+
+TOLD = "one operator after another"
+
+
+def second_operator(trial):
+    """An operator that comes second is told so once, and is served when the first one has left: one who types, and one
+    for whom the clock sends. One who was answered, or who has sent nothing, isn't told."""
+    with served(trial, 1, 2) as (rack, _), Port() as port:
+        first = [Operator(rack.operators[line]) for line in (1, 2)]
+        expect("the answers to those who are first", ["owned", "owned"], [one.ask("owned 1") for one in first])
+        with Operate(trial, rack.operators[1]) as types, Operate(trial, rack.operators[2], "--tick", TICK) as ticks, \
+             Operate(trial, port.number) as served_late:
+            port.accept()
+            time.sleep(SETTLED)
+            typed = time.monotonic()
+            types.type(b"in 5 aa55\nshow 5\n")
+            is_told(types, typed)
+            is_told(ticks, ticks.begun)
+            port.is_silent(typed + TOLD_AFTER - time.monotonic())
+            served_late.type(b"owned 1\nowned 2\n")
+            port.line()
+            port.answer("owned")
+            port.line()
+            port.answer_late("owned", TOLD_AGAIN)
+            for one, answers in (types, ["done", "show 5 WaitPrm none in aa55 out 0000 wd off"]), (ticks, ["owned"]):
+                expect("what is written before", "", one.output.so_far())
+                first.pop(0).hang_up()
+                if one is ticks:
+                    one.type(b"owned 1\n")
+                expect("what is written then", answers, [one.output.row() for _ in answers])
+            types.end_input()
+            types.ends(0)
+            ticks.signal(signal.SIGTERM)
+            ticks.ends(BY_SIGNAL)
+            served_late.end_input()
+            served_late.ends(0, output="owned\nowned\n")
+
+
+def is_told(operate, begun):
+    """Ends the case where an operator isn't told that others are served, or is told too early, from a moment at which
+    it had sent nothing."""
+    row, after = operate.errors.row(), time.monotonic() - begun
+    hold(f"what is told is '{row}'", TOLD in row)
+    hold(f"it is told after {after:.2f} s", after >= TOLD_AFTER)
+
+
+def ended_by_a_signal(trial):
+    """A signal ends it, with a clock and without one; the line goes on, and serves the next operator."""
+    with served(trial, 1) as (rack, server):
+        for words in ("--tick", TICK), ("--step", STEP), ():
+            with Operate(trial, rack.operators[1], *words) as operate:
+                expect("an answer", "owned", operate.ask("owned 1"))
+                time.sleep(PIECE)
+                operate.signal(signal.SIGTERM)
+                operate.ends(BY_SIGNAL)
+        with Operate(trial, rack.operators[1]) as operate:
+            expect("an answer to the next one", "done", operate.ask("in 5 aa55"))
+            operate.end_input()
+            operate.ends(0)
+        expect("the status of the program that serves", None, server.process.poll())
+
+
+CASES = (script_of_a_file, typed_at_a_terminal, input_in_pieces, very_many_lines, one_line_at_a_time,
+         watchdog_by_the_clock, devices_by_the_clock, halt_by_hand, time_is_told_once, steps_are_not_made_up_for,
+         order_by_the_clock, what_tells_something, clock_outlasts_input, clock_ends_with_serve,
+         port_ends_behind_the_input, input_ends, port_ends_with_input_open, serve_ends_with_input_open,
+         port_ends_while_lines_come, port_ends_before_an_answer, nobody_listens, input_is_a_folder, output_is_full,
+         second_operator, ended_by_a_signal)
+
+
+def main(words):
+    case, program, folder = words
+    cases = {function.__name__: function for function in CASES}
+    try:
+        note = cases[case](Trial(os.path.abspath(program), os.path.abspath(folder)))
+    except (Wrong, OSError, ValueError) as wrong:
+        print(wrong or repr(wrong))
+        return 1
+    if note:
+        print(note)
+    return 0
+
+
+if __name__ == "__main__":
+    sys.exit(main(sys.argv[1:]))
