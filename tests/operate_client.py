@@ -278,8 +278,8 @@ class Port:
         """Ends the case where the connection isn't closed, or a line that has to be answered comes before that."""
         while more := self.take():
             self.octets += more
-        left = [line for line in self.octets.split(b"\n") if line and not line.startswith(b"#")]
-        expect("what comes before the connection is closed", [], left)
+            left = [line for line in self.octets.split(b"\n") if line and not line.startswith(b"#")]
+            expect("what comes before the connection is closed", [], left)
 
     def is_silent(self, seconds):
         """Ends the case where anything comes within so many seconds, or the connection ends."""
@@ -513,11 +513,19 @@ def typed_at_a_terminal(trial):
             operate.type(line + b"\n")
             if answer:
                 expect(f"the answer to {line[:20]}", answer, operate.output.row())
-        # a line without its LF
-        operate.type(b"owned 1" + END_OF_INPUT)
         operate.end_input()
-        operate.ends(0, output="owned\n")
+        operate.ends(0)
     return f"{len(lines)} lines"
+
+
+def last_line_at_a_terminal(trial):
+    """At a terminal too a last line without its LF is answered, and the end of the input behind it ends the program."""
+    with served(trial, 1) as (rack, _):
+        for text, answers in (b"owned 1", "owned\n"), (b"owned 1\nowned", "owned\nfault NotACommand\n"), (b"# own", ""):
+            with AtTerminal(trial, rack.operators[1]) as operate:
+                operate.type(text + END_OF_INPUT)
+                operate.end_input()
+                operate.ends(0, output=answers)
 
 
 def input_in_pieces(trial):
@@ -970,12 +978,12 @@ def ended_by_a_signal(trial):
         expect("the status of the program that serves", None, server.process.poll())
 
 
-CASES = (script_of_a_file, typed_at_a_terminal, input_in_pieces, very_many_lines, one_line_at_a_time,
-         watchdog_by_the_clock, devices_by_the_clock, halt_by_hand, time_is_told_once, steps_are_not_made_up_for,
-         order_by_the_clock, what_tells_something, clock_outlasts_input, clock_ends_with_serve,
-         port_ends_behind_the_input, input_ends, port_ends_with_input_open, serve_ends_with_input_open,
-         port_ends_while_lines_come, port_ends_before_an_answer, nobody_listens, input_is_a_folder, output_is_full,
-         second_operator, ended_by_a_signal)
+CASES = (script_of_a_file, typed_at_a_terminal, last_line_at_a_terminal, input_in_pieces, very_many_lines,
+         one_line_at_a_time, watchdog_by_the_clock, devices_by_the_clock, halt_by_hand, time_is_told_once,
+         steps_are_not_made_up_for, order_by_the_clock, what_tells_something, clock_outlasts_input,
+         clock_ends_with_serve, port_ends_behind_the_input, input_ends, port_ends_with_input_open,
+         serve_ends_with_input_open, port_ends_while_lines_come, port_ends_before_an_answer, nobody_listens,
+         input_is_a_folder, output_is_full, second_operator, ended_by_a_signal)
 
 
 def main(words):
