@@ -1,8 +1,7 @@
 //! Faults that no other test meets.
 
-use crate::rows::is_told;
 use dp_sessions::PoolFault;
-use dp_shared::ClaimsFault;
+use shared_tests::rows::is_told;
 use std::alloc::Global;
 use std::fmt::Display;
 use std::test::Fail;
@@ -18,10 +17,4 @@ fn faults_of_pools(rt: HostRuntime) -> Result<(), Fail> {
     tells(rt.alloc(), memory, memory.code(), "out of memory 1")?;
     let thread = PoolFault::NoThread;
     tells(rt.alloc(), thread, thread.code(), "no thread 2")
-}
-
-#[test]
-fn faults_of_claims(rt: HostRuntime) -> Result<(), Fail> {
-    let fault = ClaimsFault::NoTable;
-    tells(rt.alloc(), fault, fault.code(), "NoTable 1")
 }

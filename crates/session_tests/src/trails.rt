@@ -5,14 +5,14 @@
 
 ghost use Rattle.std.specs.Prelude.{◌≡◌, None};
 
-use crate::passes::many_passes;
-use crate::place::{Place, ample_line, fresh_place};
-use crate::rows::{closed_with, hex_of, is_told, octets_of};
+use crate::place::{Place, fresh_place};
 use dp_line::Device;
 use dp_sessions::{OpenGate, Port, SessionEnd, serve};
 use dp_shared::WorkerSeat;
 use dp_telegram::Octets;
 use dp_trail::{CatchUp, NoTrail, Tail, Trail, Trailed};
+use shared_tests::line_specs::ample_line;
+use shared_tests::rows::{closed_with, hex_of, is_told, many_passes, octets_of};
 use std::alloc::Global;
 use std::io::{ErrorKind, Read, Result as IoResult, Write};
 use std::sync::{Mutex, Wait};

@@ -1,6 +1,6 @@
 use Rattle.std.proofs.Common.{All, length}
 use Rattle.dp_shared.specs.Claims.{IsNewSeat}
-use Rattle.session_tests.proofs.claims.fn.contend_all.scope.Given as goal
+use Rattle.shared_tests.proofs.claims.fn.contend_all.scope.Given as goal
 
 abbrev pub invariant-loop-seat : goal.invariant-loop-seat
 invariant-loop-seat l = All (IsNewSeat l.claims.now.table) l.seats.items

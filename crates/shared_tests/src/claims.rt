@@ -3,7 +3,7 @@
 ghost use Rattle.std.specs.Prelude.{◌≡◌, None, All, IfOk, length};
 ghost use Rattle.dp_shared.specs.Claims.{IsNewSeat};
 
-use crate::place::line_spec;
+use crate::line_specs::line_spec;
 use crate::rows::{ARROW, is_told};
 use dp_line::Device;
 use dp_shared::{Claims, WorkerSeat};

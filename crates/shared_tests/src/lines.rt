@@ -3,7 +3,7 @@
 ghost use Rattle.std.specs.Prelude.{◌≡◌, [], ◌∷◌, IfOk};
 ghost use Rattle.dp_shared.specs.Passes.{table_of};
 
-use crate::place::line_spec;
+use crate::line_specs::line_spec;
 use crate::rows::{ARROW, audit_of, is_told};
 use dp_audit::Receipt;
 use dp_line::{Device, Event};

@@ -2,10 +2,9 @@
 
 use crate::rows::{hex_of, is_told, octets_of};
 use arrayvec::ArrayVec;
-use dp_devices::driven_slaves;
+use dp_devices::{driven_slaves, next_inputs};
 use dp_line::{Device, LineSpec, Lists, SlaveSpec};
 use dp_sap::MOST_DATA;
-use dp_sessions::next_inputs;
 use std::alloc::{AllocError, Global};
 use std::test::Fail;
 

@@ -1,5 +1,5 @@
 use Rattle.std.proofs.Common.{◌≡◌}
-use Rattle.session_tests.proofs.threads.ask.Given as goal
+use Rattle.shared_tests.proofs.threads.ask.Given as goal
 
 abbrev pub invariant-loop : goal.invariant-loop
 invariant-loop g l = (l.pass.table ≡ l.fn.pass.table) × (l.pass.view.address ≡ l.fn.pass.view.address)

@@ -3,30 +3,13 @@
 ghost use Rattle.std.specs.Prelude.{◌≡◌, All, IfOk};
 ghost use Rattle.dp_shared.specs.Passes.{table_of};
 
-use crate::place::line_spec;
-use crate::rows::{ARROW, close, closed_with, is_told};
+use crate::line_specs::line_spec;
+use crate::rows::{ARROW, close, closed_with, is_told, many_passes};
 use dp_line::Device;
 use dp_shared::{CloseFault, Line, Pass};
 use std::alloc::Global;
 use std::sync::Wait;
 use std::test::Fail;
-
-/// So many passes of an address.
-pub(crate) fn many_passes<R: Wait>(
-    rt: &R,
-    alloc: Global,
-    line: &Line,
-    address: u8,
-    count: usize,
-) -> Result<Vec<Pass>, Fail>
-    ensures { IfOk result (λ v. All (λ pass. pass.table ≡ table_of line.now) v.items) }
-{
-    let mut passes = Vec::new(alloc);
-    for _ in 0..count {
-        passes.push(line.open_pass(rt, address)?)?;
-    }
-    Ok(passes)
-}
 
 /// A line, and passes of it.
 #[derive(Drop)]

@@ -3,7 +3,7 @@
 ghost use Rattle.std.specs.Prelude.{◌≡◌, ◌≢◌, All, IfOk};
 ghost use Rattle.dp_shared.specs.Passes.{table_of};
 
-use crate::place::{line_spec, wide_line};
+use crate::line_specs::{line_spec, wide_line};
 use crate::rows::{close, is_told};
 use dp_audit::Receipt;
 use dp_line::{Device, Op, Outcome};

@@ -1,19 +1,20 @@
 //! What the rows of several tests stand on.
 
-ghost use Rattle.std.specs.Prelude.{◌≡◌, All, IfErr};
+ghost use Rattle.std.specs.Prelude.{◌≡◌, All, IfErr, IfOk};
 ghost use Rattle.dp_shared.specs.Passes.{table_of};
 
 use dp_audit::Book;
 use dp_shared::{CloseFault, Closed, Line, Pass};
 use dp_telegram::Octets;
 use std::alloc::{AllocError, Global};
+use std::sync::Wait;
 use std::test::Fail;
 
 /// What parts a row from what it tells.
-pub(crate) const ARROW: &str = " -> ";
+pub const ARROW: &str = " -> ";
 
 /// The text that was told is the expected one; where it isn't, the failure is that text.
-pub(crate) fn is_told(told: String, expected: &str) -> Result<(), Fail> {
+pub fn is_told(told: String, expected: &str) -> Result<(), Fail> {
     if told.as_str() == expected {
         Ok(())
     } else {
@@ -22,7 +23,7 @@ pub(crate) fn is_told(told: String, expected: &str) -> Result<(), Fail> {
 }
 
 /// The octets of a word of hex digits, `-` for none.
-pub(crate) fn octets_of(word: &str) -> Result<Octets, Fail> {
+pub fn octets_of(word: &str) -> Result<Octets, Fail> {
     if word == "-" {
         return Ok(Octets::new());
     }
@@ -33,7 +34,7 @@ pub(crate) fn octets_of(word: &str) -> Result<Octets, Fail> {
 }
 
 /// The hex digits of octets, `-` for none.
-pub(crate) fn hex_of(alloc: Global, octets: &[u8]) -> Result<String, AllocError> {
+pub fn hex_of(alloc: Global, octets: &[u8]) -> Result<String, AllocError> {
     if octets.is_empty() {
         return format!(in alloc; "-");
     }
@@ -41,7 +42,7 @@ pub(crate) fn hex_of(alloc: Global, octets: &[u8]) -> Result<String, AllocError>
 }
 
 /// The audit text of a journal.
-pub(crate) fn audit_of(alloc: Global, book: &Book) -> Result<String, Fail> {
+pub fn audit_of(alloc: Global, book: &Book) -> Result<String, Fail> {
     let mut written: Vec<u8> = Vec::new(alloc);
     book.write_text(&mut written)?;
     Ok(String::from_utf8(written)?)
@@ -49,7 +50,7 @@ pub(crate) fn audit_of(alloc: Global, book: &Book) -> Result<String, Fail> {
 
 /// Closes a line with these passes.
 #[tactic(auto, using(std::proofs::lemmas::List::Elements::recursion_from_All))]
-pub(crate) fn close(line: Line, passes: Vec<Pass>) -> Result<Closed, CloseFault>
+pub fn close(line: Line, passes: Vec<Pass>) -> Result<Closed, CloseFault>
     requires { All (λ pass. pass.table ≡ table_of line) passes.items }
     ensures { IfErr result (λ fault. fault ≡ CloseFault.PassesOut line passes) }
 {
@@ -57,11 +58,28 @@ pub(crate) fn close(line: Line, passes: Vec<Pass>) -> Result<Closed, CloseFault>
 }
 
 /// The audit text of a line that is closed with these passes; it fails where others are out.
-pub(crate) fn closed_with(alloc: Global, line: Line, passes: Vec<Pass>) -> Result<String, Fail>
+pub fn closed_with(alloc: Global, line: Line, passes: Vec<Pass>) -> Result<String, Fail>
     requires { All (λ pass. pass.table ≡ table_of line) passes.items }
 {
     match close(line, passes) {
         Ok(closed) => audit_of(alloc, closed.book()),
         Err(_) => Err(Fail::new("a pass is out")),
     }
+}
+
+/// So many passes of an address.
+pub fn many_passes<R: Wait>(
+    rt: &R,
+    alloc: Global,
+    line: &Line,
+    address: u8,
+    count: usize,
+) -> Result<Vec<Pass>, Fail>
+    ensures { IfOk result (λ v. All (λ pass. pass.table ≡ table_of line.now) v.items) }
+{
+    let mut passes = Vec::new(alloc);
+    for _ in 0..count {
+        passes.push(line.open_pass(rt, address)?)?;
+    }
+    Ok(passes)
 }

@@ -1,6 +1,6 @@
 use Rattle.std.proofs.Common.{pos, ◌≡◌, None}
 use borrow.Author.Gap.{gap}
-use Rattle.session_tests.proofs.claims.contend.Given as goal
+use Rattle.shared_tests.proofs.claims.contend.Given as goal
 
 abbrev pub invariant-loop-turns : goal.invariant-loop-turns
 invariant-loop-turns l = (l.seat.table ≡ l.claims.table) × (l.seat.view.held ≡ None)

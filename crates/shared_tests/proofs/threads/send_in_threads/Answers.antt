@@ -4,9 +4,9 @@ use denote.Param.Send.{IsSend, arg_send, param_send, sendable}
 use Rattle.dp_audit.proofs.entry.Receipt.TheSendSync as receipt
 use Rattle.dp_shared.proofs.Sharing.{pass_send, numbered_book_send}
 use Rattle.dp_shared.proofs.one_slot.OneSlot.TheSendSync as slot
-use Rattle.session_tests.specs.contracts.threads.Sender as sender
-use Rattle.session_tests.specs.contracts.threads.Sent as sent
-use Rattle.session_tests.proofs.threads.send_in_threads.Goals as goal
+use Rattle.shared_tests.specs.contracts.threads.Sender as sender
+use Rattle.shared_tests.specs.contracts.threads.Sent as sent
+use Rattle.shared_tests.proofs.threads.send_in_threads.Goals as goal
 
 sender_send : IsSend sender.the_row
 sender_send = search (sendable, crosses, pass_send, receipt.the_send) depth 40 fits 100000
