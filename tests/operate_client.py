@@ -103,9 +103,12 @@ class Stream(threading.Thread):
 class Operate:
     """The program that operates a port. Where its `with` ends before it, it is killed."""
 
-    def __init__(self, trial, port, *words, stdin=subprocess.PIPE, stdout=subprocess.PIPE, stderr=subprocess.PIPE):
+    def __init__(self, trial, port, *words, stdin=subprocess.PIPE, stdout=subprocess.PIPE, stderr=subprocess.PIPE,
+                 closed=None):
         def before():
             libc.prctl(PDEATHSIG, signal.SIGKILL)
+            if closed is not None:
+                os.close(closed)
 
         self.begun = time.monotonic()
         self.process = subprocess.Popen([trial.program, "operate", str(port), *map(str, words)], bufsize=0, stdin=stdin,
@@ -814,6 +817,31 @@ def ended(port):
     return f"rackd: port {port} has ended"
 
 
+def port_ends_right_behind_an_answer(trial):
+    """Where the port ends right behind the answer to the last line of a file the status is 0: that no more comes is
+    read behind that answer."""
+    for number in range(OUTLASTING):
+        with Port() as port, script_in(trial, "owned 1\nowned 2") as script:
+            with Operate(trial, port.number, stdin=script) as operate:
+                port.accept()
+                port.line()
+                port.answer("owned")
+                port.line()
+                port.answer(f"owned {number}")
+                port.end()
+                expect("the status", 0, operate.status())
+                expect("what is written", f"owned\nowned {number}\n", operate.output.rest())
+                hold("more than a note is told", len(operate.errors.rest().splitlines()) <= 1)
+
+
+def script_in(trial, text):
+    """A file that has this text."""
+    path = os.path.join(trial.folder, "script")
+    with open(path, "w") as file:
+        file.write(text)
+    return open(path, "rb")
+
+
 def port_ends_with_input_open(trial):
     """Where the port ends before the input the program ends with status 2 at once, also where nobody types anything."""
     kinds = (Operate, ()), (AtTerminal, ()), (Operate, ("--tick", LONGEST)), (AtTerminal, ("--step", LONGEST))
@@ -917,6 +945,38 @@ def output_is_full(trial):
     os.close(closed)
 
 
+def streams_are_closed(trial):
+    """Where a standard stream is closed from the start, what is for it doesn't go to the port, nor does it come from
+    there."""
+    for words in (), ("--tick", LONGEST):
+        with Port() as port, Operate(trial, port.number, *words, closed=1) as operate:
+            port.accept()
+            operate.type(b"owned 1\n")
+            port.line()
+            port.answer("owned")
+            port.is_left()
+            operate.ends(4, "rackd: cannot write", output=None)
+    with Port() as port, Operate(trial, port.number, closed=2) as operate:
+        port.accept()
+        operate.type(b"owned 1\n")
+        port.line()
+        port.is_silent(TOLD_AGAIN)
+        port.answer("owned")
+        expect("the answer", "owned", operate.output.row())
+        operate.end_input()
+        operate.ends(0, output=None)
+        port.is_left()
+    with Port() as port, Operate(trial, port.number, closed=0) as operate:
+        port.accept()
+        operate.ends(0)
+        port.is_left()
+    with Port() as port:
+        number = port.number
+    for closed in 0, 1:
+        with Operate(trial, number, closed=closed) as operate:
+            operate.ends(2, f"rackd: cannot connect to {number}", "  nobody listens there")
+
+
 TOLD = "one operator after another"
 
 
@@ -981,9 +1041,10 @@ def ended_by_a_signal(trial):
 CASES = (script_of_a_file, typed_at_a_terminal, last_line_at_a_terminal, input_in_pieces, very_many_lines,
          one_line_at_a_time, watchdog_by_the_clock, devices_by_the_clock, halt_by_hand, time_is_told_once,
          steps_are_not_made_up_for, order_by_the_clock, what_tells_something, clock_outlasts_input,
-         clock_ends_with_serve, port_ends_behind_the_input, input_ends, port_ends_with_input_open,
+         clock_ends_with_serve, port_ends_behind_the_input, input_ends, port_ends_right_behind_an_answer,
+         port_ends_with_input_open,
          serve_ends_with_input_open, port_ends_while_lines_come, port_ends_before_an_answer, nobody_listens,
-         input_is_a_folder, output_is_full, second_operator, ended_by_a_signal)
+         input_is_a_folder, output_is_full, streams_are_closed, second_operator, ended_by_a_signal)
 
 
 def main(words):

@@ -324,12 +324,13 @@ class Trial:
         checked = subprocess.run([self.program, "check", rack.path, path], capture_output=True, timeout=PATIENCE)
         expect("the check", f"legal {text.count(10) - 1}\n".encode(), checked.stdout + checked.stderr)
 
-    def refuses(self, folder, path, **more):
-        """Ends the case where the program doesn't end before it is ready, since it cannot make what is at a path."""
+    def refuses(self, folder, path, cause, **more):
+        """Ends the case where the program doesn't end before it is ready, since it cannot make what is at a path, for
+        this cause."""
         with Server(self.program, self.rack(1), "--audit", folder, **more) as server:
             status, said, told_of = server.ended()
         expect("status and output", (2, b""), (status, said))
-        expect("the first row on standard error", f"rackd: cannot make {path}", told_of.partition("\n")[0])
+        expect("standard error", f"rackd: cannot make {path}\n  {cause}\n", told_of)
 
 
 # ---- connections
@@ -819,15 +820,15 @@ def folder_is_a_file(trial):
     """A file where the folder is to be, or one above it."""
     path = trial.path("file")
     write(path, b"mine\n")
-    trial.refuses(path, path)
-    trial.refuses(os.path.join(path, "under"), os.path.join(path, "under"))
+    trial.refuses(path, path, "something else is there")
+    trial.refuses(os.path.join(path, "under"), os.path.join(path, "under"), "a part of the path is no folder")
     expect("the file", b"mine\n", content(path))
 
 
 def folder_not_writable(trial):
     """Where nobody can make a folder, or can make a file in one that is there."""
-    trial.refuses("/proc/rackd", "/proc/rackd")
-    trial.refuses("/proc", f"/proc/{named(1)}")
+    trial.refuses("/proc/rackd", "/proc/rackd", "nothing is there")
+    trial.refuses("/proc", f"/proc/{named(1)}", "nothing is there")
 
 
 def earlier_files(trial):
@@ -906,10 +907,10 @@ def ends_full(trial, name, is_operator, *words, watch=None, writes=None, **more)
 
 def full_disk_at_the_header(trial):
     """Not even the header has room."""
-    folder = trial.path("trails")
-    trial.refuses(folder, os.path.join(folder, named(1)), limits=[(resource.RLIMIT_FSIZE, FULL_AT_ONCE)])
-    folder = trial.path("device")
-    trial.refuses(folder, os.path.join(folder, named(1)), watch=Watch(0, full=0))
+    limited, watched = trial.path("trails"), trial.path("device")
+    cause = "a row was not taken whole"
+    trial.refuses(limited, os.path.join(limited, named(1)), cause, limits=[(resource.RLIMIT_FSIZE, FULL_AT_ONCE)])
+    trial.refuses(watched, os.path.join(watched, named(1)), cause, watch=Watch(0, full=0))
 
 
 def kill_9(trial, seed=None):

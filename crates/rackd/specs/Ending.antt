@@ -4,7 +4,7 @@ use Rattle.std.specs.Fmt.{decimal}
 use Rattle.rack_file.specs.declared.fault.RackFault.TheVariants as racks
 use Rattle.dp_script.specs.declared.run_fault.RunFault.TheVariants as runs
 use Rattle.dp_script.specs.FaultTexts.{run_fault_text}
-use Rattle.rackd.specs.declared.cause.Cause.{Cause}
+use Rattle.dp_cause.specs.declared.cause.Cause.{Cause}
 use Rattle.rackd.specs.declared.ending.AuditPath.{AuditPath}
 use Rattle.rackd.specs.declared.ending.AuditPath.TheVariants as paths
 use Rattle.rackd.specs.declared.ending.Fault.{Fault}

@@ -1,4 +1,4 @@
-pub mod Causes
+pub mod MissingPorts
 pub mod Ending
 pub mod ServedLines
 pub mod ServeOutput

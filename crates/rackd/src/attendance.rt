@@ -1,7 +1,7 @@
 //! What all acceptors of a rack share.
 
 use crate::doors::Doors;
-use crate::notes::Notes;
+use dp_notes::Notes;
 use std::sync::atomic::AtomicU32;
 
 /// What all acceptors of a rack share.

@@ -3,8 +3,8 @@
 ghost use Rattle.std.specs.Prelude.{IfErr};
 ghost use Rattle.rackd.specs.ServeOutput.{IsRecordingFault};
 
-use crate::cause::Cause;
 use crate::ending::{AuditPath, Fault};
+use dp_cause::Cause;
 use dp_script::RunFault;
 use dp_shared::Line;
 use dp_trail::{Tail, Trail, TrailFault};

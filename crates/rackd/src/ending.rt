@@ -3,13 +3,15 @@
 ghost use Rattle.std.specs.Prelude.{◌≡◌, Some};
 ghost use Rattle.rackd.specs.Ending.{status_of, audit_path_text, cause_of, fault_text};
 
-use crate::cause::Cause;
+use dp_cause::Cause;
 use dp_script::RunFault;
+use operator_client::ClientFault;
 use rack_file::RackFault;
+use rackd_words::WordsFault;
 use std::fmt;
 
 /// A path of audit texts. Its `Display` takes no memory.
-#[derive(Clone, Copy, Debug, PartialEq, Eq)]
+#[derive(Clone, Copy)]
 pub enum AuditPath<'a> {
     /// The folder, as the words name it.
     Folder(&'a str),
@@ -41,7 +43,7 @@ impl<'a> fmt::Display for AuditPath<'a> {
 
 /// What kept the program from its work. Its `Display` is the line on standard error without its LF, and
 /// takes no memory.
-#[derive(Clone, Copy, Debug, PartialEq, Eq)]
+#[derive(Clone, Copy)]
 pub enum Fault<'a> {
     /// A word isn't UTF-8.
     BadWord,
@@ -64,6 +66,28 @@ pub enum Fault<'a> {
 impl<'a> From<RunFault> for Fault<'a> {
     fn from(fault: RunFault) -> Fault<'a> {
         Fault::Run(fault)
+    }
+}
+
+impl<'a> From<WordsFault> for Fault<'a> {
+    fn from(fault: WordsFault) -> Fault<'a> {
+        match fault {
+            WordsFault::NotText => Fault::BadWord,
+            WordsFault::OutOfMemory => Fault::Run(RunFault::OutOfMemory),
+        }
+    }
+}
+
+impl<'a> Fault<'a> {
+    /// What kept a client of this port from its work, by which the program ends.
+    pub fn of_client(port: u16, fault: ClientFault) -> Fault<'a> {
+        match fault {
+            ClientFault::CannotConnect(cause) => Fault::CannotConnect(port, cause),
+            ClientFault::PortEnded => Fault::PortEnded(port),
+            ClientFault::CannotRead(cause) => Fault::CannotRead("-", cause),
+            ClientFault::WriteFault => Fault::Run(RunFault::WriteFault),
+            ClientFault::OutOfMemory => Fault::Run(RunFault::OutOfMemory),
+        }
     }
 }
 

@@ -3,9 +3,9 @@
 ghost use Rattle.std.specs.Prelude.{◌≡◌, IfErr, IfOk, length};
 ghost use Rattle.rackd.specs.ServeOutput.{IsListeningFault};
 
-use crate::cause::Cause;
 use crate::ending::Fault;
 use crate::served_line::ServedLine;
+use dp_cause::Cause;
 use dp_script::RunFault;
 use std::alloc::Global;
 use std::net::{Ipv4Addr, Net, TcpListener};

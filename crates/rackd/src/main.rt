@@ -10,36 +10,30 @@ mod acceptors;
 mod attendance;
 mod audit_files;
 mod audits;
-mod cause;
-mod command_line;
 mod desk;
 mod doors;
 mod ending;
-mod incoming;
 mod listening;
 mod missing_port;
-mod notes;
 mod opened_lines;
-mod operate;
 mod patient;
 mod rack_cause;
 mod recorder;
 mod serve;
 mod served_line;
 mod threads;
-mod time_of_day;
 
-use cause::Cause;
 use clap::error::ErrorKind as Answer;
-use command_line::{Invocation, read_words, words_of};
+use dp_cause::Cause;
 use dp_script::split_input;
 pub use dp_script::{RunFault, run_check, run_text};
 use ending::{Fault, cause, status};
 use log::{Log, info};
-use operate::{Operation, operate};
+use operator_client::{Operation, operate};
 use rack_cause::rack_cause;
 pub use rack_file::{Rack, RackFault, RackLine, read_rack};
-use serve::{Served, Service, serve_text};
+use rackd_words::{Invocation, Service, read_words, words_of};
+use serve::{Served, serve_text};
 use std::fs::{self, File, Files};
 use std::io::{self, BufWriter, ErrorKind, Printer, Read, Write};
 use std::net::{Net, TcpListener, TcpStream};
@@ -51,6 +45,9 @@ use std::thread::Threads;
 /// How every audit text begins.
 const HEADER: &str = "rack-audit ";
 
+/// A file that has no octets.
+const NOTHING: &str = "/dev/null";
+
 /// What is told of a text that isn't legal and has no header.
 const NO_HEADER: &str = "  row 1: no header; does the text begin with \"ready\"?";
 
@@ -60,7 +57,7 @@ fn main(rt: HostRuntime) -> ExitCode {
             Ok(code) => code,
             Err(fault) => report(&rt, fault),
         },
-        Err(fault) => report(&rt, fault),
+        Err(fault) => report(&rt, Fault::from(fault)),
     }
 }
 
@@ -114,8 +111,11 @@ fn obey<
         Invocation::Input => run_input(rt),
         Invocation::Run { rack, script } => run_files(rt, rack, script),
         Invocation::Check { rack, audit } => check_files(rt, rack, audit),
+        Invocation::Explain { .. } => Ok(ExitCode::from(2)),
         Invocation::Serve { rack, service } => serve_file(rt, rack, service),
-        Invocation::Operate(operation) => operate_line(rt, operation, input),
+        Invocation::Operate { port, tick, step } => {
+            operate_line(rt, Operation { port, tick, step }, input)
+        }
         Invocation::Answer(answer) => Ok(tell(rt, &answer)?),
     }
 }
@@ -201,6 +201,7 @@ fn operate_line<
         + AllocGlobal
         + Log
         + Net<Listener = TcpListener, Stream = TcpStream>
+        + Files<File = File>
         + Threads
         + Wait
         + Copy
@@ -208,9 +209,22 @@ fn operate_line<
         + 'static,
     I: Read + Send + Drop + 'static,
 >(rt: &H, operation: Operation, input: I) -> Result<ExitCode, Fault<'a>> {
+    let _held = stand_ins(rt);
     let mut output = io::writer(rt);
-    operate(*rt, rt.alloc(), operation, input, &mut output)?;
-    Ok(ExitCode::SUCCESS)
+    match operate(*rt, rt.alloc(), operation, input, &mut output) {
+        Ok(()) => Ok(ExitCode::SUCCESS),
+        Err(fault) => Err(Fault::of_client(operation.port, fault)),
+    }
+}
+
+/// Files that give and take nothing, one for each standard stream: a stream that is closed has its descriptor taken
+/// by one of them, and so by no connection.
+fn stand_ins<F: Files>(files: &F) -> [Option<F::File>; 3] {
+    [stand_in(files), stand_in(files), stand_in(files)]
+}
+
+fn stand_in<F: Files>(files: &F) -> Option<F::File> {
+    File::open(files, NOTHING).ok()
 }
 
 /// All of a file.

@@ -3,7 +3,7 @@
 ghost use Rattle.std.specs.Prelude.{◌≡◌, ◌+◌, ◌<◌, Some, is_none, length, map};
 ghost use Rattle.std.specs.List.{list_all};
 ghost use Rattle.rack_file.specs.Rack.{line_described};
-ghost use Rattle.rackd.specs.Causes.{key_text, lacked, missing_from, missing_port_text};
+ghost use Rattle.rackd.specs.MissingPorts.{key_text, lacked, missing_from, missing_port_text};
 ghost use Rattle.rackd.specs.ServeOutput.{has_ports};
 
 use rack_file::RackLine;

@@ -13,16 +13,16 @@ ghost use Rattle.rackd.specs.ServeOutput.{AreOpened, AreServed, Attends, Serves,
 use crate::acceptors::Acceptors;
 use crate::attendance::Attendance;
 use crate::audits::write_audits;
-use crate::cause::Cause;
 use crate::doors::Doors;
 use crate::ending::{AuditPath, Fault};
 use crate::listening::{Listening, listen_at_lines, try_connections};
-use crate::notes::{Notes, Telling};
 use crate::opened_lines::{OpenedLines, open_lines};
 use crate::recorder::{Recorder, first_incomplete, record_lines};
 use crate::served_line::{ServedLine, lines_to_serve};
 use crate::threads::{accept_and_serve, can_start};
 use crossbeam_channel::bounded;
+use dp_cause::Cause;
+use dp_notes::{LineNumbers, Notes};
 use dp_script::RunFault;
 use dp_sessions::Port;
 use dp_shared::WorkerSeat;
@@ -34,6 +34,7 @@ use rack_file::laws::{
     accepted_racks_have_1_to_32_workers,
 };
 use rack_file::{Rack, RackFault, read_rack};
+use rackd_words::Service;
 use std::alloc::Global;
 use std::fs::{File, Files};
 use std::io::Write;
@@ -48,17 +49,6 @@ const WAITING: usize = 64;
 
 /// What is written once every port is listened at.
 const READY: &[u8] = b"ready\n";
-
-/// How a rack is served.
-#[derive(Clone, Copy, Debug, PartialEq, Eq)]
-pub struct Service<'a> {
-    /// How many connections each port accepts, 1 to 1,000,000; None where there's no end of them.
-    pub sessions: Option<u32>,
-    /// The folder that gets the audit text of each line while it is served.
-    pub audit: Option<&'a str>,
-    /// How much is told on standard error.
-    pub telling: Telling,
-}
 
 /// How many sessions were served.
 #[derive(Clone, Copy)]
@@ -186,7 +176,7 @@ pub(crate) fn serve_lines<
         Ok(recorders) => recorders,
         Err(fault) => return Err(fault),
     };
-    let notes = Notes::new(rt, service.telling, lines, seats.len() as u32);
+    let notes = Notes::new(rt, service.telling, numbers_of(lines), seats.len() as u32);
     let attended = attend_recorded(
         rt,
         alloc,
@@ -207,6 +197,15 @@ pub(crate) fn serve_lines<
         },
         Err(fault) => Err(Fault::Run(fault)),
     }
+}
+
+/// The numbers of lines.
+fn numbers_of(lines: &[ServedLine]) -> LineNumbers {
+    let mut numbers = LineNumbers::new();
+    for line in lines {
+        let _ = numbers.try_push(line.spec.number);
+    }
+    numbers
 }
 
 /// What came of lines while they were served.

@@ -1,7 +1,7 @@
 //! Lines that come from two sides, handed on by a thread for each.
 
-use crate::cause::Cause;
 use crossbeam_channel::{Receiver, Sender};
+use dp_cause::Cause;
 use std::alloc::Global;
 use std::io::{BufRead, BufReader, ErrorKind, Read};
 use std::sync::Wait;
@@ -10,7 +10,7 @@ use std::sync::Wait;
 pub(crate) const LF: u8 = b'\n';
 
 /// Where something comes from.
-#[derive(Clone, Copy, Debug, PartialEq, Eq)]
+#[derive(Clone, Copy, PartialEq, Eq)]
 pub(crate) enum Side {
     /// Standard input.
     Input,
@@ -19,7 +19,7 @@ pub(crate) enum Side {
 }
 
 /// What comes.
-#[derive(Debug, Drop)]
+#[derive(Drop)]
 pub(crate) enum Taken {
     /// A line with its LF; the last one of the input may lack it.
     Line(Vec<u8>),
@@ -32,7 +32,7 @@ pub(crate) enum Taken {
 }
 
 /// What comes from one side.
-#[derive(Debug, Drop)]
+#[derive(Drop)]
 pub(crate) struct Incoming {
     /// The side.
     pub(crate) side: Side,

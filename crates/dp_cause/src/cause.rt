@@ -1,18 +1,20 @@
 //! Why a file or a port can't be had.
 
-ghost use Rattle.std.specs.Prelude.{Some};
-ghost use Rattle.rackd.specs.Causes.{cause_text};
+ghost use Rattle.std.specs.Prelude.{◌≡◌, Some};
+ghost use Rattle.std.specs.IoError.{error_kind, raw_os_error};
+ghost use Rattle.dp_cause.specs.CauseTexts.{cause_text};
+ghost use Rattle.dp_cause.specs.SystemErrors.{cause_of_error, cause_of_number};
 
 use std::fmt;
 use std::io::{self, ErrorKind};
 
 /// Too many descriptors of the program, and of the system.
-const TOO_MANY_FILES: i32 = 24;
+const TOO_MANY_FILES: u32 = 24;
 
-const TOO_MANY_FILES_IN_ALL: i32 = 23;
+const TOO_MANY_FILES_IN_ALL: u32 = 23;
 
 /// Why a file or a port can't be had. Its `Display` is the second row on standard error, without its LF.
-#[derive(Clone, Copy, Debug, PartialEq, Eq)]
+#[derive(Clone, Copy)]
 pub enum Cause {
     /// Nothing has this path.
     NotThere,
@@ -22,6 +24,8 @@ pub enum Cause {
     IsFolder,
     /// What stands before a `/` of the path is no folder.
     NoFolder,
+    /// Something that isn't a folder has the path of one.
+    IsThere,
     /// It isn't UTF-8.
     NotText,
     /// Another program has the port.
@@ -46,31 +50,38 @@ pub enum Cause {
 
 impl Cause {
     /// What an error of the system says.
-    pub(crate) fn of(error: &io::Error) -> Cause {
+    pub fn of(error: &io::Error) -> Cause
+        ensures { result ≡ cause_of_error (error_kind error.now) (raw_os_error error.now) }
+    {
         match error.kind() {
             ErrorKind::NotFound => Cause::NotThere,
             ErrorKind::PermissionDenied => Cause::NoPermission,
             ErrorKind::IsADirectory => Cause::IsFolder,
             ErrorKind::NotADirectory => Cause::NoFolder,
+            ErrorKind::AlreadyExists => Cause::IsThere,
             ErrorKind::InvalidData => Cause::NotText,
             ErrorKind::AddrInUse => Cause::InUse,
             ErrorKind::StorageFull => Cause::NoSpace,
             ErrorKind::ReadOnlyFilesystem => Cause::ReadOnly,
             ErrorKind::ConnectionRefused => Cause::NobodyListens,
-            _ => Cause::of_code(error.raw_os_error()),
+            _ => Cause::of_number(error.raw_os_error()),
         }
     }
 
     /// What a number of the system says.
-    fn of_code(code: Option<i32>) -> Cause {
-        match code {
-            Some(TOO_MANY_FILES | TOO_MANY_FILES_IN_ALL) => Cause::FewDescriptors,
-            Some(code) => match u32::try_from(code) {
-                Ok(code) => Cause::Code(code),
-                Err(_) => Cause::Unknown,
-            },
-            None => Cause::Unknown,
+    fn of_number(number: Option<i32>) -> Cause
+        ensures { result ≡ cause_of_number number }
+    {
+        let Some(number) = number else {
+            return Cause::Unknown;
+        };
+        let Ok(number) = u32::try_from(number) else {
+            return Cause::Unknown;
+        };
+        if number == TOO_MANY_FILES || number == TOO_MANY_FILES_IN_ALL {
+            return Cause::FewDescriptors;
         }
+        Cause::Code(number)
     }
 }
 
@@ -83,6 +94,7 @@ impl fmt::Display for Cause {
             Cause::NoPermission => f.write_str("  no permission"),
             Cause::IsFolder => f.write_str("  a folder"),
             Cause::NoFolder => f.write_str("  a part of the path is no folder"),
+            Cause::IsThere => f.write_str("  something else is there"),
             Cause::NotText => f.write_str("  not UTF-8"),
             Cause::InUse => f.write_str("  in use"),
             Cause::TwiceInRack => f.write_str("  twice in this rack"),

@@ -1,6 +1,5 @@
 //! What is told on standard error while a rack is served.
 
-use crate::served_line::ServedLine;
 use crate::time_of_day::TimeOfDay;
 use arrayvec::ArrayVec;
 use dp_audit::Receipt;
@@ -9,6 +8,7 @@ use dp_sessions::{Gate, SessionEnd};
 use dp_telegram::FrameFault;
 use dp_text::Text;
 use log::{Log, info, warn};
+use rackd_words::Telling;
 use std::fmt::Display;
 use std::io::Error;
 use std::sync::atomic::AtomicU32;
@@ -19,19 +19,11 @@ use std::time::Clock;
 /// The most lines of a rack.
 const MOST_LINES: usize = 8;
 
+/// The numbers of lines, in the order of their ports.
+pub type LineNumbers = ArrayVec<u8, MOST_LINES>;
+
 /// The most sessions of masters at one time: one for each worker.
 const MOST_SESSIONS: usize = 32;
-
-/// How much is told.
-#[derive(Clone, Copy, Debug, PartialEq, Eq)]
-pub enum Telling {
-    /// That a line is halted.
-    Little,
-    /// Connections and sessions too.
-    Sessions,
-    /// Each request and its answer too.
-    Requests,
-}
 
 /// What a session under way has asked for.
 #[derive(Clone, Copy, Default)]
@@ -53,10 +45,10 @@ struct Noted {
 
 /// What is told of the lines of a rack, a row on standard error for each thing, with the time of day (UTC).
 #[derive(Drop)]
-pub(crate) struct Notes<'a, L> {
+pub struct Notes<'a, L> {
     log: &'a L,
     telling: Telling,
-    lines: &'a [ServedLine],
+    lines: LineNumbers,
     workers: u32,
     attended: AtomicU32,
     noted: Mutex<Noted>,
@@ -64,12 +56,7 @@ pub(crate) struct Notes<'a, L> {
 
 impl<'a, L: Log + Clock> Notes<'a, L> {
     /// Nothing was told yet of these lines, which so many workers serve.
-    pub(crate) fn new(
-        log: &'a L,
-        telling: Telling,
-        lines: &'a [ServedLine],
-        workers: u32,
-    ) -> Notes<'a, L> {
+    pub fn new(log: &'a L, telling: Telling, lines: LineNumbers, workers: u32) -> Notes<'a, L> {
         Notes {
             log,
             telling,
@@ -84,7 +71,7 @@ impl<'a, L: Log + Clock> Notes<'a, L> {
     }
 
     /// A connection of a master waits for a worker, at a port by its place.
-    pub(crate) fn waits<W: Wait>(&self, rt: &W, port: u8) {
+    pub fn waits<W: Wait>(&self, rt: &W, port: u8) {
         if self.attended.fetch_add(1, SeqCst) >= self.workers {
             let (line, workers) = (self.line_at(port), self.workers);
             self.tell(
@@ -95,18 +82,18 @@ impl<'a, L: Log + Clock> Notes<'a, L> {
     }
 
     /// An operator's session begins.
-    pub(crate) fn operator_connected<W: Wait>(&self, rt: &W, line: u8) {
+    pub fn operator_connected<W: Wait>(&self, rt: &W, line: u8) {
         self.tell(rt, format_args!("line {line}: operator connected"));
     }
 
     /// An operator's session has ended.
-    pub(crate) fn operator_ended<W: Wait>(&self, rt: &W, line: u8, end: SessionEnd) {
+    pub fn operator_ended<W: Wait>(&self, rt: &W, line: u8, end: SessionEnd) {
         let end = end.name();
         self.tell(rt, format_args!("line {line}: operator ended: {end}"));
     }
 
     /// A connection can't be accepted.
-    pub(crate) fn cannot_accept<W: Wait>(&self, rt: &W, line: u8, error: Error) {
+    pub fn cannot_accept<W: Wait>(&self, rt: &W, line: u8, error: Error) {
         self.tell(
             rt,
             format_args!("line {line}: cannot accept a connection: {error}"),
@@ -116,7 +103,7 @@ impl<'a, L: Log + Clock> Notes<'a, L> {
     /// The number of the line whose port has this place.
     fn line_at(&self, port: u8) -> u8 {
         match self.lines.get(usize::from(port)) {
-            Some(line) => line.spec.number,
+            Some(number) => *number,
             None => 0,
         }
     }

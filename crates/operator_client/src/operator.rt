@@ -1,11 +1,10 @@
-//! An operator at hand: lines of standard input go to the operator port of a line, and time and steps by the clock.
+//! An operator at hand.
 
-use crate::cause::Cause;
-use crate::ending::Fault;
+use crate::fault::ClientFault;
 use crate::incoming::{Incoming, LF, Side, Taken, hand_on, without_end};
 use crossbeam_channel::{Receiver, Sender, bounded};
+use dp_cause::Cause;
 use dp_operate::{Due, Schedule, is_answered, is_news};
-use dp_script::RunFault;
 use log::{Log, info, warn};
 use std::alloc::Global;
 use std::io::{BufReader, Read, Write};
@@ -21,19 +20,23 @@ const WAITING: usize = 4;
 /// After how many milliseconds without any answer the operator is told what it waits for.
 const PATIENCE: u64 = 2_000;
 
+/// How many milliseconds behind the end of the port the end of the input counts as before it: that of a file is
+/// read only once its last line is answered.
+const LATE: u64 = 100;
+
 /// What is sent where, and how often.
-#[derive(Clone, Copy, Debug, PartialEq, Eq)]
-pub(crate) struct Operation {
-    /// The operator port of the line.
-    pub(crate) port: u16,
-    /// Milliseconds from tick to tick.
-    pub(crate) tick: Option<u32>,
-    /// Milliseconds from step to step.
-    pub(crate) step: Option<u32>,
+#[derive(Clone, Copy)]
+pub struct Operation {
+    /// The operator port of the line, on this machine.
+    pub port: u16,
+    /// Milliseconds from tick to tick, 10 or more; none is sent without them.
+    pub tick: Option<u32>,
+    /// Milliseconds from step to step, 1 or more; none is sent without them.
+    pub step: Option<u32>,
 }
 
 /// What an answer is awaited to.
-#[derive(Clone, Copy, Debug, PartialEq, Eq)]
+#[derive(Clone, Copy, PartialEq, Eq)]
 enum Asked {
     /// A line of the input.
     Line,
@@ -44,7 +47,7 @@ enum Asked {
 }
 
 /// Where the input stands.
-#[derive(Clone, Copy, Debug, PartialEq, Eq)]
+#[derive(Clone, Copy, PartialEq, Eq)]
 enum Input {
     /// No line of it was asked for.
     Resting,
@@ -60,19 +63,19 @@ enum Input {
 ///
 /// `CannotConnect` where nothing listens at the port; `PortEnded` where the connection ends before the input, or
 /// before a line is answered; `CannotRead` of the input; `WriteFault`; `OutOfMemory` also where a thread is refused.
-pub(crate) fn operate<
-    'a,
+pub fn operate<
     H: Net<Stream = TcpStream> + Threads + Wait + Clock + Log + Copy + Send + 'static,
     R: Read + Send + Drop + 'static,
     W: Write,
->(rt: H, alloc: Global, operation: Operation, input: R, output: &mut W) -> Result<(), Fault<'a>> {
+>(rt: H, alloc: Global, operation: Operation, input: R, output: &mut W) -> Result<(), ClientFault> {
     let Operation { port, tick, step } = operation;
     let (stream, answers) = match connect(&rt, port) {
         Ok(both) => both,
-        Err(cause) => return Err(Fault::CannotConnect(port, cause)),
+        Err(cause) => return Err(ClientFault::CannotConnect(cause)),
     };
-    let Ok((ask, incoming)) = listen(rt, alloc, input, answers) else {
-        return Err(Fault::Run(RunFault::OutOfMemory));
+    let (ask, incoming) = match listen(rt, alloc, input, answers) {
+        Ok(both) => both,
+        Err(fault) => return Err(fault),
     };
     let mut operator = Operator {
         rt,
@@ -98,15 +101,20 @@ fn connect<N: Net<Stream = TcpStream>>(
     net: &N,
     port: u16,
 ) -> Result<(TcpStream, TcpStream), Cause> {
-    let connected = TcpStream::connect(net, (Ipv4Addr::LOCALHOST, port));
-    let stream = connected.map_err(|error| Cause::of(&error))?;
-    stream.set_nodelay(true).map_err(|error| Cause::of(&error))?;
-    let answers = stream.try_clone().map_err(|error| Cause::of(&error))?;
-    Ok((stream, answers))
+    let stream = match TcpStream::connect(net, (Ipv4Addr::LOCALHOST, port)) {
+        Ok(stream) => stream,
+        Err(error) => return Err(Cause::of(&error)),
+    };
+    if let Err(error) = stream.set_nodelay(true) {
+        return Err(Cause::of(&error));
+    }
+    match stream.try_clone() {
+        Ok(answers) => Ok((stream, answers)),
+        Err(error) => Err(Cause::of(&error)),
+    }
 }
 
-/// Starts the threads that read the input, a line each time that one is asked for, and the answers. Memory or a
-/// thread may be refused.
+/// Starts the threads that read the input, a line each time that one is asked for, and the answers.
 fn listen<
     H: Threads + Wait + Copy + Send + 'static,
     R: Read + Send + Drop + 'static,
@@ -116,17 +124,38 @@ fn listen<
     alloc: Global,
     input: R,
     answers: A,
-) -> Result<(Sender<()>, Receiver<Incoming>), RunFault> {
-    let (ask, asked) = bounded(alloc, 1).map_err(|_| RunFault::OutOfMemory)?;
-    let (sender, incoming) = bounded(alloc, WAITING).map_err(|_| RunFault::OutOfMemory)?;
-    let of_input = sender.clone().map_err(|_| RunFault::OutOfMemory)?;
-    let lines = BufReader::new(alloc, input).map_err(|_| RunFault::OutOfMemory)?;
-    let typed = move || hand_on(rt, alloc, Side::Input, lines, Some(asked), of_input);
-    thread::spawn(&rt, typed).map_err(|_| RunFault::OutOfMemory)?;
-    let rows = BufReader::new(alloc, answers).map_err(|_| RunFault::OutOfMemory)?;
-    let answered = move || hand_on(rt, alloc, Side::Port, rows, None, sender);
-    thread::spawn(&rt, answered).map_err(|_| RunFault::OutOfMemory)?;
+) -> Result<(Sender<()>, Receiver<Incoming>), ClientFault> {
+    let Ok((ask, asked)) = bounded(alloc, 1) else {
+        return Err(ClientFault::OutOfMemory);
+    };
+    let Ok((sender, incoming)) = bounded(alloc, WAITING) else {
+        return Err(ClientFault::OutOfMemory);
+    };
+    let Ok(of_input) = sender.clone() else {
+        return Err(ClientFault::OutOfMemory);
+    };
+    read_on(rt, alloc, Side::Input, input, Some(asked), of_input)?;
+    read_on(rt, alloc, Side::Port, answers, None, sender)?;
     Ok((ask, incoming))
+}
+
+/// Starts the thread that reads a side.
+fn read_on<H: Threads + Wait + Copy + Send + 'static, R: Read + Send + Drop + 'static>(
+    rt: H,
+    alloc: Global,
+    side: Side,
+    reader: R,
+    asked: Option<Receiver<()>>,
+    incoming: Sender<Incoming>,
+) -> Result<(), ClientFault> {
+    let Ok(lines) = BufReader::new(alloc, reader) else {
+        return Err(ClientFault::OutOfMemory);
+    };
+    let reading = move || hand_on(rt, alloc, side, lines, asked, incoming);
+    match thread::spawn(&rt, reading) {
+        Ok(_) => Ok(()),
+        Err(_) => Err(ClientFault::OutOfMemory),
+    }
 }
 
 /// An operator under way.
@@ -153,7 +182,7 @@ struct Operator<H: Copy> {
 
 impl<H: Wait + Clock + Log + Copy> Operator<H> {
     /// Sends and takes what comes, until it ends.
-    fn run<'a, W: Write>(&mut self, output: &mut W) -> Result<(), Fault<'a>> {
+    fn run<W: Write>(&mut self, output: &mut W) -> Result<(), ClientFault> {
         let rt = self.rt;
         for _ in rt.forever() {
             if self.go_on(output)? {
@@ -164,7 +193,7 @@ impl<H: Wait + Clock + Log + Copy> Operator<H> {
     }
 
     /// Sends what can be sent, or takes what comes next; whether all is done.
-    fn go_on<'a, W: Write>(&mut self, output: &mut W) -> Result<bool, Fault<'a>> {
+    fn go_on<W: Write>(&mut self, output: &mut W) -> Result<bool, ClientFault> {
         let moment = self.moment();
         if self.awaited.is_none() {
             if let Some(due) = self.schedule.next(moment) {
@@ -196,21 +225,21 @@ impl<H: Wait + Clock + Log + Copy> Operator<H> {
     }
 
     /// Sends what is due by the clock; whether all is done.
-    fn send_due<'a>(&mut self, due: Due) -> Result<bool, Fault<'a>> {
+    fn send_due(&mut self, due: Due) -> Result<bool, ClientFault> {
         self.awaited = match due {
             Due::Tick(_) => Some(Asked::Tick),
             Due::Step => Some(Asked::Step),
         };
         match format!(in self.alloc; "{due}\n") {
             Ok(text) => self.send(text.as_bytes()),
-            Err(_) => Err(Fault::Run(RunFault::OutOfMemory)),
+            Err(_) => Err(ClientFault::OutOfMemory),
         }
     }
 
     /// Sends a line of the input, with an LF; whether all is done.
-    fn send_line<'a>(&mut self, mut line: Vec<u8>) -> Result<bool, Fault<'a>> {
+    fn send_line(&mut self, mut line: Vec<u8>) -> Result<bool, ClientFault> {
         if without_end(&line).len() == line.len() && line.push(LF).is_err() {
-            return Err(Fault::Run(RunFault::OutOfMemory));
+            return Err(ClientFault::OutOfMemory);
         }
         if is_answered(without_end(&line)) {
             self.awaited = Some(Asked::Line);
@@ -219,7 +248,7 @@ impl<H: Wait + Clock + Log + Copy> Operator<H> {
     }
 
     /// Sends octets; whether all is done, since the port has ended.
-    fn send<'a>(&mut self, octets: &[u8]) -> Result<bool, Fault<'a>> {
+    fn send(&mut self, octets: &[u8]) -> Result<bool, ClientFault> {
         match self.stream.write_all(octets) {
             Ok(()) => Ok(false),
             Err(_) => self.end_of_port(),
@@ -253,11 +282,7 @@ impl<H: Wait + Clock + Log + Copy> Operator<H> {
     }
 
     /// Takes what came; whether all is done.
-    fn take<'a, W: Write>(
-        &mut self,
-        incoming: Incoming,
-        output: &mut W,
-    ) -> Result<bool, Fault<'a>> {
+    fn take<W: Write>(&mut self, incoming: Incoming, output: &mut W) -> Result<bool, ClientFault> {
         let Incoming { side, taken } = incoming;
         match (side, taken) {
             (Side::Input, Taken::Line(line)) => {
@@ -269,15 +294,15 @@ impl<H: Wait + Clock + Log + Copy> Operator<H> {
                 self.input = Input::Ended;
                 Ok(false)
             }
-            (Side::Input, Taken::Fault(cause)) => Err(Fault::CannotRead("-", cause)),
+            (Side::Input, Taken::Fault(cause)) => Err(ClientFault::CannotRead(cause)),
             (Side::Port, Taken::Line(row)) => self.show(row, output),
             (Side::Port, Taken::End | Taken::Fault(_)) => self.end_of_port(),
-            (_, Taken::OutOfMemory) => Err(Fault::Run(RunFault::OutOfMemory)),
+            (_, Taken::OutOfMemory) => Err(ClientFault::OutOfMemory),
         }
     }
 
     /// Writes an answer, where it tells something; all isn't done.
-    fn show<'a, W: Write>(&mut self, row: Vec<u8>, output: &mut W) -> Result<bool, Fault<'a>> {
+    fn show<W: Write>(&mut self, row: Vec<u8>, output: &mut W) -> Result<bool, ClientFault> {
         self.is_served = true;
         let asked = self.awaited.take();
         let is_shown = match asked {
@@ -286,7 +311,7 @@ impl<H: Wait + Clock + Log + Copy> Operator<H> {
             Some(Asked::Step) => is_news(without_end(&row), without_end(&self.stepped)),
         };
         if is_shown && (output.write_all(&row).is_err() || output.flush().is_err()) {
-            return Err(Fault::Run(RunFault::WriteFault));
+            return Err(ClientFault::WriteFault);
         }
         match asked {
             Some(Asked::Tick) => self.ticked = row,
@@ -296,12 +321,41 @@ impl<H: Wait + Clock + Log + Copy> Operator<H> {
         Ok(false)
     }
 
-    /// The port has ended: all is done where the input has ended and each line of it is answered.
-    fn end_of_port<'a>(&self) -> Result<bool, Fault<'a>> {
-        if self.input != Input::Ended || self.line.is_some() || self.awaited == Some(Asked::Line) {
-            return Err(Fault::PortEnded(self.port));
+    /// The port has ended: all is done where each line of the input is answered and the input has ended too.
+    fn end_of_port(&mut self) -> Result<bool, ClientFault> {
+        if self.line.is_some() || self.awaited == Some(Asked::Line) || !self.input_has_ended() {
+            return Err(ClientFault::PortEnded);
         }
         info!(&self.rt; "port {} has ended", self.port);
         Ok(true)
+    }
+
+    /// The input has ended, or does now.
+    fn input_has_ended(&mut self) -> bool {
+        self.ask_for_line();
+        if self.input == Input::Ended {
+            return true;
+        }
+        for _ in 0..=WAITING {
+            match self
+                .incoming
+                .recv_timeout(&self.rt, Duration::from_millis(LATE))
+            {
+                Ok(
+                    Incoming {
+                        side: Side::Port,
+                        ..
+                    },
+                ) => {}
+                Ok(
+                    Incoming {
+                        side: Side::Input,
+                        taken: Taken::End,
+                    },
+                ) => return true,
+                _ => return false,
+            }
+        }
+        false
     }
 }

@@ -1,0 +1,2 @@
+pub mod CauseTexts
+pub mod SystemErrors

@@ -1,0 +1,175 @@
+//! What the words of the command line ask for.
+
+use crate::commands::{
+    AUDIT, FOLDER, FROM, LOG, MASTER, PORT, RACK, REFUSED, SCRIPT, SESSIONS, SLAVE, STEP, SUMMARY,
+    TICK, TO, explaining, known, operating, serving,
+};
+use crate::invocation::{Entries, Invocation, Service, Telling, WordsFault};
+use clap::ArgMatches;
+use clap::error::ErrorKind as Refused;
+use std::alloc::Global;
+use std::env::{self, Env};
+use std::io::ErrorKind;
+
+/// The words that are numbers, and how messages name them.
+const NUMBERS: [(&str, &str); 8] = [
+    (FROM, "--from <from>"),
+    (TO, "--to <to>"),
+    (SLAVE, "--slave <slave>"),
+    (MASTER, "--master <master>"),
+    (SESSIONS, "--sessions <sessions>"),
+    (PORT, "<PORT>"),
+    (TICK, "--tick <MS>"),
+    (STEP, "--step <MS>"),
+];
+
+/// A number that isn't written plainly.
+struct OddNumber<'a> {
+    /// The word that it stands behind.
+    command: &'a str,
+    /// How messages name what it is.
+    shown: &'a str,
+    /// The number.
+    number: &'a str,
+}
+
+/// The words, the program's own name among them.
+pub fn words_of(rt: &(impl Env + AllocGlobal)) -> Result<Vec<String>, WordsFault> {
+    let words = match env::args(rt) {
+        Ok(words) => words,
+        Err(error) => match error.kind() {
+            ErrorKind::OutOfMemory => return Err(WordsFault::OutOfMemory),
+            _ => return Err(WordsFault::NotText),
+        },
+    };
+    match words.collect(rt.alloc()) {
+        Ok(words) => Ok(words),
+        Err(_) => Err(WordsFault::OutOfMemory),
+    }
+}
+
+/// What the words ask for, the program's own name in front. `OutOfMemory` where memory is refused.
+pub fn read_words<'a>(alloc: Global, words: &'a [String]) -> Result<Invocation<'a>, WordsFault> {
+    let Ok(command) = known(alloc) else {
+        return Err(WordsFault::OutOfMemory);
+    };
+    match command.try_get_matches_from(words) {
+        Ok(matches) => match odd_number(&matches) {
+            Some(odd) => refuse_number(alloc, odd),
+            None => Ok(invocation_of(&matches)),
+        },
+        Err(error) => Ok(Invocation::Answer(error)),
+    }
+}
+
+/// A number with a sign or a leading zero, which `clap` lets pass, and how messages name what it is.
+fn odd_number<'a>(matches: &ArgMatches<'a>) -> Option<OddNumber<'a>> {
+    let (command, words) = matches.subcommand()?;
+    for (name, shown) in NUMBERS {
+        if let Some(number) = words.get_str(name)
+            && !is_plain(number)
+        {
+            return Some(OddNumber {
+                command,
+                shown,
+                number,
+            });
+        }
+    }
+    None
+}
+
+/// A number has no sign and no leading zero but that of 0 itself.
+fn is_plain(number: &str) -> bool {
+    number == "0" || !number.starts_with('+') && !number.starts_with('0')
+}
+
+/// The answer to such a number.
+fn refuse_number<'a>(alloc: Global, odd: OddNumber<'_>) -> Result<Invocation<'a>, WordsFault> {
+    let OddNumber {
+        command,
+        shown,
+        number,
+    } = odd;
+    let Ok(message) = format!(in alloc;
+        "invalid value '{number}' for '{shown}': a number has no sign and no leading zero"
+    ) else {
+        return Err(WordsFault::OutOfMemory);
+    };
+    let command = match command {
+        "operate" => operating(alloc),
+        "explain" => explaining(alloc),
+        _ => serving(alloc),
+    };
+    match command {
+        Ok(mut command) => match command.error(Refused::ValueValidation, message.as_str()) {
+            Ok(error) => Ok(Invocation::Answer(error)),
+            Err(_) => Err(WordsFault::OutOfMemory),
+        },
+        Err(_) => Err(WordsFault::OutOfMemory),
+    }
+}
+
+/// What words that are accepted ask for.
+fn invocation_of<'a>(matches: &ArgMatches<'a>) -> Invocation<'a> {
+    match matches.subcommand() {
+        Some(("run", files)) => Invocation::Run {
+            rack: path_in(files, RACK),
+            script: path_in(files, SCRIPT),
+        },
+        Some(("check", files)) => Invocation::Check {
+            rack: path_in(files, RACK),
+            audit: path_in(files, AUDIT),
+        },
+        Some(("explain", words)) => Invocation::Explain {
+            rack: path_in(words, RACK),
+            audit: path_in(words, AUDIT),
+            entries: entries_of(words),
+        },
+        Some(("operate", words)) => Invocation::Operate {
+            port: words.get_one(PORT).unwrap_or(0),
+            tick: words.get_one(TICK),
+            step: words.get_one(STEP),
+        },
+        Some((_, words)) => Invocation::Serve {
+            rack: path_in(words, RACK),
+            service: service_of(words),
+        },
+        None => Invocation::Input,
+    }
+}
+
+/// Which entries are explained, by the options of `explain`.
+fn entries_of(words: &ArgMatches<'_>) -> Entries {
+    Entries {
+        from: words.get_one(FROM),
+        to: words.get_one(TO),
+        slave: words.get_one(SLAVE),
+        master: words.get_one(MASTER),
+        are_refused: words.get_flag(REFUSED),
+        only_summary: words.get_flag(SUMMARY),
+    }
+}
+
+/// How a rack is served, by the options of `serve`.
+fn service_of<'a>(words: &ArgMatches<'a>) -> Service<'a> {
+    Service {
+        sessions: words.get_one(SESSIONS),
+        audit: words.get_str(FOLDER),
+        telling: telling_of(words.get_str(LOG)),
+    }
+}
+
+/// How much is told, by what stands behind `--log`; little without it.
+fn telling_of(told: Option<&str>) -> Telling {
+    match told {
+        None => Telling::Little,
+        Some("requests") => Telling::Requests,
+        Some(_) => Telling::Sessions,
+    }
+}
+
+/// The path of this name, which `clap` has made sure of.
+fn path_in<'a>(files: &ArgMatches<'a>, name: &str) -> &'a str {
+    files.get_str(name).unwrap_or("")
+}
