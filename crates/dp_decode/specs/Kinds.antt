@@ -1,0 +1,80 @@
+-- What octets are: the frame, what it asks for, and of which point (IEC 61158-4-3, frame formats and function code).
+use Rattle.std.specs.Prelude.{codes, ℕ, ◌%◌, ◌==◌, Bool, true, false, if◌then◌else◌, List, [], ◌++◌, Option, Some, None, Result, Ok, Err}
+use Rattle.std.specs.Fmt.{decimal}
+use Rattle.dp_telegram.specs.declared.access.Parts.{Parts}
+use Rattle.dp_telegram.specs.declared.fault.FrameFault.{FrameFault}
+use Rattle.dp_telegram.specs.declared.frame.Frame.{Frame}
+use Rattle.dp_telegram.specs.declared.frame.Frame.TheVariants as frames
+use Rattle.dp_telegram.specs.declared.frame.Telegram.{Telegram}
+use Rattle.dp_telegram.specs.declared.function_code.Function.{Function}
+use Rattle.dp_telegram.specs.declared.function_code.Function.TheVariants.{SdaLow, SdnLow, SdaHigh, SdnHigh, FdlStatus, SrdLow, SrdHigh, Ident, LsapStatus, Reserved}
+use Rattle.dp_telegram.specs.Access.{address_of, parts_of}
+use Rattle.dp_telegram.specs.FrameText.{reading_of, delimiter, sd1, sd2}
+use Rattle.dp_telegram.specs.FunctionCode.{is_request, function_of, frame_count_bit, frame_count_is_valid}
+use Rattle.dp_telegram.specs.Names.{frame_fault_name}
+use Rattle.dp_decode.specs.Points.{point_text, source_text}
+
+-- the functions by their names; the others are treated as reserved (own)
+abbrev pub function_name : Function → Option (List ℕ)
+function_name SdaLow = Some (codes "SDA low")
+function_name SdnLow = Some (codes "SDN low")
+function_name SdaHigh = Some (codes "SDA high")
+function_name SdnHigh = Some (codes "SDN high")
+function_name FdlStatus = Some (codes "FDL status")
+function_name SrdLow = Some (codes "SRD low")
+function_name SrdHigh = Some (codes "SRD high")
+function_name Ident = Some (codes "ident")
+function_name LsapStatus = Some (codes "LSAP status")
+function_name Reserved = None
+
+-- a function by its name, or by its number: bits 3 to 0 of FC
+abbrev pub function_text : Option (List ℕ) → ℕ → List ℕ
+function_text (Some name) fc = name
+function_text None fc = codes "reserved function " ++ decimal (fc % 16)
+
+-- SRD, SDN and SDA are of a point, and have a frame count bit
+abbrev pub is_of_point : Function → Bool
+is_of_point FdlStatus = false
+is_of_point Ident = false
+is_of_point LsapStatus = false
+is_of_point Reserved = false
+is_of_point other = true
+
+abbrev pub bit_text : Bool → List ℕ
+bit_text false = codes "0"
+bit_text true = codes "1"
+
+abbrev pub count_text : ℕ → List ℕ
+count_text fc = codes " FCB " ++ bit_text (frame_count_bit fc) ++ codes " FCV " ++ bit_text (frame_count_is_valid fc)
+
+-- the function of a request, and FCB and FCV where it has them
+unfoldable pub asked_text : ℕ → List ℕ
+asked_text fc = function_text (function_name (function_of fc)) fc ++ (if is_of_point (function_of fc) then count_text fc else [])
+
+-- the service of a request of a point, and the sender's point; extension octets that are announced have to be there
+abbrev pub service_text : Bool → Option Parts → List ℕ
+service_text of_point None = codes "  extension missing or not plain"
+service_text of_point (Some parts) = if of_point then codes "  " ++ point_text parts.dsap ++ source_text parts.ssap else []
+
+unfoldable pub telegram_text : Telegram → List ℕ
+telegram_text telegram =
+    if is_request telegram.fc then asked_text telegram.fc ++ service_text (is_of_point (function_of telegram.fc)) (parts_of telegram)
+    else codes "response"
+
+-- the format of a telegram, by its start delimiter
+abbrev pub format_text : ℕ → List ℕ
+format_text start = if start == sd1 then codes "SD1" else if start == sd2 then codes "SD2" else codes "SD3"
+
+-- a frame, of a telegram with this start delimiter
+abbrev pub frame_text : ℕ → Frame → List ℕ
+frame_text start (frames.Token da sa) = codes "SD4 token to " ++ decimal (address_of da) ++ codes " from " ++ decimal (address_of sa)
+frame_text start frames.Ack = codes "SC short acknowledgement"
+frame_text start (frames.Telegram telegram) = format_text start ++ codes " " ++ telegram_text telegram
+
+abbrev pub reading_text : ℕ → Result Frame FrameFault → List ℕ
+reading_text start (Ok frame) = frame_text start frame
+reading_text start (Err fault) = codes "no telegram: " ++ frame_fault_name fault
+
+-- what octets are
+unfoldable pub kind_text : List ℕ → List ℕ
+kind_text octets = reading_text (delimiter octets) (reading_of octets)

@@ -1,0 +1,14 @@
+pub mod Words
+pub mod Points
+pub mod Kinds
+pub mod Addressed
+pub mod Parameters
+pub mod Configurations
+pub mod Commands
+pub mod Diagnoses
+pub mod Contents
+pub mod Replies
+pub mod PrivateWords
+pub mod KindExamples
+pub mod ContentsExamples
+pub mod ReplyExamples

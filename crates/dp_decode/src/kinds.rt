@@ -1,0 +1,246 @@
+//! What octets are.
+
+ghost use Rattle.std.specs.Prelude.{◌≡◌, Some, option_map};
+ghost use Rattle.dp_telegram.specs.FrameText.{delimiter};
+ghost use Rattle.dp_telegram.specs.FunctionCode.{function_of};
+ghost use Rattle.dp_decode.specs.Kinds.{asked_text, bit_text, count_text, format_text, frame_text, function_name, function_text, is_of_point as is_of_point_by, service_text, telegram_text};
+
+use crate::points::{Point, Source};
+use dp_telegram::{Frame, Function, Parts, Telegram, decode, function_code};
+use std::fmt;
+use std::marker::Model;
+
+/// The bits of an address octet that are the address.
+const ADDRESS_BITS: u8 = 0x7F;
+
+/// Start delimiters (IEC 61158-4-3, frame formats).
+const SD1: u8 = 0x10;
+
+const SD2: u8 = 0x68;
+
+/// What octets are: the frame, what it asks for, and of which point (IEC 61158-4-3, frame formats and function code).
+///
+/// Contracts see the text that its `Display` writes: `SD2 SRD low FCB 1 FCV 0  Slave_Diag (60) from 62`,
+/// `SD1 FDL status`, `SD4 token to 3 from 2`, `SC short acknowledgement` or `no telegram: BadEnd`.
+#[derive(Drop)]
+pub struct Kind<'a> {
+    octets: &'a [u8],
+}
+
+impl<'a> Model for Kind<'a> {
+    ghost use Rattle.std.specs.Prelude.{ℕ, List};
+    ghost use Rattle.dp_decode.specs.Kinds.{kind_text};
+
+    ghost Value = { List ℕ };
+
+    ghost view = { λ kind. kind_text kind.octets.now };
+}
+
+impl<'a> Kind<'a> {
+    ghost use Rattle.dp_decode.specs.Kinds.{kind_text};
+
+    /// That of any octets.
+    pub fn of(octets: &'a [u8]) -> Kind<'a>
+        ensures { result ≡ kind_text octets.now }
+    {
+        Kind { octets }
+    }
+}
+
+impl<'a> fmt::Display for Kind<'a> {
+    ghost output = { λ text. Some text };
+
+    #[tactic(auto, unfolding(crate::specs::Kinds::kind_text))]
+    fn fmt<W: fmt::Write>(&self, f: &mut fmt::Formatter<W>) -> fmt::Result {
+        match decode(self.octets) {
+            Ok(frame) => {
+                let frame = Framed {
+                    octets: self.octets,
+                    frame: &frame,
+                };
+                write!(f, "{frame}")
+            }
+            Err(fault) => {
+                let fault = fault.name();
+                write!(f, "no telegram: {fault}")
+            }
+        }
+    }
+}
+
+/// A frame, and the octets that it is read from.
+#[derive(Drop)]
+struct Framed<'a> {
+    octets: &'a [u8],
+    frame: &'a Frame,
+}
+
+impl<'a> fmt::Display for Framed<'a> {
+    ghost output = { λ framed. Some (frame_text (delimiter framed.octets.now) framed.frame.now) };
+
+    fn fmt<W: fmt::Write>(&self, f: &mut fmt::Formatter<W>) -> fmt::Result {
+        match self.frame {
+            Frame::Token { da, sa } => {
+                let to = *da & ADDRESS_BITS;
+                let from = *sa & ADDRESS_BITS;
+                write!(f, "SD4 token to {to} from {from}")
+            }
+            Frame::Ack => f.write_str("SC short acknowledgement"),
+            Frame::Telegram(telegram) => {
+                let format = format(self.octets);
+                let said = Said(telegram);
+                write!(f, "{format} {said}")
+            }
+        }
+    }
+}
+
+/// The format of a telegram, by its start delimiter.
+fn format(octets: &[u8]) -> &'static str
+    ensures { result.now ≡ format_text (delimiter octets.now) }
+{
+    match octets {
+        [SD1, ..] => "SD1",
+        [SD2, ..] => "SD2",
+        _ => "SD3",
+    }
+}
+
+/// What a telegram says without its data.
+#[derive(Drop)]
+struct Said<'a>(&'a Telegram);
+
+impl<'a> fmt::Display for Said<'a> {
+    ghost output = { λ said. Some (telegram_text said.0.now) };
+
+    #[tactic(auto, unfolding(crate::specs::Kinds::telegram_text))]
+    fn fmt<W: fmt::Write>(&self, f: &mut fmt::Formatter<W>) -> fmt::Result {
+        let telegram = self.0;
+        if !telegram.is_request() {
+            return f.write_str("response");
+        }
+        let asked = Asked(telegram.fc);
+        let service = Service {
+            of_point: is_of_point(telegram.function()),
+            parts: &telegram.parts(),
+        };
+        write!(f, "{asked}{service}")
+    }
+}
+
+/// The point of a request, where it is of one, and that of its sender.
+#[derive(Drop)]
+struct Service<'a> {
+    of_point: bool,
+    parts: &'a Option<Parts>,
+}
+
+impl<'a> fmt::Display for Service<'a> {
+    ghost output = { λ service. Some (service_text service.of_point service.parts.now) };
+
+    fn fmt<W: fmt::Write>(&self, f: &mut fmt::Formatter<W>) -> fmt::Result {
+        let Some(parts) = self.parts else {
+            return f.write_str("  extension missing or not plain");
+        };
+        if !self.of_point {
+            return Ok(());
+        }
+        let point = Point(parts.dsap);
+        let source = Source(parts.ssap);
+        write!(f, "  {point}{source}")
+    }
+}
+
+/// The function of a request with this FC, and FCB and FCV where it has them.
+#[derive(Clone, Copy)]
+struct Asked(u8);
+
+impl fmt::Display for Asked {
+    ghost output = { λ fc. Some (asked_text fc.0) };
+
+    #[tactic(auto, unfolding(crate::specs::Kinds::asked_text))]
+    fn fmt<W: fmt::Write>(&self, f: &mut fmt::Formatter<W>) -> fmt::Result {
+        let words = Words(self.0);
+        if is_of_point(Function::of(self.0)) {
+            let count = Count(self.0);
+            write!(f, "{words}{count}")
+        } else {
+            write!(f, "{words}")
+        }
+    }
+}
+
+/// SRD, SDN and SDA are of a point, and have a frame count bit.
+pub(crate) fn is_of_point(function: Function) -> bool
+    ensures { result ≡ is_of_point_by function }
+{
+    match function {
+        Function::FdlStatus => false,
+        Function::Ident => false,
+        Function::LsapStatus => false,
+        Function::Reserved => false,
+        Function::SdaLow => true,
+        Function::SdaHigh => true,
+        Function::SdnLow => true,
+        Function::SdnHigh => true,
+        Function::SrdLow => true,
+        Function::SrdHigh => true,
+    }
+}
+
+/// The function of a request with this FC.
+#[derive(Clone, Copy)]
+struct Words(u8);
+
+impl fmt::Display for Words {
+    ghost output = { λ fc. Some (function_text (function_name (function_of fc.0)) fc.0) };
+
+    fn fmt<W: fmt::Write>(&self, f: &mut fmt::Formatter<W>) -> fmt::Result {
+        match name(Function::of(self.0)) {
+            Some(name) => f.write_str(name),
+            None => {
+                let number = self.0 & 0x0F;
+                write!(f, "reserved function {number}")
+            }
+        }
+    }
+}
+
+/// The name of a function that isn't reserved.
+fn name(function: Function) -> Option<&'static str>
+    ensures { option_map (λ name. name.now) result ≡ function_name function }
+{
+    match function {
+        Function::SdaLow => Some("SDA low"),
+        Function::SdnLow => Some("SDN low"),
+        Function::SdaHigh => Some("SDA high"),
+        Function::SdnHigh => Some("SDN high"),
+        Function::FdlStatus => Some("FDL status"),
+        Function::SrdLow => Some("SRD low"),
+        Function::SrdHigh => Some("SRD high"),
+        Function::Ident => Some("ident"),
+        Function::LsapStatus => Some("LSAP status"),
+        Function::Reserved => None,
+    }
+}
+
+/// FCB and FCV of an FC.
+#[derive(Clone, Copy)]
+struct Count(u8);
+
+impl fmt::Display for Count {
+    ghost output = { λ fc. Some (count_text fc.0) };
+
+    fn fmt<W: fmt::Write>(&self, f: &mut fmt::Formatter<W>) -> fmt::Result {
+        let fcb = bit(function_code::fcb(self.0));
+        let fcv = bit(function_code::fcv(self.0));
+        write!(f, " FCB {fcb} FCV {fcv}")
+    }
+}
+
+/// A bit.
+fn bit(is_set: bool) -> &'static str
+    ensures { result.now ≡ bit_text is_set }
+{
+    if is_set { "1" } else { "0" }
+}

@@ -1,0 +1,233 @@
+//! What a reply says.
+
+ghost use Rattle.std.specs.Prelude.{◌≡◌, Some, option_map};
+ghost use Rattle.dp_telegram.specs.Access.{parts_of};
+ghost use Rattle.dp_decode.specs.Replies.{data_front, data_text, earlier_text, frame_parts, frame_reply, is_earlier as is_earlier_by, label_from, parts_in, plain_text, sent_text};
+
+use crate::configurations::Configuration;
+use crate::diagnoses::Diagnosis;
+use crate::points::Point;
+use crate::words::{Hex, HexPair};
+use dp_sap::{GET_CFG, RD_INP, RD_OUTP, SLAVE_DIAG};
+use dp_telegram::function_code::{DH, DL, OK, RR, RS, UE};
+use dp_telegram::{Frame, Parts, Telegram, decode};
+use std::fmt;
+use std::marker::Model;
+
+/// What a reply to a request says, as one row with its label (IEC 61158-4-3, response telegrams).
+///
+/// Contracts see the text that its `Display` writes, as `reply       inputs 01 02`; its label has 12 columns.
+#[derive(Drop)]
+pub struct Reply {
+    is_earlier: bool,
+    telegram: Telegram,
+}
+
+impl Model for Reply {
+    ghost use Rattle.std.specs.Prelude.{ℕ, List};
+    ghost use Rattle.dp_decode.specs.Replies.{reply_row};
+
+    ghost Value = { List ℕ };
+
+    ghost view = { λ reply. reply_row reply.is_earlier reply.telegram };
+}
+
+impl Reply {
+    ghost use Rattle.dp_decode.specs.Replies.{reply_text};
+
+    /// That of any octets that came back to these of a request; None where they are no telegram, as a short
+    /// acknowledgement is none.
+    #[tactic(auto, unfolding(crate::specs::Replies::reply_text))]
+    pub fn of(request: &[u8], reply: &[u8]) -> Option<Reply>
+        ensures { result ≡ reply_text request.now reply.now }
+    {
+        match decode(reply) {
+            Ok(frame) => Reply::of_frame(&parts_of_octets(request), frame),
+            Err(_) => None,
+        }
+    }
+
+    /// That of a frame.
+    fn of_frame(asked: &Option<Parts>, frame: Frame) -> Option<Reply>
+        ensures { result ≡ frame_reply asked.now frame }
+    {
+        match frame {
+            Frame::Token { .. } => None,
+            Frame::Ack => None,
+            Frame::Telegram(telegram) => {
+                let is_earlier = is_from_another(asked, &telegram.parts());
+                Some(Reply {
+                    is_earlier,
+                    telegram,
+                })
+            }
+        }
+    }
+}
+
+/// Access points and data of octets that are a telegram.
+#[tactic(auto, unfolding(crate::specs::Replies::parts_in))]
+fn parts_of_octets(octets: &[u8]) -> Option<Parts>
+    ensures { result ≡ parts_in octets.now }
+{
+    match decode(octets) {
+        Ok(frame) => parts_of_frame(&frame),
+        Err(_) => None,
+    }
+}
+
+/// Access points and data of a frame that is a telegram.
+fn parts_of_frame(frame: &Frame) -> Option<Parts>
+    ensures { result ≡ frame_parts frame.now }
+{
+    match frame {
+        Frame::Token { .. } => None,
+        Frame::Ack => None,
+        Frame::Telegram(telegram) => telegram.parts(),
+    }
+}
+
+/// A reply comes from another point than the one that was asked.
+fn is_from_another(asked: &Option<Parts>, sent: &Option<Parts>) -> bool
+    ensures { result ≡ is_earlier_by asked.now sent.now }
+{
+    match (asked, sent) {
+        (Some(asked), Some(sent)) => asked.dsap != sent.ssap,
+        _ => false,
+    }
+}
+
+impl fmt::Display for Reply {
+    ghost output = { λ text. Some text };
+
+    #[tactic(auto, unfolding(crate::specs::Replies::response_text))]
+    fn fmt<W: fmt::Write>(&self, f: &mut fmt::Formatter<W>) -> fmt::Result {
+        if let Some(said) = plain(self.telegram.fc) {
+            return write!(f, "reply       {said}");
+        }
+        let Some(front) = front(self.telegram.fc) else {
+            let code = HexPair(self.telegram.fc);
+            return write!(f, "reply       FC {code}");
+        };
+        let sent = Sent {
+            is_earlier: self.is_earlier,
+            telegram: &self.telegram,
+        };
+        write!(f, "reply       {front}{sent}")
+    }
+}
+
+/// What a response without data says.
+fn plain(fc: u8) -> Option<&'static str>
+    ensures { option_map (λ said. said.now) result ≡ plain_text fc }
+{
+    match fc {
+        OK => Some("OK"),
+        UE => Some("UE, user error"),
+        RR => Some("RR, no resource"),
+        RS => Some("RS, not activated"),
+        _ => None,
+    }
+}
+
+/// What stands before the data of a response.
+fn front(fc: u8) -> Option<&'static str>
+    ensures { option_map (λ front. front.now) result ≡ data_front fc }
+{
+    match fc {
+        DL => Some(""),
+        DH => Some("a diagnosis is due; "),
+        _ => None,
+    }
+}
+
+/// The data of a response.
+#[derive(Drop)]
+struct Sent<'a> {
+    is_earlier: bool,
+    telegram: &'a Telegram,
+}
+
+impl<'a> fmt::Display for Sent<'a> {
+    ghost output = { λ sent. Some (sent_text sent.is_earlier (parts_of sent.telegram.now)) };
+
+    #[tactic(auto, unfolding(crate::specs::Replies::sent_text))]
+    fn fmt<W: fmt::Write>(&self, f: &mut fmt::Formatter<W>) -> fmt::Result {
+        let Some(parts) = self.telegram.parts() else {
+            return f.write_str("extension missing or not plain");
+        };
+        let earlier = Earlier {
+            is_earlier: self.is_earlier,
+            point: parts.ssap,
+        };
+        let data = Data {
+            point: parts.ssap,
+            octets: &parts.payload,
+        };
+        write!(f, "{earlier}{data}")
+    }
+}
+
+/// The point of an earlier request, where a reply is to that.
+#[derive(Clone, Copy)]
+struct Earlier {
+    is_earlier: bool,
+    point: Option<u8>,
+}
+
+impl fmt::Display for Earlier {
+    ghost output = { λ earlier. Some (earlier_text earlier.is_earlier earlier.point) };
+
+    fn fmt<W: fmt::Write>(&self, f: &mut fmt::Formatter<W>) -> fmt::Result {
+        if self.is_earlier {
+            let point = Point(self.point);
+            write!(f, "to an earlier {point}: ")
+        } else {
+            Ok(())
+        }
+    }
+}
+
+/// What stands before octets that are told as they are.
+fn label(point: Option<u8>) -> &'static str
+    ensures { result.now ≡ label_from point }
+{
+    match point {
+        None => "inputs ",
+        Some(RD_INP) => "inputs ",
+        Some(RD_OUTP) => "outputs ",
+        Some(_) => "data ",
+    }
+}
+
+/// The data that a point sends.
+#[derive(Drop)]
+struct Data<'a> {
+    point: Option<u8>,
+    octets: &'a [u8],
+}
+
+impl<'a> fmt::Display for Data<'a> {
+    ghost output = { λ sent. Some (data_text sent.point sent.octets.now) };
+
+    fn fmt<W: fmt::Write>(&self, f: &mut fmt::Formatter<W>) -> fmt::Result {
+        if let [] = self.octets {
+            return f.write_str("no data");
+        }
+        match self.point {
+            Some(GET_CFG) => {
+                let configuration = Configuration(self.octets);
+                write!(f, "{configuration}")
+            }
+            Some(SLAVE_DIAG) => {
+                let diagnosis = Diagnosis(self.octets);
+                write!(f, "{diagnosis}")
+            }
+            point => {
+                let label = label(point);
+                let octets = Hex(self.octets);
+                write!(f, "{label}{octets}")
+            }
+        }
+    }
+}
