@@ -14,8 +14,6 @@ mod kinds;
 mod parameters;
 mod points;
 mod replies;
-#[cfg(test)]
-mod tests;
 mod words;
 
 pub use addressing::Addressed;

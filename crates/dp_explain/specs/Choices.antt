@@ -1,0 +1,71 @@
+-- Which entries are told (own).
+use Rattle.std.specs.Prelude.{ℕ, ◌==◌, ◌&&◌, ◌||◌, not, nat_le, Bool, true, false, Option, Some, None}
+use Rattle.std.specs.List.{list_any}
+use Rattle.dp_responder.specs.declared.rule.Rule.{Rule}
+use Rattle.dp_responder.specs.declared.rule.Rule.TheVariants as rules
+use Rattle.dp_line.specs.declared.event.Event.{Event}
+use Rattle.dp_line.specs.declared.event.Outcome.{Outcome}
+use Rattle.dp_line.specs.declared.event.Outcome.TheVariants.{Reply, Silence, Spread, Released}
+use Rattle.dp_explain.specs.declared.choice.Choice.{Choice}
+use Rattle.dp_explain.specs.declared.who.Whom.{Whom}
+use Rattle.dp_explain.specs.declared.who.Whom.TheVariants.{Slave}
+use Rattle.dp_explain.specs.declared.who.Who.{Who}
+use Rattle.dp_explain.specs.declared.who.Who.TheVariants as senders
+use Rattle.dp_explain.specs.Heads.{who_of}
+
+-- a place is not before the first that is asked for, and not behind the last
+abbrev pub is_from : Option ℕ → ℕ → Bool
+is_from None place = true
+is_from (Some first) place = nat_le first place
+
+abbrev pub is_to : Option ℕ → ℕ → Bool
+is_to None place = true
+is_to (Some last) place = nat_le place last
+
+-- an event goes to this slave alone
+abbrev pub goes_to : ℕ → Who → Bool
+goes_to address (senders.Master master (Slave other)) = other == address
+goes_to address (senders.Operator (Some other)) = other == address
+goes_to address who = false
+
+-- an entry is about a slave: its event goes to it, or the slave is let go or told of by it
+abbrev pub is_about : ℕ → Who → Outcome → Bool
+is_about address who (Spread pairs) = list_any (λ pair. pair.0 == address) pairs.items
+is_about address who (Released addresses) = list_any (λ other. other == address) addresses.items
+is_about address who outcome = goes_to address who
+
+abbrev pub is_of_slave : Option ℕ → Who → Outcome → Bool
+is_of_slave None who outcome = true
+is_of_slave (Some address) who outcome = is_about address who outcome
+
+-- a master sent it
+abbrev pub comes_from : ℕ → Who → Bool
+comes_from master (senders.Master sender whom) = sender == master
+comes_from master (senders.Operator address) = false
+
+abbrev pub is_of_master : Option ℕ → Who → Bool
+is_of_master None who = true
+is_of_master (Some master) who = comes_from master who
+
+-- by each rule but these nothing is done
+abbrev pub is_refusal : Rule → Bool
+is_refusal rules.Status = false
+is_refusal rules.Repeat = false
+is_refusal rules.Done = false
+is_refusal other = true
+
+abbrev pub refuses : Outcome → Bool
+refuses (Reply reply rule) = is_refusal rule
+refuses (Silence rule) = is_refusal rule
+refuses (Spread pairs) = list_any (λ pair. is_refusal pair.1) pairs.items
+refuses outcome = false
+
+-- an entry that all parts of the choice let through
+abbrev pub is_chosen : Choice → ℕ → Event → Outcome → Bool
+is_chosen choice place event outcome =
+    is_from choice.from place
+    && is_to choice.to place
+    && is_of_slave choice.slave (who_of event) outcome
+    && is_of_master choice.master (who_of event)
+    && (not choice.refused || refuses outcome)
+    && not choice.summary

@@ -1,0 +1,135 @@
+-- An audit text, explained (own).
+use Rattle.std.specs.Prelude.{codes, ◌≡◌, ℕ, ◌+◌, ◌-◌, if◌then◌else◌, List, [], ◌∷◌, ◌++◌, take, drop, map, Option, Some, None, option_map, option_and_then, Result, Ok, Err}
+use Rattle.std.specs.Io.KnownBytes.{Appends}
+use Rattle.std.specs.Fmt.{decimal}
+use Rattle.std.specs.List.{flat_map}
+use Rattle.dp_line.specs.declared.event.Event.{Event}
+use Rattle.dp_line.specs.declared.event.Outcome.{Outcome}
+use Rattle.dp_line.specs.World.{Description, World, start_of}
+use Rattle.dp_line.specs.Steps.{step}
+use Rattle.dp_text.specs.Words.{lines_of}
+use Rattle.dp_text.specs.Writes.{WritesPrefix}
+use Rattle.dp_audit.specs.declared.fault.AuditFault.{AuditFault}
+use Rattle.dp_audit.specs.declared.fault.AuditFault.TheVariants as faults
+use Rattle.dp_audit.specs.Check.{checked, parted, placed_of}
+use Rattle.dp_explain.specs.declared.choice.Choice.{Choice}
+use Rattle.dp_explain.specs.declared.part.Part.{Part}
+use Rattle.dp_explain.specs.declared.part.Part.TheVariants as parts
+use Rattle.dp_explain.specs.declared.explain_fault.ExplainFault.{ExplainFault}
+use Rattle.dp_explain.specs.declared.explain_fault.ExplainFault.TheVariants as ends
+use Rattle.dp_explain.specs.Notes.{first_notes}
+use Rattle.dp_explain.specs.Tallies.{first_tally, tally_text}
+use Rattle.dp_explain.specs.Holds.{hold_ended, hold_lasts}
+use Rattle.dp_explain.specs.Results.{shown_at}
+use Rattle.dp_explain.specs.Scenes.{SceneView}
+use Rattle.dp_explain.specs.Choices.{is_chosen}
+use Rattle.dp_explain.specs.Blocks.{block_text, outcome_told, scene_after}
+
+-- ---- the entries
+
+-- the event of a row, which stands behind the place and before the first bar
+abbrev pub event_of_row : List ℕ → Option Event
+event_of_row row = option_and_then (λ parts. option_map (λ placed. placed.event) (placed_of parts.0)) (parted row)
+
+-- what is told of an event in one pass over the text, by what came of it: its rows, where it is chosen; or the hold of a slave that it ended
+abbrev pub moment_text : Part → SceneView → World → ℕ → Event → Outcome → List ℕ
+moment_text (parts.Entries choice) scene after place event outcome =
+    if is_chosen choice place event outcome then block_text scene after place event outcome else []
+moment_text (parts.HoldsOf address) scene after place event outcome =
+    hold_ended place event address (shown_at scene.world address) (shown_at after address)
+
+-- the event takes the next place of the line
+abbrev pub told_event : Part → SceneView → Event → List ℕ
+told_event part scene event =
+    moment_text part scene (step scene.world event).world (scene.world.count + 1) event (outcome_told scene.world event)
+
+abbrev pub told_row : Part → SceneView → Option Event → List ℕ
+told_row part scene None = []
+told_row part scene (Some event) = told_event part scene event
+
+abbrev pub scene_behind : SceneView → Option Event → SceneView
+scene_behind scene None = scene
+scene_behind scene (Some event) = scene_after scene event
+
+-- what is told of the rows of an audit text, one after another, and what is known behind the last
+abbrev pub told_rows : Part → SceneView → List (List ℕ) → List ℕ
+told_rows part scene [] = []
+told_rows part scene (row ∷ rows) = told_row part scene (event_of_row row) ++ told_rows part (scene_behind scene (event_of_row row)) rows
+
+abbrev pub last_scene : SceneView → List (List ℕ) → SceneView
+last_scene scene [] = scene
+last_scene scene (row ∷ rows) = last_scene (scene_behind scene (event_of_row row)) rows
+
+abbrev pub slave_addresses : Description → List ℕ
+slave_addresses line = map (λ slave. slave.address) line.slaves
+
+-- before the first entry
+abbrev pub first_scene : Description → SceneView
+first_scene line = record {
+  description = line;
+  world = start_of line;
+  notes = first_notes (slave_addresses line) line.masters;
+  tally = first_tally line.masters;
+}
+
+-- ---- the text
+
+-- how many entries stand before what is wrong: row 1 is the header, and row 2 the first entry
+abbrev pub right_entries : Result ℕ AuditFault → ℕ
+right_entries (Ok count) = count
+right_entries (Err faults.OutOfMemory) = 0
+right_entries (Err (faults.BadLine row)) = row - 2
+right_entries (Err (faults.NotThePolicy row)) = row - 2
+
+-- what an audit text is found to be, in the words of a check; that memory is out isn't written
+abbrev pub verdict_text : Result ℕ AuditFault → List ℕ
+verdict_text (Ok count) = codes "legal " ++ decimal count ++ codes "\n"
+verdict_text (Err faults.OutOfMemory) = []
+verdict_text (Err (faults.BadLine row)) = codes "bad line " ++ decimal row ++ codes "\n"
+verdict_text (Err (faults.NotThePolicy row)) = codes "not the policy " ++ decimal row ++ codes "\n"
+
+-- 0 where it is legal
+abbrev pub verdict_status : Result ℕ AuditFault → ℕ
+verdict_status (Ok count) = 0
+verdict_status (Err fault) = 1
+
+-- the rows of the entries that are right
+abbrev pub right_rows : Result ℕ AuditFault → List ℕ → List (List ℕ)
+right_rows verdict text = take (right_entries verdict) (drop 1 (lines_of text))
+
+-- the holds of a slave in the order in which they began, the last of which may last to the end
+abbrev pub holds_of : Description → List (List ℕ) → ℕ → List ℕ
+holds_of line rows address =
+    told_rows (parts.HoldsOf address) (first_scene line) rows
+    ++ hold_lasts address (shown_at (last_scene (first_scene line) rows).world address)
+
+-- the holds of each slave in the order of the rack, and how many requests were answered by each rule
+abbrev pub holds_text : Description → List (List ℕ) → List ℕ
+holds_text line rows = codes "holds\n" ++ flat_map (holds_of line rows) (slave_addresses line)
+
+abbrev pub summary_text : Description → List (List ℕ) → List ℕ
+summary_text line rows = holds_text line rows ++ tally_text (last_scene (first_scene line) rows).tally
+
+-- the entries and the summary
+abbrev pub told_text : Description → List (List ℕ) → Choice → List ℕ
+told_text line rows choice = told_rows (parts.Entries choice) (first_scene line) rows ++ summary_text line rows
+
+-- and what the text is found to be
+abbrev pub explained_by : Result ℕ AuditFault → Description → List ℕ → Choice → List ℕ
+explained_by verdict line text choice = told_text line (right_rows verdict text) choice ++ verdict_text verdict
+
+-- an audit text of a line, explained
+abbrev pub explained : Description → List ℕ → Choice → List ℕ
+explained line text choice = explained_by (checked line text) line text choice
+
+-- ---- what a call leaves on its writer
+
+-- the whole text, or a prefix of it where it ended early
+abbrev pub Leaves : List ℕ → Option (List ℕ) → Option (List ℕ) → Result (Unit {0}) ExplainFault → Type 0
+Leaves text old new (Ok done) = Appends old new text
+Leaves text old new (Err fault) = WritesPrefix old new text
+
+-- the explanation, with its exit status
+abbrev pub Explains : Result ℕ AuditFault → List ℕ → Option (List ℕ) → Option (List ℕ) → Result ℕ ExplainFault → Type 0
+Explains verdict text old new (Ok status) = (status ≡ verdict_status verdict) × Appends old new text
+Explains verdict text old new (Err fault) = WritesPrefix old new text

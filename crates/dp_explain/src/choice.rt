@@ -1,0 +1,149 @@
+//! Which entries are told.
+
+ghost use Rattle.std.specs.Prelude.{◌≡◌, ◌==◌};
+ghost use Rattle.std.specs.List.{list_any};
+ghost use Rattle.dp_explain.specs.Choices.{is_from, is_to, goes_to, is_about, is_of_slave, comes_from, is_of_master, is_refusal, refuses, is_chosen};
+
+use crate::who::{Who, Whom};
+use dp_line::{Event, Outcome};
+use dp_responder::Rule;
+
+/// Which entries are told: those that each part lets through.
+#[derive(Clone, Copy, Debug)]
+pub struct Choice {
+    /// The first place, from 1; None is the first of the text.
+    pub from: Option<u32>,
+    /// The last place; None is the last of the text.
+    pub to: Option<u32>,
+    /// The slave, by its address, that an entry is about; None is each.
+    pub slave: Option<u8>,
+    /// The master, by its address, that sent it; None is each, and the operator.
+    pub master: Option<u8>,
+    /// Only requests by whose rule nothing was done.
+    pub refused: bool,
+    /// No entry at all: the summary alone.
+    pub summary: bool,
+}
+
+/// The choice lets the entry through.
+pub(crate) fn is_chosen(choice: &Choice, place: u64, event: &Event, outcome: &Outcome) -> bool
+    ensures { result ≡ is_chosen choice.now place event.now outcome.now }
+{
+    let who = Who::of(event);
+    is_from(choice.from, place)
+        && is_to(choice.to, place)
+        && is_of_slave(choice.slave, who, outcome)
+        && is_of_master(choice.master, who)
+        && (!choice.refused || refuses(outcome))
+        && !choice.summary
+}
+
+fn is_from(first: Option<u32>, place: u64) -> bool
+    ensures { result ≡ is_from first place }
+{
+    match first {
+        None => true,
+        Some(first) => u64::from(first) <= place,
+    }
+}
+
+fn is_to(last: Option<u32>, place: u64) -> bool
+    ensures { result ≡ is_to last place }
+{
+    match last {
+        None => true,
+        Some(last) => place <= u64::from(last),
+    }
+}
+
+/// The event goes to this slave alone.
+fn goes_to(address: u8, who: Who) -> bool
+    ensures { result ≡ goes_to address who }
+{
+    match who {
+        Who::Master(_, Whom::Slave(other)) => other == address,
+        Who::Master(_, Whom::AllSlaves) => false,
+        Who::Master(_, Whom::Station(_)) => false,
+        Who::Master(_, Whom::Nobody) => false,
+        Who::Operator(Some(other)) => other == address,
+        Who::Operator(None) => false,
+    }
+}
+
+fn is_of_slave(slave: Option<u8>, who: Who, outcome: &Outcome) -> bool
+    ensures { result ≡ is_of_slave slave who outcome.now }
+{
+    match slave {
+        None => true,
+        Some(address) => is_about(address, who, outcome),
+    }
+}
+
+/// The entry is about this slave.
+fn is_about(address: u8, who: Who, outcome: &Outcome) -> bool
+    ensures { result ≡ is_about address who outcome.now }
+{
+    match outcome {
+        Outcome::Spread(pairs) => has_pair(pairs.as_slice(), address),
+        Outcome::Released(addresses) => has(addresses.as_slice(), address),
+        Outcome::Reply { .. } => goes_to(address, who),
+        Outcome::Silence(_) => goes_to(address, who),
+        Outcome::Done => goes_to(address, who),
+        Outcome::Refused(_) => goes_to(address, who),
+    }
+}
+
+fn has_pair(pairs: &[(u8, Rule)], address: u8) -> bool
+    ensures { result ≡ list_any (λ pair. pair.0 == address) pairs.now }
+{
+    pairs.iter().any(|pair| pair.0 == address)
+}
+
+fn has(addresses: &[u8], address: u8) -> bool
+    ensures { result ≡ list_any (λ other. other == address) addresses.now }
+{
+    addresses.iter().any(|other| *other == address)
+}
+
+fn is_of_master(master: Option<u8>, who: Who) -> bool
+    ensures { result ≡ is_of_master master who }
+{
+    match master {
+        None => true,
+        Some(master) => match who {
+            Who::Master(sender, _) => sender == master,
+            Who::Operator(_) => false,
+        },
+    }
+}
+
+/// By the rule nothing is done.
+pub(crate) fn is_refusal(rule: Rule) -> bool
+    ensures { result ≡ is_refusal rule }
+{
+    match rule {
+        Rule::Status => false,
+        Rule::Repeat => false,
+        Rule::Done => false,
+        _ => true,
+    }
+}
+
+fn refuses(outcome: &Outcome) -> bool
+    ensures { result ≡ refuses outcome.now }
+{
+    match outcome {
+        Outcome::Reply { rule, .. } => is_refusal(*rule),
+        Outcome::Silence(rule) => is_refusal(*rule),
+        Outcome::Spread(pairs) => has_refusal(pairs.as_slice()),
+        Outcome::Released(_) => false,
+        Outcome::Done => false,
+        Outcome::Refused(_) => false,
+    }
+}
+
+fn has_refusal(pairs: &[(u8, Rule)]) -> bool
+    ensures { result ≡ list_any (λ pair. is_refusal pair.1) pairs.now }
+{
+    pairs.iter().any(|pair| is_refusal(pair.1))
+}

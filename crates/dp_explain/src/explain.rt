@@ -1,0 +1,255 @@
+//! An audit text, explained.
+
+ghost use Rattle.std.specs.Prelude.{◌≡◌, ◌++◌, None, take, drop};
+ghost use Rattle.std.specs.List.{flat_map};
+ghost use Rattle.dp_text.specs.Words.{lines_of};
+ghost use Rattle.dp_line.specs.World.{description_of, opening_fault};
+ghost use Rattle.dp_audit.specs.Check.{checked};
+ghost use Rattle.dp_explain.specs.Tallies.{tally_text};
+ghost use Rattle.dp_explain.specs.Explained.{right_entries, verdict_text, verdict_status, slave_addresses, holds_of, holds_text, told_text, explained, explained_by, Leaves, Explains};
+
+use crate::choice::Choice;
+use crate::explain_fault::ExplainFault;
+use crate::part::Part;
+use crate::telling::Telling;
+use dp_audit::{AuditFault, check_text};
+use dp_line::LineSpec;
+use dp_text::{Lines, Text, write_whole};
+use std::alloc::Global;
+use std::io::Write;
+
+/// Explains an audit text of a line, which can be opened: writes the rows of each entry that is chosen, up to the
+/// first row that isn't what the line would have written, and then what the text is found to be: `legal N`,
+/// `bad line N` or `not the policy N`, as a check tells it. The answer is the exit status: 0 where it is legal, else 1.
+///
+/// It takes the memory of two lines and of the rows of one entry, however long the text is. `OutOfMemory` where that
+/// was refused, `WriteFault` where a write failed: either leaves a prefix.
+pub fn explain_text<W: Write>(
+    alloc: Global,
+    line: &LineSpec,
+    text: &str,
+    choice: &Choice,
+    writer: &mut W,
+) -> Result<u8, ExplainFault>
+    requires { opening_fault (description_of line.now) ≡ None }
+    ensures { Explains (checked (description_of line.now) text.now) (explained (description_of line.now) text.now choice.now)
+        (W.contents writer.old) (W.contents writer.new) result }
+{
+    match check_text(alloc, line, text) {
+        Err(AuditFault::OutOfMemory) => Err(ExplainFault::OutOfMemory),
+        Ok(count) => explain_by(alloc, Ok(count), line, text, choice, writer),
+        Err(AuditFault::BadLine(row)) => {
+            explain_by(
+                alloc,
+                Err(AuditFault::BadLine(row)),
+                line,
+                text,
+                choice,
+                writer,
+            )
+        }
+        Err(AuditFault::NotThePolicy(row)) => {
+            explain_by(
+                alloc,
+                Err(AuditFault::NotThePolicy(row)),
+                line,
+                text,
+                choice,
+                writer,
+            )
+        }
+    }
+}
+
+/// Explains an audit text that was found to be this.
+fn explain_by<W: Write>(
+    alloc: Global,
+    verdict: Result<u32, AuditFault>,
+    line: &LineSpec,
+    text: &str,
+    choice: &Choice,
+    writer: &mut W,
+) -> Result<u8, ExplainFault>
+    requires { opening_fault (description_of line.now) ≡ None }
+    ensures { Explains verdict (explained_by verdict (description_of line.now) text.now choice.now)
+        (W.contents writer.old) (W.contents writer.new) result }
+{
+    let count = right_entries(verdict);
+    match tell_text(alloc, line, text, count, choice, writer) {
+        Ok(()) => tell_verdict(verdict, writer),
+        Err(fault) => Err(fault),
+    }
+}
+
+/// Tells so many entries of an audit text, and the summary.
+fn tell_text<W: Write>(
+    alloc: Global,
+    line: &LineSpec,
+    text: &str,
+    count: u64,
+    choice: &Choice,
+    writer: &mut W,
+) -> Result<(), ExplainFault>
+    requires { opening_fault (description_of line.now) ≡ None }
+    ensures { Leaves (told_text (description_of line.now) (take count (drop 1 (lines_of text.now))) choice.now)
+        (W.contents writer.old) (W.contents writer.new) result }
+{
+    let mut telling = match Telling::open(alloc, line) {
+        Ok(telling) => telling,
+        Err(fault) => return Err(fault),
+    };
+    match telling.tell_rows(&Part::Entries(*choice), count, &mut rows_of(text), writer) {
+        Ok(()) => tell_summary(&mut telling, alloc, line, text, count, writer),
+        Err(fault) => Err(fault),
+    }
+}
+
+/// Tells the summary of a text; the line has been told whole.
+fn tell_summary<W: Write>(
+    telling: &mut Telling<'_>,
+    alloc: Global,
+    line: &LineSpec,
+    text: &str,
+    count: u64,
+    writer: &mut W,
+) -> Result<(), ExplainFault>
+    requires { opening_fault (description_of line.now) ≡ None }
+    ensures { Leaves (holds_text (description_of line.now) (take count (drop 1 (lines_of text.now))) ++ tally_text telling.old.tally)
+        (W.contents writer.old) (W.contents writer.new) result }
+{
+    match tell_all_holds(alloc, line, text, count, writer) {
+        Ok(()) => telling.tell_tally(writer),
+        Err(fault) => Err(fault),
+    }
+}
+
+/// Tells the holds of all slaves of the line behind their title.
+fn tell_all_holds<W: Write>(
+    alloc: Global,
+    line: &LineSpec,
+    text: &str,
+    count: u64,
+    writer: &mut W,
+) -> Result<(), ExplainFault>
+    requires { opening_fault (description_of line.now) ≡ None }
+    ensures { Leaves (holds_text (description_of line.now) (take count (drop 1 (lines_of text.now))))
+        (W.contents writer.old) (W.contents writer.new) result }
+{
+    match write_whole(writer, b"holds\n") {
+        Ok(()) => tell_holds(alloc, line, text, count, writer),
+        Err(_) => Err(ExplainFault::WriteFault),
+    }
+}
+
+/// Tells the holds of each slave of the line.
+fn tell_holds<W: Write>(
+    alloc: Global,
+    line: &LineSpec,
+    text: &str,
+    count: u64,
+    writer: &mut W,
+) -> Result<(), ExplainFault>
+    requires { opening_fault (description_of line.now) ≡ None }
+    ensures { Leaves (flat_map (holds_of (description_of line.now) (take count (drop 1 (lines_of text.now)))) (slave_addresses (description_of line.now)))
+        (W.contents writer.old) (W.contents writer.new) result }
+{
+    for slave in line.slaves.as_slice() {
+        match tell_holds_of(alloc, line, text, count, slave.address, writer) {
+            Ok(()) => {}
+            Err(fault) => return Err(fault),
+        }
+    }
+    Ok(())
+}
+
+/// Tells the holds of the slave of an address, in a pass over the text of its own.
+fn tell_holds_of<W: Write>(
+    alloc: Global,
+    line: &LineSpec,
+    text: &str,
+    count: u64,
+    address: u8,
+    writer: &mut W,
+) -> Result<(), ExplainFault>
+    requires { opening_fault (description_of line.now) ≡ None }
+    ensures { Leaves (holds_of (description_of line.now) (take count (drop 1 (lines_of text.now))) address)
+        (W.contents writer.old) (W.contents writer.new) result }
+{
+    let mut telling = match Telling::open(alloc, line) {
+        Ok(telling) => telling,
+        Err(fault) => return Err(fault),
+    };
+    match telling.tell_rows(&Part::HoldsOf(address), count, &mut rows_of(text), writer) {
+        Ok(()) => telling.tell_lasting(address, writer),
+        Err(fault) => Err(fault),
+    }
+}
+
+/// The rows of an audit text behind its header.
+fn rows_of(text: &str) -> Lines<'_>
+    ensures { result ≡ drop 1 (lines_of text.now) }
+{
+    let mut rows = Lines::of(text.as_bytes());
+    let _ = rows.next();
+    rows
+}
+
+/// How many entries stand before what is wrong.
+fn right_entries(verdict: Result<u32, AuditFault>) -> u64
+    ensures { result ≡ right_entries verdict }
+{
+    match verdict {
+        Ok(count) => u64::from(count),
+        Err(AuditFault::OutOfMemory) => 0,
+        Err(AuditFault::BadLine(row)) => row.saturating_sub(2),
+        Err(AuditFault::NotThePolicy(row)) => row.saturating_sub(2),
+    }
+}
+
+/// Writes what an audit text is found to be, and answers the exit status.
+fn tell_verdict<W: Write>(
+    verdict: Result<u32, AuditFault>,
+    writer: &mut W,
+) -> Result<u8, ExplainFault>
+    ensures { Explains verdict (verdict_text verdict) (W.contents writer.old) (W.contents writer.new) result }
+{
+    let mut text = Text::new();
+    set_verdict(&mut text, verdict);
+    match write_whole(writer, text.as_bytes()) {
+        Ok(()) => Ok(status_of(verdict)),
+        Err(_) => Err(ExplainFault::WriteFault),
+    }
+}
+
+fn status_of(verdict: Result<u32, AuditFault>) -> u8
+    ensures { result ≡ verdict_status verdict }
+{
+    match verdict {
+        Ok(_) => 0,
+        Err(_) => 1,
+    }
+}
+
+/// Makes the text what is written of an audit text: `legal N`, `bad line N` or `not the policy N`, with its LF; nothing
+/// where memory was refused.
+pub fn set_verdict(text: &mut Text, verdict: Result<u32, AuditFault>)
+    ensures { text.new ≡ verdict_text verdict }
+{
+    text.clear();
+    match verdict {
+        Ok(count) => {
+            text.push_str("legal ");
+            text.push_number(count);
+        }
+        Err(AuditFault::OutOfMemory) => return,
+        Err(AuditFault::BadLine(row)) => {
+            text.push_str("bad line ");
+            text.push_long(row);
+        }
+        Err(AuditFault::NotThePolicy(row)) => {
+            text.push_str("not the policy ");
+            text.push_long(row);
+        }
+    }
+    text.push(b'\n');
+}

@@ -1,0 +1,25 @@
+//! Why an explanation ended early.
+
+ghost use Rattle.std.specs.Prelude.{◌≡◌};
+
+use thiserror::Error;
+
+/// Why an explanation ended early. What was written before stays written.
+#[derive(Clone, Copy, Debug, PartialEq, Eq, Error)]
+#[error("{}", self.name())]
+pub enum ExplainFault {
+    /// Memory was refused.
+    OutOfMemory,
+    /// A write failed, or took no octet.
+    WriteFault,
+}
+
+impl ExplainFault {
+    /// Its text.
+    pub const fn name(self) -> &'static str {
+        match self {
+            ExplainFault::OutOfMemory => "out of memory",
+            ExplainFault::WriteFault => "cannot write",
+        }
+    }
+}

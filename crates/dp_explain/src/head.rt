@@ -1,0 +1,160 @@
+//! The head row of an entry.
+
+ghost use Rattle.std.specs.Prelude.{◌≡◌, Some};
+ghost use Rattle.dp_explain.specs.Heads.{bit_text, flags_words, busy_words, op_kind_text, event_kind_text, head_text};
+
+use crate::telegram_rows::KindWords;
+use crate::who::Who;
+use crate::words::{OctetsWords, PointWords, Spaces, TimeWords, digits_of_long};
+use dp_line::{Event, Op};
+use std::fmt;
+
+/// The columns of a place, and those of from whom to whom.
+const PLACE_COLUMNS: usize = 5;
+
+const WHO_COLUMNS: usize = 26;
+
+/// A bit as 0 or 1.
+#[derive(Clone, Copy)]
+struct Bit(bool);
+
+impl fmt::Display for Bit {
+    ghost output = { λ bit. Some (bit_text bit.0) };
+
+    fn fmt<W: fmt::Write>(&self, f: &mut fmt::Formatter<W>) -> fmt::Result {
+        match self.0 {
+            true => f.write_str("1"),
+            false => f.write_str("0"),
+        }
+    }
+}
+
+/// The flags of a report.
+#[derive(Clone, Copy)]
+struct Flags {
+    ext: bool,
+    stat: bool,
+    overflow: bool,
+}
+
+impl fmt::Display for Flags {
+    ghost output = { λ s. Some (flags_words s.ext s.stat s.overflow) };
+
+    fn fmt<W: fmt::Write>(&self, f: &mut fmt::Formatter<W>) -> fmt::Result {
+        let ext = Bit(self.ext);
+        let stat = Bit(self.stat);
+        let overflow = Bit(self.overflow);
+        write!(
+            f,
+            "Ext_Diag {ext}, Stat_Diag {stat}, Ext_Diag_Overflow {overflow}"
+        )
+    }
+}
+
+/// A mark of a point.
+#[derive(Clone, Copy)]
+struct Mark {
+    point: Option<u8>,
+    on: bool,
+}
+
+impl fmt::Display for Mark {
+    ghost use Rattle.std.specs.Prelude.{◌++◌};
+    ghost use Rattle.dp_explain.specs.Words.{point_words};
+
+    ghost output = { λ mark. Some (point_words mark.point ++ busy_words mark.on) };
+
+    fn fmt<W: fmt::Write>(&self, f: &mut fmt::Formatter<W>) -> fmt::Result {
+        let point = PointWords(self.point);
+        match self.on {
+            true => write!(f, "{point} busy"),
+            false => write!(f, "{point} no longer busy"),
+        }
+    }
+}
+
+/// What an operator does.
+#[derive(Clone, Copy)]
+struct OpKind<'a>(&'a Op);
+
+impl<'a> fmt::Display for OpKind<'a> {
+    ghost output = { λ kind. Some (op_kind_text kind.0.now) };
+
+    fn fmt<W: fmt::Write>(&self, f: &mut fmt::Formatter<W>) -> fmt::Result {
+        match self.0 {
+            Op::Input { octets, .. } => {
+                let octets = OctetsWords(octets.as_slice());
+                write!(f, "inputs {octets}")
+            }
+            Op::Diag {
+                ext,
+                stat,
+                overflow,
+                octets,
+                ..
+            } => {
+                let flags = Flags {
+                    ext: *ext,
+                    stat: *stat,
+                    overflow: *overflow,
+                };
+                let octets = OctetsWords(octets.as_slice());
+                write!(f, "diagnosis {flags}; extended {octets}")
+            }
+            Op::Busy { point, on, .. } => {
+                let mark = Mark {
+                    point: *point,
+                    on: *on,
+                };
+                write!(f, "{mark}")
+            }
+            Op::Tick(units) => {
+                let time = TimeWords(*units);
+                write!(f, "{units} units of time, {time}")
+            }
+            Op::Halt => f.write_str("halt"),
+        }
+    }
+}
+
+/// What an event is.
+#[derive(Clone, Copy)]
+struct EventKind<'a>(&'a Event);
+
+impl<'a> fmt::Display for EventKind<'a> {
+    ghost output = { λ kind. Some (event_kind_text kind.0.now) };
+
+    fn fmt<W: fmt::Write>(&self, f: &mut fmt::Formatter<W>) -> fmt::Result {
+        match self.0 {
+            Event::Request { octets, .. } => {
+                let kind = KindWords(octets.as_slice());
+                write!(f, "{kind}")
+            }
+            Event::Operator(op) => {
+                let kind = OpKind(op);
+                write!(f, "{kind}")
+            }
+        }
+    }
+}
+
+/// The head row of an entry, with its LF.
+#[derive(Clone, Copy)]
+pub(crate) struct Head<'a> {
+    /// The place, from 1.
+    pub(crate) place: u64,
+    pub(crate) event: &'a Event,
+}
+
+impl<'a> fmt::Display for Head<'a> {
+    ghost output = { λ head. Some (head_text head.place head.event.now) };
+
+    fn fmt<W: fmt::Write>(&self, f: &mut fmt::Formatter<W>) -> fmt::Result {
+        let place = self.place;
+        let before = Spaces(PLACE_COLUMNS.saturating_sub(digits_of_long(place)));
+        let who = Who::of(self.event);
+        let behind = Spaces(WHO_COLUMNS.saturating_sub(who.width()));
+        let kind = EventKind(self.event);
+        write!(f, "{before}{place}  {who}{behind}{kind}\n")
+    }
+}

@@ -1,0 +1,43 @@
+//! Reading the event of a row of an audit text.
+
+ghost use Rattle.std.specs.Prelude.{◌≡◌, None, Some, option_map};
+ghost use Rattle.dp_audit.specs.Check.{parted, placed_of};
+ghost use Rattle.dp_explain.specs.Explained.{event_of_row};
+
+use dp_line::Event;
+use dp_text::{Words, event_in, number_in};
+use memchr::memmem;
+
+/// What separates the parts of a row.
+const BAR: [u8; 3] = *b" | ";
+
+/// The event of a row, which stands behind the place and before the first bar.
+pub(crate) fn event_of_row(row: &[u8]) -> Option<Event>
+    ensures { result ≡ event_of_row row.now }
+{
+    match before_bar(row) {
+        Some(placed) => event_in_placed(placed),
+        None => None,
+    }
+}
+
+/// What stands before the first bar; None where there is no bar.
+fn before_bar(text: &[u8]) -> Option<&[u8]>
+    ensures { option_map (λ front. front.now) result ≡ option_map (λ parts. parts.0) (parted text.now) }
+{
+    match memmem::find(text, &BAR) {
+        Some(index) => Some(&text[..index]),
+        None => None,
+    }
+}
+
+/// The event of `PLACE EVENT`.
+fn event_in_placed(text: &[u8]) -> Option<Event>
+    ensures { result ≡ option_map (λ placed. placed.event) (placed_of text.now) }
+{
+    let mut words = Words::of(text);
+    let place = words.next()?;
+    let event = words.rest()?;
+    number_in(place, u32::MAX)?;
+    event_in(event)
+}

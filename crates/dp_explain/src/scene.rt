@@ -1,0 +1,48 @@
+//! What is known where an event is told.
+
+use crate::notes::Noted;
+use crate::tally::Counted;
+use dp_line::{LineSpec, LineState};
+use dp_telegram::{Parts, Telegram};
+use std::marker::Model;
+
+/// What is known where an event is told. Contracts see the description, the world, the notes and the tally.
+#[derive(Drop)]
+pub(crate) struct Scene<'a> {
+    pub(crate) line: &'a LineSpec,
+    /// The line before the event.
+    pub(crate) before: &'a LineState,
+    pub(crate) notes: &'a [Noted],
+    pub(crate) tally: &'a [Counted],
+}
+
+impl<'a> Model for Scene<'a> {
+    ghost use Rattle.dp_line.specs.World.{description_of};
+    ghost use Rattle.dp_explain.specs.Scenes.{SceneView};
+
+    ghost Value = { SceneView };
+
+    ghost view = { λ s. record {
+      description = description_of s.line.now;
+      world = s.before.now.world;
+      notes = s.notes.now;
+      tally = s.tally.now;
+    } };
+}
+
+/// A request, as it reaches slaves. Contracts see what it holds.
+#[derive(Drop)]
+pub(crate) struct Asked<'a> {
+    /// The sender.
+    pub(crate) master: u8,
+    pub(crate) telegram: &'a Telegram,
+    pub(crate) parts: Parts,
+}
+
+impl<'a> Model for Asked<'a> {
+    ghost use Rattle.dp_explain.specs.Scenes.{AskedView};
+
+    ghost Value = { AskedView };
+
+    ghost view = { λ a. record { master = a.master; telegram = a.telegram.now; parts = a.parts } };
+}

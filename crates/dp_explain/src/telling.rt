@@ -1,0 +1,271 @@
+//! The entries of an audit text, told one after another.
+
+ghost use Rattle.std.specs.Prelude.{◌≡◌, ◌+◌, if◌then◌else◌, [], take, None, Some, IfSome, OnOk, MatchResult};
+ghost use Rattle.dp_line.specs.World.{description_of, opening_fault};
+ghost use Rattle.dp_line.specs.Steps.{step};
+ghost use Rattle.dp_explain.specs.Results.{shown_at};
+ghost use Rattle.dp_explain.specs.Holds.{hold_lasts};
+ghost use Rattle.dp_explain.specs.Tallies.{tally_text};
+ghost use Rattle.dp_explain.specs.Choices.{is_chosen};
+ghost use Rattle.dp_explain.specs.Blocks.{block_text, outcome_with, scene_after};
+ghost use Rattle.dp_explain.specs.Explained.{event_of_row, told_event, told_row, told_rows, scene_behind, last_scene, first_scene, moment_text, Leaves};
+
+use crate::block::Block;
+use crate::choice::{Choice, is_chosen};
+use crate::explain_fault::ExplainFault;
+use crate::holds::{HoldEnded, HoldLasts};
+use crate::notes::{Noted, first_notes, note_event};
+use crate::part::Part;
+use crate::row::event_of_row;
+use crate::scene::Scene;
+use crate::tally::{Counted, TallyRows, count_event, first_tally};
+use arrayvec::ArrayVec;
+use dp_line::{Event, LineSpec, LineState, MOST_SLAVES, Outcome};
+use dp_text::{Lines, write_whole};
+use std::alloc::Global;
+use std::fmt::Display;
+use std::io::Write;
+use std::marker::Model;
+
+/// A line that is told: as it was before an event and as it is after it, with the notes. Between two
+/// events both are the same. Contracts see what is known before the next event.
+#[derive(Drop)]
+pub(crate) struct Telling<'a> {
+    line: &'a LineSpec,
+    before: LineState,
+    after: LineState,
+    notes: Vec<Noted>,
+    tally: Vec<Counted>,
+    /// The rows of one entry.
+    rows: String,
+}
+
+impl<'a> Model for Telling<'a> {
+    ghost use Rattle.std.specs.Prelude.{◌≡◌};
+    ghost use Rattle.dp_line.specs.World.{description_of};
+    ghost use Rattle.dp_explain.specs.Scenes.{SceneView};
+
+    ghost Value = { SceneView };
+
+    ghost view = { λ t. record {
+      description = description_of t.line.now;
+      world = t.before.world;
+      notes = t.notes.items;
+      tally = t.tally.items;
+    } };
+
+    ghost invariant = { λ t. t.after.world ≡ t.before.world };
+}
+
+impl<'a> Telling<'a> {
+    /// The line before its first entry. It takes the memory of two lines.
+    pub(crate) fn open(alloc: Global, line: &'a LineSpec) -> Result<Telling<'a>, ExplainFault>
+        requires { opening_fault (description_of line.now) ≡ None }
+        ensures { MatchResult result (λ telling. telling ≡ first_scene (description_of line.now)) (λ fault. fault ≡ ExplainFault.OutOfMemory) }
+    {
+        let Ok(before) = LineState::open(alloc, line) else {
+            return Err(ExplainFault::OutOfMemory);
+        };
+        let Ok(after) = LineState::open(alloc, line) else {
+            return Err(ExplainFault::OutOfMemory);
+        };
+        let Ok(notes) = first_notes(alloc, line) else {
+            return Err(ExplainFault::OutOfMemory);
+        };
+        let Ok(tally) = first_tally(alloc, line.masters.as_slice()) else {
+            return Err(ExplainFault::OutOfMemory);
+        };
+        Ok(Telling {
+            line,
+            before,
+            after,
+            notes,
+            tally,
+            rows: String::new(alloc),
+        })
+    }
+
+    /// Tells an event that is the next one.
+    fn tell_event<W: Write>(
+        &mut self,
+        part: &Part,
+        event: &Event,
+        writer: &mut W,
+    ) -> Result<(), ExplainFault>
+        ensures scene { self.new ≡ scene_after self.old event.now }
+        ensures told { Leaves (told_event part.now self.old event.now) (W.contents writer.old) (W.contents writer.new) result }
+    {
+        let place = u64::from(self.before.count()) + 1;
+        let step = self.after.take(event);
+        let outcome = outcome_with(step.outcome, step.halted);
+        let scene = Scene {
+            line: self.line,
+            before: &self.before,
+            notes: self.notes.as_slice(),
+            tally: self.tally.as_slice(),
+        };
+        let moment = Moment {
+            scene: &scene,
+            after: &self.after,
+            place,
+            event,
+            outcome: &outcome,
+        };
+        let told = tell_moment(&moment, part, &mut self.rows, writer);
+        let _ = self.before.take(event);
+        note_event(&mut self.notes, place, event, &outcome);
+        count_event(&mut self.tally, event, &outcome);
+        told
+    }
+
+    /// Tells a row that is the next one.
+    fn tell_row<W: Write>(
+        &mut self,
+        part: &Part,
+        row: &[u8],
+        writer: &mut W,
+    ) -> Result<(), ExplainFault>
+        ensures scene { self.new ≡ scene_behind self.old (event_of_row row.now) }
+        ensures told { Leaves (told_row part.now self.old (event_of_row row.now)) (W.contents writer.old) (W.contents writer.new) result }
+    {
+        match event_of_row(row) {
+            Some(event) => self.tell_event(part, &event, writer),
+            None => Ok(()),
+        }
+    }
+
+    /// Tells so many of the rows that are left.
+    pub(crate) fn tell_rows<W: Write>(
+        &mut self,
+        part: &Part,
+        count: u64,
+        rows: &mut Lines<'_>,
+        writer: &mut W,
+    ) -> Result<(), ExplainFault>
+        ensures told { Leaves (told_rows part.now self.old (take count rows.old)) (W.contents writer.old) (W.contents writer.new) result }
+        ensures scene { OnOk result (self.new ≡ last_scene self.old (take count rows.old)) }
+    {
+        for _told in 0..count {
+            let Some(row) = rows.next() else {
+                return Ok(());
+            };
+            match self.tell_row(part, row, writer) {
+                Ok(()) => {}
+                Err(fault) => return Err(fault),
+            }
+        }
+        Ok(())
+    }
+
+    /// Tells the hold of a slave that lasts.
+    pub(crate) fn tell_lasting<W: Write>(
+        &mut self,
+        address: u8,
+        writer: &mut W,
+    ) -> Result<(), ExplainFault>
+        ensures { Leaves (hold_lasts address (shown_at self.old.world address)) (W.contents writer.old) (W.contents writer.new) result }
+    {
+        let rows = HoldLasts {
+            address,
+            line: &self.before,
+        };
+        write_rows(&rows, &mut self.rows, writer)
+    }
+
+    /// Tells how many requests were answered by each rule.
+    pub(crate) fn tell_tally<W: Write>(&mut self, writer: &mut W) -> Result<(), ExplainFault>
+        ensures { Leaves (tally_text self.old.tally) (W.contents writer.old) (W.contents writer.new) result }
+    {
+        let rows = TallyRows(self.tally.as_slice());
+        write_rows(&rows, &mut self.rows, writer)
+    }
+}
+
+/// The outcome that an entry tells: where its event met the last place, that of the halt.
+fn outcome_with(outcome: Outcome, halted: Option<ArrayVec<u8, MOST_SLAVES>>) -> Outcome
+    ensures { result ≡ outcome_with outcome halted }
+{
+    match halted {
+        None => outcome,
+        Some(addresses) => Outcome::Released(addresses),
+    }
+}
+
+/// An event, and what came of it.
+#[derive(Clone, Copy)]
+struct Moment<'a> {
+    scene: &'a Scene<'a>,
+    after: &'a LineState,
+    place: u64,
+    event: &'a Event,
+    outcome: &'a Outcome,
+}
+
+/// Tells what a pass tells of an event; `rows` is room to make it in.
+fn tell_moment<W: Write>(
+    moment: &Moment<'_>,
+    part: &Part,
+    rows: &mut String,
+    writer: &mut W,
+) -> Result<(), ExplainFault>
+    ensures { Leaves (moment_text part.now moment.now.scene.now moment.now.after.now.world moment.now.place moment.now.event.now moment.now.outcome.now)
+        (W.contents writer.old) (W.contents writer.new) result }
+{
+    match part {
+        Part::Entries(choice) => tell_entry(moment, choice, rows, writer),
+        Part::HoldsOf(address) => {
+            let scene = moment.scene;
+            let hold = HoldEnded {
+                place: moment.place,
+                event: moment.event,
+                address: *address,
+                before: scene.before,
+                after: moment.after,
+            };
+            write_rows(&hold, rows, writer)
+        }
+    }
+}
+
+/// Writes the rows of an event, where it is chosen.
+fn tell_entry<W: Write>(
+    moment: &Moment<'_>,
+    choice: &Choice,
+    rows: &mut String,
+    writer: &mut W,
+) -> Result<(), ExplainFault>
+    ensures { Leaves (if is_chosen choice.now moment.now.place moment.now.event.now moment.now.outcome.now
+        then block_text moment.now.scene.now moment.now.after.now.world moment.now.place moment.now.event.now moment.now.outcome.now else [])
+        (W.contents writer.old) (W.contents writer.new) result }
+{
+    if !is_chosen(choice, moment.place, moment.event, moment.outcome) {
+        return Ok(());
+    }
+    let block = Block {
+        scene: moment.scene,
+        after: moment.after,
+        place: moment.place,
+        event: moment.event,
+        outcome: moment.outcome,
+    };
+    write_rows(&block, rows, writer)
+}
+
+/// Writes what is told, which is made in `rows` first.
+pub(crate) fn write_rows<W: Write, D: Display>(
+    told: &D,
+    rows: &mut String,
+    writer: &mut W,
+) -> Result<(), ExplainFault>
+    ensures { IfSome (D.output told.now) (λ text. Leaves text (W.contents writer.old) (W.contents writer.new) result) }
+{
+    rows.clear();
+    match write!(rows, "{told}") {
+        Ok(()) => {}
+        Err(_) => return Err(ExplainFault::OutOfMemory),
+    }
+    match write_whole(writer, rows.as_bytes()) {
+        Ok(()) => Ok(()),
+        Err(_) => Err(ExplainFault::WriteFault),
+    }
+}
