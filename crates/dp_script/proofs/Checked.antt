@@ -8,7 +8,9 @@ use Rattle.rack_file.specs.declared.rack.RackLine.{RackLine}
 use Rattle.rack_file.specs.Rack.{LineDescription, line_described}
 use Rattle.dp_text.specs.Words.{lines_of}
 use Rattle.dp_audit.specs.Check.{is_accepted_header}
+use Rattle.dp_explain.specs.declared.choice.Choice.{Choice}
 use Rattle.dp_script.specs.Checks.{line_named, checked_by_line, checked_on}
+use Rattle.dp_script.specs.Explanations.{explained_by_line, explained_on}
 
 -- this is an accepted header of the line
 abbrev is_headed : List ℕ → RackLine → Bool
@@ -29,12 +31,24 @@ found_described header [] = refl
 found_described header (line ∷ lines) =
     first_or (is_headed header line) line (find (is_described_headed header) (map line_described lines)) (find (is_headed header) lines) (found_described header lines)
 
+-- the first row names the line that is found by it
+line_of_named : (lines : List RackLine) (text header : List ℕ) (others : List (List ℕ)) (found : Option RackLine)
+    → lines_of text ≡ header ∷ others → found ≡ find (is_headed header) lines
+    → line_named (map line_described lines) (lines_of text) ≡ option_map line_described found
+line_of_named lines text header others found parted named =
+    ap (λ ls. line_named (map line_described lines) ls) parted ∙ found_described header lines ∙ ap (option_map line_described) (sym named)
+
 pub verdict_of_named : (workers : ℕ) (lines : List RackLine) (text header : List ℕ) (others : List (List ℕ)) (found : Option RackLine)
     → lines_of text ≡ header ∷ others → found ≡ find (is_headed header) lines
     → checked_on (record { workers = workers; lines = map line_described lines }) text ≡ checked_by_line (option_map line_described found) text
 verdict_of_named workers lines text header others found parted named =
-    ap (λ ls. checked_by_line (line_named (map line_described lines) ls) text) parted
-    ∙ ap (λ l. checked_by_line l text) (found_described header lines ∙ ap (option_map line_described) (sym named))
+    ap (λ l. checked_by_line l text) (line_of_named lines text header others found parted named)
+
+pub explained_of_named : (workers : ℕ) (lines : List RackLine) (text header : List ℕ) (others : List (List ℕ)) (found : Option RackLine) (choice : Choice)
+    → lines_of text ≡ header ∷ others → found ≡ find (is_headed header) lines
+    → explained_on (record { workers = workers; lines = map line_described lines }) text choice ≡ explained_by_line (option_map line_described found) text choice
+explained_of_named workers lines text header others found choice parted named =
+    ap (λ l. explained_by_line l text choice) (line_of_named lines text header others found parted named)
 
 open_among : (is : Bool) (first : RackLine) (others : Option RackLine) (line : RackLine) → Some line ≡ cond is (Some first) others
     → opening_fault (description_of first.spec) ≡ None → (Some line ≡ others → opening_fault (description_of line.spec) ≡ None)

@@ -6,3 +6,4 @@ mod Passing
 mod Played
 mod Sending
 mod Checked
+mod Tellings

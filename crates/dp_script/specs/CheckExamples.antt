@@ -15,7 +15,8 @@ use Rattle.dp_line.specs.LineExamples.{slave_5}
 use Rattle.rack_file.specs.Rack.{RackDescription}
 use Rattle.dp_audit.specs.declared.fault.AuditFault.TheVariants.{BadLine, NotThePolicy}
 use Rattle.dp_audit.specs.Check.{checked}
-use Rattle.dp_script.specs.Checks.{checked_on, verdict_text}
+use Rattle.dp_explain.specs.Explained.{verdict_text}
+use Rattle.dp_script.specs.Checks.{checked_on}
 
 -- what computes a verdict on a text without entries
 unfoldable check_on_literals : ⊤

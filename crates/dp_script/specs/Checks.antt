@@ -1,6 +1,5 @@
--- What an audit text is found to be on a rack, and what is told of it (own).
-use Rattle.std.specs.Prelude.{codes, ℕ, List, [], ◌∷◌, ◌++◌, find, Option, Some, None, Result, Ok, Err}
-use Rattle.std.specs.Fmt.{decimal}
+-- What an audit text is found to be on a rack (own).
+use Rattle.std.specs.Prelude.{ℕ, List, [], ◌∷◌, find, Option, Some, None, Result, Err}
 use Rattle.rack_file.specs.Rack.{LineDescription, RackDescription}
 use Rattle.dp_text.specs.Words.{lines_of}
 use Rattle.dp_audit.specs.declared.fault.AuditFault.{AuditFault}
@@ -20,15 +19,3 @@ checked_by_line (Some line) text = checked line.line text
 -- how many entries an audit text has, or which line of it is the first that is wrong
 abbrev pub checked_on : RackDescription → List ℕ → Result ℕ AuditFault
 checked_on rack text = checked_by_line (line_named rack.lines (lines_of text)) text
-
--- what is written of an audit text; out of memory isn't written
-abbrev pub verdict_text : Result ℕ AuditFault → List ℕ
-verdict_text (Ok count) = codes "legal " ++ decimal count ++ codes "\n"
-verdict_text (Err (faults.BadLine line)) = codes "bad line " ++ decimal line ++ codes "\n"
-verdict_text (Err (faults.NotThePolicy line)) = codes "not the policy " ++ decimal line ++ codes "\n"
-verdict_text (Err faults.OutOfMemory) = []
-
--- 0 where it is legal
-abbrev pub verdict_status : Result ℕ AuditFault → ℕ
-verdict_status (Ok count) = 0
-verdict_status (Err fault) = 1

@@ -11,3 +11,4 @@ pub mod Checks
 pub mod CheckExamples
 pub mod Input
 pub mod InputExamples
+pub mod Explanations

@@ -11,7 +11,8 @@ use Rattle.dp_script.specs.declared.obey_fault.ObeyFault.TheVariants as stops
 use Rattle.dp_script.specs.ScriptLines.{ScriptLine, Sent}
 use Rattle.dp_script.specs.ScriptText.{ScriptRack, Obeyed, Played, script_text}
 use Rattle.dp_audit.specs.declared.fault.AuditFault.{AuditFault}
-use Rattle.dp_script.specs.Checks.{checked_on, verdict_text, verdict_status}
+use Rattle.dp_explain.specs.Explained.{verdict_text, verdict_status}
+use Rattle.dp_script.specs.Checks.{checked_on}
 
 -- a command to a line: at the end the line is as it leaves it, and the writer has its whole text; a prefix where a write failed; and
 -- where it is none nothing is written

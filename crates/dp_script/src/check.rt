@@ -6,11 +6,12 @@ ghost use Rattle.dp_text.specs.Words.{lines_of};
 ghost use Rattle.rack_file.specs.RackFile.{rack_in};
 ghost use Rattle.rack_file.specs.Rack.{rack_described};
 ghost use Rattle.dp_audit.specs.Check.{is_accepted_header};
-ghost use Rattle.dp_script.specs.Checks.{checked_on, verdict_text};
+ghost use Rattle.dp_script.specs.Checks.{checked_on};
 ghost use Rattle.dp_script.specs.Runs.{RunsCheck, Tells};
 
 use crate::run_fault::RunFault;
 use dp_audit::{AuditFault, check_text, is_header_of};
+use dp_explain::set_verdict;
 use dp_text::{Lines, Text, write_whole};
 use rack_file::laws::accepted_lines_can_be_opened;
 use rack_file::{Rack, RackFault, RackLine, read_rack};
@@ -54,14 +55,17 @@ fn verdict_on(alloc: Global, rack: &Rack, audit: &str) -> Result<u32, AuditFault
 }
 
 /// The line that this is an accepted header of.
-fn line_named<'a>(lines: &'a [RackLine], header: &[u8]) -> Option<&'a RackLine>
+pub(crate) fn line_named<'a>(lines: &'a [RackLine], header: &[u8]) -> Option<&'a RackLine>
     ensures { option_copied result ≡ find (λ line. is_accepted_header (description_of line.spec) header.now) lines.now }
 {
     lines.iter().find(|line| is_header_of(header, &line.spec))
 }
 
 /// Writes what an audit text is found to be, and answers the exit status.
-fn tell_verdict<W: Write>(verdict: Result<u32, AuditFault>, writer: &mut W) -> Result<u8, RunFault>
+pub(crate) fn tell_verdict<W: Write>(
+    verdict: Result<u32, AuditFault>,
+    writer: &mut W,
+) -> Result<u8, RunFault>
     ensures told { Tells verdict (W.contents writer.old) (W.contents writer.new) result }
     ensures memory { verdict ≡ Err AuditFault.OutOfMemory → result ≡ Err RunFault.OutOfMemory }
 {
@@ -77,27 +81,4 @@ fn tell_verdict<W: Write>(verdict: Result<u32, AuditFault>, writer: &mut W) -> R
         Ok(()) => Ok(status),
         Err(_) => Err(RunFault::WriteFault),
     }
-}
-
-/// Makes the text what is written of an audit text.
-fn set_verdict(text: &mut Text, verdict: Result<u32, AuditFault>)
-    ensures { text.new ≡ verdict_text verdict }
-{
-    text.clear();
-    match verdict {
-        Ok(count) => {
-            text.push_str("legal ");
-            text.push_number(count);
-        }
-        Err(AuditFault::OutOfMemory) => return,
-        Err(AuditFault::BadLine(line)) => {
-            text.push_str("bad line ");
-            text.push_long(line);
-        }
-        Err(AuditFault::NotThePolicy(line)) => {
-            text.push_str("not the policy ");
-            text.push_long(line);
-        }
-    }
-    text.push(b'\n');
 }

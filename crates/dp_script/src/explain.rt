@@ -1,0 +1,84 @@
+//! An audit text, explained on a rack.
+
+ghost use Rattle.std.specs.Prelude.{◌≡◌, None, All};
+ghost use Rattle.dp_line.specs.World.{description_of, opening_fault};
+ghost use Rattle.rack_file.specs.RackFile.{rack_in};
+ghost use Rattle.rack_file.specs.Rack.{rack_described};
+ghost use Rattle.dp_audit.specs.Check.{checked};
+ghost use Rattle.dp_explain.specs.Explained.{explained};
+ghost use Rattle.dp_script.specs.Checks.{checked_on};
+ghost use Rattle.dp_script.specs.Explanations.{Explains, RunsExplain, explained_on};
+
+use crate::check::{line_named, tell_verdict};
+use crate::run_fault::RunFault;
+use dp_audit::AuditFault;
+use dp_explain::{Choice, ExplainFault, explain_text};
+use dp_line::LineSpec;
+use dp_text::Lines;
+use rack_file::laws::accepted_lines_can_be_opened;
+use rack_file::{Rack, RackFault, read_rack};
+use std::alloc::Global;
+use std::io::Write;
+
+/// Explains an audit text to a person, on the line that its header names, of the rack that a text describes: the
+/// entries that are chosen, up to the first row that is wrong, a summary of all, and then what the text is found to
+/// be, as [`run_check`](crate::run_check) tells it. The answer is the exit status: 0 where it is legal, else 1.
+///
+/// `Rack` where the rack isn't accepted, and then nothing is written; `OutOfMemory` and `WriteFault` leave a prefix.
+/// It is never `Script`.
+pub fn run_explain<W: Write>(
+    alloc: Global,
+    rack: &str,
+    audit: &str,
+    choice: &Choice,
+    writer: &mut W,
+) -> Result<u8, RunFault>
+    ensures { RunsExplain (rack_in rack.now) audit.now choice.now (W.contents writer.old) (W.contents writer.new) result }
+{
+    accepted_lines_can_be_opened();
+    match read_rack(alloc, rack) {
+        Ok(rack) => explain_on(alloc, &rack, audit, choice, writer),
+        Err(RackFault::OutOfMemory) => Err(RunFault::OutOfMemory),
+        Err(fault) => Err(RunFault::Rack(fault)),
+    }
+}
+
+/// Explains an audit text on the line of a rack that it names; where it names none, its first row is bad.
+fn explain_on<W: Write>(
+    alloc: Global,
+    rack: &Rack,
+    audit: &str,
+    choice: &Choice,
+    writer: &mut W,
+) -> Result<u8, RunFault>
+    requires { All (λ line. opening_fault (description_of line.spec) ≡ None) rack.now.lines.items }
+    ensures { Explains (checked_on (rack_described rack.now) audit.now) (explained_on (rack_described rack.now) audit.now choice.now)
+        (W.contents writer.old) (W.contents writer.new) result }
+{
+    let Some(header) = Lines::of(audit.as_bytes()).next() else {
+        return tell_verdict(Err(AuditFault::BadLine(1)), writer);
+    };
+    match line_named(&rack.lines, header) {
+        Some(line) => explain_line(alloc, &line.spec, audit, choice, writer),
+        None => tell_verdict(Err(AuditFault::BadLine(1)), writer),
+    }
+}
+
+/// Explains an audit text on a line.
+fn explain_line<W: Write>(
+    alloc: Global,
+    line: &LineSpec,
+    audit: &str,
+    choice: &Choice,
+    writer: &mut W,
+) -> Result<u8, RunFault>
+    requires { opening_fault (description_of line.now) ≡ None }
+    ensures { Explains (checked (description_of line.now) audit.now) (explained (description_of line.now) audit.now choice.now)
+        (W.contents writer.old) (W.contents writer.new) result }
+{
+    match explain_text(alloc, line, audit, choice, writer) {
+        Ok(status) => Ok(status),
+        Err(ExplainFault::OutOfMemory) => Err(RunFault::OutOfMemory),
+        Err(ExplainFault::WriteFault) => Err(RunFault::WriteFault),
+    }
+}
