@@ -102,6 +102,7 @@ sweep 'noise' 16 "$work/noise"
 sweep 'two files' 4 /dev/null run "$work/rack" "$work/script"
 sweep 'an operator and nobody' 4 /dev/null operate 1 --tick 10
 sweep 'a check' 4 /dev/null check "$work/rack" "$work/audit"
+sweep 'an explanation' 4 /dev/null explain "$work/rack" "$work/audit"
 
 # ports that a rack is served at; while the program runs each of them is connected to once
 knocked=()
@@ -175,6 +176,7 @@ else
   in_turn 'noise' "$work/noise"
   in_turn 'two files' /dev/null run "$work/rack" "$work/script"
   in_turn 'a check' /dev/null check "$work/rack" "$work/audit"
+  in_turn 'an explanation' /dev/null explain "$work/rack" "$work/audit"
   mapfile -t knocked < <("$top/tests/serve_client.py" ports 2)
   sed "s/^number = 1$/&\nlisten = ${knocked[0]}\noperator = ${knocked[1]}/" "$work/rack" >"$work/served"
   in_turn 'a rack that is served' /dev/null serve "$work/served" --sessions 1

@@ -117,7 +117,7 @@ run "${rack%'\n'}"; expect 'a rack without its last LF' 0 '' ''
 # ---- words
 
 run '' --help
-hold 'help' eval '[ "$status" = 0 ] && [ ! -s "$work/err" ] && [[ $(cat "$work/out") == *"rackd run RACK SCRIPT"*"rackd check RACK AUDIT"*"rackd serve RACK [--sessions N]"*"rackd operate PORT [--tick MS] [--step MS]"*"exactly %%"*"'journal'"*"Exit statuses"*"  1  a check that is not legal"* ]]'
+hold 'help' eval '[ "$status" = 0 ] && [ ! -s "$work/err" ] && [[ $(cat "$work/out") == *"rackd run RACK SCRIPT"*"rackd check RACK AUDIT"*"rackd explain RACK AUDIT [--summary]"*"rackd serve RACK [--sessions N]"*"rackd operate PORT [--tick MS] [--step MS]"*"exactly %%"*"'journal'"*"Exit statuses"*"  1  a check that is not legal"* ]]'
 cp "$work/out" "$work/help"
 help=$(cat "$work/help")
 example='[[line]]'${help#*'[[line]]'}
@@ -127,6 +127,10 @@ hold 'the example of the help' eval '[ "$status" = 0 ] && [ -s "$work/out" ] && 
 run '' --version; expect 'version' 0 'rackd 0.1.0' ''
 for words in word -h -V --hel --help=1 --version=1 '' '--line 1' help 'play rack script' run 'run rack' 'run rack script word' \
   'run --help' 'run --line rack script' check 'check rack' 'check rack audit word' 'check rack audit --version' \
+  explain 'explain rack' 'explain rack audit word' 'explain rack audit --from' 'explain rack audit --from 0' \
+  'explain rack audit --to 65537' 'explain rack audit --slave 256' 'explain rack audit --slave 05' \
+  'explain rack audit --master +1' 'explain rack audit --refused 1' 'explain rack audit --summary --summary' \
+  'explain rack audit --why' 'check rack audit --summary' \
   serve 'serve rack word' 'serve --help' 'serve --sessions 1' 'serve rack --sessions' 'serve rack --sessions 0' \
   'serve rack --sessions 1000001' 'serve rack --sessions x' 'serve rack --sessions -1' \
   'serve rack --sessions 1 --sessions 1' 'serve rack --session 1' 'serve rack --sessions +5' 'serve rack --sessions 05' \
@@ -139,7 +143,11 @@ done
 run "$rack" $'\xff'; expect 'a word that is not UTF-8' 2 '' 'rackd: a word is not UTF-8'
 run "$rack" --help $'\xff'; expect 'help and a word that is not UTF-8' 2 '' 'rackd: a word is not UTF-8'
 
-# ---- run and check
+"$rackd" explain "$top/examples/day-of-a-line-rack.toml" "$top/examples/day-of-a-line.audit" >"$work/out" 2>"$work/err"
+status=$?
+expect 'the example day-of-a-line, explained' 0 "$(cat "$top/examples/day-of-a-line.explained")" ''
+
+# ---- run, check and explain
 
 printf "$rack" >"$work/rack"
 printf "$slave_diag\n" >"$work/script"
@@ -172,10 +180,14 @@ printf 'rack-audit 2 line 1\r\n%s\r\n' "$entry" >"$work/crlf"
 run '' check "$work/rack" "$work/crlf"; expect 'an audit text with CR LF' 1 'bad line 1' ''
 printf 'rack-audit 2 line 1\n%s\n' "${entry/WaitPrm/WaitCfg}" >"$work/facts"
 run '' check "$work/rack" "$work/facts"; expect 'other facts' 1 'not the policy 2' ''
+run '' explain --summary "$work/rack" "$work/audit" --slave 0; expect 'options before and behind the files' 0 $'holds\nrequests by rule\n  master 1    Done                 1\nrefusals by rule\nlegal 1' ''
+run '' explain "$work/rack" "$work/empty"; expect 'nothing to explain' 1 'bad line 1' ''
+run '' explain "$work/rack" "$work/served"; expect 'an explanation with ready above it' 1 'bad line 1' "$no_header"
+run '' explain "$work/script" "$work/audit"; expect 'an explanation on a file that is no rack' 2 '' $'rackd: rack NotToml\n  row 1: key with no value, expected `=`'
 run '' check "$work/script" "$work/audit"; expect 'a check on a file that is no rack' 2 '' $'rackd: rack NotToml\n  row 1: key with no value, expected `=`'
 run '' check "$work/script" "$work/empty"; expect 'the rack comes before the audit text' 2 '' $'rackd: rack NotToml\n  row 1: key with no value, expected `=`'
 
-for word in run check; do
+for word in run check explain; do
   run '' "$word" "$work/none" "$work/audit"; expect "$word: no rack file" 2 '' "rackd: cannot read $work/none"$'\n  nothing is there'
   run '' "$word" "$work/rack" "$work/none"; expect "$word: no second file" 2 '' "rackd: cannot read $work/none"$'\n  nothing is there'
   run '' "$word" "$work/nothing" "$work/none"; expect "$word: the rack file comes first" 2 '' "rackd: cannot read $work/nothing"$'\n  nothing is there'
@@ -265,6 +277,7 @@ silent 'a rack that is refused' 2 "${rack/1000/1}"
 silent 'no command' 2 "$rack%%%%\nx\n"
 closed=4 silent 'a script in a file' 0 '' run "$work/rack" "$work/script"
 closed=4 silent 'a legal audit text' 0 '' check "$work/rack" "$work/audit"
+closed=4 silent 'an explanation' 0 '' explain "$work/rack" "$work/audit"
 closed=4 silent 'a check that is not legal' 1 '' check "$work/rack" "$work/empty"
 silent 'a file that is missing' 2 '' check "$work/rack" "$work/none"
 silent 'a line without ports' 2 '' serve "$work/rack"
@@ -293,6 +306,7 @@ printf "$rack%%%%\n$slave_diag\n" >"$work/one"
 "$program" --version >/dev/full 2>"$work/err"; status=$?; unwritten 'version, standard output full'
 "$program" run "$work/rack" "$work/script" >/dev/full 2>"$work/err"; status=$?; unwritten 'a script in a file, standard output full'
 "$program" check "$work/rack" "$work/audit" >/dev/full 2>"$work/err"; status=$?; unwritten 'a check, standard output full'
+"$program" explain "$work/rack" "$work/audit" >/dev/full 2>"$work/err"; status=$?; unwritten 'an explanation, standard output full'
 "$program" check "$work/rack" "$work/empty" >&- 2>"$work/err"; status=$?; unwritten 'a check that is not legal, standard output closed'
 printf "$rack%%%%\n$slave_diag\nx\n" >"$work/both"
 "$program" <"$work/both" >/dev/full 2>"$work/err"; status=$?; unwritten 'a fault of the output before one of the script'

@@ -26,13 +26,13 @@ mod threads;
 use clap::error::ErrorKind as Answer;
 use dp_cause::Cause;
 use dp_script::split_input;
-pub use dp_script::{RunFault, run_check, run_text};
+pub use dp_script::{Choice, RunFault, run_check, run_explain, run_text};
 use ending::{Fault, cause, status};
 use log::{Log, info};
 use operator_client::{Operation, operate};
 use rack_cause::rack_cause;
 pub use rack_file::{Rack, RackFault, RackLine, read_rack};
-use rackd_words::{Invocation, Service, read_words, words_of};
+use rackd_words::{Entries, Invocation, Service, read_words, words_of};
 use serve::{Served, serve_text};
 use std::fs::{self, File, Files};
 use std::io::{self, BufWriter, ErrorKind, Printer, Read, Write};
@@ -111,7 +111,11 @@ fn obey<
         Invocation::Input => run_input(rt),
         Invocation::Run { rack, script } => run_files(rt, rack, script),
         Invocation::Check { rack, audit } => check_files(rt, rack, audit),
-        Invocation::Explain { .. } => Ok(ExitCode::from(2)),
+        Invocation::Explain {
+            rack,
+            audit,
+            entries,
+        } => explain_files(rt, rack, audit, entries),
         Invocation::Serve { rack, service } => serve_file(rt, rack, service),
         Invocation::Operate { port, tick, step } => {
             operate_line(rt, Operation { port, tick, step }, input)
@@ -165,6 +169,19 @@ fn check_files<'a>(
     let audit = read_file(rt, audit)?;
     let checked = check_out(rt, rack.as_str(), audit.as_str());
     reported(rt, rack.as_str(), checked)
+}
+
+/// Explains the audit text of a file on the rack of another.
+fn explain_files<'a>(
+    rt: &(impl Runtime + AllocGlobal),
+    rack: &'a str,
+    audit: &'a str,
+    entries: Entries,
+) -> Result<ExitCode, Fault<'a>> {
+    let rack = read_file(rt, rack)?;
+    let audit = read_file(rt, audit)?;
+    let explained = explain_out(rt, rack.as_str(), audit.as_str(), entries);
+    reported(rt, rack.as_str(), explained)
 }
 
 /// Serves the rack of a file, and notes how many sessions were served.
@@ -262,12 +279,42 @@ fn check_out<'a>(
     let mut output = buffered(rt)?;
     let checked = run_check(rt.alloc(), rack, audit, &mut output);
     flushed(output)?;
-    let status = checked?;
+    Ok(noted_header(rt, audit, checked?))
+}
+
+/// Explains an audit text on a rack, and writes that on standard output.
+fn explain_out<'a>(
+    rt: &(impl Runtime + AllocGlobal),
+    rack: &str,
+    audit: &str,
+    entries: Entries,
+) -> Result<ExitCode, Fault<'a>> {
+    let choice = choice_of(entries);
+    let mut output = buffered(rt)?;
+    let explained = run_explain(rt.alloc(), rack, audit, &choice, &mut output);
+    flushed(output)?;
+    Ok(noted_header(rt, audit, explained?))
+}
+
+/// The entries that the words choose.
+fn choice_of(entries: Entries) -> Choice {
+    Choice {
+        from: entries.from,
+        to: entries.to,
+        slave: entries.slave,
+        master: entries.master,
+        refused: entries.are_refused,
+        summary: entries.only_summary,
+    }
+}
+
+/// The exit status of an audit text; where it begins as none, that is noted.
+fn noted_header(rt: &impl Eprint, audit: &str, status: u8) -> ExitCode {
     // A text that is cut in its header is told on standard output alone.
     if status != 0 && !audit.starts_with(HEADER) && !HEADER.starts_with(audit) {
         let _ = rt.eprintln(NO_HEADER);
     }
-    Ok(ExitCode::from(status))
+    ExitCode::from(status)
 }
 
 /// Standard output behind a buffer.

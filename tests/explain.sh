@@ -1,0 +1,134 @@
+#!/usr/bin/env bash
+# Explains the stored audit texts of tests/explain by each program given, without words by what the two compilers made of
+# rackd, and compares output, standard error and status. tests/explain/README.md says which files are a case.
+#
+# usage: explain.sh [PROGRAM..]
+#
+# The last line is 'N passed, M failed'.
+set -u
+shopt -s nullglob
+LC_ALL=C
+top=$(cd "$(dirname "$0")/.." && pwd)
+cases=$top/tests/explain
+passed=0
+failed=0
+work=$(mktemp -d)
+trap 'rm -rf "$work"' EXIT
+
+# fail NAME WHAT: counts a case that failed
+fail() {
+  failed=$((failed + 1))
+  echo "FAILED ${1#"$cases/"}: $2"
+}
+
+# load VARIABLE FILE: sets the variable to all of the file, its last LF included
+load() { IFS= read -r -d '' "$1" <"$2" || true; }
+
+# differ FILE FILE: shows the first row in which what was wanted and what was written differ
+differ() {
+  local wanted written row
+  mapfile -t wanted <"$1"
+  mapfile -t written <"$2"
+  for ((row = 0; row < ${#wanted[@]} || row < ${#written[@]}; row++)); do
+    if [ "${wanted[row]-no row}" != "${written[row]-no row}" ]; then
+      echo "  row $((row + 1))"
+      echo "    wanted:  ${wanted[row]-no row}"
+      echo "    written: ${written[row]-no row}"
+      return
+    fi
+  done
+  if ! cmp -s "$1" "$2"; then echo '  the last row has a LF in one of them, or there is a NUL'; fi
+}
+
+# verdict TEXT: sets $verdict to the last row of an output, and $ending to the status that goes with it, 2 where it is none
+verdict() {
+  verdict=${1%$'\n'}
+  verdict=${verdict##*$'\n'}
+  case $verdict in
+    'legal '*) ending=0 ;;
+    'bad line '* | 'not the policy '*) ending=1 ;;
+    *) ending=2 ;;
+  esac
+}
+
+# audit_of NAME: sets $audit to the audit text of a case: its own, or that of the case that it goes with
+audit_of() {
+  audit=$1.audit
+  if [ ! -f "$audit" ]; then audit=${1%-*}.audit; fi
+}
+
+# told NAME: explains the audit text of a case with its options, and compares
+told() {
+  local output='' error='' options=() verdict ending audit status
+  load output "$1.out"
+  if [ -f "$1.err" ]; then load error "$1.err"; fi
+  if [ -f "$1.options" ]; then read -r -a options <"$1.options"; fi
+  verdict "$output"
+  audit_of "$1"
+  "$program" explain "${1%/*}/rack.toml" "$audit" "${options[@]}" </dev/null >"$work/out" 2>"$work/err"
+  status=$?
+  printf '%s' "$error" >"$work/error"
+  if [ "$status" = "$ending" ] && cmp -s "$1.out" "$work/out" && cmp -s "$work/error" "$work/err"; then
+    passed=$((passed + 1))
+  else
+    fail "$1" "status $status (wanted $ending) by $program"
+    differ "$1.out" "$work/out"
+    differ "$work/error" "$work/err"
+  fi
+}
+
+# checked NAME: the verdict of `check` on the audit text of a case is the last row of its explanation
+checked() {
+  local output='' verdict ending audit
+  load output "$1.out"
+  verdict "$output"
+  audit_of "$1"
+  "$program" check "${1%/*}/rack.toml" "$audit" </dev/null >"$work/out" 2>/dev/null
+  if [ "$verdict" = "$(cat "$work/out")" ]; then
+    passed=$((passed + 1))
+  else
+    fail "$1" "check says '$(cat "$work/out")', its explanation ends in '$verdict'"
+  fi
+}
+
+# names KIND: sets $names to those of all cases that have this kind of file
+names() {
+  names=("$cases"/*/*."$1")
+  names=("${names[@]%.*}")
+}
+
+# tell_all: each case by the program
+tell_all() {
+  local name
+  names out; for name in "${names[@]}"; do told "$name"; done
+  names audit; for name in "${names[@]}"; do checked "$name"; done
+}
+
+# find_strays: each file is of a kind that is read, and has its case beside it
+find_strays() {
+  local file name audit
+  for file in "$cases"/*/*; do
+    name=${file%.*}
+    audit_of "$name"
+    case ${file##*/} in
+      rack.toml) ;;
+      *.audit | *.options | *.err) if [ ! -f "$name.out" ]; then fail "$file" 'its .out is missing'; fi ;;
+      *.out) if [ ! -f "$audit" ]; then fail "$file" 'there is no audit text for it'; fi ;;
+      *) fail "$file" 'there is no such kind of file' ;;
+    esac
+  done
+}
+
+if [ $# = 0 ]; then
+  . "$top/dist/built.sh"
+  have_program
+  set -- "$program"
+  if [ -e "$1.by-rattle" ] && [ ! "$1" -nt "$1.by-rattle" ]; then set -- "$1" "$1.by-rattle"; fi
+fi
+for program; do
+  if [ -x "$program" ]; then tell_all; else fail "$program" 'there is no such program'; fi
+done
+if [ $((passed + failed)) = 0 ]; then fail "$cases" 'there is no case'; fi
+find_strays
+echo "$passed passed, $failed failed"
+[ "$failed" = 0 ]
