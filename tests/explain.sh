@@ -9,20 +9,8 @@ set -u
 shopt -s nullglob
 LC_ALL=C
 top=$(cd "$(dirname "$0")/.." && pwd)
-cases=$top/tests/explain
-passed=0
-failed=0
-work=$(mktemp -d)
-trap 'rm -rf "$work"' EXIT
-
-# fail NAME WHAT: counts a case that failed
-fail() {
-  failed=$((failed + 1))
-  echo "FAILED ${1#"$cases/"}: $2"
-}
-
-# load VARIABLE FILE: sets the variable to all of the file, its last LF included
-load() { IFS= read -r -d '' "$1" <"$2" || true; }
+stored=$top/tests/explain
+. "$top/tests/stored.sh"
 
 # differ FILE FILE: shows the first row in which what was wanted and what was written differ
 differ() {
@@ -91,12 +79,6 @@ checked() {
   fi
 }
 
-# names KIND: sets $names to those of all cases that have this kind of file
-names() {
-  names=("$cases"/*/*."$1")
-  names=("${names[@]%.*}")
-}
-
 # tell_all: each case by the program
 tell_all() {
   local name
@@ -107,7 +89,7 @@ tell_all() {
 # find_strays: each file is of a kind that is read, and has its case beside it
 find_strays() {
   local file name audit
-  for file in "$cases"/*/*; do
+  for file in "$stored"/*/*; do
     name=${file%.*}
     audit_of "$name"
     case ${file##*/} in
@@ -119,16 +101,7 @@ find_strays() {
   done
 }
 
-if [ $# = 0 ]; then
-  . "$top/dist/built.sh"
-  have_program
-  set -- "$program"
-  if [ -e "$1.by-rattle" ] && [ ! "$1" -nt "$1.by-rattle" ]; then set -- "$1" "$1.by-rattle"; fi
-fi
-for program; do
-  if [ -x "$program" ]; then tell_all; else fail "$program" 'there is no such program'; fi
-done
-if [ $((passed + failed)) = 0 ]; then fail "$cases" 'there is no case'; fi
+by_each tell_all "$@"
 find_strays
 echo "$passed passed, $failed failed"
 [ "$failed" = 0 ]

@@ -6,22 +6,10 @@ set -u
 shopt -s nullglob
 LC_ALL=C
 top=$(cd "$(dirname "$0")/.." && pwd)
-runs=$top/tests/runs
-passed=0
-failed=0
+stored=$top/tests/runs
+. "$top/tests/stored.sh"
 said=''
 told=''
-work=$(mktemp -d)
-trap 'rm -rf "$work"' EXIT
-
-# fail NAME WHAT: counts a case that failed
-fail() {
-  failed=$((failed + 1))
-  echo "FAILED ${1#"$runs/"}: $2"
-}
-
-# load VARIABLE FILE: sets the variable to all of the file, its last LF included
-load() { IFS= read -r -d '' "$1" <"$2" || true; }
 
 # run WORD..: runs the program with these words; how it ended is in $status, $said and $told
 run() {
@@ -95,7 +83,7 @@ cut() {
     is_found "${1%/*}/rack.toml" "$row" "${text::size}" || wrong=$((wrong + 1))
     if [ "${text:size-1:1}" = $'\n' ]; then row=$((row + 1)); fi
   done
-  echo "${1#"$runs/"}: ${#text} texts"
+  echo "${1#"$stored/"}: ${#text} texts"
   if [ "$wrong" = 0 ] && [ "$row" -gt 2 ]; then
     passed=$((passed + 1))
   else
@@ -151,12 +139,6 @@ refuse_racks() {
   if [ "$number" != "${#causes[@]}" ]; then fail "$1" "${#causes[@]} causes for $number racks"; fi
 }
 
-# names KIND: sets $names to those of all cases of this kind of file
-names() {
-  names=("$runs"/*/*."$1")
-  names=("${names[@]%.*}")
-}
-
 # play_all: each case by the program
 play_all() {
   local name
@@ -183,7 +165,7 @@ find_strays() {
 # find_unknown: each file is of a kind that is read
 find_unknown() {
   local file
-  for file in "$runs"/*/*; do
+  for file in "$stored"/*/*; do
     case ${file##*/} in
       rack.toml | script | *.script | *.audit | *.cut | *.rows | *.racks | *.causes | *.out | *.err) ;;
       *) fail "$file" 'there is no such kind of file' ;;
@@ -191,16 +173,7 @@ find_unknown() {
   done
 }
 
-if [ $# = 0 ]; then
-  . "$top/dist/built.sh"
-  have_program
-  set -- "$program"
-  if [ -e "$1.by-rattle" ] && [ ! "$1" -nt "$1.by-rattle" ]; then set -- "$1" "$1.by-rattle"; fi
-fi
-for program; do
-  if [ -x "$program" ]; then play_all; else fail "$program" 'there is no such program'; fi
-done
-if [ $((passed + failed)) = 0 ]; then fail "$runs" 'there is no case'; fi
+by_each play_all "$@"
 find_strays out script audit
 find_strays err script audit rows racks
 find_strays causes racks
