@@ -1,7 +1,7 @@
 -- Octets, and what is in their data.
 use Rattle.std.specs.Prelude.{◌≡◌, codes, [], ◌∷◌, Some, None, refl}
 use Rattle.std.specs.Fmt.{digits}
-use Rattle.dp_decode.specs.Words.{groups_text, listed}
+use Rattle.dp_decode.specs.Words.{groups_text, is_one_group, listed}
 use Rattle.dp_decode.specs.Parameters.{locking_text, parameters_text, requests_text}
 use Rattle.dp_decode.specs.Configurations.{amount_text, configuration_text, identifiers_of, meaning_text, special_text}
 use Rattle.dp_decode.specs.Commands.{asked_of}
@@ -9,134 +9,138 @@ use Rattle.dp_decode.specs.Contents.{contents_text, control_row}
 
 -- parameters: Lock_Req, WD_On with a factor 0
 pub factor_0 : parameters_text (0x88 ∷ 0x00 ∷ 0x05 ∷ 0x00 ∷ 0x80 ∷ 0xA1 ∷ 0x00 ∷ []) ≡ codes "Lock_Req; watchdog time 0; min TSDR unchanged; ident 80A1; groups none; user parameters none"
-unfolding contents_text parameters_text locking_text requests_text configuration_text identifiers_of meaning_text special_text amount_text asked_of groups_text listed digits
+unfolding contents_text parameters_text locking_text requests_text configuration_text identifiers_of meaning_text special_text amount_text asked_of groups_text is_one_group listed digits
 factor_0 = refl
 
 -- without WD_On, and Freeze_Req
 pub no_watchdog : parameters_text (0x90 ∷ 0x0A ∷ 0x01 ∷ 0x0B ∷ 0x00 ∷ 0x0F ∷ 0x82 ∷ []) ≡ codes "Lock_Req, Freeze_Req; watchdog off; min TSDR 11; ident 000F; groups 2, 8; user parameters none"
-unfolding contents_text parameters_text locking_text requests_text configuration_text identifiers_of meaning_text special_text amount_text asked_of groups_text listed digits
+unfolding contents_text parameters_text locking_text requests_text configuration_text identifiers_of meaning_text special_text amount_text asked_of groups_text is_one_group listed digits
 no_watchdog = refl
 
 -- the longest watchdog time
 pub longest_time : parameters_text (0x88 ∷ 0xFF ∷ 0xFF ∷ 0x00 ∷ 0x80 ∷ 0xA1 ∷ 0x00 ∷ []) ≡ codes "Lock_Req; watchdog 650250 ms; min TSDR unchanged; ident 80A1; groups none; user parameters none"
-unfolding contents_text parameters_text locking_text requests_text configuration_text identifiers_of meaning_text special_text amount_text asked_of groups_text listed digits
+unfolding contents_text parameters_text locking_text requests_text configuration_text identifiers_of meaning_text special_text amount_text asked_of groups_text is_one_group listed digits
 longest_time = refl
 
 -- what is too short has no bits
 pub too_short : parameters_text (0xC0 ∷ 0x0A ∷ 0x01 ∷ []) ≡ codes "too short: 3 of at least 7 octets"
-unfolding contents_text parameters_text locking_text requests_text configuration_text identifiers_of meaning_text special_text amount_text asked_of groups_text listed digits
+unfolding contents_text parameters_text locking_text requests_text configuration_text identifiers_of meaning_text special_text amount_text asked_of groups_text is_one_group listed digits
 too_short = refl
 
 -- Unlock_Req goes before Lock_Req
 pub unlock : parameters_text (0xC0 ∷ 0x0A ∷ 0x01 ∷ 0x0B ∷ 0x80 ∷ 0xA1 ∷ 0x00 ∷ []) ≡ codes "Unlock_Req"
-unfolding contents_text parameters_text locking_text requests_text configuration_text identifiers_of meaning_text special_text amount_text asked_of groups_text listed digits
+unfolding contents_text parameters_text locking_text requests_text configuration_text identifiers_of meaning_text special_text amount_text asked_of groups_text is_one_group listed digits
 unlock = refl
 
 -- neither of them
 pub min_tsdr_alone : parameters_text (0x08 ∷ 0x0A ∷ 0x01 ∷ 0x14 ∷ 0x80 ∷ 0xA1 ∷ 0x00 ∷ []) ≡ codes "min TSDR 20 alone"
-unfolding contents_text parameters_text locking_text requests_text configuration_text identifiers_of meaning_text special_text amount_text asked_of groups_text listed digits
+unfolding contents_text parameters_text locking_text requests_text configuration_text identifiers_of meaning_text special_text amount_text asked_of groups_text is_one_group listed digits
 min_tsdr_alone = refl
 
 pub nothing_is_set : parameters_text (0x00 ∷ 0x00 ∷ 0x00 ∷ 0x00 ∷ 0x00 ∷ 0x00 ∷ 0x00 ∷ []) ≡ codes "nothing is set"
-unfolding contents_text parameters_text locking_text requests_text configuration_text identifiers_of meaning_text special_text amount_text asked_of groups_text listed digits
+unfolding contents_text parameters_text locking_text requests_text configuration_text identifiers_of meaning_text special_text amount_text asked_of groups_text is_one_group listed digits
 nothing_is_set = refl
 
 -- configurations: the general format
 pub outputs_and_inputs : configuration_text (0x21 ∷ 0x11 ∷ []) ≡ codes "21 outputs 2 octets; 11 inputs 2 octets"
-unfolding contents_text parameters_text locking_text requests_text configuration_text identifiers_of meaning_text special_text amount_text asked_of groups_text listed digits
+unfolding contents_text parameters_text locking_text requests_text configuration_text identifiers_of meaning_text special_text amount_text asked_of groups_text is_one_group listed digits
 outputs_and_inputs = refl
 
 pub one_word_each : configuration_text (0x70 ∷ []) ≡ codes "70 inputs and outputs 1 word"
-unfolding contents_text parameters_text locking_text requests_text configuration_text identifiers_of meaning_text special_text amount_text asked_of groups_text listed digits
+unfolding contents_text parameters_text locking_text requests_text configuration_text identifiers_of meaning_text special_text amount_text asked_of groups_text is_one_group listed digits
 one_word_each = refl
 
 -- consistency is not told
 pub consistent : configuration_text (0xB0 ∷ []) ≡ codes "b0 inputs and outputs 1 octet"
-unfolding contents_text parameters_text locking_text requests_text configuration_text identifiers_of meaning_text special_text amount_text asked_of groups_text listed digits
+unfolding contents_text parameters_text locking_text requests_text configuration_text identifiers_of meaning_text special_text amount_text asked_of groups_text is_one_group listed digits
 consistent = refl
 
 -- the special format, without and with the maker's octets
 pub words_of_inputs : configuration_text (0x40 ∷ 0xC3 ∷ []) ≡ codes "40 c3 inputs 4 words"
-unfolding contents_text parameters_text locking_text requests_text configuration_text identifiers_of meaning_text special_text amount_text asked_of groups_text listed digits
+unfolding contents_text parameters_text locking_text requests_text configuration_text identifiers_of meaning_text special_text amount_text asked_of groups_text is_one_group listed digits
 words_of_inputs = refl
 
 pub outputs_of_the_maker : configuration_text (0x81 ∷ 0x3F ∷ 0xAA ∷ []) ≡ codes "81 3f aa outputs 64 octets, vendor aa"
-unfolding contents_text parameters_text locking_text requests_text configuration_text identifiers_of meaning_text special_text amount_text asked_of groups_text listed digits
+unfolding contents_text parameters_text locking_text requests_text configuration_text identifiers_of meaning_text special_text amount_text asked_of groups_text is_one_group listed digits
 outputs_of_the_maker = refl
 
 pub outputs_before_inputs : configuration_text (0xC1 ∷ 0x01 ∷ 0x03 ∷ 0x00 ∷ []) ≡ codes "c1 01 03 00 outputs 2 octets, inputs 4 octets, vendor 00"
-unfolding contents_text parameters_text locking_text requests_text configuration_text identifiers_of meaning_text special_text amount_text asked_of groups_text listed digits
+unfolding contents_text parameters_text locking_text requests_text configuration_text identifiers_of meaning_text special_text amount_text asked_of groups_text is_one_group listed digits
 outputs_before_inputs = refl
 
 pub empty_slots : configuration_text (0x00 ∷ 0x02 ∷ 0xAA ∷ 0xBB ∷ []) ≡ codes "00 empty slot; 02 aa bb empty slot, vendor aa bb"
-unfolding contents_text parameters_text locking_text requests_text configuration_text identifiers_of meaning_text special_text amount_text asked_of groups_text listed digits
+unfolding contents_text parameters_text locking_text requests_text configuration_text identifiers_of meaning_text special_text amount_text asked_of groups_text is_one_group listed digits
 empty_slots = refl
 
 -- 15 octets of the maker are none
 pub no_octets_of_the_maker : configuration_text (0x4F ∷ 0x00 ∷ []) ≡ codes "4f 00 inputs 1 octet"
-unfolding contents_text parameters_text locking_text requests_text configuration_text identifiers_of meaning_text special_text amount_text asked_of groups_text listed digits
+unfolding contents_text parameters_text locking_text requests_text configuration_text identifiers_of meaning_text special_text amount_text asked_of groups_text is_one_group listed digits
 no_octets_of_the_maker = refl
 
 -- the last identifier is cut
 pub is_cut : configuration_text (0x21 ∷ 0xC1 ∷ 0x01 ∷ []) ≡ codes "21 outputs 2 octets; c1 01 ends within an identifier"
-unfolding contents_text parameters_text locking_text requests_text configuration_text identifiers_of meaning_text special_text amount_text asked_of groups_text listed digits
+unfolding contents_text parameters_text locking_text requests_text configuration_text identifiers_of meaning_text special_text amount_text asked_of groups_text is_one_group listed digits
 is_cut = refl
 
 -- commands
+pub one_group : control_row (0x20 ∷ 0x04 ∷ []) ≡ codes "command     Sync; group 3"
+unfolding contents_text parameters_text locking_text requests_text configuration_text identifiers_of meaning_text special_text amount_text asked_of groups_text is_one_group listed digits
+one_group = refl
+
 pub all_bits : control_row (0x3E ∷ 0x09 ∷ []) ≡ codes "command     Clear_Data, Unfreeze, Freeze, Unsync, Sync; groups 1, 4"
-unfolding contents_text parameters_text locking_text requests_text configuration_text identifiers_of meaning_text special_text amount_text asked_of groups_text listed digits
+unfolding contents_text parameters_text locking_text requests_text configuration_text identifiers_of meaning_text special_text amount_text asked_of groups_text is_one_group listed digits
 all_bits = refl
 
 -- bits 0, 6 and 7 are ignored
 pub other_bits : control_row (0xC1 ∷ 0x00 ∷ []) ≡ codes "command     nothing; every slave"
-unfolding contents_text parameters_text locking_text requests_text configuration_text identifiers_of meaning_text special_text amount_text asked_of groups_text listed digits
+unfolding contents_text parameters_text locking_text requests_text configuration_text identifiers_of meaning_text special_text amount_text asked_of groups_text is_one_group listed digits
 other_bits = refl
 
 pub too_few_octets : control_row (0x20 ∷ []) ≡ codes "data        20"
-unfolding contents_text parameters_text locking_text requests_text configuration_text identifiers_of meaning_text special_text amount_text asked_of groups_text listed digits
+unfolding contents_text parameters_text locking_text requests_text configuration_text identifiers_of meaning_text special_text amount_text asked_of groups_text is_one_group listed digits
 too_few_octets = refl
 
 -- whole telegrams: Set_Prm, Data_Exchange, Global_Control
 pub slave_is_locked : contents_text (0x68 ∷ 0x0E ∷ 0x0E ∷ 0x68 ∷ 0x85 ∷ 0x81 ∷ 0x6D ∷ 0x3D ∷ 0x3E ∷ 0xB8 ∷ 0x0A ∷ 0x01 ∷ 0x0B ∷ 0x80 ∷ 0xA1 ∷ 0x09 ∷ 0x01 ∷ 0x02 ∷ 0xE9 ∷ 0x16 ∷ []) ≡ Some (codes "parameters  Lock_Req, Sync_Req, Freeze_Req; watchdog 100 ms; min TSDR 11; ident 80A1; groups 1, 4; user parameters 01 02")
-unfolding contents_text parameters_text locking_text requests_text configuration_text identifiers_of meaning_text special_text amount_text asked_of groups_text listed digits
+unfolding contents_text parameters_text locking_text requests_text configuration_text identifiers_of meaning_text special_text amount_text asked_of groups_text is_one_group listed digits
 slave_is_locked = refl
 
 pub outputs_are_sent : contents_text (0x68 ∷ 0x05 ∷ 0x05 ∷ 0x68 ∷ 0x05 ∷ 0x01 ∷ 0x7D ∷ 0xAA ∷ 0x55 ∷ 0x82 ∷ 0x16 ∷ []) ≡ Some (codes "outputs     aa 55")
-unfolding contents_text parameters_text locking_text requests_text configuration_text identifiers_of meaning_text special_text amount_text asked_of groups_text listed digits
+unfolding contents_text parameters_text locking_text requests_text configuration_text identifiers_of meaning_text special_text amount_text asked_of groups_text is_one_group listed digits
 outputs_are_sent = refl
 
 pub all_are_synchronized : contents_text (0x68 ∷ 0x07 ∷ 0x07 ∷ 0x68 ∷ 0xFF ∷ 0x81 ∷ 0x46 ∷ 0x3A ∷ 0x3E ∷ 0x20 ∷ 0x00 ∷ 0x5E ∷ 0x16 ∷ []) ≡ Some (codes "command     Sync; every slave")
-unfolding contents_text parameters_text locking_text requests_text configuration_text identifiers_of meaning_text special_text amount_text asked_of groups_text listed digits
+unfolding contents_text parameters_text locking_text requests_text configuration_text identifiers_of meaning_text special_text amount_text asked_of groups_text is_one_group listed digits
 all_are_synchronized = refl
 
 pub configuration_is_sent : contents_text (0x68 ∷ 0x07 ∷ 0x07 ∷ 0x68 ∷ 0x85 ∷ 0x81 ∷ 0x5D ∷ 0x3E ∷ 0x3E ∷ 0x21 ∷ 0x11 ∷ 0x11 ∷ 0x16 ∷ []) ≡ Some (codes "configured  21 outputs 2 octets; 11 inputs 2 octets")
-unfolding contents_text parameters_text locking_text requests_text configuration_text identifiers_of meaning_text special_text amount_text asked_of groups_text listed digits
+unfolding contents_text parameters_text locking_text requests_text configuration_text identifiers_of meaning_text special_text amount_text asked_of groups_text is_one_group listed digits
 configuration_is_sent = refl
 
 -- a point that takes no data
 pub data_of_another_point : contents_text (0x68 ∷ 0x06 ∷ 0x06 ∷ 0x68 ∷ 0x85 ∷ 0x81 ∷ 0x6D ∷ 0x38 ∷ 0x3E ∷ 0x07 ∷ 0xF0 ∷ 0x16 ∷ []) ≡ Some (codes "data        07")
-unfolding contents_text parameters_text locking_text requests_text configuration_text identifiers_of meaning_text special_text amount_text asked_of groups_text listed digits
+unfolding contents_text parameters_text locking_text requests_text configuration_text identifiers_of meaning_text special_text amount_text asked_of groups_text is_one_group listed digits
 data_of_another_point = refl
 
 -- a function that is of no point
 pub data_of_no_point : contents_text (0x68 ∷ 0x04 ∷ 0x04 ∷ 0x68 ∷ 0x05 ∷ 0x01 ∷ 0x49 ∷ 0x07 ∷ 0x56 ∷ 0x16 ∷ []) ≡ Some (codes "data        07")
-unfolding contents_text parameters_text locking_text requests_text configuration_text identifiers_of meaning_text special_text amount_text asked_of groups_text listed digits
+unfolding contents_text parameters_text locking_text requests_text configuration_text identifiers_of meaning_text special_text amount_text asked_of groups_text is_one_group listed digits
 data_of_no_point = refl
 
 -- an extension octet that is not plain
 pub whole_data_unit : contents_text (0x68 ∷ 0x05 ∷ 0x05 ∷ 0x68 ∷ 0x85 ∷ 0x01 ∷ 0x6C ∷ 0xC0 ∷ 0x01 ∷ 0xB3 ∷ 0x16 ∷ []) ≡ Some (codes "data        c0 01")
-unfolding contents_text parameters_text locking_text requests_text configuration_text identifiers_of meaning_text special_text amount_text asked_of groups_text listed digits
+unfolding contents_text parameters_text locking_text requests_text configuration_text identifiers_of meaning_text special_text amount_text asked_of groups_text is_one_group listed digits
 whole_data_unit = refl
 
 -- nothing behind the access points, and no telegram
 pub no_data : contents_text (0x68 ∷ 0x05 ∷ 0x05 ∷ 0x68 ∷ 0x85 ∷ 0x81 ∷ 0x6D ∷ 0x3C ∷ 0x3E ∷ 0xED ∷ 0x16 ∷ []) ≡ None
-unfolding contents_text parameters_text locking_text requests_text configuration_text identifiers_of meaning_text special_text amount_text asked_of groups_text listed digits
+unfolding contents_text parameters_text locking_text requests_text configuration_text identifiers_of meaning_text special_text amount_text asked_of groups_text is_one_group listed digits
 no_data = refl
 
 pub token_has_none : contents_text (0xDC ∷ 0x03 ∷ 0x02 ∷ []) ≡ None
-unfolding contents_text parameters_text locking_text requests_text configuration_text identifiers_of meaning_text special_text amount_text asked_of groups_text listed digits
+unfolding contents_text parameters_text locking_text requests_text configuration_text identifiers_of meaning_text special_text amount_text asked_of groups_text is_one_group listed digits
 token_has_none = refl
 
 pub no_frame_has_none : contents_text (0x33 ∷ []) ≡ None
-unfolding contents_text parameters_text locking_text requests_text configuration_text identifiers_of meaning_text special_text amount_text asked_of groups_text listed digits
+unfolding contents_text parameters_text locking_text requests_text configuration_text identifiers_of meaning_text special_text amount_text asked_of groups_text is_one_group listed digits
 no_frame_has_none = refl

@@ -75,11 +75,11 @@ pub acknowledgement : kind_text (0xE5 ∷ []) ≡ codes "SC short acknowledgemen
 unfolding kind_text telegram_text asked_text addressed_text digits
 acknowledgement = refl
 
-pub no_start : kind_text (0x33 ∷ []) ≡ codes "no telegram: NoStart"
+pub no_start : kind_text (0x33 ∷ []) ≡ codes "no telegram: NoStart, the first octet is no start delimiter"
 unfolding kind_text telegram_text asked_text addressed_text digits
 no_start = refl
 
-pub bad_end : kind_text (0x10 ∷ 0x05 ∷ 0x01 ∷ 0x49 ∷ 0x4E ∷ 0x16 ∷ []) ≡ codes "no telegram: BadEnd"
+pub bad_end : kind_text (0x10 ∷ 0x05 ∷ 0x01 ∷ 0x49 ∷ 0x4E ∷ 0x16 ∷ []) ≡ codes "no telegram: BadEnd, the check sequence or the end delimiter is wrong"
 unfolding kind_text telegram_text asked_text addressed_text digits
 bad_end = refl
 

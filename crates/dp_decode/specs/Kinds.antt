@@ -3,6 +3,7 @@ use Rattle.std.specs.Prelude.{codes, ℕ, ◌%◌, ◌==◌, Bool, true, false, 
 use Rattle.std.specs.Fmt.{decimal}
 use Rattle.dp_telegram.specs.declared.access.Parts.{Parts}
 use Rattle.dp_telegram.specs.declared.fault.FrameFault.{FrameFault}
+use Rattle.dp_telegram.specs.declared.fault.FrameFault.TheVariants as faults
 use Rattle.dp_telegram.specs.declared.frame.Frame.{Frame}
 use Rattle.dp_telegram.specs.declared.frame.Frame.TheVariants as frames
 use Rattle.dp_telegram.specs.declared.frame.Telegram.{Telegram}
@@ -71,9 +72,21 @@ frame_text start (frames.Token da sa) = codes "SD4 token to " ++ decimal (addres
 frame_text start frames.Ack = codes "SC short acknowledgement"
 frame_text start (frames.Telegram telegram) = format_text start ++ codes " " ++ telegram_text telegram
 
+-- what is wrong with octets that are no frame (own)
+abbrev pub frame_fault_words : FrameFault → List ℕ
+frame_fault_words faults.NoStart = codes "the first octet is no start delimiter"
+frame_fault_words faults.BadHead = codes "a length octet or the second start delimiter is wrong"
+frame_fault_words faults.BadEnd = codes "the check sequence or the end delimiter is wrong"
+frame_fault_words faults.Short = codes "the frame is not whole"
+frame_fault_words faults.Long = codes "octets follow the frame"
+
+-- the name of a fault, and what is wrong
+abbrev pub fault_text : FrameFault → List ℕ
+fault_text fault = frame_fault_name fault ++ codes ", " ++ frame_fault_words fault
+
 abbrev pub reading_text : ℕ → Result Frame FrameFault → List ℕ
 reading_text start (Ok frame) = frame_text start frame
-reading_text start (Err fault) = codes "no telegram: " ++ frame_fault_name fault
+reading_text start (Err fault) = codes "no telegram: " ++ fault_text fault
 
 -- what octets are
 unfoldable pub kind_text : List ℕ → List ℕ

@@ -76,15 +76,16 @@ frame_parts (frames.Telegram telegram) = parts_of telegram
 unfoldable pub parts_in : List ℕ → Option Parts
 parts_in octets = option_and_then frame_parts (frame_of octets)
 
--- the row of a reply, where a telegram is one
-abbrev pub reply_row : Bool → Telegram → List ℕ
-reply_row earlier telegram = codes "reply       " ++ response_text earlier telegram
+-- the row of a reply: a telegram, or a short acknowledgement where there is none (IEC 61158-4-3, short acknowledgement)
+abbrev pub reply_row : Bool → Option Telegram → List ℕ
+reply_row earlier None = codes "reply       SC, short acknowledgement"
+reply_row earlier (Some telegram) = codes "reply       " ++ response_text earlier telegram
 
--- a reply to what was asked; a short acknowledgement has no row
+-- a reply to what was asked; a token is none
 abbrev pub frame_reply : Option Parts → Frame → Option (List ℕ)
 frame_reply asked (frames.Token da sa) = None
-frame_reply asked frames.Ack = None
-frame_reply asked (frames.Telegram telegram) = Some (reply_row (is_earlier asked (parts_of telegram)) telegram)
+frame_reply asked frames.Ack = Some (reply_row false None)
+frame_reply asked (frames.Telegram telegram) = Some (reply_row (is_earlier asked (parts_of telegram)) (Some telegram))
 
 -- what a reply to a request says
 unfoldable pub reply_text : List ℕ → List ℕ → Option (List ℕ)

@@ -86,8 +86,8 @@ pub another_code : reply_text (0x68 ∷ 0x05 ∷ 0x05 ∷ 0x68 ∷ 0x85 ∷ 0x81
 unfolding reply_text parts_in response_text sent_text diagnosis_words whole_text configuration_text identifiers_of meaning_text amount_text listed digits
 another_code = refl
 
--- a short acknowledgement, and no telegram
-pub acknowledged : reply_text (0x68 ∷ 0x07 ∷ 0x07 ∷ 0x68 ∷ 0x85 ∷ 0x81 ∷ 0x5D ∷ 0x3E ∷ 0x3E ∷ 0x21 ∷ 0x11 ∷ 0x11 ∷ 0x16 ∷ []) (0xE5 ∷ []) ≡ None
+-- a short acknowledgement, and what is no frame
+pub acknowledged : reply_text (0x68 ∷ 0x07 ∷ 0x07 ∷ 0x68 ∷ 0x85 ∷ 0x81 ∷ 0x5D ∷ 0x3E ∷ 0x3E ∷ 0x21 ∷ 0x11 ∷ 0x11 ∷ 0x16 ∷ []) (0xE5 ∷ []) ≡ Some (codes "reply       SC, short acknowledgement")
 unfolding reply_text parts_in response_text sent_text diagnosis_words whole_text configuration_text identifiers_of meaning_text amount_text listed digits
 acknowledged = refl
 

@@ -1,5 +1,5 @@
 -- What the texts of octets and bits are made of (own).
-use Rattle.std.specs.Prelude.{codes, ℕ, ◌/◌, ◌%◌, ◌==◌, Bool, true, false, if◌then◌else◌, List, [], ◌∷◌, ◌++◌, filter, map}
+use Rattle.std.specs.Prelude.{codes, ℕ, ◌/◌, ◌%◌, ◌==◌, ◌||◌, Bool, true, false, if◌then◌else◌, List, [], ◌∷◌, ◌++◌, filter, map}
 use Rattle.std.specs.Fmt.{digit_glyph}
 use Rattle.std.specs.List.{join_by, list_any}
 use Rattle.dp_telegram.specs.FunctionCode.{is_set}
@@ -44,6 +44,14 @@ group_rows octet =
     ∷ (is_set 7 octet, codes "8")
     ∷ []
 
+-- one bit alone is set
+unfoldable pub is_one_group : ℕ → Bool
+is_one_group octet =
+    octet == 1 || octet == 2 || octet == 4 || octet == 8 || octet == 16 || octet == 32 || octet == 64 || octet == 128
+
+abbrev pub groups_word : ℕ → List ℕ
+groups_word octet = if is_one_group octet then codes "group " else codes "groups "
+
 -- the groups of an octet; another text for none
 unfoldable pub groups_text : List ℕ → ℕ → List ℕ
-groups_text none octet = if octet == 0 then none else codes "groups " ++ listed [] [] (group_rows octet)
+groups_text none octet = if octet == 0 then none else groups_word octet ++ listed [] [] (group_rows octet)

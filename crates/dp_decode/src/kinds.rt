@@ -3,10 +3,10 @@
 ghost use Rattle.std.specs.Prelude.{◌≡◌, Some, option_map};
 ghost use Rattle.dp_telegram.specs.FrameText.{delimiter};
 ghost use Rattle.dp_telegram.specs.FunctionCode.{function_of};
-ghost use Rattle.dp_decode.specs.Kinds.{asked_text, bit_text, count_text, format_text, frame_text, function_name, function_text, is_of_point as is_of_point_by, service_text, telegram_text};
+ghost use Rattle.dp_decode.specs.Kinds.{asked_text, bit_text, count_text, fault_text, format_text, frame_fault_words, frame_text, function_name, function_text, is_of_point as is_of_point_by, service_text, telegram_text};
 
 use crate::points::{Point, Source};
-use dp_telegram::{Frame, Function, Parts, Telegram, decode, function_code};
+use dp_telegram::{Frame, FrameFault, Function, Parts, Telegram, decode, function_code};
 use std::fmt;
 use std::marker::Model;
 
@@ -21,7 +21,7 @@ const SD2: u8 = 0x68;
 /// What octets are: the frame, what it asks for, and of which point (IEC 61158-4-3, frame formats and function code).
 ///
 /// Contracts see the text that its `Display` writes: `SD2 SRD low FCB 1 FCV 0  Slave_Diag (60) from 62`,
-/// `SD1 FDL status`, `SD4 token to 3 from 2`, `SC short acknowledgement` or `no telegram: BadEnd`.
+/// `SD1 FDL status`, `SD4 token to 3 from 2`, `SC short acknowledgement` or `no telegram: Long, octets follow the frame`.
 #[derive(Drop)]
 pub struct Kind<'a> {
     octets: &'a [u8],
@@ -61,10 +61,37 @@ impl<'a> fmt::Display for Kind<'a> {
                 write!(f, "{frame}")
             }
             Err(fault) => {
-                let fault = fault.name();
+                let fault = Faulty(fault);
                 write!(f, "no telegram: {fault}")
             }
         }
+    }
+}
+
+/// The name of a fault, and what is wrong.
+#[derive(Clone, Copy)]
+struct Faulty(FrameFault);
+
+impl fmt::Display for Faulty {
+    ghost output = { λ fault. Some (fault_text fault.0) };
+
+    fn fmt<W: fmt::Write>(&self, f: &mut fmt::Formatter<W>) -> fmt::Result {
+        let name = self.0.name();
+        let words = wrong(self.0);
+        write!(f, "{name}, {words}")
+    }
+}
+
+/// What is wrong with octets that are no frame.
+fn wrong(fault: FrameFault) -> &'static str
+    ensures { result.now ≡ frame_fault_words fault }
+{
+    match fault {
+        FrameFault::NoStart => "the first octet is no start delimiter",
+        FrameFault::BadHead => "a length octet or the second start delimiter is wrong",
+        FrameFault::BadEnd => "the check sequence or the end delimiter is wrong",
+        FrameFault::Short => "the frame is not whole",
+        FrameFault::Long => "octets follow the frame",
     }
 }
 

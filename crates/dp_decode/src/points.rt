@@ -24,8 +24,8 @@ impl fmt::Display for Point {
     }
 }
 
-/// The service of the point of this number, where the table has it.
-fn service(number: u8) -> Option<&'static str>
+/// The service of the point of this number, by its name in the standard; None where no service has it.
+pub fn service(number: u8) -> Option<&'static str>
     ensures { option_map (λ name. name.now) result ≡ service_in points number }
 {
     match number {

@@ -2,7 +2,7 @@
 
 ghost use Rattle.std.specs.Prelude.{◌≡◌, Some, option_map};
 ghost use Rattle.dp_telegram.specs.Access.{parts_of};
-ghost use Rattle.dp_decode.specs.Replies.{data_front, data_text, earlier_text, frame_parts, frame_reply, is_earlier as is_earlier_by, label_from, parts_in, plain_text, sent_text};
+ghost use Rattle.dp_decode.specs.Replies.{data_front, data_text, earlier_text, frame_parts, frame_reply, is_earlier as is_earlier_by, label_from, parts_in, plain_text, response_text, sent_text};
 
 use crate::configurations::Configuration;
 use crate::diagnoses::Diagnosis;
@@ -20,7 +20,8 @@ use std::marker::Model;
 #[derive(Drop)]
 pub struct Reply {
     is_earlier: bool,
-    telegram: Telegram,
+    /// None is a short acknowledgement.
+    telegram: Option<Telegram>,
 }
 
 impl Model for Reply {
@@ -35,8 +36,8 @@ impl Model for Reply {
 impl Reply {
     ghost use Rattle.dp_decode.specs.Replies.{reply_text};
 
-    /// That of any octets that came back to these of a request; None where they are no telegram, as a short
-    /// acknowledgement is none.
+    /// That of any octets that came back to these of a request; None where they are neither a telegram nor a short
+    /// acknowledgement.
     #[tactic(auto, unfolding(crate::specs::Replies::reply_text))]
     pub fn of(request: &[u8], reply: &[u8]) -> Option<Reply>
         ensures { result ≡ reply_text request.now reply.now }
@@ -53,12 +54,15 @@ impl Reply {
     {
         match frame {
             Frame::Token { .. } => None,
-            Frame::Ack => None,
+            Frame::Ack => Some(Reply {
+                is_earlier: false,
+                telegram: None,
+            }),
             Frame::Telegram(telegram) => {
                 let is_earlier = is_from_another(asked, &telegram.parts());
                 Some(Reply {
                     is_earlier,
-                    telegram,
+                    telegram: Some(telegram),
                 })
             }
         }
@@ -100,20 +104,44 @@ fn is_from_another(asked: &Option<Parts>, sent: &Option<Parts>) -> bool
 impl fmt::Display for Reply {
     ghost output = { λ text. Some text };
 
+    fn fmt<W: fmt::Write>(&self, f: &mut fmt::Formatter<W>) -> fmt::Result {
+        match &self.telegram {
+            Some(telegram) => {
+                let response = Response {
+                    is_earlier: self.is_earlier,
+                    telegram,
+                };
+                write!(f, "reply       {response}")
+            }
+            None => f.write_str("reply       SC, short acknowledgement"),
+        }
+    }
+}
+
+/// What a response says.
+#[derive(Drop)]
+struct Response<'a> {
+    is_earlier: bool,
+    telegram: &'a Telegram,
+}
+
+impl<'a> fmt::Display for Response<'a> {
+    ghost output = { λ response. Some (response_text response.is_earlier response.telegram.now) };
+
     #[tactic(auto, unfolding(crate::specs::Replies::response_text))]
     fn fmt<W: fmt::Write>(&self, f: &mut fmt::Formatter<W>) -> fmt::Result {
         if let Some(said) = plain(self.telegram.fc) {
-            return write!(f, "reply       {said}");
+            return f.write_str(said);
         }
         let Some(front) = front(self.telegram.fc) else {
             let code = HexPair(self.telegram.fc);
-            return write!(f, "reply       FC {code}");
+            return write!(f, "FC {code}");
         };
         let sent = Sent {
             is_earlier: self.is_earlier,
-            telegram: &self.telegram,
+            telegram: self.telegram,
         };
-        write!(f, "reply       {front}{sent}")
+        write!(f, "{front}{sent}")
     }
 }
 

@@ -4,14 +4,14 @@ ghost use Rattle.std.specs.Prelude.{◌≡◌, ◌<◌, Some};
 ghost use Rattle.std.specs.Fmt.{WritesOnOk};
 ghost use Rattle.dp_telegram.specs.FunctionCode.{is_set as is_set_of};
 ghost use Rattle.dp_decode.specs.PrivateWords.{names_behind};
-ghost use Rattle.dp_decode.specs.Words.{capital_pair, groups_text, hex_pair, hex_text, ident_text, listed};
+ghost use Rattle.dp_decode.specs.Words.{capital_pair, groups_text, groups_word, hex_pair, hex_text, ident_text, is_one_group, listed};
 
 use std::fmt;
 use std::marker::Model;
 
 /// An octet as two hex digits in lower case.
 #[derive(Clone, Copy)]
-pub(crate) struct HexPair(pub(crate) u8);
+pub struct HexPair(pub u8);
 
 impl fmt::Display for HexPair {
     ghost output = { λ octet. Some (hex_pair octet.0) };
@@ -24,7 +24,7 @@ impl fmt::Display for HexPair {
 
 /// An octet as two hex digits in capitals.
 #[derive(Clone, Copy)]
-struct CapitalPair(u8);
+pub struct CapitalPair(pub u8);
 
 impl fmt::Display for CapitalPair {
     ghost output = { λ octet. Some (capital_pair octet.0) };
@@ -37,7 +37,7 @@ impl fmt::Display for CapitalPair {
 
 /// Octets as pairs of hex digits with spaces between.
 #[derive(Drop)]
-pub(crate) struct Hex<'a>(pub(crate) &'a [u8]);
+pub struct Hex<'a>(pub &'a [u8]);
 
 impl<'a> fmt::Display for Hex<'a> {
     ghost output = { λ octets. Some (hex_text octets.0.now) };
@@ -79,7 +79,7 @@ pub(crate) const fn is_set(number: u32, octet: u8) -> bool
 
 /// A name that is told where it is set.
 #[derive(Drop)]
-pub(crate) struct Flag {
+pub struct Flag {
     is_set: bool,
     name: &'static str,
 }
@@ -94,7 +94,7 @@ impl Model for Flag {
 
 impl Flag {
     /// The name, where it is set.
-    pub(crate) fn new(is_set: bool, name: &'static str) -> Flag
+    pub fn new(is_set: bool, name: &'static str) -> Flag
         ensures { result ≡ (is_set, name.entry.now) }
     {
         Flag { is_set, name }
@@ -111,10 +111,12 @@ impl Flag {
 
 /// The names of flags that are set, and what stands behind them; another text where none is set.
 #[derive(Drop)]
-pub(crate) struct Names<'a> {
-    pub(crate) flags: &'a [Flag],
-    pub(crate) none: &'static str,
-    pub(crate) behind: &'static str,
+pub struct Names<'a> {
+    pub flags: &'a [Flag],
+    /// What is told where none is set.
+    pub none: &'static str,
+    /// What stands behind the names.
+    pub behind: &'static str,
 }
 
 impl<'a> fmt::Display for Names<'a> {
@@ -150,9 +152,10 @@ fn write_names<W: fmt::Write>(
 
 /// The groups of an octet, by their bits; another text for none.
 #[derive(Drop)]
-pub(crate) struct Groups {
-    pub(crate) octet: u8,
-    pub(crate) none: &'static str,
+pub struct Groups {
+    pub octet: u8,
+    /// What is told where there is none.
+    pub none: &'static str,
 }
 
 impl fmt::Display for Groups {
@@ -178,6 +181,33 @@ impl fmt::Display for Groups {
             none: "",
             behind: "",
         };
-        write!(f, "groups {names}")
+        let word = groups_word(self.octet);
+        write!(f, "{word}{names}")
     }
+}
+
+/// What stands before the groups of an octet that has some.
+fn groups_word(octet: u8) -> &'static str
+    ensures { result.now ≡ groups_word octet }
+{
+    if is_one_group(octet) {
+        "group "
+    } else {
+        "groups "
+    }
+}
+
+/// One bit alone is set.
+#[tactic(auto, unfolding(crate::specs::Words::is_one_group))]
+fn is_one_group(octet: u8) -> bool
+    ensures { result ≡ is_one_group octet }
+{
+    octet == 1
+        || octet == 2
+        || octet == 4
+        || octet == 8
+        || octet == 16
+        || octet == 32
+        || octet == 64
+        || octet == 128
 }
