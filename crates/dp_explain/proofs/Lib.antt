@@ -1,6 +1,7 @@
-pub mod Digits
 pub mod Bars
 pub mod Edits
 pub mod Writing
 pub mod Told
-pub mod Scenes
+pub mod Knowing
+pub mod Rows
+pub mod Retold

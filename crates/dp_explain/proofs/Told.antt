@@ -6,41 +6,41 @@ use Rattle.std.proofs.lemmas.List.{append-nil}
 use Rattle.std.proofs.lemmas.List.Concat.{flat_map-cons}
 use Rattle.dp_text.specs.Writes.{WritesPrefix}
 use Rattle.dp_explain.specs.declared.part.Part.{Part}
-use Rattle.dp_explain.specs.Scenes.{SceneView}
 use Rattle.dp_line.specs.World.{Description}
 use Rattle.dp_explain.specs.declared.explain_fault.ExplainFault.{ExplainFault}
-use Rattle.dp_explain.specs.Explained.{event_of_row, scene_behind, told_row, told_rows, first_scene, last_scene, Leaves}
+use Rattle.dp_explain.specs.Known.{KnownView, first_known}
+use Rattle.dp_explain.specs.Explained.{event_of_row, known_behind, told_row, told_rows, last_known, Leaves}
 use Rattle.dp_explain.proofs.Writing.{appends_none, appends_more, more_prefix, then_leaves, front_cut}
 
 -- so much is written, and the rows that are left would complete it
-pub record SoFar (part : Part) (all : List ℕ) (old new : Option (List ℕ)) (scene : SceneView) (rows : List (List ℕ)) : Type 0 where
+pub record SoFar (part : Part) (all : List ℕ) (old new : Option (List ℕ)) (known : KnownView) (rows : List (List ℕ)) : Type 0 where
   pub text : List ℕ
   pub written : Appends old new text
-  pub left : text ++ told_rows part scene rows ≡ all
+  pub left : text ++ told_rows part known rows ≡ all
 
-pub start : (part : Part) (old : Option (List ℕ)) (scene : SceneView) (rows : List (List ℕ)) → SoFar part (told_rows part scene rows) old old scene rows
-start part old scene rows = record { text = []; written = appends_none old; left = refl }
+pub start : (part : Part) (old : Option (List ℕ)) (known : KnownView) (rows : List (List ℕ)) → SoFar part (told_rows part known rows) old old known rows
+start part old known rows = record { text = []; written = appends_none old; left = refl }
 
-pub at_end : (part : Part) (all : List ℕ) (old new : Option (List ℕ)) (scene : SceneView) → SoFar part all old new scene [] → Appends old new all
-at_end part all old new scene s = subst (Appends old new) (sym (append-nil s.text) ∙ s.left) s.written
+pub at_end : (part : Part) (all : List ℕ) (old new : Option (List ℕ)) (known : KnownView) → SoFar part all old new known [] → Appends old new all
+at_end part all old new known s = subst (Appends old new) (sym (append-nil s.text) ∙ s.left) s.written
 
-pub one_more : (part : Part) (all : List ℕ) (old new newer : Option (List ℕ)) (scene next : SceneView) (row : List ℕ) (rows : List (List ℕ)) → SoFar part all old new scene (row ∷ rows)
-    → next ≡ scene_behind scene (event_of_row row) → Appends new newer (told_row part scene (event_of_row row)) → SoFar part all old newer next rows
-one_more part all old new newer scene next row rows s is written =
-    let text = told_row part scene (event_of_row row) in
+pub one_more : (part : Part) (all : List ℕ) (old new newer : Option (List ℕ)) (known next : KnownView) (row : List ℕ) (rows : List (List ℕ)) → SoFar part all old new known (row ∷ rows)
+    → next ≡ known_behind known (event_of_row row) → Appends new newer (told_row part known (event_of_row row)) → SoFar part all old newer next rows
+one_more part all old new newer known next row rows s is written =
+    let text = told_row part known (event_of_row row) in
     record {
       text = s.text ++ text;
       written = appends_more old new newer s.text text s.written written;
       left =
           append_assoc s.text text (told_rows part next rows)
-          ∙ ap (λ (n : SceneView). s.text ++ (text ++ told_rows part n rows)) is
+          ∙ ap (λ (n : KnownView). s.text ++ (text ++ told_rows part n rows)) is
           ∙ s.left;
     }
 
-pub cut_short : (part : Part) (all : List ℕ) (old new newer : Option (List ℕ)) (scene : SceneView) (row : List ℕ) (rows : List (List ℕ)) → SoFar part all old new scene (row ∷ rows)
-    → WritesPrefix new newer (told_row part scene (event_of_row row)) → WritesPrefix old newer all
-cut_short part all old new newer scene row rows s cut =
-    more_prefix old new newer s.text (told_row part scene (event_of_row row)) (told_rows part (scene_behind scene (event_of_row row)) rows) all s.written cut s.left
+pub cut_short : (part : Part) (all : List ℕ) (old new newer : Option (List ℕ)) (known : KnownView) (row : List ℕ) (rows : List (List ℕ)) → SoFar part all old new known (row ∷ rows)
+    → WritesPrefix new newer (told_row part known (event_of_row row)) → WritesPrefix old newer all
+cut_short part all old new newer known row rows s cut =
+    more_prefix old new newer s.text (told_row part known (event_of_row row)) (told_rows part (known_behind known (event_of_row row)) rows) all s.written cut s.left
 
 -- ---- the holds of slaves, one after another
 
@@ -76,25 +76,25 @@ holds_cut holds all old new newer address addresses s cut =
 -- ---- a pass, and what comes behind it
 
 -- the rows are told in a pass, and then what is known behind them
-pub pass_then : (part : Part) (line : Description) (count : ℕ) (lines rows : List (List ℕ)) (scene last : SceneView) (behind : SceneView → List ℕ) (old new newer : Option (List ℕ)) (result : Result (Unit {0}) ExplainFault)
-    → scene ≡ first_scene line → rows ≡ drop 1 lines → Appends old new (told_rows part scene (take count rows)) → last ≡ last_scene scene (take count rows) → Leaves (behind last) new newer result
-    → Leaves (told_rows part (first_scene line) (take count (drop 1 lines)) ++ behind (last_scene (first_scene line) (take count (drop 1 lines)))) old newer result
-pass_then part line count lines rows scene last behind old new newer result first behind_header written end others =
-    let text : told_rows part scene (take count rows) ≡ told_rows part (first_scene line) (take count (drop 1 lines)) =
-    ap (λ (s : SceneView). told_rows part s (take count rows)) first ∙ ap (λ (r : List (List ℕ)). told_rows part (first_scene line) (take count r)) behind_header in
-    let known : last ≡ last_scene (first_scene line) (take count (drop 1 lines)) =
-    end ∙ ap (λ (s : SceneView). last_scene s (take count rows)) first ∙ ap (λ (r : List (List ℕ)). last_scene (first_scene line) (take count r)) behind_header in
-    then_leaves old new newer (told_rows part (first_scene line) (take count (drop 1 lines))) (behind (last_scene (first_scene line) (take count (drop 1 lines)))) result
-    (subst (Appends old new) text written) (subst (λ (s : SceneView). Leaves (behind s) new newer result) known others)
+pub pass_then : (part : Part) (line : Description) (count : ℕ) (lines rows : List (List ℕ)) (known last : KnownView) (behind : KnownView → List ℕ) (old new newer : Option (List ℕ)) (result : Result (Unit {0}) ExplainFault)
+    → known ≡ first_known line → rows ≡ drop 1 lines → Appends old new (told_rows part known (take count rows)) → last ≡ last_known known (take count rows) → Leaves (behind last) new newer result
+    → Leaves (told_rows part (first_known line) (take count (drop 1 lines)) ++ behind (last_known (first_known line) (take count (drop 1 lines)))) old newer result
+pass_then part line count lines rows known last behind old new newer result first behind_header written end others =
+    let text : told_rows part known (take count rows) ≡ told_rows part (first_known line) (take count (drop 1 lines)) =
+    ap (λ (s : KnownView). told_rows part s (take count rows)) first ∙ ap (λ (r : List (List ℕ)). told_rows part (first_known line) (take count r)) behind_header in
+    let behind_last : last ≡ last_known (first_known line) (take count (drop 1 lines)) =
+    end ∙ ap (λ (s : KnownView). last_known s (take count rows)) first ∙ ap (λ (r : List (List ℕ)). last_known (first_known line) (take count r)) behind_header in
+    then_leaves old new newer (told_rows part (first_known line) (take count (drop 1 lines))) (behind (last_known (first_known line) (take count (drop 1 lines)))) result
+    (subst (Appends old new) text written) (subst (λ (s : KnownView). Leaves (behind s) new newer result) behind_last others)
 
 -- the pass was cut short
-pub pass_cut : (part : Part) (line : Description) (count : ℕ) (lines rows : List (List ℕ)) (scene : SceneView) (behind : List ℕ) (old new : Option (List ℕ))
-    → scene ≡ first_scene line → rows ≡ drop 1 lines → WritesPrefix old new (told_rows part scene (take count rows))
-    → WritesPrefix old new (told_rows part (first_scene line) (take count (drop 1 lines)) ++ behind)
-pass_cut part line count lines rows scene behind old new first behind_header cut =
-    let text : told_rows part scene (take count rows) ≡ told_rows part (first_scene line) (take count (drop 1 lines)) =
-    ap (λ (s : SceneView). told_rows part s (take count rows)) first ∙ ap (λ (r : List (List ℕ)). told_rows part (first_scene line) (take count r)) behind_header in
-    front_cut old new (told_rows part (first_scene line) (take count (drop 1 lines))) behind (subst (WritesPrefix old new) text cut)
+pub pass_cut : (part : Part) (line : Description) (count : ℕ) (lines rows : List (List ℕ)) (known : KnownView) (behind : List ℕ) (old new : Option (List ℕ))
+    → known ≡ first_known line → rows ≡ drop 1 lines → WritesPrefix old new (told_rows part known (take count rows))
+    → WritesPrefix old new (told_rows part (first_known line) (take count (drop 1 lines)) ++ behind)
+pass_cut part line count lines rows known behind old new first behind_header cut =
+    let text : told_rows part known (take count rows) ≡ told_rows part (first_known line) (take count (drop 1 lines)) =
+    ap (λ (s : KnownView). told_rows part s (take count rows)) first ∙ ap (λ (r : List (List ℕ)). told_rows part (first_known line) (take count r)) behind_header in
+    front_cut old new (told_rows part (first_known line) (take count (drop 1 lines))) behind (subst (WritesPrefix old new) text cut)
 
 -- the next of the rows that are left
 pub take_next : (count index : ℕ) (row : List ℕ) (rows : List (List ℕ)) → index < count → take (count - index) (row ∷ rows) ≡ row ∷ take (count - (index + 1)) rows

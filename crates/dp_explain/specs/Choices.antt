@@ -7,11 +7,10 @@ use Rattle.dp_line.specs.declared.event.Event.{Event}
 use Rattle.dp_line.specs.declared.event.Outcome.{Outcome}
 use Rattle.dp_line.specs.declared.event.Outcome.TheVariants.{Reply, Silence, Spread, Released}
 use Rattle.dp_explain.specs.declared.choice.Choice.{Choice}
-use Rattle.dp_explain.specs.declared.who.Whom.{Whom}
-use Rattle.dp_explain.specs.declared.who.Whom.TheVariants.{Slave}
-use Rattle.dp_explain.specs.declared.who.Who.{Who}
-use Rattle.dp_explain.specs.declared.who.Who.TheVariants as senders
-use Rattle.dp_explain.specs.Heads.{who_of}
+use Rattle.dp_sentences.specs.declared.who.Whom.TheVariants.{Slave}
+use Rattle.dp_sentences.specs.declared.who.Who.{Who}
+use Rattle.dp_sentences.specs.declared.who.Who.TheVariants as senders
+use Rattle.dp_sentences.specs.Heads.{who_of}
 
 -- a place is not before the first that is asked for, and not behind the last
 abbrev pub is_from : Option ℕ → ℕ → Bool
@@ -47,8 +46,10 @@ abbrev pub is_of_master : Option ℕ → Who → Bool
 is_of_master None who = true
 is_of_master (Some master) who = comes_from master who
 
--- by each rule but these nothing is done
+-- what is asked for is refused by each rule but these: by Status, Repeat and Done it is answered, and a token and a response ask for nothing
 abbrev pub is_refusal : Rule → Bool
+is_refusal rules.Token = false
+is_refusal rules.NotRequest = false
 is_refusal rules.Status = false
 is_refusal rules.Repeat = false
 is_refusal rules.Done = false

@@ -1,11 +1,11 @@
 -- An audit text, explained (own).
-use Rattle.std.specs.Prelude.{codes, ◌≡◌, ℕ, ◌+◌, ◌-◌, if◌then◌else◌, List, [], ◌∷◌, ◌++◌, take, drop, map, Option, Some, None, option_map, option_and_then, Result, Ok, Err}
+use Rattle.std.specs.Prelude.{codes, ◌≡◌, ℕ, ◌+◌, ◌-◌, if◌then◌else◌, List, [], ◌∷◌, ◌++◌, take, drop, Option, Some, None, option_map, option_and_then, Result, Ok, Err}
 use Rattle.std.specs.Io.KnownBytes.{Appends}
 use Rattle.std.specs.Fmt.{decimal}
 use Rattle.std.specs.List.{flat_map}
 use Rattle.dp_line.specs.declared.event.Event.{Event}
 use Rattle.dp_line.specs.declared.event.Outcome.{Outcome}
-use Rattle.dp_line.specs.World.{Description, World, start_of}
+use Rattle.dp_line.specs.World.{Description, World}
 use Rattle.dp_line.specs.Steps.{step}
 use Rattle.dp_text.specs.Words.{lines_of}
 use Rattle.dp_text.specs.Writes.{WritesPrefix}
@@ -17,13 +17,13 @@ use Rattle.dp_explain.specs.declared.part.Part.{Part}
 use Rattle.dp_explain.specs.declared.part.Part.TheVariants as parts
 use Rattle.dp_explain.specs.declared.explain_fault.ExplainFault.{ExplainFault}
 use Rattle.dp_explain.specs.declared.explain_fault.ExplainFault.TheVariants as ends
-use Rattle.dp_explain.specs.Notes.{first_notes}
-use Rattle.dp_explain.specs.Tallies.{first_tally, tally_text}
-use Rattle.dp_explain.specs.Holds.{hold_ended, hold_lasts}
-use Rattle.dp_explain.specs.Results.{shown_at}
-use Rattle.dp_explain.specs.Scenes.{SceneView}
+use Rattle.dp_sentences.specs.Results.{shown_at}
+use Rattle.dp_sentences.specs.Scenes.{SceneView}
+use Rattle.dp_sentences.specs.Blocks.{block_text}
 use Rattle.dp_explain.specs.Choices.{is_chosen}
-use Rattle.dp_explain.specs.Blocks.{block_text, outcome_told, scene_after}
+use Rattle.dp_explain.specs.Tallies.{tally_text}
+use Rattle.dp_explain.specs.Holds.{hold_ended, hold_lasts}
+use Rattle.dp_explain.specs.Known.{KnownView, first_known, known_after, outcome_told, slave_addresses}
 
 -- ---- the entries
 
@@ -43,34 +43,22 @@ abbrev pub told_event : Part → SceneView → Event → List ℕ
 told_event part scene event =
     moment_text part scene (step scene.world event).world (scene.world.count + 1) event (outcome_told scene.world event)
 
-abbrev pub told_row : Part → SceneView → Option Event → List ℕ
-told_row part scene None = []
-told_row part scene (Some event) = told_event part scene event
+abbrev pub told_row : Part → KnownView → Option Event → List ℕ
+told_row part known None = []
+told_row part known (Some event) = told_event part known.scene event
 
-abbrev pub scene_behind : SceneView → Option Event → SceneView
-scene_behind scene None = scene
-scene_behind scene (Some event) = scene_after scene event
+abbrev pub known_behind : KnownView → Option Event → KnownView
+known_behind known None = known
+known_behind known (Some event) = known_after known event
 
 -- what is told of the rows of an audit text, one after another, and what is known behind the last
-abbrev pub told_rows : Part → SceneView → List (List ℕ) → List ℕ
-told_rows part scene [] = []
-told_rows part scene (row ∷ rows) = told_row part scene (event_of_row row) ++ told_rows part (scene_behind scene (event_of_row row)) rows
+abbrev pub told_rows : Part → KnownView → List (List ℕ) → List ℕ
+told_rows part known [] = []
+told_rows part known (row ∷ rows) = told_row part known (event_of_row row) ++ told_rows part (known_behind known (event_of_row row)) rows
 
-abbrev pub last_scene : SceneView → List (List ℕ) → SceneView
-last_scene scene [] = scene
-last_scene scene (row ∷ rows) = last_scene (scene_behind scene (event_of_row row)) rows
-
-abbrev pub slave_addresses : Description → List ℕ
-slave_addresses line = map (λ slave. slave.address) line.slaves
-
--- before the first entry
-abbrev pub first_scene : Description → SceneView
-first_scene line = record {
-  description = line;
-  world = start_of line;
-  notes = first_notes (slave_addresses line) line.masters;
-  tally = first_tally line.masters;
-}
+abbrev pub last_known : KnownView → List (List ℕ) → KnownView
+last_known known [] = known
+last_known known (row ∷ rows) = last_known (known_behind known (event_of_row row)) rows
 
 -- ---- the text
 
@@ -100,19 +88,19 @@ right_rows verdict text = take (right_entries verdict) (drop 1 (lines_of text))
 -- the holds of a slave in the order in which they began, the last of which may last to the end
 abbrev pub holds_of : Description → List (List ℕ) → ℕ → List ℕ
 holds_of line rows address =
-    told_rows (parts.HoldsOf address) (first_scene line) rows
-    ++ hold_lasts address (shown_at (last_scene (first_scene line) rows).world address)
+    told_rows (parts.HoldsOf address) (first_known line) rows
+    ++ hold_lasts address (shown_at (last_known (first_known line) rows).scene.world address)
 
 -- the holds of each slave in the order of the rack, and how many requests were answered by each rule
 abbrev pub holds_text : Description → List (List ℕ) → List ℕ
 holds_text line rows = codes "holds\n" ++ flat_map (holds_of line rows) (slave_addresses line)
 
 abbrev pub summary_text : Description → List (List ℕ) → List ℕ
-summary_text line rows = holds_text line rows ++ tally_text (last_scene (first_scene line) rows).tally
+summary_text line rows = holds_text line rows ++ tally_text (last_known (first_known line) rows).tally
 
 -- the entries and the summary
 abbrev pub told_text : Description → List (List ℕ) → Choice → List ℕ
-told_text line rows choice = told_rows (parts.Entries choice) (first_scene line) rows ++ summary_text line rows
+told_text line rows choice = told_rows (parts.Entries choice) (first_known line) rows ++ summary_text line rows
 
 -- and what the text is found to be
 abbrev pub explained_by : Result ℕ AuditFault → Description → List ℕ → Choice → List ℕ

@@ -4,9 +4,9 @@ ghost use Rattle.std.specs.Prelude.{◌≡◌, ◌==◌};
 ghost use Rattle.std.specs.List.{list_any};
 ghost use Rattle.dp_explain.specs.Choices.{is_from, is_to, goes_to, is_about, is_of_slave, comes_from, is_of_master, is_refusal, refuses, is_chosen};
 
-use crate::who::{Who, Whom};
 use dp_line::{Event, Outcome};
 use dp_responder::Rule;
+use dp_sentences::{Who, Whom};
 
 /// Which entries are told: those that each part lets through.
 #[derive(Clone, Copy, Debug)]
@@ -19,7 +19,7 @@ pub struct Choice {
     pub slave: Option<u8>,
     /// The master, by its address, that sent it; None is each, and the operator.
     pub master: Option<u8>,
-    /// Only requests by whose rule nothing was done.
+    /// Only requests that were refused.
     pub refused: bool,
     /// No entry at all: the summary alone.
     pub summary: bool,
@@ -117,11 +117,13 @@ fn is_of_master(master: Option<u8>, who: Who) -> bool
     }
 }
 
-/// By the rule nothing is done.
+/// What was asked for is refused by the rule.
 pub(crate) fn is_refusal(rule: Rule) -> bool
     ensures { result ≡ is_refusal rule }
 {
     match rule {
+        Rule::Token => false,
+        Rule::NotRequest => false,
         Rule::Status => false,
         Rule::Repeat => false,
         Rule::Done => false,

@@ -6,7 +6,8 @@ ghost use Rattle.dp_text.specs.Words.{lines_of};
 ghost use Rattle.dp_line.specs.World.{description_of, opening_fault};
 ghost use Rattle.dp_audit.specs.Check.{checked};
 ghost use Rattle.dp_explain.specs.Tallies.{tally_text};
-ghost use Rattle.dp_explain.specs.Explained.{right_entries, verdict_text, verdict_status, slave_addresses, holds_of, holds_text, told_text, explained, explained_by, Leaves, Explains};
+ghost use Rattle.dp_explain.specs.Known.{slave_addresses};
+ghost use Rattle.dp_explain.specs.Explained.{right_entries, verdict_text, verdict_status, holds_of, holds_text, told_text, explained, explained_by, Leaves, Explains};
 
 use crate::choice::Choice;
 use crate::explain_fault::ExplainFault;

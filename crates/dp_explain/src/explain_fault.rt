@@ -1,6 +1,7 @@
 //! Why an explanation ended early.
 
 ghost use Rattle.std.specs.Prelude.{◌≡◌};
+ghost use Rattle.dp_explain.specs.Names.{explain_fault_name};
 
 use thiserror::Error;
 
@@ -16,7 +17,9 @@ pub enum ExplainFault {
 
 impl ExplainFault {
     /// Its text.
-    pub const fn name(self) -> &'static str {
+    pub const fn name(self) -> &'static str
+        ensures { result.now ≡ explain_fault_name self }
+    {
         match self {
             ExplainFault::OutOfMemory => "out of memory",
             ExplainFault::WriteFault => "cannot write",

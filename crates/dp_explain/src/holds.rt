@@ -1,121 +1,17 @@
 //! Who held a slave, from which place to which, and how that ended.
 
-ghost use Rattle.std.specs.Prelude.{◌≡◌, ◌≤◌, ◌&&◌, not, if◌then◌else◌, length, Some};
-ghost use Rattle.dp_prm.specs.Meaning.{is_short, unlock_req};
-ghost use Rattle.dp_line.specs.Hearing.{telegram_spelt};
-ghost use Rattle.dp_explain.specs.Results.{shown_at};
-ghost use Rattle.dp_explain.specs.Holds.{ending_by_parts, ending_by_telegram, ending_by, ending_text, places_words, station_column, hold_row, hold_ended, hold_lasts};
+ghost use Rattle.std.specs.Prelude.{◌≡◌, ◌≤◌, length, Some};
+ghost use Rattle.dp_sentences.specs.Results.{shown_at};
+ghost use Rattle.dp_explain.specs.Holds.{places_words, station_column, hold_row, hold_ended, hold_lasts};
 
-use crate::changes::same_holder;
-use crate::operations::is_halt;
-use crate::prm_fault::is_set;
-use crate::words::{Spaces, digits_of, digits_of_long};
 use dp_line::{Event, LineState};
-use dp_sap::CHK_CFG;
-use dp_telegram::{Frame, Parts, Telegram, decode};
+use dp_sentences::{Ending, Spaces, digits_of, digits_of_long, same_holder};
 use std::fmt;
 
 /// The columns of a slave, of a master and of places.
 const STATION_COLUMNS: usize = 12;
 
 const PLACES_COLUMNS: usize = 24;
-
-/// Bit 6 of the first octet of Set_Prm (IEC 61158-6-3, Set_Prm request, Station_status).
-const UNLOCK_REQ: u32 = 6;
-
-/// How a hold ended.
-#[derive(Clone, Copy)]
-pub(crate) enum Ending {
-    /// Chk_Cfg was wrong.
-    WrongConfiguration,
-    /// Set_Prm was wrong.
-    WrongParameters,
-    /// Set_Prm unlocked.
-    Unlocked,
-    /// The line halted.
-    Halted,
-    /// The watchdog ran out.
-    Watchdog,
-    /// It lasts to the end.
-    Lasts,
-}
-
-impl Ending {
-    /// How a hold ended that this event ended.
-    fn by(event: &Event) -> Ending
-        ensures { result ≡ ending_by event.now }
-    {
-        match event {
-            Event::Request { octets, .. } => Ending::by_octets(octets.as_slice()),
-            Event::Operator(op) => {
-                if is_halt(op) {
-                    Ending::Halted
-                } else {
-                    Ending::Watchdog
-                }
-            }
-        }
-    }
-
-    fn by_octets(octets: &[u8]) -> Ending
-        ensures { result ≡ ending_by_telegram (telegram_spelt octets.now) }
-    {
-        match decode(octets) {
-            Ok(Frame::Telegram(telegram)) => Ending::by_telegram(&telegram),
-            Ok(Frame::Token { .. }) => Ending::WrongParameters,
-            Ok(Frame::Ack) => Ending::WrongParameters,
-            Err(_) => Ending::WrongParameters,
-        }
-    }
-
-    fn by_telegram(telegram: &Telegram) -> Ending
-        ensures { result ≡ ending_by_telegram (Some telegram.now) }
-    {
-        match telegram.parts() {
-            Some(parts) => Ending::by_parts(&parts),
-            None => Ending::WrongParameters,
-        }
-    }
-
-    fn by_parts(parts: &Parts) -> Ending
-        ensures { result ≡ ending_by_parts (Some parts.now) }
-    {
-        match parts.dsap {
-            Some(CHK_CFG) => Ending::WrongConfiguration,
-            Some(_) => Ending::by_parameters(parts.payload.as_slice()),
-            None => Ending::by_parameters(parts.payload.as_slice()),
-        }
-    }
-
-    /// By the octets of Set_Prm.
-    fn by_parameters(octets: &[u8]) -> Ending
-        ensures { result ≡ (if not (is_short octets.now) && unlock_req octets.now then Ending.Unlocked else Ending.WrongParameters) }
-    {
-        let [status, _, _, _, _, _, _, ..] = octets else {
-            return Ending::WrongParameters;
-        };
-        if is_set(UNLOCK_REQ, *status) {
-            Ending::Unlocked
-        } else {
-            Ending::WrongParameters
-        }
-    }
-}
-
-impl fmt::Display for Ending {
-    ghost output = { λ ending. Some (ending_text ending) };
-
-    fn fmt<W: fmt::Write>(&self, f: &mut fmt::Formatter<W>) -> fmt::Result {
-        match self {
-            Ending::WrongConfiguration => f.write_str("wrong configuration"),
-            Ending::WrongParameters => f.write_str("wrong parameters"),
-            Ending::Unlocked => f.write_str("unlocked"),
-            Ending::Halted => f.write_str("the line halted"),
-            Ending::Watchdog => f.write_str("its watchdog ran out"),
-            Ending::Lasts => f.write_str("to the end"),
-        }
-    }
-}
 
 /// The places of a hold.
 #[derive(Clone, Copy)]
@@ -174,7 +70,7 @@ impl fmt::Display for HoldRow {
         };
         let places = self.places;
         let behind = Spaces(PLACES_COLUMNS.saturating_sub(places.width()));
-        let ending = self.ending;
+        let ending = self.ending.name();
         write!(f, "  {slave}{master}{places}{behind}{ending}\n")
     }
 }

@@ -1,20 +1,21 @@
 //! How many requests of each master were answered by each rule.
 
-ghost use Rattle.std.specs.Prelude.{◌≡◌, ◌++◌, ◌==◌, length, map, IfOk, OnOk, Some};
+ghost use Rattle.std.specs.Prelude.{◌≡◌, [], ◌∷◌, ◌++◌, length, map, IfOk, OnOk, Some};
 ghost use Rattle.std.specs.List.{flat_map};
-ghost use Rattle.dp_explain.specs.Tallies.{all_rules, uncounted, first_tally, same_rule, added, counted_at, tally_with, tally_answer, tally_after, count_columns, counted_row, total, refused_row, counted_table, refused_table, tally_text};
+ghost use Rattle.dp_sentences.specs.Changes.{same_holder};
+ghost use Rattle.dp_explain.specs.Tallies.{uncounted, uncounted_of, first_tally, same_way, counts_of, sender_in, counted_at, tally_with, tally_spread, tally_answer, tally_after, way_words, count_columns, sender_words, counted_row, total, refused_row, counted_table, refused_table, tally_text};
 
 use crate::choice::is_refusal;
-use crate::words::{Spaces, digits_of, digits_of_long};
 use dp_line::{Event, Outcome};
 use dp_responder::Rule;
+use dp_sentences::{Spaces, digits_of, digits_of_long, same_holder};
 use std::alloc::{AllocError, Global};
 use std::fmt;
 
-/// The columns of a master, of a rule and of a count.
-const MASTER_COLUMNS: usize = 12;
+/// The columns of a sender, of a way and of a count.
+const SENDER_COLUMNS: usize = 12;
 
-const RULE_COLUMNS: usize = 14;
+const WAY_COLUMNS: usize = 14;
 
 const COUNT_COLUMNS: usize = 8;
 
@@ -42,50 +43,87 @@ const RULES: [Rule; 20] = [
     Rule::Done,
 ];
 
-/// How many requests of a master were answered by a rule.
+/// How many requests of a sender were answered in one way.
 #[derive(Drop)]
 pub(crate) struct Counted {
-    /// The master, 0 to 126.
-    pub(crate) master: u8,
-    pub(crate) rule: Rule,
+    /// A master of the line, 0 to 126; None is every other sender.
+    pub(crate) sender: Option<u8>,
+    /// A rule; None is a request to all that no slave was told of.
+    pub(crate) way: Option<Rule>,
     /// The number, which stops at the largest one of 64 bits.
     pub(crate) count: u64,
 }
 
 impl Counted {
-    /// Counts a request where it is of this master and this rule.
-    fn add(&mut self, master: u8, rule: Rule)
-        ensures { self.new ≡ counted_at master rule self.old }
+    /// Counts a request where it is of this sender and was answered in this way.
+    fn add(&mut self, sender: Option<u8>, way: Option<Rule>)
+        ensures { self.new ≡ counted_at sender way self.old }
     {
-        if self.master == master && same_rule(self.rule, rule) {
+        if same_holder(self.sender, sender) && same_way(self.way, way) {
             self.count = self.count.saturating_add(1);
+        }
+    }
+
+    /// It counts requests of this master.
+    fn counts(&self, master: u8) -> bool
+        ensures { result ≡ counts_of master self.now }
+    {
+        match self.sender {
+            Some(sender) => sender == master,
+            None => false,
         }
     }
 }
 
-fn same_rule(rule: Rule, other: Rule) -> bool
-    ensures { result ≡ same_rule rule other }
+fn same_way(way: Option<Rule>, other: Option<Rule>) -> bool
+    ensures { result ≡ same_way way other }
 {
-    rule.code() == other.code()
+    match (way, other) {
+        (None, None) => true,
+        (Some(rule), Some(other)) => rule.code() == other.code(),
+        (None, Some(_)) => false,
+        (Some(_), None) => false,
+    }
 }
 
-/// Counts a request of a master that was answered by a rule.
-fn count(tally: &mut [Counted], master: u8, rule: Rule)
-    ensures { tally.new ≡ map (counted_at master rule) tally.old }
+/// A master of the line by its address, and any other sender as none.
+fn sender_in(tally: &[Counted], master: u8) -> Option<u8>
+    ensures { result ≡ sender_in tally.now master }
+{
+    if tally.iter().any(|counted| counted.counts(master)) {
+        Some(master)
+    } else {
+        None
+    }
+}
+
+/// Counts a request of a sender that was answered in this way.
+fn count(tally: &mut [Counted], sender: Option<u8>, way: Option<Rule>)
+    ensures { tally.new ≡ map (counted_at sender way) tally.old }
 {
     for counted in tally.iter_mut() {
-        counted.add(master, rule);
+        counted.add(sender, way);
     }
 }
 
 /// Counts a request to all once for each slave that it is told of.
-fn count_each(tally: &mut [Counted], master: u8, pairs: &[(u8, Rule)])
-    ensures { tally.new ≡ tally_with tally.old master pairs.now }
+fn count_each(tally: &mut [Counted], sender: Option<u8>, pairs: &[(u8, Rule)])
+    ensures { tally.new ≡ tally_with tally.old sender pairs.now }
 {
     let mut left = pairs;
     while let [pair, others @ ..] = left {
-        count(tally, master, pair.1);
+        count(tally, sender, Some(pair.1));
         left = others;
+    }
+}
+
+/// Counts a request to all, also one that no slave is told of.
+fn count_spread(tally: &mut [Counted], sender: Option<u8>, pairs: &[(u8, Rule)])
+    ensures { tally.new ≡ tally_spread tally.old sender pairs.now }
+{
+    match pairs {
+        [] => count(tally, sender, None),
+        [_, ..] => count_each(tally, sender, pairs),
     }
 }
 
@@ -101,70 +139,128 @@ fn count_in(tally: &mut [Counted], event: &Event, outcome: &Outcome)
     ensures { tally.new ≡ tally_after tally.old event.now outcome.now }
 {
     match event {
-        Event::Request { master, .. } => count_answer(tally, *master, outcome),
+        Event::Request { master, .. } => {
+            let sender = sender_in(tally, *master);
+            count_answer(tally, sender, outcome);
+        }
         Event::Operator(_) => {}
     }
 }
 
 /// Counts a request by its answer.
-fn count_answer(tally: &mut [Counted], master: u8, outcome: &Outcome)
-    ensures { tally.new ≡ tally_answer tally.old master outcome.now }
+fn count_answer(tally: &mut [Counted], sender: Option<u8>, outcome: &Outcome)
+    ensures { tally.new ≡ tally_answer tally.old sender outcome.now }
 {
     match outcome {
-        Outcome::Reply { rule, .. } => count(tally, master, *rule),
-        Outcome::Silence(rule) => count(tally, master, *rule),
-        Outcome::Done => count(tally, master, Rule::Done),
-        Outcome::Spread(pairs) => count_each(tally, master, pairs.as_slice()),
+        Outcome::Reply { rule, .. } => count(tally, sender, Some(*rule)),
+        Outcome::Silence(rule) => count(tally, sender, Some(*rule)),
+        Outcome::Done => count(tally, sender, Some(Rule::Done)),
+        Outcome::Spread(pairs) => count_spread(tally, sender, pairs.as_slice()),
         Outcome::Released(_) => {}
         Outcome::Refused(_) => {}
     }
 }
 
-/// At first nothing is counted of each master and each rule.
+/// At first nothing is counted of each master and of the others.
 pub(crate) fn first_tally(alloc: Global, masters: &[u8]) -> Result<Vec<Counted>, AllocError>
     ensures { IfOk result (λ tally. tally.items ≡ first_tally masters.now) }
 {
     let mut tally = Vec::new(alloc);
     for master in masters {
-        push_master(&mut tally, *master, &RULES)?;
+        push_sender(&mut tally, Some(*master))?;
     }
+    push_sender(&mut tally, None)?;
     Ok(tally)
 }
 
-/// Puts a master with each of these rules behind the others.
-fn push_master(tally: &mut Vec<Counted>, master: u8, rules: &[Rule]) -> Result<(), AllocError>
-    ensures { OnOk result (tally.new.items ≡ tally.old.items ++ map (uncounted master) rules.now) }
+/// Puts a sender with each way behind the others.
+fn push_sender(tally: &mut Vec<Counted>, sender: Option<u8>) -> Result<(), AllocError>
+    ensures { OnOk result (tally.new.items ≡ tally.old.items ++ uncounted_of sender) }
+{
+    push_rules(tally, sender, &RULES)?;
+    push_way(tally, sender, None)
+}
+
+/// Puts a sender with each of these rules behind the others.
+fn push_rules(
+    tally: &mut Vec<Counted>,
+    sender: Option<u8>,
+    rules: &[Rule],
+) -> Result<(), AllocError>
+    ensures { OnOk result (tally.new.items ≡ tally.old.items ++ map (λ rule. uncounted sender (Some rule)) rules.now) }
 {
     for rule in rules {
-        tally.push(Counted {
-            master,
-            rule: *rule,
-            count: 0,
-        })?;
+        push_way(tally, sender, Some(*rule))?;
     }
     Ok(())
 }
 
-/// A rule and a number in their columns.
+/// Puts a sender with a way behind the others.
+fn push_way(
+    tally: &mut Vec<Counted>,
+    sender: Option<u8>,
+    way: Option<Rule>,
+) -> Result<(), AllocError>
+    ensures { OnOk result (tally.new.items ≡ tally.old.items ++ uncounted sender way ∷ []) }
+{
+    tally.push(Counted {
+        sender,
+        way,
+        count: 0,
+    })?;
+    Ok(())
+}
+
+/// A way by its name.
+fn way_name(way: Option<Rule>) -> &'static str
+    ensures { result.now ≡ way_words way }
+{
+    match way {
+        None => "to no slave",
+        Some(rule) => rule.name(),
+    }
+}
+
+/// A way and a number in their columns.
 #[derive(Clone, Copy)]
 struct CountColumns {
-    rule: Rule,
+    way: Option<Rule>,
     count: u64,
 }
 
 impl fmt::Display for CountColumns {
-    ghost output = { λ s. Some (count_columns s.rule s.count) };
+    ghost output = { λ s. Some (count_columns s.way s.count) };
 
     fn fmt<W: fmt::Write>(&self, f: &mut fmt::Formatter<W>) -> fmt::Result {
-        let name = self.rule.name();
+        let name = way_name(self.way);
         let count = self.count;
-        let behind = Spaces(RULE_COLUMNS.saturating_sub(name.len()));
+        let behind = Spaces(WAY_COLUMNS.saturating_sub(name.len()));
         let before = Spaces(COUNT_COLUMNS.saturating_sub(digits_of_long(count)));
         write!(f, "{name}{behind}{before}{count}\n")
     }
 }
 
-/// The row of a master and a rule, where there was such a request.
+/// A sender in its column.
+#[derive(Clone, Copy)]
+struct SenderColumn(Option<u8>);
+
+impl fmt::Display for SenderColumn {
+    ghost use Rattle.dp_sentences.specs.Words.{at_left};
+
+    ghost output = { λ sender. Some (at_left 12 (sender_words sender.0)) };
+
+    fn fmt<W: fmt::Write>(&self, f: &mut fmt::Formatter<W>) -> fmt::Result {
+        match self.0 {
+            Some(master) => {
+                let behind = Spaces(SENDER_COLUMNS.saturating_sub(7 + digits_of(master)));
+                write!(f, "master {master}{behind}")
+            }
+            None => f.write_str("others      "),
+        }
+    }
+}
+
+/// The row of a sender and a way, where there was such a request.
 #[derive(Clone, Copy)]
 struct CountedRow<'a>(&'a Counted);
 
@@ -175,17 +271,16 @@ impl<'a> fmt::Display for CountedRow<'a> {
         if self.0.count == 0 {
             return Ok(());
         }
-        let master = self.0.master;
-        let behind = Spaces(MASTER_COLUMNS.saturating_sub(7 + digits_of(master)));
+        let sender = SenderColumn(self.0.sender);
         let columns = CountColumns {
-            rule: self.0.rule,
+            way: self.0.way,
             count: self.0.count,
         };
-        write!(f, "  master {master}{behind}{columns}")
+        write!(f, "  {sender}{columns}")
     }
 }
 
-/// How often a rule was given to all masters together.
+/// How often a rule was given to all senders together.
 fn total(tally: &[Counted], rule: Rule) -> u64
     ensures { result ≡ total tally.now rule }
 {
@@ -193,7 +288,7 @@ fn total(tally: &[Counted], rule: Rule) -> u64
         return 0;
     };
     let rest = total(others, rule);
-    if same_rule(first.rule, rule) {
+    if same_way(first.way, Some(rule)) {
         rest.saturating_add(first.count)
     } else {
         rest
@@ -214,7 +309,7 @@ impl<'a> fmt::Display for RefusedRow<'a> {
         let count = total(self.tally, self.rule);
         if is_refusal(self.rule) && count != 0 {
             let columns = CountColumns {
-                rule: self.rule,
+                way: Some(self.rule),
                 count,
             };
             write!(f, "  {columns}")
@@ -224,7 +319,7 @@ impl<'a> fmt::Display for RefusedRow<'a> {
     }
 }
 
-/// The rows of masters and rules.
+/// The rows of senders and ways.
 #[derive(Clone, Copy)]
 struct CountedRows<'a>(&'a [Counted]);
 

@@ -3,24 +3,23 @@
 ghost use Rattle.std.specs.Prelude.{◌≡◌, ◌+◌, if◌then◌else◌, [], take, None, Some, IfSome, OnOk, MatchResult};
 ghost use Rattle.dp_line.specs.World.{description_of, opening_fault};
 ghost use Rattle.dp_line.specs.Steps.{step};
-ghost use Rattle.dp_explain.specs.Results.{shown_at};
+ghost use Rattle.dp_sentences.specs.Results.{shown_at};
+ghost use Rattle.dp_sentences.specs.Blocks.{block_text};
 ghost use Rattle.dp_explain.specs.Holds.{hold_lasts};
 ghost use Rattle.dp_explain.specs.Tallies.{tally_text};
 ghost use Rattle.dp_explain.specs.Choices.{is_chosen};
-ghost use Rattle.dp_explain.specs.Blocks.{block_text, outcome_with, scene_after};
-ghost use Rattle.dp_explain.specs.Explained.{event_of_row, told_event, told_row, told_rows, scene_behind, last_scene, first_scene, moment_text, Leaves};
+ghost use Rattle.dp_explain.specs.Known.{first_known, known_after, outcome_with};
+ghost use Rattle.dp_explain.specs.Explained.{event_of_row, told_event, told_row, told_rows, known_behind, last_known, moment_text, Leaves};
 
-use crate::block::Block;
 use crate::choice::{Choice, is_chosen};
 use crate::explain_fault::ExplainFault;
 use crate::holds::{HoldEnded, HoldLasts};
-use crate::notes::{Noted, first_notes, note_event};
 use crate::part::Part;
 use crate::row::event_of_row;
-use crate::scene::Scene;
 use crate::tally::{Counted, TallyRows, count_event, first_tally};
 use arrayvec::ArrayVec;
 use dp_line::{Event, LineSpec, LineState, MOST_SLAVES, Outcome};
+use dp_sentences::{Block, Noted, Scene, first_notes, note_event};
 use dp_text::{Lines, write_whole};
 use std::alloc::Global;
 use std::fmt::Display;
@@ -43,14 +42,12 @@ pub(crate) struct Telling<'a> {
 impl<'a> Model for Telling<'a> {
     ghost use Rattle.std.specs.Prelude.{◌≡◌};
     ghost use Rattle.dp_line.specs.World.{description_of};
-    ghost use Rattle.dp_explain.specs.Scenes.{SceneView};
+    ghost use Rattle.dp_explain.specs.Known.{KnownView};
 
-    ghost Value = { SceneView };
+    ghost Value = { KnownView };
 
     ghost view = { λ t. record {
-      description = description_of t.line.now;
-      world = t.before.world;
-      notes = t.notes.items;
+      scene = record { description = description_of t.line.now; world = t.before.world; notes = t.notes.items };
       tally = t.tally.items;
     } };
 
@@ -61,7 +58,7 @@ impl<'a> Telling<'a> {
     /// The line before its first entry. It takes the memory of two lines.
     pub(crate) fn open(alloc: Global, line: &'a LineSpec) -> Result<Telling<'a>, ExplainFault>
         requires { opening_fault (description_of line.now) ≡ None }
-        ensures { MatchResult result (λ telling. telling ≡ first_scene (description_of line.now)) (λ fault. fault ≡ ExplainFault.OutOfMemory) }
+        ensures { MatchResult result (λ telling. telling ≡ first_known (description_of line.now)) (λ fault. fault ≡ ExplainFault.OutOfMemory) }
     {
         let Ok(before) = LineState::open(alloc, line) else {
             return Err(ExplainFault::OutOfMemory);
@@ -92,8 +89,8 @@ impl<'a> Telling<'a> {
         event: &Event,
         writer: &mut W,
     ) -> Result<(), ExplainFault>
-        ensures scene { self.new ≡ scene_after self.old event.now }
-        ensures told { Leaves (told_event part.now self.old event.now) (W.contents writer.old) (W.contents writer.new) result }
+        ensures known { self.new ≡ known_after self.old event.now }
+        ensures told { Leaves (told_event part.now self.old.scene event.now) (W.contents writer.old) (W.contents writer.new) result }
     {
         let place = u64::from(self.before.count()) + 1;
         let step = self.after.take(event);
@@ -102,7 +99,6 @@ impl<'a> Telling<'a> {
             line: self.line,
             before: &self.before,
             notes: self.notes.as_slice(),
-            tally: self.tally.as_slice(),
         };
         let moment = Moment {
             scene: &scene,
@@ -125,7 +121,7 @@ impl<'a> Telling<'a> {
         row: &[u8],
         writer: &mut W,
     ) -> Result<(), ExplainFault>
-        ensures scene { self.new ≡ scene_behind self.old (event_of_row row.now) }
+        ensures known { self.new ≡ known_behind self.old (event_of_row row.now) }
         ensures told { Leaves (told_row part.now self.old (event_of_row row.now)) (W.contents writer.old) (W.contents writer.new) result }
     {
         match event_of_row(row) {
@@ -143,7 +139,7 @@ impl<'a> Telling<'a> {
         writer: &mut W,
     ) -> Result<(), ExplainFault>
         ensures told { Leaves (told_rows part.now self.old (take count rows.old)) (W.contents writer.old) (W.contents writer.new) result }
-        ensures scene { OnOk result (self.new ≡ last_scene self.old (take count rows.old)) }
+        ensures known { OnOk result (self.new ≡ last_known self.old (take count rows.old)) }
     {
         for _told in 0..count {
             let Some(row) = rows.next() else {
@@ -163,7 +159,7 @@ impl<'a> Telling<'a> {
         address: u8,
         writer: &mut W,
     ) -> Result<(), ExplainFault>
-        ensures { Leaves (hold_lasts address (shown_at self.old.world address)) (W.contents writer.old) (W.contents writer.new) result }
+        ensures { Leaves (hold_lasts address (shown_at self.old.scene.world address)) (W.contents writer.old) (W.contents writer.new) result }
     {
         let rows = HoldLasts {
             address,

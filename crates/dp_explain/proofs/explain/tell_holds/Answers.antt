@@ -3,7 +3,8 @@ use Rattle.std.specs.List.{flat_map}
 use Rattle.dp_slave.specs.declared.description.SlaveSpec.{SlaveSpec}
 use Rattle.dp_line.specs.World.{description_of}
 use Rattle.dp_text.specs.Words.{lines_of}
-use Rattle.dp_explain.specs.Explained.{holds_of, slave_addresses}
+use Rattle.dp_explain.specs.Known.{slave_addresses}
+use Rattle.dp_explain.specs.Explained.{holds_of}
 use Rattle.dp_explain.proofs.Edits.{drop_item}
 use Rattle.dp_explain.proofs.Told.{HoldsSoFar, no_holds, more_holds, holds_cut}
 use Rattle.dp_explain.proofs.explain.tell_holds.Goals as goal

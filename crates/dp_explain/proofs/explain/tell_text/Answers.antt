@@ -2,9 +2,9 @@ use Rattle.std.proofs.Common.{List, ℕ, drop, take, ◌++◌}
 use Rattle.dp_line.specs.World.{description_of}
 use Rattle.dp_text.specs.Words.{lines_of}
 use Rattle.dp_explain.specs.declared.part.Part.TheVariants as parts
-use Rattle.dp_explain.specs.Scenes.{SceneView}
+use Rattle.dp_explain.specs.Known.{KnownView, first_known}
 use Rattle.dp_explain.specs.Tallies.{tally_text}
-use Rattle.dp_explain.specs.Explained.{first_scene, last_scene, holds_text}
+use Rattle.dp_explain.specs.Explained.{last_known, holds_text}
 use Rattle.dp_explain.proofs.Told.{pass_then, pass_cut}
 use Rattle.dp_explain.proofs.explain.tell_text.Goals as goal
 
@@ -14,8 +14,8 @@ returns-in-Ok-tell_rows g c =
     let line = description_of a.line.now in
     let rows = take a.count (drop 1 (lines_of a.text.now)) in
     pass_then (parts.Entries a.choice.now) line a.count (lines_of a.text.now) c.rows_of.result c.in-Ok.telling c.tell_rows.new.self
-    (λ (s : SceneView). holds_text line rows ++ tally_text s.tally) (g.W.Write.contents a.writer.now) (g.W.Write.contents c.tell_rows.new.writer) (g.W.Write.contents c.tell_summary.new.writer) c.tell_summary.result
-    c.in-Ok.ensures c.rows_of.ensures c.in-Ok-tell_rows.ensures.told c.in-Ok-tell_rows.ensures.scene c.tell_summary.ensures
+    (λ (k : KnownView). holds_text line rows ++ tally_text k.tally) (g.W.Write.contents a.writer.now) (g.W.Write.contents c.tell_rows.new.writer) (g.W.Write.contents c.tell_summary.new.writer) c.tell_summary.result
+    c.in-Ok.ensures c.rows_of.ensures c.in-Ok-tell_rows.ensures.told c.in-Ok-tell_rows.ensures.known c.tell_summary.ensures
 
 pub returns : goal.returns
 returns g c =
@@ -23,5 +23,5 @@ returns g c =
     let line = description_of a.line.now in
     let rows = take a.count (drop 1 (lines_of a.text.now)) in
     pass_cut (parts.Entries a.choice.now) line a.count (lines_of a.text.now) c.rows_of.result c.in-Ok.telling
-    (holds_text line rows ++ tally_text (last_scene (first_scene line) rows).tally) (g.W.Write.contents a.writer.now) (g.W.Write.contents c.tell_rows.new.writer)
+    (holds_text line rows ++ tally_text (last_known (first_known line) rows).tally) (g.W.Write.contents a.writer.now) (g.W.Write.contents c.tell_rows.new.writer)
     c.in-Ok.ensures c.rows_of.ensures c.in-Err-tell_rows.ensures.told

@@ -4,5 +4,5 @@ use Rattle.dp_explain.proofs.tally.count.Goals as goal
 
 pub loop-counted-preserved : goal.loop-counted-preserved
 loop-counted-preserved c =
-    set_over (counted_at c.args.master c.args.rule) c.args.tally.now c.loop-counted.tally c.loop-counted.counted-index _ c.add.new.self
+    set_over (counted_at c.args.sender c.args.way) c.args.tally.now c.loop-counted.tally c.loop-counted.counted-index _ c.add.new.self
     c.loop-counted-test.true c.loop-counted.auto.tally c.loop-counted.invariant c.add.ensures

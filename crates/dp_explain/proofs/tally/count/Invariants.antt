@@ -5,4 +5,4 @@ use Rattle.dp_explain.proofs.tally.count.Given as goal
 -- the first are as they are left, the others as they were
 abbrev pub invariant-loop-counted : goal.invariant-loop-counted
 invariant-loop-counted l =
-    l.tally ≡ map (counted_at l.master l.rule) (take l.counted-index l.initial.tally) ++ drop l.counted-index l.initial.tally
+    l.tally ≡ map (counted_at l.sender l.way) (take l.counted-index l.initial.tally) ++ drop l.counted-index l.initial.tally

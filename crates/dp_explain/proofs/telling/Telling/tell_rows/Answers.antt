@@ -1,6 +1,6 @@
 use Rattle.std.proofs.Common.{◌≡◌, ℕ, ◌+◌, ◌-◌, List, ◌∷◌, take, ap, sym, subst, ◌∙◌}
-use Rattle.dp_explain.specs.Scenes.{SceneView}
-use Rattle.dp_explain.specs.Explained.{last_scene, told_rows}
+use Rattle.dp_explain.specs.Known.{KnownView}
+use Rattle.dp_explain.specs.Explained.{last_known, told_rows}
 use Rattle.dp_explain.proofs.Told.{SoFar, take_next, one_more, cut_short}
 use Rattle.dp_explain.proofs.telling.Telling.tell_rows.Goals as goal
 
@@ -23,9 +23,9 @@ loop-told-preserved g c =
       written =
           one_more c.args.part.now all (g.W.Write.contents c.args.writer.now) (g.W.Write.contents c.loop-told.writer) (g.W.Write.contents c.tell_row.new.writer) c.loop-told.self c.tell_row.new.self c.in-Some.row.now rest
           (subst (SoFar c.args.part.now all (g.W.Write.contents c.args.writer.now) (g.W.Write.contents c.loop-told.writer) c.loop-told.self) next c.loop-told.invariant.written)
-          c.tell_row.ensures.scene c.in-Ok.ensures.told;
-      scene =
-          ap (λ (s : SceneView). last_scene s rest) c.tell_row.ensures.scene
-          ∙ sym (ap (last_scene c.loop-told.self) next)
-          ∙ c.loop-told.invariant.scene;
+          c.tell_row.ensures.known c.in-Ok.ensures.told;
+      known =
+          ap (λ (k : KnownView). last_known k rest) c.tell_row.ensures.known
+          ∙ sym (ap (last_known c.loop-told.self) next)
+          ∙ c.loop-told.invariant.known;
     }

@@ -1,0 +1,49 @@
+-- What is known where an event is told: the scene and the tally (own).
+use Rattle.std.specs.Prelude.{ℕ, ◌+◌, List, map, Option, Some, None}
+use Rattle.arrayvec.specs.ArrayVec.{ArrayVec}
+use Rattle.dp_line.specs.declared.event.Event.{Event}
+use Rattle.dp_line.specs.declared.event.Outcome.{Outcome}
+use Rattle.dp_line.specs.declared.event.Outcome.TheVariants.{Released}
+use Rattle.dp_line.specs.declared.event.Step.{Step}
+use Rattle.dp_line.specs.World.{Description, World, start_of}
+use Rattle.dp_line.specs.Steps.{step}
+use Rattle.dp_sentences.specs.Notes.{first_notes, notes_after}
+use Rattle.dp_sentences.specs.Scenes.{SceneView}
+use Rattle.dp_explain.specs.declared.tally.Counted.{Counted}
+use Rattle.dp_explain.specs.Tallies.{first_tally, tally_after}
+
+pub record KnownView : Type 0 where
+  pub scene : SceneView
+  pub tally : List Counted
+
+abbrev pub slave_addresses : Description → List ℕ
+slave_addresses line = map (λ slave. slave.address) line.slaves
+
+-- before the first entry
+abbrev pub first_known : Description → KnownView
+first_known line = record {
+  scene = record { description = line; world = start_of line; notes = first_notes (slave_addresses line) line.masters };
+  tally = first_tally line.masters;
+}
+
+-- behind an event of this place, by what came of it and the line that it left
+abbrev pub known_with : KnownView → World → ℕ → Event → Outcome → KnownView
+known_with known after place event outcome = record {
+  scene = record { description = known.scene.description; world = after; notes = notes_after known.scene.notes place event outcome };
+  tally = tally_after known.tally event outcome;
+}
+
+-- ---- from the line alone
+
+-- the outcome that an entry tells: where the event met the last place, that of the halt, which is recorded in its stead
+abbrev pub outcome_with : Outcome → Option (ArrayVec ℕ) → Outcome
+outcome_with outcome None = outcome
+outcome_with outcome (Some addresses) = Released addresses
+
+abbrev pub outcome_told : World → Event → Outcome
+outcome_told world event = outcome_with (step world event).answer.outcome (step world event).answer.halted
+
+-- the event takes the next place of the line
+abbrev pub known_after : KnownView → Event → KnownView
+known_after known event =
+    known_with known (step known.scene.world event).world (known.scene.world.count + 1) event (outcome_told known.scene.world event)

@@ -1,0 +1,27 @@
+-- The rows of an entry (own).
+use Rattle.std.specs.Prelude.{ℕ, List, [], ◌++◌}
+use Rattle.dp_line.specs.declared.event.Event.{Event}
+use Rattle.dp_line.specs.declared.event.Event.TheVariants.{Request, Operator}
+use Rattle.dp_line.specs.declared.event.Outcome.{Outcome}
+use Rattle.dp_line.specs.declared.event.Outcome.TheVariants.{Reply}
+use Rattle.dp_line.specs.World.{World}
+use Rattle.dp_decode.specs.Replies.{reply_text}
+use Rattle.dp_sentences.specs.TelegramRows.{row_where, sent_row}
+use Rattle.dp_sentences.specs.Heads.{head_text}
+use Rattle.dp_sentences.specs.Scenes.{SceneView}
+use Rattle.dp_sentences.specs.Results.{result_rows}
+use Rattle.dp_sentences.specs.Changes.{change_rows}
+
+abbrev pub contents_row : Event → List ℕ
+contents_row (Request master octets) = sent_row octets.items
+contents_row (Operator op) = []
+
+abbrev pub reply_row : Event → Outcome → List ℕ
+reply_row (Request master octets) (Reply reply rule) = row_where (reply_text octets.items reply.items)
+reply_row event outcome = []
+
+-- the rows of an event that had this outcome and left this world
+abbrev pub block_text : SceneView → World → ℕ → Event → Outcome → List ℕ
+block_text scene after place event outcome =
+    head_text place event ++ contents_row event ++ result_rows scene event outcome ++ reply_row event outcome
+    ++ change_rows scene.world after event outcome

@@ -1,0 +1,69 @@
+-- What an event changed of the slaves: state and holder where they are others than before (own).
+use Rattle.std.specs.Prelude.{codes, ℕ, ◌==◌, ◌&&◌, if◌then◌else◌, Bool, true, false, List, [], ◌∷◌, ◌++◌, Option, Some, None}
+use Rattle.std.specs.Option.{option_map}
+use Rattle.std.specs.List.{flat_map}
+use Rattle.std.specs.Fmt.{decimal}
+use Rattle.dp_sap.specs.declared.state.State.{State}
+use Rattle.dp_sap.specs.declared.state.State.TheVariants.{WaitPrm, WaitCfg, DataExch}
+use Rattle.dp_telegram.specs.FrameText.{frame_of}
+use Rattle.dp_slave.specs.declared.view.SlaveView.{SlaveView}
+use Rattle.dp_line.specs.declared.event.Event.{Event}
+use Rattle.dp_line.specs.declared.event.Event.TheVariants.{Request, Operator}
+use Rattle.dp_line.specs.declared.event.Outcome.{Outcome}
+use Rattle.dp_line.specs.declared.event.Outcome.TheVariants.{Released}
+use Rattle.dp_line.specs.World.{World}
+use Rattle.dp_sentences.specs.declared.who.Whom.{Whom}
+use Rattle.dp_sentences.specs.declared.who.Whom.TheVariants.{Slave, AllSlaves, Station, Nobody}
+use Rattle.dp_sentences.specs.Heads.{whom_of_frame}
+use Rattle.dp_sentences.specs.Words.{holder_words, state_words}
+use Rattle.dp_sentences.specs.Results.{shown_at}
+
+abbrev pub same_state : State → State → Bool
+same_state WaitPrm WaitPrm = true
+same_state WaitCfg WaitCfg = true
+same_state DataExch DataExch = true
+same_state before after = false
+
+abbrev pub same_holder : Option ℕ → Option ℕ → Bool
+same_holder None None = true
+same_holder (Some before) (Some after) = before == after
+same_holder before after = false
+
+abbrev pub standing_words : SlaveView → List ℕ
+standing_words slave = state_words slave.state ++ codes ", " ++ holder_words slave.holder
+
+abbrev pub changed_words : ℕ → SlaveView → SlaveView → List ℕ
+changed_words address before after = codes "slave " ++ decimal address ++ codes ": " ++ standing_words before ++ codes " -> " ++ standing_words after
+
+abbrev pub changed_row : ℕ → SlaveView → SlaveView → List ℕ
+changed_row address before after = codes "       change      " ++ changed_words address before after ++ codes "\n"
+
+-- the row of a slave, before and after the event; no row where both are as before
+abbrev pub change_row : ℕ → Option SlaveView → Option SlaveView → List ℕ
+change_row address None after = []
+change_row address (Some before) None = []
+change_row address (Some before) (Some after) =
+    if same_state before.state after.state && same_holder before.holder after.holder then []
+    else changed_row address before after
+
+abbrev pub change_of : World → World → ℕ → List ℕ
+change_of before after address = change_row address (shown_at before address) (shown_at after address)
+
+-- the slaves of which an event can change state and holder: the one that a request asks, and those that a tick or the halt let go. A
+-- Global_Control to all slaves changes neither of any
+abbrev pub asked_addresses : Whom → List ℕ
+asked_addresses (Slave address) = address ∷ []
+asked_addresses AllSlaves = []
+asked_addresses (Station address) = []
+asked_addresses Nobody = []
+
+abbrev pub let_go : Outcome → List ℕ
+let_go (Released addresses) = addresses.items
+let_go outcome = []
+
+abbrev pub touched : Event → Outcome → List ℕ
+touched (Request master octets) outcome = asked_addresses (whom_of_frame (frame_of octets.items))
+touched (Operator op) outcome = let_go outcome
+
+abbrev pub change_rows : World → World → Event → Outcome → List ℕ
+change_rows before after event outcome = flat_map (change_of before after) (touched event outcome)

@@ -1,0 +1,77 @@
+-- The head row of an entry: its place, from whom to whom, and what it is (own).
+use Rattle.std.specs.Prelude.{codes, ℕ, ◌==◌, if◌then◌else◌, Bool, true, false, List, [], ◌++◌, Option, Some, None}
+use Rattle.std.specs.Fmt.{decimal}
+use Rattle.dp_telegram.specs.declared.frame.Frame.{Frame}
+use Rattle.dp_telegram.specs.declared.frame.Frame.TheVariants as frames
+use Rattle.dp_telegram.specs.FrameText.{frame_of}
+use Rattle.dp_telegram.specs.Access.{address_of, global_address}
+use Rattle.dp_line.specs.declared.event.Event.{Event}
+use Rattle.dp_line.specs.declared.event.Event.TheVariants.{Request, Operator}
+use Rattle.dp_line.specs.declared.event.Op.{Op}
+use Rattle.dp_line.specs.declared.event.Op.TheVariants.{Input, Diag, Busy, Tick, Halt}
+use Rattle.dp_line.specs.Events.{address_of_op}
+use Rattle.dp_sentences.specs.declared.who.Whom.{Whom}
+use Rattle.dp_sentences.specs.declared.who.Whom.TheVariants.{Slave, AllSlaves, Station, Nobody}
+use Rattle.dp_sentences.specs.declared.who.Who.{Who}
+use Rattle.dp_sentences.specs.declared.who.Who.TheVariants as senders
+use Rattle.dp_decode.specs.Kinds.{kind_text}
+use Rattle.dp_sentences.specs.Words.{at_left, at_right, counted_words, octets_words, point_words, time_words}
+
+-- ---- from whom to whom
+
+-- to whom a frame goes: a telegram to the station of its DA, which is the slave of a request, or to all; a token to a station; a short
+-- acknowledgement to nobody (IEC 61158-4-3, address octets)
+abbrev pub whom_of_frame : Option Frame → Whom
+whom_of_frame None = Nobody
+whom_of_frame (Some (frames.Token da sa)) = Station (address_of da)
+whom_of_frame (Some frames.Ack) = Nobody
+whom_of_frame (Some (frames.Telegram telegram)) =
+    if address_of telegram.da == global_address then AllSlaves else Slave (address_of telegram.da)
+
+abbrev pub who_of : Event → Who
+who_of (Request master octets) = senders.Master master (whom_of_frame (frame_of octets.items))
+who_of (Operator op) = senders.Operator (address_of_op op)
+
+abbrev pub whom_text : Whom → List ℕ
+whom_text (Slave address) = codes "slave " ++ decimal address
+whom_text AllSlaves = codes "all slaves"
+whom_text (Station address) = codes "station " ++ decimal address
+whom_text Nobody = codes "nobody"
+
+abbrev pub who_text : Who → List ℕ
+who_text (senders.Master master whom) = codes "master " ++ decimal master ++ codes " -> " ++ whom_text whom
+who_text (senders.Operator None) = codes "operator -> line"
+who_text (senders.Operator (Some address)) = codes "operator -> slave " ++ decimal address
+
+-- ---- what it is
+
+abbrev pub bit_text : Bool → List ℕ
+bit_text true = codes "1"
+bit_text false = codes "0"
+
+abbrev pub busy_words : Bool → List ℕ
+busy_words true = codes " busy"
+busy_words false = codes " no longer busy"
+
+abbrev pub flags_words : Bool → Bool → Bool → List ℕ
+flags_words ext stat overflow = codes "Ext_Diag " ++ bit_text ext ++ codes ", Stat_Diag " ++ bit_text stat ++ codes ", Ext_Diag_Overflow " ++ bit_text overflow
+
+-- what an operator does
+abbrev pub op_kind_text : Op → List ℕ
+op_kind_text (Input address octets) = codes "inputs " ++ octets_words octets.items
+op_kind_text (Diag address ext stat overflow octets) =
+    codes "diagnosis " ++ flags_words ext stat overflow ++ codes "; extended " ++ octets_words octets.items
+op_kind_text (Busy address point on) = point_words point ++ busy_words on
+op_kind_text (Tick units) = counted_words units (codes "unit") (codes "units") ++ codes " of time, " ++ time_words units
+op_kind_text Halt = codes "halt"
+
+abbrev pub event_kind_text : Event → List ℕ
+event_kind_text (Request master octets) = kind_text octets.items
+event_kind_text (Operator op) = op_kind_text op
+
+-- ---- the row
+
+-- the place stands in the first five columns, and from whom to whom in 26 behind two spaces
+abbrev pub head_text : ℕ → Event → List ℕ
+head_text place event =
+    at_right 5 (decimal place) ++ codes "  " ++ at_left 26 (who_text (who_of event)) ++ event_kind_text event ++ codes "\n"

@@ -1,0 +1,14 @@
+pub mod Words
+pub mod TelegramRows
+pub mod Heads
+pub mod Meetings
+pub mod Refusals
+pub mod Services
+pub mod Sentences
+pub mod Notes
+pub mod Scenes
+pub mod Results
+pub mod Changes
+pub mod Endings
+pub mod Blocks
+pub mod SentenceExamples

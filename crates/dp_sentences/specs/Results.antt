@@ -1,0 +1,146 @@
+-- What came of an event, in its result rows (own).
+use Rattle.std.specs.Prelude.{codes, ℕ, Bool, true, false, if◌then◌else◌, List, [], ◌∷◌, ◌++◌, Option, Some, None, option_map}
+use Rattle.std.specs.Option.{option_and_then}
+use Rattle.std.specs.List.{flat_map}
+use Rattle.std.specs.Fmt.{decimal}
+use Rattle.dp_telegram.specs.declared.frame.Frame.{Frame}
+use Rattle.dp_telegram.specs.declared.frame.Telegram.{Telegram}
+use Rattle.dp_telegram.specs.declared.access.Parts.{Parts}
+use Rattle.dp_telegram.specs.FrameText.{frame_of}
+use Rattle.dp_telegram.specs.Access.{address_of, parts_of}
+use Rattle.dp_responder.specs.declared.rule.Rule.{Rule}
+use Rattle.dp_responder.specs.declared.rule.Rule.TheVariants as rules
+use Rattle.dp_slave.specs.declared.description.SlaveSpec.{SlaveSpec}
+use Rattle.dp_slave.specs.declared.view.SlaveView.{SlaveView}
+use Rattle.dp_slave.specs.View.{view_of}
+use Rattle.dp_line.specs.declared.event.Event.{Event}
+use Rattle.dp_line.specs.declared.event.Event.TheVariants.{Request, Operator}
+use Rattle.dp_line.specs.declared.event.Op.{Op}
+use Rattle.dp_line.specs.declared.event.Op.TheVariants.{Input, Diag, Busy, Tick, Halt}
+use Rattle.dp_line.specs.declared.event.Outcome.{Outcome}
+use Rattle.dp_line.specs.declared.event.Outcome.TheVariants.{Reply, Silence, Spread, Released, Done, Refused}
+use Rattle.dp_line.specs.Names.{operator_fault_name}
+use Rattle.dp_line.specs.World.{World, described_at, slave_at}
+use Rattle.dp_line.specs.Events.{is_halt}
+use Rattle.dp_line.specs.Hearing.{telegram_of_frame}
+use Rattle.dp_line.specs.Verdict.{concerns_a_slave}
+use Rattle.dp_sentences.specs.Words.{at_left, numbers_words, time_words}
+use Rattle.dp_sentences.specs.Notes.{place_noted}
+use Rattle.dp_sentences.specs.Scenes.{SceneView, AskedView}
+use Rattle.dp_sentences.specs.Sentences.{line_text, slave_text}
+
+-- ---- the answer of one slave
+
+-- the slave of an address before the event, as it is shown
+abbrev pub shown_at : World → ℕ → Option SlaveView
+shown_at world address = option_map view_of (slave_at world address)
+
+-- where the slave is the line's, its sentence
+abbrev pub told_where_known : AskedView → ℕ → Bool → Rule → Option SlaveSpec → Option SlaveView → List ℕ
+told_where_known asked place silent rule None slave = []
+told_where_known asked place silent rule (Some description) None = []
+told_where_known asked place silent rule (Some description) (Some slave) =
+    slave_text silent (record {
+      master = asked.master;
+      telegram = asked.telegram;
+      parts = asked.parts;
+      description = description;
+      slave = slave;
+      asked = place;
+    }) rule
+
+abbrev pub told_of_slave : SceneView → AskedView → ℕ → Bool → Rule → List ℕ
+told_of_slave scene asked address silent rule =
+    told_where_known asked (place_noted scene.notes address asked.master) silent rule
+    (described_at scene.description.slaves address) (shown_at scene.world address)
+
+-- ---- the answer to a request to one slave
+
+abbrev pub told_of_parts : SceneView → ℕ → Bool → Rule → Telegram → Option Parts → List ℕ
+told_of_parts scene master silent rule telegram None = []
+told_of_parts scene master silent rule telegram (Some parts) =
+    told_of_slave scene (record { master = master; telegram = telegram; parts = parts }) (address_of telegram.da) silent rule
+
+abbrev pub told_of_telegram : SceneView → ℕ → Bool → Rule → Option Telegram → List ℕ
+told_of_telegram scene master silent rule None = []
+told_of_telegram scene master silent rule (Some telegram) = told_of_parts scene master silent rule telegram (parts_of telegram)
+
+-- by a row of the line, or by one of the slave's own
+abbrev pub told_of_one : SceneView → ℕ → Option Frame → Bool → Rule → List ℕ
+told_of_one scene master frame silent rule =
+    if concerns_a_slave rule then told_of_telegram scene master silent rule (option_and_then telegram_of_frame frame)
+    else line_text scene.description.masters master frame rule
+
+abbrev pub result_row : List ℕ → List ℕ
+result_row text = codes "       result      " ++ text ++ codes "\n"
+
+-- ---- the answer to a request to all slaves
+
+-- each slave has a row of its own, behind its address
+abbrev pub pair_row : SceneView → AskedView → ℕ × Rule → List ℕ
+pair_row scene asked pair =
+    codes "       " ++ at_left 12 (codes "slave " ++ decimal pair.0) ++ told_of_slave scene asked pair.0 true pair.1 ++ codes "\n"
+
+abbrev pub pairs_rows : SceneView → ℕ → List (ℕ × Rule) → Telegram → Option Parts → List ℕ
+pairs_rows scene master pairs telegram None = []
+pairs_rows scene master pairs telegram (Some parts) = flat_map (pair_row scene (record { master = master; telegram = telegram; parts = parts })) pairs
+
+abbrev pub spread_rows : SceneView → ℕ → List (ℕ × Rule) → Option Telegram → List ℕ
+spread_rows scene master pairs None = []
+spread_rows scene master pairs (Some telegram) = pairs_rows scene master pairs telegram (parts_of telegram)
+
+abbrev pub spread_text : ℕ → List (ℕ × Rule) → List ℕ
+spread_text master [] = codes "spread: master " ++ decimal master ++ codes " holds no slave."
+spread_text master (pair ∷ pairs) = codes "spread over the slaves of master " ++ decimal master ++ codes ":"
+
+-- ---- a request
+
+abbrev pub request_rows : SceneView → ℕ → Option Frame → Outcome → List ℕ
+request_rows scene master frame (Reply reply rule) = result_row (told_of_one scene master frame false rule)
+request_rows scene master frame (Silence rule) = result_row (told_of_one scene master frame true rule)
+request_rows scene master frame Done = result_row (told_of_one scene master frame true rules.Done)
+request_rows scene master frame (Spread pairs) =
+    result_row (spread_text master pairs.items) ++ spread_rows scene master pairs.items (option_and_then telegram_of_frame frame)
+request_rows scene master frame (Released addresses) = []
+request_rows scene master frame (Refused fault) = []
+
+-- ---- what an operator does
+
+-- the full time of a watchdog that ran out
+abbrev pub watchdog_words : Option ℕ → List ℕ
+watchdog_words None = []
+watchdog_words (Some units) = codes " (its watchdog of " ++ time_words units ++ codes " ran out)"
+
+-- of the parameters of a slave
+abbrev pub full_time_of : Option SlaveView → Option ℕ
+full_time_of slave = option_and_then (λ s. option_and_then (λ prm. prm.watchdog) s.prm) slave
+
+-- a slave that a tick let go
+abbrev pub expired_words : World → ℕ → List ℕ
+expired_words world address = decimal address ++ watchdog_words (full_time_of (shown_at world address))
+
+abbrev pub expired_behind : World → ℕ → List ℕ
+expired_behind world address = codes ", " ++ expired_words world address
+
+abbrev pub tick_text : World → List ℕ → List ℕ
+tick_text world [] = codes "no watchdog ran out."
+tick_text world (address ∷ addresses) = codes "released: " ++ expired_words world address ++ flat_map (expired_behind world) addresses ++ codes "."
+
+abbrev pub halt_text : List ℕ → List ℕ
+halt_text [] = codes "halted; nobody held a slave."
+halt_text (address ∷ addresses) = codes "halted; released: " ++ numbers_words (address ∷ addresses) ++ codes "."
+
+abbrev pub released_text : World → Op → List ℕ → List ℕ
+released_text world op addresses = if is_halt (Operator op) then halt_text addresses else tick_text world addresses
+
+abbrev pub op_text : World → Op → Outcome → List ℕ
+op_text world op (Released addresses) = released_text world op addresses.items
+op_text world op Done = codes "done."
+op_text world op (Refused fault) = codes "refused: " ++ operator_fault_name fault ++ codes "."
+op_text world op outcome = []
+
+-- ---- by the event
+
+abbrev pub result_rows : SceneView → Event → Outcome → List ℕ
+result_rows scene (Request master octets) outcome = request_rows scene master (frame_of octets.items) outcome
+result_rows scene (Operator op) outcome = result_row (op_text scene.world op outcome)

@@ -1,0 +1,74 @@
+-- Why a request was answered as it was: one sentence for each rule (own).
+use Rattle.std.specs.Prelude.{codes, ℕ, Bool, true, false, List, [], ◌++◌, length, slice_index, Option, Some, None}
+use Rattle.std.specs.Option.{option_map_or}
+use Rattle.std.specs.Fmt.{decimal}
+use Rattle.dp_telegram.specs.declared.frame.Frame.{Frame}
+use Rattle.dp_telegram.specs.Access.{source_of}
+use Rattle.dp_responder.specs.declared.rule.Rule.{Rule}
+use Rattle.dp_responder.specs.declared.rule.Rule.TheVariants as rules
+use Rattle.dp_prm.specs.declared.prm.Prm.{Prm}
+use Rattle.dp_slave.specs.declared.view.SlaveView.{SlaveView}
+use Rattle.dp_sentences.specs.Meetings.{MeetingView}
+use Rattle.dp_sentences.specs.Words.{numbers_words}
+use Rattle.dp_sentences.specs.Refusals.{not_active_text, not_holder_text, not_listed_text, no_service_text, busy_text, length_text, not_selected_text, repeat_text, status_text}
+use Rattle.dp_sentences.specs.Services.{done_text}
+
+-- ---- by the rows of the line, which concern no slave
+
+abbrev pub station_words : Option ℕ → List ℕ
+station_words None = codes "no station"
+station_words (Some address) = codes "station " ++ decimal address
+
+abbrev pub foreign_sender_text : Option Frame → List ℕ
+foreign_sender_text None = codes "The frame is from no station."
+foreign_sender_text (Some frame) = codes "The frame is from " ++ station_words (source_of frame) ++ codes "."
+
+abbrev pub no_master_text : ℕ → List ℕ → List ℕ
+no_master_text master masters = codes "Master " ++ decimal master ++ codes " is none of the line's (" ++ numbers_words masters ++ codes ")."
+
+-- why nobody replies; what concerns a slave is told of that slave, and has no sentence here
+abbrev pub line_text : List ℕ → ℕ → Option Frame → Rule → List ℕ
+line_text masters master frame rules.Halted = codes "silence: Halted. The line takes no more."
+line_text masters master frame rules.NoFrame = codes "silence: NoFrame. The octets are no single frame."
+line_text masters master frame rules.NoMaster = codes "silence: NoMaster. " ++ no_master_text master masters
+line_text masters master frame rules.ForeignSender = codes "silence: ForeignSender. " ++ foreign_sender_text frame
+line_text masters master frame rules.Token = codes "silence: Token. A token asks for nothing."
+line_text masters master frame rules.NotRequest = codes "silence: NotRequest. A response asks for nothing."
+line_text masters master frame rules.BadFunction = codes "silence: BadFunction. The function is reserved."
+line_text masters master frame rules.BadExtension = codes "silence: BadExtension. An extension octet is missing or not plain."
+line_text masters master frame rules.BadBroadcast = codes "silence: BadBroadcast. Only a Global_Control goes to all slaves."
+line_text masters master frame rules.NoStation = codes "silence: NoStation. No slave has this address."
+line_text masters master frame other = []
+
+-- ---- by the rows of a slave
+
+-- the groups of a slave, by the parameters of its holder
+abbrev pub group_in : Option Prm → ℕ
+group_in prm = option_map_or (λ p. p.group) prm 0
+
+-- a refusal, to which the slave replies, or which it meets in silence, as that of an SDN
+abbrev pub refused_words : Bool → List ℕ
+refused_words true = codes "refused in silence"
+refused_words false = codes "refused"
+
+-- what a slave answers; what concerns no slave has no sentence here
+abbrev pub slave_text : Bool → MeetingView → Rule → List ℕ
+slave_text silent meeting rules.Status = codes "answered: Status. " ++ status_text meeting.slave.address meeting.slave.state
+slave_text silent meeting rules.NoService =
+    refused_words silent ++ codes ": NoService. " ++ no_service_text meeting.telegram.fc meeting.parts.dsap
+slave_text silent meeting rules.Repeat = codes "repeat: " ++ repeat_text meeting.asked
+slave_text silent meeting rules.NotActive =
+    refused_words silent ++ codes ": NotActive. " ++ not_active_text meeting.slave.address meeting.slave.state meeting.parts.dsap
+slave_text silent meeting rules.NotHolder =
+    refused_words silent ++ codes ": NotHolder. " ++ not_holder_text meeting.slave.address meeting.slave.holder meeting.slave.since
+slave_text silent meeting rules.NotListed =
+    refused_words silent ++ codes ": NotListed. " ++ not_listed_text meeting.master meeting.parts.dsap meeting.description.lists
+slave_text silent meeting rules.Busy = refused_words silent ++ codes ": Busy. " ++ busy_text meeting.parts.dsap
+slave_text silent meeting rules.Length =
+    refused_words silent ++ codes ": Length. "
+    ++ length_text (length meeting.parts.payload.items) meeting.parts.dsap (length meeting.slave.outputs.items) meeting.slave.cleared
+slave_text silent meeting rules.NotSelected =
+    codes "silence: NotSelected. "
+    ++ not_selected_text meeting.slave.address (slice_index meeting.parts.payload.items 1) (group_in meeting.slave.prm)
+slave_text silent meeting rules.Done = done_text meeting
+slave_text silent meeting other = []

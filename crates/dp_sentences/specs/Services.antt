@@ -1,0 +1,196 @@
+-- What a service did that was done, in one sentence of the slave's own state (own).
+use Rattle.std.specs.Prelude.{codes, ℕ, ◌==◌, ◌&&◌, nat_lt, not, if◌then◌else◌, Bool, true, false, List, [], ◌∷◌, ◌++◌, length, slice_index, Option, Some, None}
+use Rattle.std.specs.List.{flat_map}
+use Rattle.std.specs.Option.{option_map_or}
+use Rattle.std.specs.Fmt.{decimal}
+use Rattle.dp_sap.specs.AccessTable.{same_point, data_exchange, rd_inp, rd_outp, global_control, get_cfg, slave_diag, set_prm, chk_cfg}
+use Rattle.dp_prm.specs.declared.prm.Prm.{Prm}
+use Rattle.dp_prm.specs.Meaning.{is_short, unlock_req, lock_req, min_tsdr, ident_number, user_prm, has_factor_0, sync_req, freeze_req}
+use Rattle.dp_cfg.specs.Choosing.{chosen}
+use Rattle.dp_slave.specs.declared.description.SlaveSpec.{SlaveSpec}
+use Rattle.dp_slave.specs.declared.view.SlaveView.{SlaveView}
+use Rattle.dp_slave.specs.SlaveRecord.{configurations}
+use Rattle.dp_slave.specs.Acts.{Control}
+use Rattle.dp_slave.specs.Services.{control_of}
+use Rattle.dp_decode.specs.Words.{listed}
+use Rattle.dp_sentences.specs.declared.prm_fault.PrmFault.{PrmFault}
+use Rattle.dp_sentences.specs.declared.prm_fault.PrmFault.TheVariants as faults
+use Rattle.dp_sentences.specs.Meetings.{MeetingView}
+use Rattle.dp_sentences.specs.Words.{count_words, counted_words, ident_words, octets_words, since_words}
+
+-- ---- Set_Prm (IEC 61158-6-3, Set_Prm request)
+
+abbrev pub user_parameters_text : ℕ → ℕ → List ℕ
+user_parameters_text count most =
+    counted_words count (codes "user parameter") (codes "user parameters") ++ codes ", the slave takes " ++ decimal most
+
+abbrev pub prm_fault_text : PrmFault → List ℕ
+prm_fault_text (faults.Short count) = count_words count ++ codes ", at least 7"
+prm_fault_text (faults.Ident told own) = codes "ident " ++ ident_words told ++ codes ", the slave has " ++ ident_words own
+prm_fault_text faults.WatchdogTime = codes "watchdog time 0"
+prm_fault_text faults.NoSync = codes "Sync_Req, the slave has no Sync"
+prm_fault_text faults.NoFreeze = codes "Freeze_Req, the slave has no Freeze"
+prm_fault_text (faults.UserParameters count most) = user_parameters_text count most
+
+abbrev pub fault_where : Bool → PrmFault → List PrmFault
+fault_where true fault = fault ∷ []
+fault_where false fault = []
+
+-- why the octets of a locking request are refused, each reason that there is
+abbrev pub prm_faults : List ℕ → SlaveSpec → List PrmFault
+prm_faults octets slave =
+    fault_where (not (ident_number octets == slave.ident)) (faults.Ident (ident_number octets) slave.ident)
+    ++ fault_where (has_factor_0 octets) faults.WatchdogTime
+    ++ fault_where (sync_req octets && not slave.sync) faults.NoSync
+    ++ fault_where (freeze_req octets && not slave.freeze) faults.NoFreeze
+    ++ fault_where (nat_lt slave.user_max (length (user_prm octets))) (faults.UserParameters (length (user_prm octets)) slave.user_max)
+
+abbrev pub prm_fault_behind : PrmFault → List ℕ
+prm_fault_behind fault = codes "; " ++ prm_fault_text fault
+
+abbrev pub prm_faults_words : List PrmFault → List ℕ
+prm_faults_words [] = codes "none"
+prm_faults_words (fault ∷ faults) = prm_fault_text fault ++ flat_map prm_fault_behind faults
+
+-- a slave that somebody held is released by what was wrong
+abbrev pub released_words : Option ℕ → List ℕ
+released_words None = codes "."
+released_words (Some holder) = codes ". Released."
+
+abbrev pub wrong_prm_text : Option ℕ → List PrmFault → List ℕ
+wrong_prm_text holder faults = codes "wrong parameters: " ++ prm_faults_words faults ++ released_words holder
+
+abbrev pub held_words : ℕ → ℕ → List ℕ
+held_words master address = codes "master " ++ decimal master ++ codes " holds slave " ++ decimal address
+
+-- a lock, where the sender may have held the slave already
+abbrev pub locked_text : ℕ → SlaveView → List ℕ
+locked_text master slave =
+    if option_map_or (λ holder. holder == master) slave.holder false
+    then codes "locked again: " ++ held_words master slave.address ++ since_words slave.since
+    else codes "locked: " ++ held_words master slave.address ++ codes "."
+
+abbrev pub unlocked_text : ℕ → Option ℕ → List ℕ
+unlocked_text address None = codes "unlocked: nobody held slave " ++ decimal address ++ codes "."
+unlocked_text address (Some holder) = codes "unlocked: slave " ++ decimal address ++ codes " is released."
+
+-- min TSDR alone; 0 leaves it
+abbrev pub min_tsdr_text : ℕ → ℕ → List ℕ
+min_tsdr_text octet own =
+    if octet == 0 then codes "done: min TSDR stays " ++ decimal own ++ codes "." else codes "done: min TSDR is " ++ decimal octet ++ codes "."
+
+abbrev pub lock_text : MeetingView → List PrmFault → List ℕ
+lock_text meeting [] = locked_text meeting.master meeting.slave
+lock_text meeting (fault ∷ faults) = wrong_prm_text meeting.slave.holder (fault ∷ faults)
+
+-- the four forms of Set_Prm, in the order in which the octets are looked at
+abbrev pub set_prm_text : MeetingView → List ℕ → List ℕ
+set_prm_text meeting octets =
+    if is_short octets then wrong_prm_text meeting.slave.holder (faults.Short (length octets) ∷ [])
+    else if unlock_req octets then unlocked_text meeting.slave.address meeting.slave.holder
+    else if not (lock_req octets) then min_tsdr_text (min_tsdr octets) meeting.slave.min_tsdr
+    else lock_text meeting (prm_faults octets meeting.description)
+
+-- ---- Chk_Cfg (IEC 61158-6-3, Chk_Cfg request)
+
+abbrev pub configuration_behind : List ℕ → List ℕ
+configuration_behind octets = codes " or " ++ octets_words octets
+
+-- the configurations of a slave
+abbrev pub configurations_words : List (List ℕ) → List ℕ
+configurations_words [] = codes "none"
+configurations_words (first ∷ others) = octets_words first ++ flat_map configuration_behind others
+
+abbrev pub good_cfg_text : ℕ → ℕ → List ℕ
+good_cfg_text number shape =
+    if number == shape then codes "good configuration: number " ++ decimal number ++ codes "."
+    else codes "good configuration: number " ++ decimal number ++ codes " in place of " ++ decimal shape ++ codes "."
+
+abbrev pub wrong_cfg_text : Option ℕ → List (List ℕ) → List ℕ
+wrong_cfg_text holder own = codes "wrong configuration: the slave has " ++ configurations_words own ++ released_words holder
+
+abbrev pub chosen_text : MeetingView → Option ℕ → List ℕ
+chosen_text meeting None = wrong_cfg_text meeting.slave.holder (configurations meeting.description)
+chosen_text meeting (Some number) = good_cfg_text number meeting.slave.shape
+
+abbrev pub chk_cfg_text : MeetingView → List ℕ → List ℕ
+chk_cfg_text meeting octets = chosen_text meeting (chosen (configurations meeting.description) octets)
+
+-- ---- Data_Exchange (IEC 61158-6-3, Data_Exchange request)
+
+-- of the whole length, which wait for Sync in sync mode, or none, which stand for zeros
+abbrev pub exchange_text : SlaveView → List ℕ → List ℕ
+exchange_text slave octets =
+    if not (length octets == length slave.outputs.items) then codes "done: no data, for zeros; the slave stays cleared."
+    else if slave.sync_mode then codes "done: the data wait for Sync."
+    else codes "done."
+
+-- ---- Slave_Diag (IEC 61158-6-3, Slave_Diag request)
+
+-- the diagnosis is read by the holder alone
+abbrev pub slave_diag_text : ℕ → Option ℕ → List ℕ
+slave_diag_text master holder =
+    if option_map_or (λ holder. holder == master) holder false then codes "done: read by the holder." else codes "done."
+
+-- ---- Global_Control (IEC 61158-6-3, Global_Control request)
+
+abbrev pub sync_is_asked : Option Prm → Bool
+sync_is_asked prm = option_map_or (λ p. p.sync_req) prm false
+
+abbrev pub freeze_is_asked : Option Prm → Bool
+freeze_is_asked prm = option_map_or (λ p. p.freeze_req) prm false
+
+-- what is done, in its order: Clear_Data; Unsync, or else Sync; Unfreeze, or else Freeze; Sync and Freeze where the parameters asked for them
+-- (own order)
+unfoldable pub acts_words : Bool → Bool → Bool → Bool → Bool → List ℕ
+acts_words clears unsyncs syncs unfreezes freezes =
+    listed (codes "no change") [] (
+    (clears, codes "outputs cleared")
+    ∷ (unsyncs, codes "Unsync")
+    ∷ (syncs, codes "Sync")
+    ∷ (unfreezes, codes "Unfreeze")
+    ∷ (freezes, codes "Freeze")
+    ∷ [])
+
+abbrev pub acts_text : SlaveView → Control → List ℕ
+acts_text slave control =
+    acts_words control.clear_data control.unsync (not control.unsync && (control.sync && sync_is_asked slave.prm))
+    control.unfreeze (not control.unfreeze && (control.freeze && freeze_is_asked slave.prm))
+
+-- why Sync does nothing, where it is asked for; beside Unsync it needs no other reason
+abbrev pub idle_sync_text : Bool → Bool → Bool → List ℕ
+idle_sync_text false unsync asked = []
+idle_sync_text true true asked = codes " Sync does nothing beside Unsync."
+idle_sync_text true false false = codes " Sync does nothing without Sync_Req."
+idle_sync_text true false true = []
+
+-- why Freeze does nothing, where it is asked for
+abbrev pub idle_freeze_text : Bool → Bool → Bool → List ℕ
+idle_freeze_text false unfreeze asked = []
+idle_freeze_text true true asked = codes " Freeze does nothing beside Unfreeze."
+idle_freeze_text true false false = codes " Freeze does nothing without Freeze_Req."
+idle_freeze_text true false true = []
+
+-- what is done, and what is asked for and isn't done
+abbrev pub controlled_text : SlaveView → Control → List ℕ
+controlled_text slave control =
+    codes "done: " ++ acts_text slave control ++ codes "."
+    ++ idle_sync_text control.sync control.unsync (sync_is_asked slave.prm)
+    ++ idle_freeze_text control.freeze control.unfreeze (freeze_is_asked slave.prm)
+
+abbrev pub control_text : SlaveView → List ℕ → List ℕ
+control_text slave octets = controlled_text slave (control_of octets)
+
+-- ---- by the point that was asked
+
+abbrev pub done_at : MeetingView → Option ℕ → List ℕ → List ℕ
+done_at meeting point octets =
+    if same_point point data_exchange then exchange_text meeting.slave octets
+    else if same_point point global_control then control_text meeting.slave octets
+    else if same_point point slave_diag then slave_diag_text meeting.master meeting.slave.holder
+    else if same_point point set_prm then set_prm_text meeting octets
+    else if same_point point chk_cfg then chk_cfg_text meeting octets
+    else codes "done."
+
+abbrev pub done_text : MeetingView → List ℕ
+done_text meeting = done_at meeting meeting.parts.dsap meeting.parts.payload.items

@@ -1,0 +1,153 @@
+//! The rows of an entry.
+
+ghost use Rattle.std.specs.Prelude.{◌≡◌, Some};
+ghost use Rattle.dp_telegram.specs.FrameText.{frame_of};
+ghost use Rattle.dp_sentences.specs.Results.{result_rows};
+ghost use Rattle.dp_sentences.specs.Blocks.{contents_row, reply_row, block_text};
+
+use crate::changes::ChangeRows;
+use crate::head::Head;
+use crate::operations::OpWords;
+use crate::requests::RequestRows;
+use crate::scene::Scene;
+use crate::telegram_rows::{ReplyRow, SentRow};
+use dp_line::{Event, LineState, Outcome};
+use dp_telegram::{Frame, decode};
+use std::fmt;
+
+/// The frame that octets spell, if they spell one.
+fn frame_in(octets: &[u8]) -> Option<Frame>
+    ensures { result ≡ frame_of octets.now }
+{
+    match decode(octets) {
+        Ok(frame) => Some(frame),
+        Err(_) => None,
+    }
+}
+
+/// What is in a request.
+#[derive(Clone, Copy)]
+struct Contents<'a>(&'a Event);
+
+impl<'a> fmt::Display for Contents<'a> {
+    ghost output = { λ s. Some (contents_row s.0.now) };
+
+    fn fmt<W: fmt::Write>(&self, f: &mut fmt::Formatter<W>) -> fmt::Result {
+        match self.0 {
+            Event::Request { octets, .. } => {
+                let row = SentRow(octets.as_slice());
+                write!(f, "{row}")
+            }
+            Event::Operator(_) => Ok(()),
+        }
+    }
+}
+
+/// What came of an event.
+#[derive(Clone, Copy)]
+struct ResultRows<'a> {
+    scene: &'a Scene<'a>,
+    event: &'a Event,
+    outcome: &'a Outcome,
+}
+
+impl<'a> fmt::Display for ResultRows<'a> {
+    ghost output = { λ s. Some (result_rows s.scene.now s.event.now s.outcome.now) };
+
+    fn fmt<W: fmt::Write>(&self, f: &mut fmt::Formatter<W>) -> fmt::Result {
+        match self.event {
+            Event::Request { master, octets } => {
+                let frame = frame_in(octets.as_slice());
+                let rows = RequestRows {
+                    scene: self.scene,
+                    master: *master,
+                    frame: &frame,
+                    outcome: self.outcome,
+                };
+                write!(f, "{rows}")
+            }
+            Event::Operator(op) => {
+                let scene = self.scene;
+                let words = OpWords {
+                    before: scene.before,
+                    op,
+                    outcome: self.outcome,
+                };
+                write!(f, "       result      {words}\n")
+            }
+        }
+    }
+}
+
+/// What is in the reply to a request.
+#[derive(Clone, Copy)]
+struct ReplyRows<'a> {
+    event: &'a Event,
+    outcome: &'a Outcome,
+}
+
+impl<'a> fmt::Display for ReplyRows<'a> {
+    ghost output = { λ s. Some (reply_row s.event.now s.outcome.now) };
+
+    fn fmt<W: fmt::Write>(&self, f: &mut fmt::Formatter<W>) -> fmt::Result {
+        match self.event {
+            Event::Request { octets, .. } => match self.outcome {
+                Outcome::Reply { octets: reply, .. } => {
+                    let row = ReplyRow {
+                        request: octets.as_slice(),
+                        reply: reply.as_slice(),
+                    };
+                    write!(f, "{row}")
+                }
+                Outcome::Silence(_) => Ok(()),
+                Outcome::Spread(_) => Ok(()),
+                Outcome::Released(_) => Ok(()),
+                Outcome::Done => Ok(()),
+                Outcome::Refused(_) => Ok(()),
+            },
+            Event::Operator(_) => Ok(()),
+        }
+    }
+}
+
+/// The rows of an event.
+#[derive(Clone, Copy)]
+pub struct Block<'a> {
+    /// What is known before it.
+    pub scene: &'a Scene<'a>,
+    /// The line after it.
+    pub after: &'a LineState,
+    /// Its place, from 1.
+    pub place: u64,
+    pub event: &'a Event,
+    pub outcome: &'a Outcome,
+}
+
+impl<'a> fmt::Display for Block<'a> {
+    ghost output = { λ s. Some (block_text s.scene.now s.after.now.world s.place s.event.now s.outcome.now) };
+
+    fn fmt<W: fmt::Write>(&self, f: &mut fmt::Formatter<W>) -> fmt::Result {
+        let scene = self.scene;
+        let head = Head {
+            place: self.place,
+            event: self.event,
+        };
+        let contents = Contents(self.event);
+        let results = ResultRows {
+            scene,
+            event: self.event,
+            outcome: self.outcome,
+        };
+        let reply = ReplyRows {
+            event: self.event,
+            outcome: self.outcome,
+        };
+        let changes = ChangeRows {
+            before: scene.before,
+            after: self.after,
+            event: self.event,
+            outcome: self.outcome,
+        };
+        write!(f, "{head}{contents}{results}{reply}{changes}")
+    }
+}

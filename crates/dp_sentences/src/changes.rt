@@ -1,0 +1,235 @@
+//! What an event changed of the slaves.
+
+ghost use Rattle.std.specs.Prelude.{◌≡◌, Some};
+ghost use Rattle.std.specs.List.{flat_map};
+ghost use Rattle.dp_sentences.specs.Changes.{same_state, same_holder, standing_words, changed_words, changed_row, change_of, asked_addresses, touched, change_rows};
+
+use crate::who::Whom;
+use crate::words::{HolderWords, state_name};
+use dp_line::{Event, LineState, Outcome, SlaveView};
+use dp_sap::State;
+use std::fmt;
+
+/// State and holder of a slave.
+#[derive(Clone, Copy)]
+struct StandingWords<'a>(&'a SlaveView);
+
+impl<'a> fmt::Display for StandingWords<'a> {
+    ghost output = { λ s. Some (standing_words s.0.now) };
+
+    fn fmt<W: fmt::Write>(&self, f: &mut fmt::Formatter<W>) -> fmt::Result {
+        let slave = self.0;
+        let state = state_name(slave.state);
+        let holder = HolderWords(slave.holder);
+        write!(f, "{state}, {holder}")
+    }
+}
+
+fn same_state(before: State, after: State) -> bool
+    ensures { result ≡ same_state before after }
+{
+    match (before, after) {
+        (State::WaitPrm, State::WaitPrm) => true,
+        (State::WaitCfg, State::WaitCfg) => true,
+        (State::DataExch, State::DataExch) => true,
+        (State::WaitPrm, State::WaitCfg) => false,
+        (State::WaitPrm, State::DataExch) => false,
+        (State::WaitCfg, State::WaitPrm) => false,
+        (State::WaitCfg, State::DataExch) => false,
+        (State::DataExch, State::WaitPrm) => false,
+        (State::DataExch, State::WaitCfg) => false,
+    }
+}
+
+/// The same master holds the slave, or nobody does.
+pub fn same_holder(before: Option<u8>, after: Option<u8>) -> bool
+    ensures { result ≡ same_holder before after }
+{
+    match (before, after) {
+        (None, None) => true,
+        (Some(before), Some(after)) => before == after,
+        (None, Some(_)) => false,
+        (Some(_), None) => false,
+    }
+}
+
+/// State and holder of a slave, before and after an event.
+#[derive(Clone, Copy)]
+struct ChangedWords<'a> {
+    address: u8,
+    before: &'a SlaveView,
+    after: &'a SlaveView,
+}
+
+impl<'a> fmt::Display for ChangedWords<'a> {
+    ghost output = { λ s. Some (changed_words s.address s.before.now s.after.now) };
+
+    fn fmt<W: fmt::Write>(&self, f: &mut fmt::Formatter<W>) -> fmt::Result {
+        let address = self.address;
+        let before = StandingWords(self.before);
+        let after = StandingWords(self.after);
+        write!(f, "slave {address}: {before} -> {after}")
+    }
+}
+
+/// The row of what changed.
+#[derive(Clone, Copy)]
+struct ChangedRow<'a>(ChangedWords<'a>);
+
+impl<'a> fmt::Display for ChangedRow<'a> {
+    ghost output = { λ s. Some (changed_row s.0.address s.0.before.now s.0.after.now) };
+
+    fn fmt<W: fmt::Write>(&self, f: &mut fmt::Formatter<W>) -> fmt::Result {
+        let words = self.0;
+        write!(f, "       change      {words}\n")
+    }
+}
+
+/// What changed of one slave.
+#[derive(Clone, Copy)]
+struct ChangeRow<'a> {
+    address: u8,
+    before: &'a LineState,
+    after: &'a LineState,
+}
+
+impl<'a> fmt::Display for ChangeRow<'a> {
+    ghost output = { λ s. Some (change_of s.before.now.world s.after.now.world s.address) };
+
+    fn fmt<W: fmt::Write>(&self, f: &mut fmt::Formatter<W>) -> fmt::Result {
+        let address = self.address;
+        let Some(before) = self.before.view(address) else {
+            return Ok(());
+        };
+        let Some(after) = self.after.view(address) else {
+            return Ok(());
+        };
+        if same_state(before.state, after.state) && same_holder(before.holder, after.holder) {
+            return Ok(());
+        }
+        let row = ChangedRow(ChangedWords {
+            address,
+            before: &before,
+            after: &after,
+        });
+        write!(f, "{row}")
+    }
+}
+
+/// What changed of these slaves.
+#[derive(Clone, Copy)]
+struct SlaveChanges<'a> {
+    before: &'a LineState,
+    after: &'a LineState,
+    addresses: &'a [u8],
+}
+
+impl<'a> fmt::Display for SlaveChanges<'a> {
+    ghost output = { λ s. Some (flat_map (change_of s.before.now.world s.after.now.world) s.addresses.now) };
+
+    fn fmt<W: fmt::Write>(&self, f: &mut fmt::Formatter<W>) -> fmt::Result {
+        for address in self.addresses {
+            let row = ChangeRow {
+                address: *address,
+                before: self.before,
+                after: self.after,
+            };
+            write!(f, "{row}")?;
+        }
+        Ok(())
+    }
+}
+
+/// What changed of the slave that a request asks.
+#[derive(Clone, Copy)]
+struct AskedChange<'a> {
+    before: &'a LineState,
+    after: &'a LineState,
+    whom: Whom,
+}
+
+impl<'a> fmt::Display for AskedChange<'a> {
+    ghost output = { λ s. Some (flat_map (change_of s.before.now.world s.after.now.world) (asked_addresses s.whom)) };
+
+    fn fmt<W: fmt::Write>(&self, f: &mut fmt::Formatter<W>) -> fmt::Result {
+        match self.whom {
+            Whom::Slave(address) => {
+                let row = ChangeRow {
+                    address,
+                    before: self.before,
+                    after: self.after,
+                };
+                write!(f, "{row}")
+            }
+            Whom::AllSlaves => Ok(()),
+            Whom::Station(_) => Ok(()),
+            Whom::Nobody => Ok(()),
+        }
+    }
+}
+
+/// What an event changed.
+#[derive(Clone, Copy)]
+pub(crate) struct ChangeRows<'a> {
+    pub(crate) before: &'a LineState,
+    pub(crate) after: &'a LineState,
+    pub(crate) event: &'a Event,
+    pub(crate) outcome: &'a Outcome,
+}
+
+impl<'a> fmt::Display for ChangeRows<'a> {
+    ghost output = { λ s. Some (change_rows s.before.now.world s.after.now.world s.event.now s.outcome.now) };
+
+    fn fmt<W: fmt::Write>(&self, f: &mut fmt::Formatter<W>) -> fmt::Result {
+        match self.event {
+            Event::Request { octets, .. } => {
+                let change = AskedChange {
+                    before: self.before,
+                    after: self.after,
+                    whom: Whom::of(octets.as_slice()),
+                };
+                write!(f, "{change}")
+            }
+            Event::Operator(_) => {
+                let changes = LetGo {
+                    before: self.before,
+                    after: self.after,
+                    outcome: self.outcome,
+                };
+                write!(f, "{changes}")
+            }
+        }
+    }
+}
+
+/// What changed of the slaves that a tick or the halt let go.
+#[derive(Clone, Copy)]
+struct LetGo<'a> {
+    before: &'a LineState,
+    after: &'a LineState,
+    outcome: &'a Outcome,
+}
+
+impl<'a> fmt::Display for LetGo<'a> {
+    ghost use Rattle.dp_sentences.specs.Changes.{let_go};
+
+    ghost output = { λ s. Some (flat_map (change_of s.before.now.world s.after.now.world) (let_go s.outcome.now)) };
+
+    fn fmt<W: fmt::Write>(&self, f: &mut fmt::Formatter<W>) -> fmt::Result {
+        match self.outcome {
+            Outcome::Released(addresses) => {
+                let changes = SlaveChanges {
+                    before: self.before,
+                    after: self.after,
+                    addresses: addresses.as_slice(),
+                };
+                write!(f, "{changes}")
+            }
+            Outcome::Reply { .. } => Ok(()),
+            Outcome::Silence(_) => Ok(()),
+            Outcome::Spread(_) => Ok(()),
+            Outcome::Done => Ok(()),
+            Outcome::Refused(_) => Ok(()),
+        }
+    }
+}

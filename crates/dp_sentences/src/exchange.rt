@@ -1,0 +1,31 @@
+//! What came of a Data_Exchange and of a Slave_Diag.
+
+ghost use Rattle.std.specs.Prelude.{◌≡◌};
+ghost use Rattle.dp_sentences.specs.Services.{exchange_text, slave_diag_text};
+
+use crate::set_prm::holds;
+use dp_slave::SlaveView;
+
+/// What came of a Data_Exchange.
+pub(crate) fn exchanged(slave: &SlaveView, octets: &[u8]) -> &'static str
+    ensures { result.now ≡ exchange_text slave.now octets.now }
+{
+    if octets.len() != slave.outputs.len() {
+        "done: no data, for zeros; the slave stays cleared."
+    } else if slave.sync_mode {
+        "done: the data wait for Sync."
+    } else {
+        "done."
+    }
+}
+
+/// What came of a Slave_Diag.
+pub(crate) fn diagnosed(master: u8, holder: Option<u8>) -> &'static str
+    ensures { result.now ≡ slave_diag_text master holder }
+{
+    if holds(holder, master) {
+        "done: read by the holder."
+    } else {
+        "done."
+    }
+}

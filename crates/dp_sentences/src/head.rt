@@ -1,0 +1,158 @@
+//! The head row of an entry.
+
+ghost use Rattle.std.specs.Prelude.{◌≡◌, Some};
+ghost use Rattle.dp_sentences.specs.Heads.{bit_text, flags_words, busy_words, op_kind_text, event_kind_text, head_text};
+
+use crate::telegram_rows::KindWords;
+use crate::who::Who;
+use crate::words::{OctetsWords, PointWords, Spaces, TimeWords, digits_of_long, word_for};
+use dp_line::{Event, Op};
+use std::fmt;
+
+/// The columns of a place, and those of from whom to whom.
+const PLACE_COLUMNS: usize = 5;
+
+const WHO_COLUMNS: usize = 26;
+
+/// A bit as 0 or 1.
+fn bit(is_set: bool) -> &'static str
+    ensures { result.now ≡ bit_text is_set }
+{
+    if is_set { "1" } else { "0" }
+}
+
+/// What a mark says of its point.
+fn busy_name(on: bool) -> &'static str
+    ensures { result.now ≡ busy_words on }
+{
+    if on { " busy" } else { " no longer busy" }
+}
+
+/// The flags of a report.
+#[derive(Clone, Copy)]
+struct Flags {
+    ext: bool,
+    stat: bool,
+    overflow: bool,
+}
+
+impl fmt::Display for Flags {
+    ghost output = { λ s. Some (flags_words s.ext s.stat s.overflow) };
+
+    fn fmt<W: fmt::Write>(&self, f: &mut fmt::Formatter<W>) -> fmt::Result {
+        let ext = bit(self.ext);
+        let stat = bit(self.stat);
+        let overflow = bit(self.overflow);
+        write!(
+            f,
+            "Ext_Diag {ext}, Stat_Diag {stat}, Ext_Diag_Overflow {overflow}"
+        )
+    }
+}
+
+/// A mark of a point.
+#[derive(Clone, Copy)]
+struct Mark {
+    point: Option<u8>,
+    on: bool,
+}
+
+impl fmt::Display for Mark {
+    ghost use Rattle.std.specs.Prelude.{◌++◌};
+    ghost use Rattle.dp_sentences.specs.Words.{point_words};
+
+    ghost output = { λ mark. Some (point_words mark.point ++ busy_words mark.on) };
+
+    fn fmt<W: fmt::Write>(&self, f: &mut fmt::Formatter<W>) -> fmt::Result {
+        let point = PointWords(self.point);
+        let busy = busy_name(self.on);
+        write!(f, "{point}{busy}")
+    }
+}
+
+/// What an operator does.
+#[derive(Clone, Copy)]
+struct OpKind<'a>(&'a Op);
+
+impl<'a> fmt::Display for OpKind<'a> {
+    ghost output = { λ kind. Some (op_kind_text kind.0.now) };
+
+    fn fmt<W: fmt::Write>(&self, f: &mut fmt::Formatter<W>) -> fmt::Result {
+        match self.0 {
+            Op::Input { octets, .. } => {
+                let octets = OctetsWords(octets.as_slice());
+                write!(f, "inputs {octets}")
+            }
+            Op::Diag {
+                ext,
+                stat,
+                overflow,
+                octets,
+                ..
+            } => {
+                let flags = Flags {
+                    ext: *ext,
+                    stat: *stat,
+                    overflow: *overflow,
+                };
+                let octets = OctetsWords(octets.as_slice());
+                write!(f, "diagnosis {flags}; extended {octets}")
+            }
+            Op::Busy { point, on, .. } => {
+                let mark = Mark {
+                    point: *point,
+                    on: *on,
+                };
+                write!(f, "{mark}")
+            }
+            Op::Tick(units) => {
+                let word = word_for(*units == 1, "unit", "units");
+                let time = TimeWords(*units);
+                write!(f, "{units} {word} of time, {time}")
+            }
+            Op::Halt => f.write_str("halt"),
+        }
+    }
+}
+
+/// What an event is.
+#[derive(Clone, Copy)]
+struct EventKind<'a>(&'a Event);
+
+impl<'a> fmt::Display for EventKind<'a> {
+    ghost output = { λ kind. Some (event_kind_text kind.0.now) };
+
+    fn fmt<W: fmt::Write>(&self, f: &mut fmt::Formatter<W>) -> fmt::Result {
+        match self.0 {
+            Event::Request { octets, .. } => {
+                let kind = KindWords(octets.as_slice());
+                write!(f, "{kind}")
+            }
+            Event::Operator(op) => {
+                let kind = OpKind(op);
+                write!(f, "{kind}")
+            }
+        }
+    }
+}
+
+/// The head row of an entry, with its LF.
+#[derive(Clone, Copy)]
+pub(crate) struct Head<'a> {
+    /// The place, from 1.
+    pub(crate) place: u64,
+    pub(crate) event: &'a Event,
+}
+
+impl<'a> fmt::Display for Head<'a> {
+    ghost output = { λ head. Some (head_text head.place head.event.now) };
+
+    fn fmt<W: fmt::Write>(&self, f: &mut fmt::Formatter<W>) -> fmt::Result {
+        let place = self.place;
+        let before = Spaces(PLACE_COLUMNS.saturating_sub(digits_of_long(place)));
+        let who = Who::of(self.event);
+        let behind = Spaces(WHO_COLUMNS.saturating_sub(who.width()));
+        let kind = EventKind(self.event);
+        write!(f, "{before}{place}  {who}{behind}{kind}\n")
+    }
+}

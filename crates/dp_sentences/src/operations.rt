@@ -1,0 +1,198 @@
+//! What came of what an operator does.
+
+ghost use Rattle.std.specs.Prelude.{◌≡◌, Some};
+ghost use Rattle.std.specs.List.{flat_map};
+ghost use Rattle.dp_line.specs.declared.event.Event.TheVariants.{Operator};
+ghost use Rattle.dp_line.specs.Events.{is_halt};
+ghost use Rattle.dp_sentences.specs.Results.{watchdog_words, full_time_of, shown_at, expired_words, expired_behind, tick_text, halt_text, released_text, op_text};
+
+use crate::words::{NumbersWords, TimeWords};
+use dp_line::{LineState, Op, Outcome, SlaveView};
+use std::fmt;
+
+/// The full time of a watchdog that ran out.
+#[derive(Clone, Copy)]
+struct WatchdogWords(Option<u32>);
+
+impl fmt::Display for WatchdogWords {
+    ghost output = { λ s. Some (watchdog_words s.0) };
+
+    fn fmt<W: fmt::Write>(&self, f: &mut fmt::Formatter<W>) -> fmt::Result {
+        match self.0 {
+            None => Ok(()),
+            Some(units) => {
+                let time = TimeWords(units);
+                write!(f, " (its watchdog of {time} ran out)")
+            }
+        }
+    }
+}
+
+/// The full time of the watchdog of a slave, by the parameters of its holder.
+fn full_time_of(slave: &Option<SlaveView>) -> Option<u32>
+    ensures { result ≡ full_time_of slave.now }
+{
+    match slave {
+        Some(slave) => match &slave.prm {
+            Some(prm) => prm.watchdog,
+            None => None,
+        },
+        None => None,
+    }
+}
+
+/// A slave that a tick let go.
+#[derive(Clone, Copy)]
+struct Expired<'a> {
+    before: &'a LineState,
+    address: u8,
+}
+
+impl<'a> fmt::Display for Expired<'a> {
+    ghost output = { λ s. Some (expired_words s.before.now.world s.address) };
+
+    fn fmt<W: fmt::Write>(&self, f: &mut fmt::Formatter<W>) -> fmt::Result {
+        let address = self.address;
+        let watchdog = WatchdogWords(full_time_of(&self.before.view(address)));
+        write!(f, "{address}{watchdog}")
+    }
+}
+
+/// Slaves that a tick let go, each behind a comma.
+#[derive(Clone, Copy)]
+struct ExpiredBehind<'a> {
+    before: &'a LineState,
+    addresses: &'a [u8],
+}
+
+impl<'a> fmt::Display for ExpiredBehind<'a> {
+    ghost output = { λ s. Some (flat_map (expired_behind s.before.now.world) s.addresses.now) };
+
+    fn fmt<W: fmt::Write>(&self, f: &mut fmt::Formatter<W>) -> fmt::Result {
+        for address in self.addresses {
+            let expired = Expired {
+                before: self.before,
+                address: *address,
+            };
+            write!(f, ", {expired}")?;
+        }
+        Ok(())
+    }
+}
+
+/// The slaves that a tick let go.
+#[derive(Clone, Copy)]
+struct TickWords<'a> {
+    before: &'a LineState,
+    addresses: &'a [u8],
+}
+
+impl<'a> fmt::Display for TickWords<'a> {
+    ghost output = { λ s. Some (tick_text s.before.now.world s.addresses.now) };
+
+    fn fmt<W: fmt::Write>(&self, f: &mut fmt::Formatter<W>) -> fmt::Result {
+        match self.addresses {
+            [] => f.write_str("no watchdog ran out."),
+            [first, others @ ..] => {
+                let first = Expired {
+                    before: self.before,
+                    address: *first,
+                };
+                let others = ExpiredBehind {
+                    before: self.before,
+                    addresses: others,
+                };
+                write!(f, "released: {first}{others}.")
+            }
+        }
+    }
+}
+
+/// The slaves that the halt let go.
+#[derive(Clone, Copy)]
+struct HaltWords<'a>(&'a [u8]);
+
+impl<'a> fmt::Display for HaltWords<'a> {
+    ghost output = { λ s. Some (halt_text s.0.now) };
+
+    fn fmt<W: fmt::Write>(&self, f: &mut fmt::Formatter<W>) -> fmt::Result {
+        match self.0 {
+            [] => f.write_str("halted; nobody held a slave."),
+            [_, ..] => {
+                let addresses = NumbersWords(self.0);
+                write!(f, "halted; released: {addresses}.")
+            }
+        }
+    }
+}
+
+/// The slaves that were let go.
+#[derive(Clone, Copy)]
+struct ReleasedSlaves<'a> {
+    before: &'a LineState,
+    op: &'a Op,
+    addresses: &'a [u8],
+}
+
+impl<'a> fmt::Display for ReleasedSlaves<'a> {
+    ghost output = { λ s. Some (released_text s.before.now.world s.op.now s.addresses.now) };
+
+    fn fmt<W: fmt::Write>(&self, f: &mut fmt::Formatter<W>) -> fmt::Result {
+        if is_halt(self.op) {
+            let words = HaltWords(self.addresses);
+            write!(f, "{words}")
+        } else {
+            let words = TickWords {
+                before: self.before,
+                addresses: self.addresses,
+            };
+            write!(f, "{words}")
+        }
+    }
+}
+
+/// It is the halt.
+pub(crate) fn is_halt(op: &Op) -> bool
+    ensures { result ≡ is_halt (Operator op.now) }
+{
+    match op {
+        Op::Halt => true,
+        Op::Input { .. } => false,
+        Op::Diag { .. } => false,
+        Op::Busy { .. } => false,
+        Op::Tick(_) => false,
+    }
+}
+
+/// What came of what an operator does.
+#[derive(Clone, Copy)]
+pub(crate) struct OpWords<'a> {
+    pub(crate) before: &'a LineState,
+    pub(crate) op: &'a Op,
+    pub(crate) outcome: &'a Outcome,
+}
+
+impl<'a> fmt::Display for OpWords<'a> {
+    ghost output = { λ s. Some (op_text s.before.now.world s.op.now s.outcome.now) };
+
+    fn fmt<W: fmt::Write>(&self, f: &mut fmt::Formatter<W>) -> fmt::Result {
+        match self.outcome {
+            Outcome::Released(addresses) => {
+                let words = ReleasedSlaves {
+                    before: self.before,
+                    op: self.op,
+                    addresses: addresses.as_slice(),
+                };
+                write!(f, "{words}")
+            }
+            Outcome::Done => f.write_str("done."),
+            Outcome::Refused(fault) => {
+                let name = fault.name();
+                write!(f, "refused: {name}.")
+            }
+            Outcome::Reply { .. } => Ok(()),
+            Outcome::Silence(_) => Ok(()),
+            Outcome::Spread(_) => Ok(()),
+        }
+    }
+}

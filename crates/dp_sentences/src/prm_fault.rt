@@ -1,0 +1,206 @@
+//! Why parameters are wrong.
+
+ghost use Rattle.std.specs.Prelude.{◌≡◌, ◌≤◌, ◌<◌, ◌++◌, ◌+◌, ◌==◌, ◌&&◌, nat_lt, not, length, Some};
+ghost use Rattle.std.specs.List.{flat_map};
+ghost use Rattle.dp_prm.specs.Meaning.{ident_number, user_prm, has_factor_0, sync_req, freeze_req, is_set as is_set_of, is_short};
+ghost use Rattle.dp_sentences.specs.Services.{fault_where, user_parameters_text, prm_fault_text, prm_faults, prm_fault_behind, prm_faults_words};
+
+use crate::words::{CountWords, IdentWords, word_for};
+use arrayvec::ArrayVec;
+use dp_slave::SlaveSpec;
+use std::fmt;
+
+/// The most reasons why the octets of one request are refused.
+const MOST_FAULTS: usize = 5;
+
+// The bits of the first octet by their numbers (IEC 61158-6-3, Set_Prm request, Station_status).
+const SYNC_REQ: u32 = 5;
+
+const FREEZE_REQ: u32 = 4;
+
+const WD_ON: u32 = 3;
+
+/// Why parameters are wrong (IEC 61158-6-3, Set_Prm request).
+#[derive(Clone, Copy)]
+pub(crate) enum PrmFault {
+    /// There are so many octets, fewer than 7.
+    Short(usize),
+    /// The ident number that was sent, and that of the slave.
+    Ident(u16, u16),
+    /// A watchdog is to run, and a factor of its time is 0.
+    WatchdogTime,
+    /// Sync is asked for, which the slave doesn't support.
+    NoSync,
+    /// Freeze is asked for, which the slave doesn't support.
+    NoFreeze,
+    /// So many user parameters were sent, and so many the slave takes.
+    UserParameters(usize, u8),
+}
+
+impl Default for PrmFault {
+    /// It only fills the free cells of an `ArrayVec`.
+    fn default() -> PrmFault {
+        PrmFault::WatchdogTime
+    }
+}
+
+impl fmt::Display for PrmFault {
+    ghost output = { λ fault. Some (prm_fault_text fault) };
+
+    fn fmt<W: fmt::Write>(&self, f: &mut fmt::Formatter<W>) -> fmt::Result {
+        match self {
+            PrmFault::Short(count) => {
+                let count = CountWords(*count);
+                write!(f, "{count}, at least 7")
+            }
+            PrmFault::Ident(told, own) => {
+                let told = IdentWords(*told);
+                let own = IdentWords(*own);
+                write!(f, "ident {told}, the slave has {own}")
+            }
+            PrmFault::WatchdogTime => f.write_str("watchdog time 0"),
+            PrmFault::NoSync => f.write_str("Sync_Req, the slave has no Sync"),
+            PrmFault::NoFreeze => f.write_str("Freeze_Req, the slave has no Freeze"),
+            PrmFault::UserParameters(count, most) => {
+                let words = UserParameters {
+                    count: *count,
+                    most: *most,
+                };
+                write!(f, "{words}")
+            }
+        }
+    }
+}
+
+/// More user parameters were sent than the slave takes.
+#[derive(Clone, Copy)]
+struct UserParameters {
+    count: usize,
+    most: u8,
+}
+
+impl fmt::Display for UserParameters {
+    ghost output = { λ s. Some (user_parameters_text s.count s.most) };
+
+    fn fmt<W: fmt::Write>(&self, f: &mut fmt::Formatter<W>) -> fmt::Result {
+        let count = self.count;
+        let word = word_for(count == 1, "user parameter", "user parameters");
+        let most = self.most;
+        write!(f, "{count} {word}, the slave takes {most}")
+    }
+}
+
+/// Reasons, each behind a semicolon.
+#[derive(Clone, Copy)]
+struct FaultsBehind<'a>(&'a [PrmFault]);
+
+impl<'a> fmt::Display for FaultsBehind<'a> {
+    ghost output = { λ faults. Some (flat_map prm_fault_behind faults.0.now) };
+
+    fn fmt<W: fmt::Write>(&self, f: &mut fmt::Formatter<W>) -> fmt::Result {
+        for fault in self.0 {
+            let fault = *fault;
+            write!(f, "; {fault}")?;
+        }
+        Ok(())
+    }
+}
+
+/// Reasons, parted by a semicolon.
+#[derive(Clone, Copy)]
+pub(crate) struct PrmFaults<'a>(pub(crate) &'a [PrmFault]);
+
+impl<'a> fmt::Display for PrmFaults<'a> {
+    ghost output = { λ faults. Some (prm_faults_words faults.0.now) };
+
+    fn fmt<W: fmt::Write>(&self, f: &mut fmt::Formatter<W>) -> fmt::Result {
+        match self.0 {
+            [] => f.write_str("none"),
+            [first, others @ ..] => {
+                let first = *first;
+                let others = FaultsBehind(others);
+                write!(f, "{first}{others}")
+            }
+        }
+    }
+}
+
+/// Why the octets of a locking request, at least 7 of them, are refused: each reason that there is.
+pub(crate) fn prm_faults(octets: &[u8], slave: &SlaveSpec) -> ArrayVec<PrmFault, MOST_FAULTS>
+    requires { 7 ≤ length octets.now }
+    ensures { result.items ≡ prm_faults octets.now slave.now }
+{
+    let ident = ident_in(octets);
+    let other_ident = ident != slave.ident;
+    let count = octets.len() - 7;
+    let too_many = count > usize::from(slave.user_max);
+    let mut faults = ArrayVec::new();
+    push_where(
+        &mut faults,
+        other_ident,
+        PrmFault::Ident(ident, slave.ident),
+    );
+    push_where(&mut faults, has_factor_0(octets), PrmFault::WatchdogTime);
+    push_where(&mut faults, asks_no_sync(octets, slave), PrmFault::NoSync);
+    push_where(
+        &mut faults,
+        asks_no_freeze(octets, slave),
+        PrmFault::NoFreeze,
+    );
+    push_where(
+        &mut faults,
+        too_many,
+        PrmFault::UserParameters(count, slave.user_max),
+    );
+    faults
+}
+
+fn ident_in(octets: &[u8]) -> u16
+    requires { 7 ≤ length octets.now }
+    ensures { result ≡ ident_number octets.now }
+{
+    u16::from_be_bytes([octets[4], octets[5]])
+}
+
+/// A watchdog is to run, and a factor of its time is 0.
+fn has_factor_0(octets: &[u8]) -> bool
+    requires { 7 ≤ length octets.now }
+    ensures { result ≡ has_factor_0 octets.now }
+{
+    is_set(WD_ON, octets[0]) && (octets[1] == 0 || octets[2] == 0)
+}
+
+/// Sync is to be used, which the slave doesn't support.
+fn asks_no_sync(octets: &[u8], slave: &SlaveSpec) -> bool
+    requires { 7 ≤ length octets.now }
+    ensures { result ≡ (sync_req octets.now && not slave.now.sync) }
+{
+    is_set(SYNC_REQ, octets[0]) && !slave.sync
+}
+
+/// Freeze is to be used, which the slave doesn't support.
+fn asks_no_freeze(octets: &[u8], slave: &SlaveSpec) -> bool
+    requires { 7 ≤ length octets.now }
+    ensures { result ≡ (freeze_req octets.now && not slave.now.freeze) }
+{
+    is_set(FREEZE_REQ, octets[0]) && !slave.freeze
+}
+
+/// Puts a reason behind the others where it holds.
+fn push_where(faults: &mut ArrayVec<PrmFault, MOST_FAULTS>, holds: bool, fault: PrmFault)
+    requires { length faults.old.items < MOST_FAULTS }
+    ensures faults { faults.new.items ≡ faults.old.items ++ fault_where holds fault }
+    ensures few { length faults.new.items ≤ length faults.old.items + 1 }
+{
+    if holds {
+        faults.push(fault);
+    }
+}
+
+/// The bit of this number is 1.
+pub(crate) const fn is_set(number: u32, octet: u8) -> bool
+    requires { number < 8 }
+    ensures { result ≡ is_set_of number octet }
+{
+    octet >> number & 1 == 1
+}

@@ -1,0 +1,327 @@
+//! What came of a request.
+
+ghost use Rattle.std.specs.Prelude.{◌≡◌, ◌++◌, codes, Some, true, false};
+ghost use Rattle.std.specs.List.{flat_map};
+ghost use Rattle.std.specs.Option.{option_and_then};
+ghost use Rattle.dp_telegram.specs.FrameText.{frame_of};
+ghost use Rattle.dp_telegram.specs.Access.{parts_of};
+ghost use Rattle.dp_line.specs.Hearing.{telegram_of_frame};
+ghost use Rattle.dp_line.specs.Verdict.{concerns_a_slave};
+ghost use Rattle.dp_line.specs.declared.event.Outcome.{Outcome as Answers};
+ghost use Rattle.dp_sentences.specs.Results.{told_of_slave, told_of_telegram, told_of_one, result_row, pair_row, pairs_rows, spread_rows, spread_text, request_rows};
+
+use crate::meeting::Meeting;
+use crate::notes::place_noted;
+use crate::scene::{Asked, Scene};
+use crate::sentences::{LineWords, SlaveWords};
+use crate::words::{Spaces, digits_of};
+use dp_line::{Outcome, described};
+use dp_responder::Rule;
+use dp_telegram::{Frame, Telegram};
+use std::fmt;
+
+/// The columns of a label.
+const LABEL_COLUMNS: usize = 12;
+
+/// What a slave answers a request, in one sentence.
+#[derive(Clone, Copy)]
+struct OfSlave<'a> {
+    scene: &'a Scene<'a>,
+    asked: &'a Asked<'a>,
+    /// The slave.
+    address: u8,
+    /// Nobody replies.
+    silent: bool,
+    rule: Rule,
+}
+
+impl<'a> fmt::Display for OfSlave<'a> {
+    ghost output = { λ s. Some (told_of_slave s.scene.now s.asked.now s.address s.silent s.rule) };
+
+    fn fmt<W: fmt::Write>(&self, f: &mut fmt::Formatter<W>) -> fmt::Result {
+        let scene = self.scene;
+        let asked = self.asked;
+        let Some(description) = described(scene.line.slaves.as_slice(), self.address) else {
+            return Ok(());
+        };
+        let Some(slave) = scene.before.view(self.address) else {
+            return Ok(());
+        };
+        let meeting = Meeting {
+            master: asked.master,
+            telegram: asked.telegram,
+            parts: &asked.parts,
+            description,
+            slave,
+            asked: place_noted(scene.notes, self.address, asked.master),
+        };
+        let words = SlaveWords {
+            meeting: &meeting,
+            silent: self.silent,
+            rule: self.rule,
+        };
+        write!(f, "{words}")
+    }
+}
+
+/// What the slave that a telegram asks answers.
+#[derive(Clone, Copy)]
+struct OfTelegram<'a> {
+    scene: &'a Scene<'a>,
+    master: u8,
+    silent: bool,
+    rule: Rule,
+    telegram: &'a Telegram,
+}
+
+impl<'a> fmt::Display for OfTelegram<'a> {
+    ghost output = { λ s. Some (told_of_telegram s.scene.now s.master s.silent s.rule (Some s.telegram.now)) };
+
+    fn fmt<W: fmt::Write>(&self, f: &mut fmt::Formatter<W>) -> fmt::Result {
+        let Some(parts) = self.telegram.parts() else {
+            return Ok(());
+        };
+        let asked = Asked {
+            master: self.master,
+            telegram: self.telegram,
+            parts,
+        };
+        let words = OfSlave {
+            scene: self.scene,
+            asked: &asked,
+            address: self.telegram.destination(),
+            silent: self.silent,
+            rule: self.rule,
+        };
+        write!(f, "{words}")
+    }
+}
+
+/// What one slave, or a row of the line, answers a request.
+#[derive(Clone, Copy)]
+struct OfOne<'a> {
+    scene: &'a Scene<'a>,
+    master: u8,
+    frame: &'a Option<Frame>,
+    silent: bool,
+    rule: Rule,
+}
+
+impl<'a> fmt::Display for OfOne<'a> {
+    ghost output = { λ s. Some (told_of_one s.scene.now s.master s.frame.now s.silent s.rule) };
+
+    fn fmt<W: fmt::Write>(&self, f: &mut fmt::Formatter<W>) -> fmt::Result {
+        if concerns_a_slave(self.rule) {
+            let Some(Frame::Telegram(telegram)) = self.frame else {
+                return Ok(());
+            };
+            let words = OfTelegram {
+                scene: self.scene,
+                master: self.master,
+                silent: self.silent,
+                rule: self.rule,
+                telegram,
+            };
+            write!(f, "{words}")
+        } else {
+            let scene = self.scene;
+            let words = LineWords {
+                masters: scene.line.masters.as_slice(),
+                master: self.master,
+                frame: self.frame,
+                rule: self.rule,
+            };
+            write!(f, "{words}")
+        }
+    }
+}
+
+/// The rule is one of a slave.
+fn concerns_a_slave(rule: Rule) -> bool
+    ensures { result ≡ concerns_a_slave rule }
+{
+    match rule {
+        Rule::Halted => false,
+        Rule::NoFrame => false,
+        Rule::NoMaster => false,
+        Rule::ForeignSender => false,
+        Rule::Token => false,
+        Rule::NotRequest => false,
+        Rule::BadFunction => false,
+        Rule::BadExtension => false,
+        Rule::BadBroadcast => false,
+        Rule::NoStation => false,
+        Rule::Status => true,
+        Rule::NoService => true,
+        Rule::Repeat => true,
+        Rule::NotActive => true,
+        Rule::NotHolder => true,
+        Rule::NotListed => true,
+        Rule::Busy => true,
+        Rule::Length => true,
+        Rule::NotSelected => true,
+        Rule::Done => true,
+    }
+}
+
+/// What a slave answers a request to all, in a row of its own.
+#[derive(Clone, Copy)]
+struct PairRow<'a> {
+    scene: &'a Scene<'a>,
+    asked: &'a Asked<'a>,
+    pair: (u8, Rule),
+}
+
+impl<'a> fmt::Display for PairRow<'a> {
+    ghost output = { λ s. Some (pair_row s.scene.now s.asked.now s.pair) };
+
+    fn fmt<W: fmt::Write>(&self, f: &mut fmt::Formatter<W>) -> fmt::Result {
+        let (address, rule) = self.pair;
+        let behind = Spaces(LABEL_COLUMNS.saturating_sub(6 + digits_of(address)));
+        let words = OfSlave {
+            scene: self.scene,
+            asked: self.asked,
+            address,
+            silent: true,
+            rule,
+        };
+        write!(f, "       slave {address}{behind}{words}\n")
+    }
+}
+
+/// What the slaves answer a request to all.
+#[derive(Clone, Copy)]
+struct PairRows<'a> {
+    scene: &'a Scene<'a>,
+    asked: &'a Asked<'a>,
+    pairs: &'a [(u8, Rule)],
+}
+
+impl<'a> fmt::Display for PairRows<'a> {
+    ghost output = { λ s. Some (flat_map (pair_row s.scene.now s.asked.now) s.pairs.now) };
+
+    fn fmt<W: fmt::Write>(&self, f: &mut fmt::Formatter<W>) -> fmt::Result {
+        for pair in self.pairs {
+            let row = PairRow {
+                scene: self.scene,
+                asked: self.asked,
+                pair: *pair,
+            };
+            write!(f, "{row}")?;
+        }
+        Ok(())
+    }
+}
+
+/// What the slaves answer a telegram to all.
+#[derive(Clone, Copy)]
+struct SpreadRows<'a> {
+    scene: &'a Scene<'a>,
+    master: u8,
+    pairs: &'a [(u8, Rule)],
+    frame: &'a Option<Frame>,
+}
+
+impl<'a> fmt::Display for SpreadRows<'a> {
+    ghost output = { λ s. Some (spread_rows s.scene.now s.master s.pairs.now (option_and_then telegram_of_frame s.frame.now)) };
+
+    fn fmt<W: fmt::Write>(&self, f: &mut fmt::Formatter<W>) -> fmt::Result {
+        let Some(Frame::Telegram(telegram)) = self.frame else {
+            return Ok(());
+        };
+        let Some(parts) = telegram.parts() else {
+            return Ok(());
+        };
+        let asked = Asked {
+            master: self.master,
+            telegram,
+            parts,
+        };
+        let rows = PairRows {
+            scene: self.scene,
+            asked: &asked,
+            pairs: self.pairs,
+        };
+        write!(f, "{rows}")
+    }
+}
+
+/// What a request to all is answered by the line.
+#[derive(Clone, Copy)]
+struct SpreadWords<'a> {
+    master: u8,
+    pairs: &'a [(u8, Rule)],
+}
+
+impl<'a> fmt::Display for SpreadWords<'a> {
+    ghost output = { λ s. Some (spread_text s.master s.pairs.now) };
+
+    fn fmt<W: fmt::Write>(&self, f: &mut fmt::Formatter<W>) -> fmt::Result {
+        let master = self.master;
+        match self.pairs {
+            [] => write!(f, "spread: master {master} holds no slave."),
+            [_, ..] => write!(f, "spread over the slaves of master {master}:"),
+        }
+    }
+}
+
+/// What came of a request, in its rows.
+#[derive(Clone, Copy)]
+pub(crate) struct RequestRows<'a> {
+    pub(crate) scene: &'a Scene<'a>,
+    /// The sender.
+    pub(crate) master: u8,
+    pub(crate) frame: &'a Option<Frame>,
+    pub(crate) outcome: &'a Outcome,
+}
+
+impl<'a> fmt::Display for RequestRows<'a> {
+    ghost output = { λ s. Some (request_rows s.scene.now s.master s.frame.now s.outcome.now) };
+
+    fn fmt<W: fmt::Write>(&self, f: &mut fmt::Formatter<W>) -> fmt::Result {
+        match self.outcome {
+            Outcome::Reply { rule, .. } => {
+                let words = self.of_one(false, *rule);
+                write!(f, "       result      {words}\n")
+            }
+            Outcome::Silence(rule) => {
+                let words = self.of_one(true, *rule);
+                write!(f, "       result      {words}\n")
+            }
+            Outcome::Done => {
+                let words = self.of_one(true, Rule::Done);
+                write!(f, "       result      {words}\n")
+            }
+            Outcome::Spread(pairs) => {
+                let words = SpreadWords {
+                    master: self.master,
+                    pairs: pairs.as_slice(),
+                };
+                let rows = SpreadRows {
+                    scene: self.scene,
+                    master: self.master,
+                    pairs: pairs.as_slice(),
+                    frame: self.frame,
+                };
+                write!(f, "       result      {words}\n{rows}")
+            }
+            Outcome::Released(_) => Ok(()),
+            Outcome::Refused(_) => Ok(()),
+        }
+    }
+}
+
+impl<'a> RequestRows<'a> {
+    /// What one slave, or a row of the line, answers.
+    fn of_one(&self, silent: bool, rule: Rule) -> OfOne<'a>
+        ensures { result ≡ record { scene = self.now.scene; master = self.now.master; frame = self.now.frame; silent = silent; rule = rule } }
+    {
+        OfOne {
+            scene: self.scene,
+            master: self.master,
+            frame: self.frame,
+            silent,
+            rule,
+        }
+    }
+}

@@ -1,0 +1,46 @@
+//! What is known where an event is told.
+
+use crate::notes::Noted;
+use dp_line::{LineSpec, LineState};
+use dp_telegram::{Parts, Telegram};
+use std::marker::Model;
+
+/// What is known where an event is told. Contracts see the description, the world and the notes.
+#[derive(Drop)]
+pub struct Scene<'a> {
+    pub line: &'a LineSpec,
+    /// The line before the event.
+    pub before: &'a LineState,
+    /// The places of the requests whose replies the slaves remember.
+    pub notes: &'a [Noted],
+}
+
+impl<'a> Model for Scene<'a> {
+    ghost use Rattle.dp_line.specs.World.{description_of};
+    ghost use Rattle.dp_sentences.specs.Scenes.{SceneView};
+
+    ghost Value = { SceneView };
+
+    ghost view = { λ s. record {
+      description = description_of s.line.now;
+      world = s.before.now.world;
+      notes = s.notes.now;
+    } };
+}
+
+/// A request, as it reaches slaves. Contracts see what it holds.
+#[derive(Drop)]
+pub(crate) struct Asked<'a> {
+    /// The sender.
+    pub(crate) master: u8,
+    pub(crate) telegram: &'a Telegram,
+    pub(crate) parts: Parts,
+}
+
+impl<'a> Model for Asked<'a> {
+    ghost use Rattle.dp_sentences.specs.Scenes.{AskedView};
+
+    ghost Value = { AskedView };
+
+    ghost view = { λ a. record { master = a.master; telegram = a.telegram.now; parts = a.parts } };
+}

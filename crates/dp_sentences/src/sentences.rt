@@ -1,0 +1,283 @@
+//! Why a request was answered as it was: one sentence for each rule.
+
+ghost use Rattle.std.specs.Prelude.{◌≡◌, length, slice_index, Some};
+ghost use Rattle.dp_sentences.specs.Sentences.{station_words, foreign_sender_text, no_master_text, line_text, group_in, refused_words, slave_text};
+
+use crate::meeting::Meeting;
+use crate::refusals::{
+    Busy, NoService, NotActive, NotHolder, NotListed, NotSelected, Repeated, Status, WrongLength,
+};
+use crate::services::DoneService;
+use crate::words::NumbersWords;
+use dp_prm::Prm;
+use dp_responder::Rule;
+use dp_telegram::Frame;
+use std::fmt;
+
+/// The station that a frame is from.
+#[derive(Clone, Copy)]
+struct StationWords(Option<u8>);
+
+impl fmt::Display for StationWords {
+    ghost output = { λ station. Some (station_words station.0) };
+
+    fn fmt<W: fmt::Write>(&self, f: &mut fmt::Formatter<W>) -> fmt::Result {
+        match self.0 {
+            None => f.write_str("no station"),
+            Some(address) => write!(f, "station {address}"),
+        }
+    }
+}
+
+/// The frame is from another station than its sender.
+#[derive(Clone, Copy)]
+struct ForeignSender<'a>(&'a Option<Frame>);
+
+impl<'a> fmt::Display for ForeignSender<'a> {
+    ghost output = { λ s. Some (foreign_sender_text s.0.now) };
+
+    fn fmt<W: fmt::Write>(&self, f: &mut fmt::Formatter<W>) -> fmt::Result {
+        match self.0 {
+            None => f.write_str("The frame is from no station."),
+            Some(frame) => {
+                let station = StationWords(frame.source());
+                write!(f, "The frame is from {station}.")
+            }
+        }
+    }
+}
+
+/// The sender is no master of the line.
+#[derive(Clone, Copy)]
+struct NoMaster<'a> {
+    master: u8,
+    masters: &'a [u8],
+}
+
+impl<'a> fmt::Display for NoMaster<'a> {
+    ghost output = { λ s. Some (no_master_text s.master s.masters.now) };
+
+    fn fmt<W: fmt::Write>(&self, f: &mut fmt::Formatter<W>) -> fmt::Result {
+        let master = self.master;
+        let masters = NumbersWords(self.masters);
+        write!(f, "Master {master} is none of the line's ({masters}).")
+    }
+}
+
+/// Why nobody replies, by a row of the line.
+#[derive(Clone, Copy)]
+pub(crate) struct LineWords<'a> {
+    /// The masters of the line.
+    pub(crate) masters: &'a [u8],
+    /// The sender.
+    pub(crate) master: u8,
+    pub(crate) frame: &'a Option<Frame>,
+    pub(crate) rule: Rule,
+}
+
+impl<'a> fmt::Display for LineWords<'a> {
+    ghost output = { λ s. Some (line_text s.masters.now s.master s.frame.now s.rule) };
+
+    fn fmt<W: fmt::Write>(&self, f: &mut fmt::Formatter<W>) -> fmt::Result {
+        match self.rule {
+            Rule::Halted => f.write_str("silence: Halted. The line takes no more."),
+            Rule::NoFrame => f.write_str("silence: NoFrame. The octets are no single frame."),
+            Rule::NoMaster => {
+                let words = NoMaster {
+                    master: self.master,
+                    masters: self.masters,
+                };
+                write!(f, "silence: NoMaster. {words}")
+            }
+            Rule::ForeignSender => {
+                let foreign = ForeignSender(self.frame);
+                write!(f, "silence: ForeignSender. {foreign}")
+            }
+            Rule::Token => f.write_str("silence: Token. A token asks for nothing."),
+            Rule::NotRequest => f.write_str("silence: NotRequest. A response asks for nothing."),
+            Rule::BadFunction => f.write_str("silence: BadFunction. The function is reserved."),
+            Rule::BadExtension => f.write_str(
+                "silence: BadExtension. An extension octet is missing or not plain.",
+            ),
+            Rule::BadBroadcast => f.write_str(
+                "silence: BadBroadcast. Only a Global_Control goes to all slaves.",
+            ),
+            Rule::NoStation => f.write_str("silence: NoStation. No slave has this address."),
+            _ => Ok(()),
+        }
+    }
+}
+
+/// A refusal, to which the slave replies, or which it meets in silence.
+fn refused_name(silent: bool) -> &'static str
+    ensures { result.now ≡ refused_words silent }
+{
+    if silent {
+        "refused in silence"
+    } else {
+        "refused"
+    }
+}
+
+/// Why a slave answers as it does, by a row of its own.
+#[derive(Clone, Copy)]
+pub(crate) struct SlaveWords<'a> {
+    pub(crate) meeting: &'a Meeting<'a>,
+    /// Nobody replies.
+    pub(crate) silent: bool,
+    pub(crate) rule: Rule,
+}
+
+impl<'a> fmt::Display for SlaveWords<'a> {
+    ghost output = { λ s. Some (slave_text s.silent s.meeting.now s.rule) };
+
+    fn fmt<W: fmt::Write>(&self, f: &mut fmt::Formatter<W>) -> fmt::Result {
+        let meeting = self.meeting;
+        let refused = refused_name(self.silent);
+        match self.rule {
+            Rule::Status => {
+                let words = meeting.status();
+                write!(f, "answered: Status. {words}")
+            }
+            Rule::NoService => {
+                let words = meeting.no_service();
+                write!(f, "{refused}: NoService. {words}")
+            }
+            Rule::Repeat => {
+                let words = Repeated(meeting.asked);
+                write!(f, "repeat: {words}")
+            }
+            Rule::NotActive => {
+                let words = meeting.not_active();
+                write!(f, "{refused}: NotActive. {words}")
+            }
+            Rule::NotHolder => {
+                let words = meeting.not_holder();
+                write!(f, "{refused}: NotHolder. {words}")
+            }
+            Rule::NotListed => {
+                let words = meeting.not_listed();
+                write!(f, "{refused}: NotListed. {words}")
+            }
+            Rule::Busy => {
+                let words = Busy(meeting.parts.dsap);
+                write!(f, "{refused}: Busy. {words}")
+            }
+            Rule::Length => {
+                let words = meeting.wrong_length();
+                write!(f, "{refused}: Length. {words}")
+            }
+            Rule::NotSelected => {
+                let words = meeting.not_selected();
+                write!(f, "silence: NotSelected. {words}")
+            }
+            Rule::Done => {
+                let words = DoneService(meeting);
+                write!(f, "{words}")
+            }
+            _ => Ok(()),
+        }
+    }
+}
+
+impl<'a> Meeting<'a> {
+    fn status(&self) -> Status
+        ensures { result ≡ record { address = self.now.slave.address; state = self.now.slave.state } }
+    {
+        Status {
+            address: self.slave.address,
+            state: self.slave.state,
+        }
+    }
+
+    fn no_service(&self) -> NoService
+        ensures { result ≡ record { fc = self.now.telegram.fc; point = self.now.parts.dsap } }
+    {
+        NoService {
+            fc: self.telegram.fc,
+            point: self.parts.dsap,
+        }
+    }
+
+    fn not_active(&self) -> NotActive
+        ensures { result ≡ record { address = self.now.slave.address; state = self.now.slave.state; point = self.now.parts.dsap } }
+    {
+        NotActive {
+            address: self.slave.address,
+            state: self.slave.state,
+            point: self.parts.dsap,
+        }
+    }
+
+    fn not_holder(&self) -> NotHolder
+        ensures { result ≡ record { address = self.now.slave.address; holder = self.now.slave.holder; since = self.now.slave.since } }
+    {
+        NotHolder {
+            address: self.slave.address,
+            holder: self.slave.holder,
+            since: self.slave.since,
+        }
+    }
+
+    fn not_listed(&self) -> NotListed<'a>
+        ensures master { result.master ≡ self.now.master }
+        ensures point { result.point ≡ self.now.parts.dsap }
+        ensures lists { result.lists.now ≡ self.now.description.lists }
+    {
+        NotListed {
+            master: self.master,
+            point: self.parts.dsap,
+            lists: &self.description.lists,
+        }
+    }
+
+    fn wrong_length(&self) -> WrongLength
+        ensures { result ≡ record {
+          count = length self.now.parts.payload.items;
+          point = self.now.parts.dsap;
+          outputs = length self.now.slave.outputs.items;
+          cleared = self.now.slave.cleared;
+        } }
+    {
+        WrongLength {
+            count: self.parts.payload.len(),
+            point: self.parts.dsap,
+            outputs: self.slave.outputs.len(),
+            cleared: self.slave.cleared,
+        }
+    }
+
+    fn not_selected(&self) -> NotSelected
+        ensures { result ≡ record {
+          address = self.now.slave.address;
+          select = slice_index self.now.parts.payload.items 1;
+          group = group_in self.now.slave.prm;
+        } }
+    {
+        NotSelected {
+            address: self.slave.address,
+            select: second_of(self.parts.payload.as_slice()),
+            group: group_in(&self.slave.prm),
+        }
+    }
+}
+
+/// The second octet, 0 where there is none.
+fn second_of(octets: &[u8]) -> u8
+    ensures { result ≡ slice_index octets.now 1 }
+{
+    match octets {
+        [_, second, ..] => *second,
+        _ => 0,
+    }
+}
+
+/// The groups of a slave, by the parameters of its holder.
+fn group_in(prm: &Option<Prm>) -> u8
+    ensures { result ≡ group_in prm.now }
+{
+    match prm {
+        Some(prm) => prm.group,
+        None => 0,
+    }
+}

@@ -1,0 +1,43 @@
+//! What a service did that was done.
+
+ghost use Rattle.std.specs.Prelude.{Some};
+ghost use Rattle.dp_sentences.specs.Services.{done_text};
+
+use crate::chk_cfg::ChkCfg;
+use crate::control::Controlled;
+use crate::exchange::{diagnosed, exchanged};
+use crate::meeting::Meeting;
+use crate::set_prm::SetPrm;
+use dp_sap::{CHK_CFG, GLOBAL_CONTROL, SET_PRM, SLAVE_DIAG};
+use std::fmt;
+
+/// What a service did that was done.
+#[derive(Clone, Copy)]
+pub(crate) struct DoneService<'a>(pub(crate) &'a Meeting<'a>);
+
+impl<'a> fmt::Display for DoneService<'a> {
+    ghost output = { λ s. Some (done_text s.0.now) };
+
+    fn fmt<W: fmt::Write>(&self, f: &mut fmt::Formatter<W>) -> fmt::Result {
+        let meeting = self.0;
+        let slave = &meeting.slave;
+        let octets = meeting.parts.payload.as_slice();
+        match meeting.parts.dsap {
+            None => f.write_str(exchanged(slave, octets)),
+            Some(GLOBAL_CONTROL) => {
+                let controlled = Controlled { slave, octets };
+                write!(f, "{controlled}")
+            }
+            Some(SLAVE_DIAG) => f.write_str(diagnosed(meeting.master, slave.holder)),
+            Some(SET_PRM) => {
+                let set = SetPrm { meeting, octets };
+                write!(f, "{set}")
+            }
+            Some(CHK_CFG) => {
+                let checked = ChkCfg { meeting, octets };
+                write!(f, "{checked}")
+            }
+            Some(_) => f.write_str("done."),
+        }
+    }
+}

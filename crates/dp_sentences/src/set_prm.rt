@@ -1,0 +1,209 @@
+//! What came of a Set_Prm.
+
+ghost use Rattle.std.specs.Prelude.{◌≡◌, ◌==◌, Some, false};
+ghost use Rattle.std.specs.Option.{option_map_or};
+ghost use Rattle.dp_sentences.specs.Services.{released_words, wrong_prm_text, held_words, locked_text, unlocked_text, min_tsdr_text, lock_text, set_prm_text};
+
+use crate::meeting::Meeting;
+use crate::prm_fault::{PrmFault, PrmFaults, is_set, prm_faults};
+use crate::words::SinceWords;
+use dp_slave::SlaveView;
+use std::fmt;
+
+/// That a slave which somebody held is released by what was wrong.
+pub(crate) fn released_name(holder: Option<u8>) -> &'static str
+    ensures { result.now ≡ released_words holder }
+{
+    match holder {
+        None => ".",
+        Some(_) => ". Released.",
+    }
+}
+
+/// Parameters were wrong.
+#[derive(Clone, Copy)]
+struct WrongPrm<'a> {
+    holder: Option<u8>,
+    faults: &'a [PrmFault],
+}
+
+impl<'a> fmt::Display for WrongPrm<'a> {
+    ghost output = { λ s. Some (wrong_prm_text s.holder s.faults.now) };
+
+    fn fmt<W: fmt::Write>(&self, f: &mut fmt::Formatter<W>) -> fmt::Result {
+        let faults = PrmFaults(self.faults);
+        let released = released_name(self.holder);
+        write!(f, "wrong parameters: {faults}{released}")
+    }
+}
+
+/// The master is the slave's holder.
+pub(crate) fn holds(holder: Option<u8>, master: u8) -> bool
+    ensures { result ≡ option_map_or (λ other. other == master) holder false }
+{
+    match holder {
+        Some(other) => other == master,
+        None => false,
+    }
+}
+
+/// A master holds a slave.
+#[derive(Clone, Copy)]
+struct HeldWords {
+    master: u8,
+    address: u8,
+}
+
+impl fmt::Display for HeldWords {
+    ghost output = { λ s. Some (held_words s.master s.address) };
+
+    fn fmt<W: fmt::Write>(&self, f: &mut fmt::Formatter<W>) -> fmt::Result {
+        let master = self.master;
+        let address = self.address;
+        write!(f, "master {master} holds slave {address}")
+    }
+}
+
+/// A master has locked the slave.
+#[derive(Clone, Copy)]
+struct Locked<'a> {
+    master: u8,
+    slave: &'a SlaveView,
+}
+
+impl<'a> fmt::Display for Locked<'a> {
+    ghost output = { λ s. Some (locked_text s.master s.slave.now) };
+
+    fn fmt<W: fmt::Write>(&self, f: &mut fmt::Formatter<W>) -> fmt::Result {
+        let held = HeldWords {
+            master: self.master,
+            address: self.slave.address,
+        };
+        if holds(self.slave.holder, self.master) {
+            let since = SinceWords(self.slave.since);
+            write!(f, "locked again: {held}{since}")
+        } else {
+            write!(f, "locked: {held}.")
+        }
+    }
+}
+
+/// A master has let the slave go.
+#[derive(Clone, Copy)]
+struct Unlocked {
+    address: u8,
+    holder: Option<u8>,
+}
+
+impl fmt::Display for Unlocked {
+    ghost output = { λ s. Some (unlocked_text s.address s.holder) };
+
+    fn fmt<W: fmt::Write>(&self, f: &mut fmt::Formatter<W>) -> fmt::Result {
+        let address = self.address;
+        match self.holder {
+            None => write!(f, "unlocked: nobody held slave {address}."),
+            Some(_) => write!(f, "unlocked: slave {address} is released."),
+        }
+    }
+}
+
+/// Min TSDR alone was set.
+#[derive(Clone, Copy)]
+struct MinTsdr {
+    octet: u8,
+    own: u8,
+}
+
+impl fmt::Display for MinTsdr {
+    ghost output = { λ s. Some (min_tsdr_text s.octet s.own) };
+
+    fn fmt<W: fmt::Write>(&self, f: &mut fmt::Formatter<W>) -> fmt::Result {
+        let octet = self.octet;
+        let own = self.own;
+        if octet == 0 {
+            write!(f, "done: min TSDR stays {own}.")
+        } else {
+            write!(f, "done: min TSDR is {octet}.")
+        }
+    }
+}
+
+/// A locking request was taken, or was a fault for these reasons.
+#[derive(Clone, Copy)]
+struct Lock<'a> {
+    meeting: &'a Meeting<'a>,
+    faults: &'a [PrmFault],
+}
+
+impl<'a> fmt::Display for Lock<'a> {
+    ghost output = { λ s. Some (lock_text s.meeting.now s.faults.now) };
+
+    fn fmt<W: fmt::Write>(&self, f: &mut fmt::Formatter<W>) -> fmt::Result {
+        let meeting = self.meeting;
+        match self.faults {
+            [] => {
+                let locked = Locked {
+                    master: meeting.master,
+                    slave: &meeting.slave,
+                };
+                write!(f, "{locked}")
+            }
+            [_, ..] => {
+                let wrong = WrongPrm {
+                    holder: meeting.slave.holder,
+                    faults: self.faults,
+                };
+                write!(f, "{wrong}")
+            }
+        }
+    }
+}
+
+/// What came of Set_Prm.
+#[derive(Clone, Copy)]
+pub(crate) struct SetPrm<'a> {
+    pub(crate) meeting: &'a Meeting<'a>,
+    pub(crate) octets: &'a [u8],
+}
+
+/// Bits of the first octet of Set_Prm by their numbers (IEC 61158-6-3, Set_Prm request, Station_status).
+const LOCK_REQ: u32 = 7;
+
+const UNLOCK_REQ: u32 = 6;
+
+impl<'a> fmt::Display for SetPrm<'a> {
+    ghost output = { λ s. Some (set_prm_text s.meeting.now s.octets.now) };
+
+    fn fmt<W: fmt::Write>(&self, f: &mut fmt::Formatter<W>) -> fmt::Result {
+        let meeting = self.meeting;
+        let slave = &meeting.slave;
+        let [status, _, _, min_tsdr, _, _, _, ..] = self.octets else {
+            let faults = [PrmFault::Short(self.octets.len())];
+            let wrong = WrongPrm {
+                holder: slave.holder,
+                faults: &faults,
+            };
+            return write!(f, "{wrong}");
+        };
+        if is_set(UNLOCK_REQ, *status) {
+            let unlocked = Unlocked {
+                address: slave.address,
+                holder: slave.holder,
+            };
+            return write!(f, "{unlocked}");
+        }
+        if !is_set(LOCK_REQ, *status) {
+            let set = MinTsdr {
+                octet: *min_tsdr,
+                own: slave.min_tsdr,
+            };
+            return write!(f, "{set}");
+        }
+        let faults = prm_faults(self.octets, meeting.description);
+        let lock = Lock {
+            meeting,
+            faults: faults.as_slice(),
+        };
+        write!(f, "{lock}")
+    }
+}

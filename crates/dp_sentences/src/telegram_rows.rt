@@ -1,0 +1,97 @@
+//! What the octets of a telegram say, in rows.
+
+ghost use Rattle.std.specs.Prelude.{◌≡◌, Some};
+ghost use Rattle.dp_decode.specs.Kinds.{kind_text};
+ghost use Rattle.dp_decode.specs.Replies.{reply_text};
+ghost use Rattle.dp_sentences.specs.TelegramRows.{row_where, sent_row, unread_row};
+
+use dp_decode::{Contents, Hex, Kind, Reply};
+use dp_telegram::decode;
+use std::fmt;
+
+/// What a request is.
+#[derive(Clone, Copy)]
+pub(crate) struct KindWords<'a>(pub(crate) &'a [u8]);
+
+impl<'a> fmt::Display for KindWords<'a> {
+    ghost output = { λ words. Some (kind_text words.0.now) };
+
+    fn fmt<W: fmt::Write>(&self, f: &mut fmt::Formatter<W>) -> fmt::Result {
+        let kind = Kind::of(self.0);
+        write!(f, "{kind}")
+    }
+}
+
+/// What is in a request, in a row where anything is.
+#[derive(Clone, Copy)]
+struct ContentsRow<'a>(&'a [u8]);
+
+impl<'a> fmt::Display for ContentsRow<'a> {
+    ghost use Rattle.dp_decode.specs.Contents.{contents_text};
+
+    ghost output = { λ row. Some (row_where (contents_text row.0.now)) };
+
+    fn fmt<W: fmt::Write>(&self, f: &mut fmt::Formatter<W>) -> fmt::Result {
+        match Contents::of(self.0) {
+            Some(contents) => write!(f, "       {contents}\n"),
+            None => Ok(()),
+        }
+    }
+}
+
+/// Octets that are no frame, in a row where there are any.
+#[derive(Clone, Copy)]
+struct UnreadRow<'a>(&'a [u8]);
+
+impl<'a> fmt::Display for UnreadRow<'a> {
+    ghost output = { λ row. Some (unread_row row.0.now) };
+
+    fn fmt<W: fmt::Write>(&self, f: &mut fmt::Formatter<W>) -> fmt::Result {
+        match self.0 {
+            [] => Ok(()),
+            [_, ..] => {
+                let octets = Hex(self.0);
+                write!(f, "       octets      {octets}\n")
+            }
+        }
+    }
+}
+
+/// What is in the octets of a request.
+#[derive(Clone, Copy)]
+pub(crate) struct SentRow<'a>(pub(crate) &'a [u8]);
+
+impl<'a> fmt::Display for SentRow<'a> {
+    ghost output = { λ row. Some (sent_row row.0.now) };
+
+    fn fmt<W: fmt::Write>(&self, f: &mut fmt::Formatter<W>) -> fmt::Result {
+        match decode(self.0) {
+            Ok(_) => {
+                let row = ContentsRow(self.0);
+                write!(f, "{row}")
+            }
+            Err(_) => {
+                let row = UnreadRow(self.0);
+                write!(f, "{row}")
+            }
+        }
+    }
+}
+
+/// What is in the reply to a request, in a row where anything is.
+#[derive(Clone, Copy)]
+pub(crate) struct ReplyRow<'a> {
+    pub(crate) request: &'a [u8],
+    pub(crate) reply: &'a [u8],
+}
+
+impl<'a> fmt::Display for ReplyRow<'a> {
+    ghost output = { λ row. Some (row_where (reply_text row.request.now row.reply.now)) };
+
+    fn fmt<W: fmt::Write>(&self, f: &mut fmt::Formatter<W>) -> fmt::Result {
+        match Reply::of(self.request, self.reply) {
+            Some(reply) => write!(f, "       {reply}\n"),
+            None => Ok(()),
+        }
+    }
+}

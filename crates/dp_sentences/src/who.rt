@@ -1,0 +1,130 @@
+//! From whom to whom an event goes.
+
+ghost use Rattle.std.specs.Prelude.{◌≡◌, ◌≤◌, ◌==◌, Some, length};
+ghost use Rattle.dp_telegram.specs.FrameText.{frame_of};
+ghost use Rattle.dp_sentences.specs.Heads.{whom_of_frame, who_of, whom_text, who_text};
+
+use crate::words::digits_of;
+use dp_line::{Event, Op};
+use dp_telegram::{Frame, GLOBAL_ADDRESS, Telegram, decode};
+use std::fmt;
+
+/// To whom octets of a master go.
+#[derive(Clone, Copy)]
+pub enum Whom {
+    /// The slave of this address, 0 to 126.
+    Slave(u8),
+    /// All slaves.
+    AllSlaves,
+    /// The station of this address, 0 to 127: a token.
+    Station(u8),
+    /// No station: a short acknowledgement, or octets that are no single frame.
+    Nobody,
+}
+
+/// From whom to whom an event goes.
+#[derive(Clone, Copy)]
+pub enum Who {
+    /// From a master.
+    Master(u8, Whom),
+    /// From the operator, to the slave of this address; None is the line.
+    Operator(Option<u8>),
+}
+
+impl Whom {
+    /// To whom the octets of a request go.
+    pub fn of(octets: &[u8]) -> Whom
+        ensures { result ≡ whom_of_frame (frame_of octets.now) }
+    {
+        match decode(octets) {
+            Ok(frame) => Whom::of_frame(&frame),
+            Err(_) => Whom::Nobody,
+        }
+    }
+
+    fn of_frame(frame: &Frame) -> Whom
+        ensures { result ≡ whom_of_frame (Some frame.now) }
+    {
+        match frame {
+            Frame::Token { da, .. } => Whom::Station(*da & 0x7F),
+            Frame::Ack => Whom::Nobody,
+            Frame::Telegram(telegram) => Whom::of_telegram(telegram),
+        }
+    }
+
+    fn of_telegram(telegram: &Telegram) -> Whom
+        ensures { result ≡ whom_of_frame (Some (Frame.Telegram telegram.now)) }
+    {
+        let address = telegram.destination();
+        if address == GLOBAL_ADDRESS {
+            Whom::AllSlaves
+        } else {
+            Whom::Slave(address)
+        }
+    }
+
+    /// How many letters its text has.
+    fn width(self) -> usize
+        ensures width { result ≡ length (whom_text self) }
+        ensures few { result ≤ 12 }
+    {
+        match self {
+            Whom::Slave(address) => 6 + digits_of(address),
+            Whom::AllSlaves => 10,
+            Whom::Station(address) => 8 + digits_of(address),
+            Whom::Nobody => 6,
+        }
+    }
+}
+
+impl fmt::Display for Whom {
+    ghost output = { λ whom. Some (whom_text whom) };
+
+    fn fmt<W: fmt::Write>(&self, f: &mut fmt::Formatter<W>) -> fmt::Result {
+        match self {
+            Whom::Slave(address) => write!(f, "slave {address}"),
+            Whom::AllSlaves => f.write_str("all slaves"),
+            Whom::Station(address) => write!(f, "station {address}"),
+            Whom::Nobody => f.write_str("nobody"),
+        }
+    }
+}
+
+impl Who {
+    /// From whom to whom an event goes.
+    pub fn of(event: &Event) -> Who
+        ensures { result ≡ who_of event.now }
+    {
+        match event {
+            Event::Request { master, octets } => Who::Master(*master, Whom::of(octets.as_slice())),
+            Event::Operator(Op::Input { address, .. }) => Who::Operator(Some(*address)),
+            Event::Operator(Op::Diag { address, .. }) => Who::Operator(Some(*address)),
+            Event::Operator(Op::Busy { address, .. }) => Who::Operator(Some(*address)),
+            Event::Operator(Op::Tick(_)) => Who::Operator(None),
+            Event::Operator(Op::Halt) => Who::Operator(None),
+        }
+    }
+
+    /// How many letters its text has.
+    pub(crate) fn width(self) -> usize
+        ensures { result ≡ length (who_text self) }
+    {
+        match self {
+            Who::Master(master, whom) => 11 + digits_of(master) + whom.width(),
+            Who::Operator(None) => 16,
+            Who::Operator(Some(address)) => 18 + digits_of(address),
+        }
+    }
+}
+
+impl fmt::Display for Who {
+    ghost output = { λ who. Some (who_text who) };
+
+    fn fmt<W: fmt::Write>(&self, f: &mut fmt::Formatter<W>) -> fmt::Result {
+        match self {
+            Who::Master(master, whom) => write!(f, "master {master} -> {whom}"),
+            Who::Operator(None) => f.write_str("operator -> line"),
+            Who::Operator(Some(address)) => write!(f, "operator -> slave {address}"),
+        }
+    }
+}

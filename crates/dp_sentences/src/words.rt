@@ -1,0 +1,209 @@
+//! The words that the rows of an explanation are made of.
+
+ghost use Rattle.std.specs.Prelude.{◌≡◌, ◌<◌, ◌≤◌, if◌then◌else◌, Some, length};
+ghost use Rattle.std.specs.Fmt.{decimal};
+ghost use Rattle.std.specs.List.{flat_map};
+ghost use Rattle.dp_sentences.specs.Words.{spaces, octets_words, ident_words, number_behind, numbers_words, count_words, time_words, state_words, holder_words, since_words, point_words};
+
+use dp_decode::{CapitalPair, Hex, service};
+use dp_sap::State;
+use std::fmt;
+
+/// So many spaces.
+#[derive(Clone, Copy)]
+pub struct Spaces(pub usize);
+
+impl fmt::Display for Spaces {
+    ghost output = { λ s. Some (spaces s.0) };
+
+    fn fmt<W: fmt::Write>(&self, f: &mut fmt::Formatter<W>) -> fmt::Result {
+        for _i in 0..self.0 {
+            f.write_char(' ')?;
+        }
+        Ok(())
+    }
+}
+
+/// How many digits a number has in decimal, 1 to 3.
+pub fn digits_of(number: u8) -> usize
+    ensures digits { result ≡ length (decimal number) }
+    ensures few { result < 4 }
+{
+    if number < 10 {
+        1
+    } else if number < 100 {
+        2
+    } else {
+        3
+    }
+}
+
+/// How many digits a long number has in decimal, 1 to 20.
+pub fn digits_of_long(number: u64) -> usize
+    ensures digits { result ≡ length (decimal number) }
+    ensures few { result ≤ 20 }
+{
+    if number < 10 {
+        1
+    } else {
+        1 + digits_of_long(number / 10)
+    }
+}
+
+/// Octets in hex.
+#[derive(Clone, Copy)]
+pub(crate) struct OctetsWords<'a>(pub(crate) &'a [u8]);
+
+impl<'a> fmt::Display for OctetsWords<'a> {
+    ghost output = { λ octets. Some (octets_words octets.0.now) };
+
+    fn fmt<W: fmt::Write>(&self, f: &mut fmt::Formatter<W>) -> fmt::Result {
+        match self.0 {
+            [] => f.write_str("none"),
+            [_, ..] => {
+                let octets = Hex(self.0);
+                write!(f, "{octets}")
+            }
+        }
+    }
+}
+
+/// An ident number by four hex digits.
+#[derive(Clone, Copy)]
+pub(crate) struct IdentWords(pub(crate) u16);
+
+impl fmt::Display for IdentWords {
+    ghost output = { λ ident. Some (ident_words ident.0) };
+
+    fn fmt<W: fmt::Write>(&self, f: &mut fmt::Formatter<W>) -> fmt::Result {
+        let high = CapitalPair((self.0 / 256 % 256) as u8);
+        let low = CapitalPair((self.0 % 256) as u8);
+        write!(f, "{high}{low}")
+    }
+}
+
+/// Numbers, each behind a comma.
+#[derive(Clone, Copy)]
+struct NumbersBehind<'a>(&'a [u8]);
+
+impl<'a> fmt::Display for NumbersBehind<'a> {
+    ghost output = { λ numbers. Some (flat_map number_behind numbers.0.now) };
+
+    fn fmt<W: fmt::Write>(&self, f: &mut fmt::Formatter<W>) -> fmt::Result {
+        for number in self.0 {
+            let number = *number;
+            write!(f, ", {number}")?;
+        }
+        Ok(())
+    }
+}
+
+/// Numbers, parted by a comma.
+#[derive(Clone, Copy)]
+pub(crate) struct NumbersWords<'a>(pub(crate) &'a [u8]);
+
+impl<'a> fmt::Display for NumbersWords<'a> {
+    ghost output = { λ numbers. Some (numbers_words numbers.0.now) };
+
+    fn fmt<W: fmt::Write>(&self, f: &mut fmt::Formatter<W>) -> fmt::Result {
+        match self.0 {
+            [] => f.write_str("none"),
+            [first, others @ ..] => {
+                let first = *first;
+                let others = NumbersBehind(others);
+                write!(f, "{first}{others}")
+            }
+        }
+    }
+}
+
+/// So many octets.
+#[derive(Clone, Copy)]
+pub(crate) struct CountWords(pub(crate) usize);
+
+impl fmt::Display for CountWords {
+    ghost output = { λ count. Some (count_words count.0) };
+
+    fn fmt<W: fmt::Write>(&self, f: &mut fmt::Formatter<W>) -> fmt::Result {
+        let count = self.0;
+        let octets = word_for(count == 1, "octet", "octets");
+        write!(f, "{count} {octets}")
+    }
+}
+
+/// The word for one, or for several.
+pub(crate) fn word_for(is_one: bool, one: &'static str, several: &'static str) -> &'static str
+    ensures { result.now ≡ (if is_one then one.now else several.now) }
+{
+    if is_one { one } else { several }
+}
+
+/// A time in units of 10 ms, as milliseconds.
+#[derive(Clone, Copy)]
+pub(crate) struct TimeWords(pub(crate) u32);
+
+impl fmt::Display for TimeWords {
+    ghost output = { λ time. Some (time_words time.0) };
+
+    fn fmt<W: fmt::Write>(&self, f: &mut fmt::Formatter<W>) -> fmt::Result {
+        let milliseconds = 10 * u64::from(self.0);
+        write!(f, "{milliseconds} ms")
+    }
+}
+
+/// A state by its name in the standard.
+pub(crate) fn state_name(state: State) -> &'static str
+    ensures { result.now ≡ state_words state }
+{
+    match state {
+        State::WaitPrm => "Wait_Prm",
+        State::WaitCfg => "Wait_Cfg",
+        State::DataExch => "Data_Exch",
+    }
+}
+
+/// Who holds a slave.
+#[derive(Clone, Copy)]
+pub(crate) struct HolderWords(pub(crate) Option<u8>);
+
+impl fmt::Display for HolderWords {
+    ghost output = { λ holder. Some (holder_words holder.0) };
+
+    fn fmt<W: fmt::Write>(&self, f: &mut fmt::Formatter<W>) -> fmt::Result {
+        match self.0 {
+            None => f.write_str("held by nobody"),
+            Some(master) => write!(f, "held by master {master}"),
+        }
+    }
+}
+
+/// Since which place, at the end of a sentence.
+#[derive(Clone, Copy)]
+pub(crate) struct SinceWords(pub(crate) u32);
+
+impl fmt::Display for SinceWords {
+    ghost output = { λ place. Some (since_words place.0) };
+
+    fn fmt<W: fmt::Write>(&self, f: &mut fmt::Formatter<W>) -> fmt::Result {
+        let place = self.0;
+        write!(f, " since place {place}.")
+    }
+}
+
+/// A point by its name.
+#[derive(Clone, Copy)]
+pub(crate) struct PointWords(pub(crate) Option<u8>);
+
+impl fmt::Display for PointWords {
+    ghost output = { λ point. Some (point_words point.0) };
+
+    fn fmt<W: fmt::Write>(&self, f: &mut fmt::Formatter<W>) -> fmt::Result {
+        match self.0 {
+            None => f.write_str("Data_Exchange"),
+            Some(number) => match service(number) {
+                Some(name) => f.write_str(name),
+                None => write!(f, "point {number}"),
+            },
+        }
+    }
+}
