@@ -9,7 +9,7 @@ use dp_responder::Rule;
 use dp_sentences::{Who, Whom};
 
 /// Which entries are told: those that each part lets through.
-#[derive(Clone, Copy, Debug)]
+#[derive(Clone, Copy)]
 pub struct Choice {
     /// The first place, from 1; None is the first of the text.
     pub from: Option<u32>,

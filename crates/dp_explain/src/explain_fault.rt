@@ -6,7 +6,7 @@ ghost use Rattle.dp_explain.specs.Names.{explain_fault_name};
 use thiserror::Error;
 
 /// Why an explanation ended early. What was written before stays written.
-#[derive(Clone, Copy, Debug, PartialEq, Eq, Error)]
+#[derive(Clone, Copy, Debug, Error)]
 #[error("{}", self.name())]
 pub enum ExplainFault {
     /// Memory was refused.

@@ -1,7 +1,7 @@
 //! How many requests of each master were answered by each rule.
 
 ghost use Rattle.std.specs.Prelude.{◌≡◌, [], ◌∷◌, ◌++◌, length, map, IfOk, OnOk, Some};
-ghost use Rattle.std.specs.List.{flat_map};
+ghost use Rattle.std.specs.List.{flat_map, list_any};
 ghost use Rattle.dp_sentences.specs.Changes.{same_holder};
 ghost use Rattle.dp_explain.specs.Tallies.{uncounted, uncounted_of, first_tally, same_way, counts_of, sender_in, counted_at, tally_with, tally_spread, tally_answer, tally_after, way_words, count_columns, sender_words, counted_row, total, refused_row, counted_table, refused_table, tally_text};
 
@@ -90,11 +90,18 @@ fn same_way(way: Option<Rule>, other: Option<Rule>) -> bool
 fn sender_in(tally: &[Counted], master: u8) -> Option<u8>
     ensures { result ≡ sender_in tally.now master }
 {
-    if tally.iter().any(|counted| counted.counts(master)) {
+    if has_sender(tally, master) {
         Some(master)
     } else {
         None
     }
+}
+
+/// Requests of this master are counted by its address.
+fn has_sender(tally: &[Counted], master: u8) -> bool
+    ensures { result ≡ list_any (counts_of master) tally.now }
+{
+    tally.iter().any(|counted| counted.counts(master))
 }
 
 /// Counts a request of a sender that was answered in this way.

@@ -2,7 +2,8 @@ use Rattle.std.proofs.Common.{codes, drop, take}
 use Rattle.std.specs.List.{flat_map}
 use Rattle.dp_line.specs.World.{description_of}
 use Rattle.dp_text.specs.Words.{lines_of}
-use Rattle.dp_explain.specs.Explained.{holds_of, slave_addresses}
+use Rattle.dp_explain.specs.Known.{slave_addresses}
+use Rattle.dp_explain.specs.Explained.{holds_of}
 use Rattle.dp_explain.proofs.Writing.{then_leaves, front_cut}
 use Rattle.dp_explain.proofs.explain.tell_all_holds.Goals as goal
 

@@ -2,7 +2,8 @@ use Rattle.std.proofs.Common.{drop, map, take}
 use Rattle.std.specs.List.{flat_map}
 use Rattle.dp_line.specs.World.{description_of}
 use Rattle.dp_text.specs.Words.{lines_of}
-use Rattle.dp_explain.specs.Explained.{holds_of, slave_addresses}
+use Rattle.dp_explain.specs.Known.{slave_addresses}
+use Rattle.dp_explain.specs.Explained.{holds_of}
 use Rattle.dp_explain.proofs.Told.{HoldsSoFar}
 use Rattle.dp_explain.proofs.explain.tell_holds.Given as goal
 
