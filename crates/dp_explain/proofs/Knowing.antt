@@ -6,7 +6,6 @@ use Rattle.dp_line.specs.World.{Description, World}
 use Rattle.dp_line.specs.Steps.{step}
 use Rattle.dp_sentences.specs.declared.notes.Noted.{Noted}
 use Rattle.dp_sentences.specs.Notes.{notes_after}
-use Rattle.dp_sentences.specs.Scenes.{SceneView}
 use Rattle.dp_explain.specs.declared.tally.Counted.{Counted}
 use Rattle.dp_explain.specs.Tallies.{tally_after}
 use Rattle.dp_explain.specs.Known.{KnownView, known_after, outcome_told}

@@ -1,5 +1,5 @@
 -- The rows of a legal text tell what its entries do.
-use Rattle.std.proofs.Common.{◌≡◌, ℕ, ◌+◌, true, false, List, [], ◌∷◌, ◌++◌, take, drop, map, Option, Some, None, Result, Ok, refl, sym, ap, ◌∙◌, codes}
+use Rattle.std.proofs.Common.{◌≡◌, ℕ, ◌+◌, true, false, List, [], ◌∷◌, ◌++◌, map, Option, Some, None, Result, Ok, refl, sym, ap, ◌∙◌, codes}
 use Rattle.std.specs.List.{AllByRecursion, flat_map}
 use Rattle.std.proofs.lemmas.List.Concat.{flat_map-cons}
 use Rattle.dp_line.specs.declared.event.Event.{Event}
@@ -11,7 +11,6 @@ use Rattle.dp_line.specs.declared.fault.OperatorFault.{OperatorFault}
 use Rattle.dp_line.specs.World.{Description, World, opening_fault}
 use Rattle.dp_line.specs.Effects.{Stepped, effect, held_addresses, outcome_of}
 use Rattle.dp_line.specs.Steps.{step}
-use Rattle.dp_text.specs.Words.{lines_of}
 use Rattle.dp_text.specs.Events.{IsWithinLimits}
 use Rattle.dp_audit.specs.declared.entry.Entry.{Entry}
 use Rattle.dp_audit.specs.declared.fault.AuditFault.{AuditFault}
@@ -24,14 +23,13 @@ use Rattle.dp_audit.proofs.Parts.{NumbersAreRead, EventsAreRead}
 use Rattle.dp_audit.proofs.Texts.{HasRoom, room_at_start, room_kept, small_place}
 use Rattle.dp_sentences.specs.Scenes.{SceneView}
 use Rattle.dp_sentences.specs.Results.{shown_at}
-use Rattle.dp_explain.specs.declared.choice.Choice.{Choice}
 use Rattle.dp_explain.specs.declared.part.Part.{Part}
 use Rattle.dp_explain.specs.declared.part.Part.TheVariants as parts
 use Rattle.dp_explain.specs.Holds.{hold_lasts}
 use Rattle.dp_explain.specs.Tallies.{tally_text}
 use Rattle.dp_explain.specs.Known.{KnownView, first_known, known_after, known_with, outcome_told, outcome_with, slave_addresses}
 use Rattle.dp_explain.specs.Explained.{event_of_row, explained_by, holds_of, known_behind, last_known, moment_text, told_event, told_row, told_rows, told_text, verdict_text}
-use Rattle.dp_explain.specs.JournalTold.{IsToldByItsEntries, holds_of_entries, journal_told, known_behind_entries, known_behind_entry, told_entries}
+use Rattle.dp_explain.specs.JournalTold.{IsToldByItsEntries, holds_of_entries, known_behind_entries, known_behind_entry, told_entries}
 use Rattle.dp_explain.proofs.Rows.{row_is_read, rows_are}
 
 -- ---- an event that is recorded is taken as its entry says
@@ -141,8 +139,8 @@ told_by_entries ways numbers events accepted line text count choice opens audit 
     let told : (part : Part) → told_rows part start (map entry_text entries) ≡ told_entries part start entries = λ part. entries_told ways numbers events part start entries audit.legal audit.limits room in
     let known : last_known start (map entry_text entries) ≡ known_behind_entries start entries = entries_known ways numbers events start entries audit.legal audit.limits room in
     let holds : (address : ℕ) → holds_of line (map entry_text entries) address ≡ holds_of_entries line entries address = λ address.
-        ap (λ (front : List ℕ). front ++ hold_lasts address (shown_at (last_known start (map entry_text entries)).scene.world address)) (told (parts.HoldsOf address))
-        ∙ ap (λ (k : KnownView). told_entries (parts.HoldsOf address) start entries ++ hold_lasts address (shown_at k.scene.world address)) known in
+    ap (λ (front : List ℕ). front ++ hold_lasts address (shown_at (last_known start (map entry_text entries)).scene.world address)) (told (parts.HoldsOf address))
+    ∙ ap (λ (k : KnownView). told_entries (parts.HoldsOf address) start entries ++ hold_lasts address (shown_at k.scene.world address)) known in
     ap (λ (verdict : Result ℕ AuditFault). explained_by verdict line text choice) (accepted line text count opens audit)
     ∙ ap (λ (rows : List (List ℕ)). told_text line rows choice ++ verdict_text (Ok count)) (rows_are line text count audit)
     ∙ whole_same _ _ _ _ _ _ _ _ (told (parts.Entries choice)) (same_texts _ _ holds (slave_addresses line))

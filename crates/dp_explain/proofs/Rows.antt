@@ -6,7 +6,7 @@ use Rattle.dp_line.specs.World.{Description, World}
 use Rattle.dp_text.specs.Words.{lines_of}
 use Rattle.dp_audit.specs.declared.entry.Entry.{Entry}
 use Rattle.dp_audit.specs.AuditText.{entry_text}
-use Rattle.dp_audit.specs.Check.{IsAuditOf, LineParts, Placed, not_the_policy, right, last_parts, parted, placed_of, is_recorded_at, tells_policy, judged_placed, judged_parts, judged_line}
+use Rattle.dp_audit.specs.Check.{IsAuditOf, LineParts, Placed, not_the_policy, right, last_parts, parted, placed_of, judged_placed, judged_parts, judged_line}
 use Rattle.dp_audit.proofs.Headers.{accepted_has_no_lf}
 use Rattle.dp_audit.proofs.Texts.{audit_lines, entry_lines}
 use Rattle.dp_explain.specs.Explained.{event_of_row}

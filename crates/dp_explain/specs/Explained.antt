@@ -16,7 +16,6 @@ use Rattle.dp_explain.specs.declared.choice.Choice.{Choice}
 use Rattle.dp_explain.specs.declared.part.Part.{Part}
 use Rattle.dp_explain.specs.declared.part.Part.TheVariants as parts
 use Rattle.dp_explain.specs.declared.explain_fault.ExplainFault.{ExplainFault}
-use Rattle.dp_explain.specs.declared.explain_fault.ExplainFault.TheVariants as ends
 use Rattle.dp_sentences.specs.Results.{shown_at}
 use Rattle.dp_sentences.specs.Scenes.{SceneView}
 use Rattle.dp_sentences.specs.Blocks.{block_text}

@@ -4,7 +4,6 @@ use Rattle.arrayvec.specs.ArrayVec.{ArrayVec}
 use Rattle.dp_line.specs.declared.event.Event.{Event}
 use Rattle.dp_line.specs.declared.event.Outcome.{Outcome}
 use Rattle.dp_line.specs.declared.event.Outcome.TheVariants.{Released}
-use Rattle.dp_line.specs.declared.event.Step.{Step}
 use Rattle.dp_line.specs.World.{Description, World, start_of}
 use Rattle.dp_line.specs.Steps.{step}
 use Rattle.dp_sentences.specs.Notes.{first_notes, notes_after}

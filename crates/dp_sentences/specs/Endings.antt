@@ -7,7 +7,6 @@ use Rattle.dp_sap.specs.AccessTable.{same_point, chk_cfg}
 use Rattle.dp_prm.specs.Meaning.{is_short, unlock_req}
 use Rattle.dp_line.specs.declared.event.Event.{Event}
 use Rattle.dp_line.specs.declared.event.Event.TheVariants.{Request, Operator}
-use Rattle.dp_line.specs.declared.event.Op.{Op}
 use Rattle.dp_line.specs.Events.{is_halt}
 use Rattle.dp_line.specs.Hearing.{telegram_spelt}
 use Rattle.dp_sentences.specs.declared.ending.Ending.{Ending}

@@ -7,7 +7,6 @@ use Rattle.dp_telegram.specs.FunctionCode.{function_of, asks_sdn, asks_unserved}
 use Rattle.dp_sap.specs.AccessTable.{is_in_table, same_point, data_exchange, global_control, set_prm, chk_cfg}
 use Rattle.dp_sap.specs.declared.state.State.{State}
 use Rattle.dp_sap.specs.declared.lists.Lists.{Lists}
-use Rattle.dp_slave.specs.declared.view.SlaveView.{SlaveView}
 use Rattle.dp_decode.specs.Words.{groups_text, hex_pair}
 use Rattle.dp_sentences.specs.Words.{count_words, numbers_words, point_words, since_words, state_words}
 

@@ -16,7 +16,6 @@ use Rattle.dp_slave.specs.View.{view_of}
 use Rattle.dp_line.specs.declared.event.Event.{Event}
 use Rattle.dp_line.specs.declared.event.Event.TheVariants.{Request, Operator}
 use Rattle.dp_line.specs.declared.event.Op.{Op}
-use Rattle.dp_line.specs.declared.event.Op.TheVariants.{Input, Diag, Busy, Tick, Halt}
 use Rattle.dp_line.specs.declared.event.Outcome.{Outcome}
 use Rattle.dp_line.specs.declared.event.Outcome.TheVariants.{Reply, Silence, Spread, Released, Done, Refused}
 use Rattle.dp_line.specs.Names.{operator_fault_name}

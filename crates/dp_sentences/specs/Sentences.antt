@@ -7,7 +7,6 @@ use Rattle.dp_telegram.specs.Access.{source_of}
 use Rattle.dp_responder.specs.declared.rule.Rule.{Rule}
 use Rattle.dp_responder.specs.declared.rule.Rule.TheVariants as rules
 use Rattle.dp_prm.specs.declared.prm.Prm.{Prm}
-use Rattle.dp_slave.specs.declared.view.SlaveView.{SlaveView}
 use Rattle.dp_sentences.specs.Meetings.{MeetingView}
 use Rattle.dp_sentences.specs.Words.{numbers_words}
 use Rattle.dp_sentences.specs.Refusals.{not_active_text, not_holder_text, not_listed_text, no_service_text, busy_text, length_text, not_selected_text, repeat_text, status_text}

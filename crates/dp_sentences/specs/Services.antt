@@ -1,9 +1,9 @@
 -- What a service did that was done, in one sentence of the slave's own state (own).
-use Rattle.std.specs.Prelude.{codes, ℕ, ◌==◌, ◌&&◌, nat_lt, not, if◌then◌else◌, Bool, true, false, List, [], ◌∷◌, ◌++◌, length, slice_index, Option, Some, None}
+use Rattle.std.specs.Prelude.{codes, ℕ, ◌==◌, ◌&&◌, nat_lt, not, if◌then◌else◌, Bool, true, false, List, [], ◌∷◌, ◌++◌, length, Option, Some, None}
 use Rattle.std.specs.List.{flat_map}
 use Rattle.std.specs.Option.{option_map_or}
 use Rattle.std.specs.Fmt.{decimal}
-use Rattle.dp_sap.specs.AccessTable.{same_point, data_exchange, rd_inp, rd_outp, global_control, get_cfg, slave_diag, set_prm, chk_cfg}
+use Rattle.dp_sap.specs.AccessTable.{same_point, data_exchange, global_control, slave_diag, set_prm, chk_cfg}
 use Rattle.dp_prm.specs.declared.prm.Prm.{Prm}
 use Rattle.dp_prm.specs.Meaning.{is_short, unlock_req, lock_req, min_tsdr, ident_number, user_prm, has_factor_0, sync_req, freeze_req}
 use Rattle.dp_cfg.specs.Choosing.{chosen}

@@ -1,4 +1,4 @@
-use Rattle.std.proofs.Common.{◌≡◌, ℕ, drop, take, subst}
+use Rattle.std.proofs.Common.{ℕ, drop, take, subst}
 use Rattle.std.specs.Io.KnownBytes.{Appends}
 use Rattle.dp_line.specs.World.{description_of}
 use Rattle.dp_text.specs.Words.{lines_of}

@@ -1,4 +1,4 @@
-use Rattle.std.proofs.Common.{List, ℕ, drop, take, ◌++◌}
+use Rattle.std.proofs.Common.{drop, take, ◌++◌}
 use Rattle.dp_line.specs.World.{description_of}
 use Rattle.dp_text.specs.Words.{lines_of}
 use Rattle.dp_explain.specs.declared.part.Part.TheVariants as parts

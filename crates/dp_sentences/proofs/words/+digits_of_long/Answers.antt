@@ -1,4 +1,4 @@
-use Rattle.std.proofs.Common.{◌≡◌, ◌+◌, ◌≤◌, ◌∙◌, sym, arith, length}
+use Rattle.std.proofs.Common.{◌≡◌, ◌+◌, ◌≤◌, sym, arith, length}
 use Rattle.std.specs.Fmt.{decimal}
 use Rattle.dp_sentences.proofs.Digits.{one, one_more, twenty_at_most}
 use Rattle.dp_sentences.proofs.words.+digits_of_long.Goals as goal

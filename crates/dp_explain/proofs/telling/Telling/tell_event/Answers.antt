@@ -1,10 +1,8 @@
-use Rattle.std.proofs.Common.{◌≡◌, ℕ, ◌+◌, List, ap, sym, ◌∙◌}
+use Rattle.std.proofs.Common.{◌≡◌, ℕ, ◌+◌, ap, ◌∙◌}
 use Rattle.dp_line.specs.World.{World, description_of}
 use Rattle.dp_line.specs.declared.event.Step.{Step}
 use Rattle.dp_line.specs.Steps.{step}
-use Rattle.dp_sentences.specs.declared.notes.Noted.{Noted}
 use Rattle.dp_sentences.specs.Notes.{notes_after}
-use Rattle.dp_explain.specs.declared.tally.Counted.{Counted}
 use Rattle.dp_explain.specs.Known.{KnownView, outcome_with, outcome_told}
 use Rattle.dp_explain.specs.Tallies.{tally_after}
 use Rattle.dp_explain.proofs.Knowing.{known_is, noted_is, counted_is}

@@ -1,4 +1,4 @@
-use Rattle.std.proofs.Common.{◌≡◌, ℕ, ◌+◌, ◌-◌, List, ◌∷◌, take, ap, sym, subst, ◌∙◌}
+use Rattle.std.proofs.Common.{◌≡◌, ◌+◌, ◌-◌, ◌∷◌, take, ap, sym, subst, ◌∙◌}
 use Rattle.dp_explain.specs.Known.{KnownView}
 use Rattle.dp_explain.specs.Explained.{last_known, told_rows}
 use Rattle.dp_explain.proofs.Told.{SoFar, take_next, one_more, cut_short}

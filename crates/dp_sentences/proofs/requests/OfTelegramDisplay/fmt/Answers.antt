@@ -1,4 +1,3 @@
-use Rattle.std.proofs.Common.{◌≡◌, sym}
 use Rattle.std.proofs.Output.{has_written_of_eq}
 use Rattle.dp_sentences.proofs.Asking.{parts_told}
 use Rattle.dp_sentences.proofs.requests.OfTelegramDisplay.fmt.Goals as goal
