@@ -17,7 +17,7 @@ use crate::description::LineSpec;
 use crate::event::{Event, Facts, Op, Outcome, Step};
 use crate::fault::{OpenFault, OperatorFault};
 use crate::limits::MOST_SLAVES;
-use crate::stations::Stations;
+use crate::stations::{Room, Stations};
 use arrayvec::ArrayVec;
 use dp_responder::Rule;
 use dp_slave::SlaveView;
@@ -32,6 +32,7 @@ pub struct LineState {
     halted: bool,
     last_walk: u32,
     stations: Stations,
+    room: Room,
 }
 
 impl Model for LineState {
@@ -79,6 +80,7 @@ impl LineState {
             halted: false,
             last_walk: 0,
             stations,
+            room: Room::new(),
         })
     }
 
@@ -262,6 +264,7 @@ impl LineState {
             master,
             place,
             octets,
+            &mut self.room,
             &mut answer.outcome,
             &mut self.last_walk,
         );

@@ -16,6 +16,7 @@ ghost use Rattle.dp_line.specs.Stations.{AreBefore, AreEmpty, fresh_slave, freed
 
 mod answering;
 mod lists;
+mod room;
 
 use crate::description::{LineSpec, described};
 use crate::event::{Facts, Op, Outcome};
@@ -26,6 +27,7 @@ use arrayvec::ArrayVec;
 use dp_owners::{Linked, Links, MOST_MASTERS, Owners};
 use dp_slave::{Slave, SlaveSpec};
 use dp_telegram::LAST_STATION;
+pub(crate) use room::Room;
 use std::alloc::{AllocError, Global};
 use std::marker::Model;
 

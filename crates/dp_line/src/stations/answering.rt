@@ -9,7 +9,7 @@ ghost use Rattle.dp_line.specs.Verdict.{has_foreign_sender};
 ghost use Rattle.dp_line.specs.Walk.{walk_heard};
 ghost use Rattle.dp_line.specs.Stations.{AreBefore, IsAdmitted, IsSilent, heard_by, heard_telegram};
 
-use super::Stations;
+use super::{Room, Stations};
 use crate::event::{Facts, Outcome};
 use crate::request::Request;
 use dp_responder::Rule;
@@ -18,12 +18,14 @@ use dp_telegram::{Frame, GLOBAL_ADDRESS, Parts, Telegram, decode_into};
 
 impl Stations {
     /// Writes the answer to a request that takes this place of the journal, and tells the facts of the
-    /// slave that it concerns. A broadcast that reaches the slaves writes how many it visited.
+    /// slave that it concerns. The request is read where room lies for it. A broadcast that reaches the slaves writes how
+    /// many it visited.
     pub(crate) fn answer(
         &mut self,
         master: u8,
         place: u32,
         octets: &[u8],
+        room: &mut Room,
         outcome: &mut Outcome,
         walk: &mut u32,
     ) -> Facts
@@ -33,15 +35,16 @@ impl Stations {
         ensures outcome { outcome.new ≡ outcome_heard (heard_by self.old master octets.now) }
         ensures walk { walk.new ≡ walk_heard (heard_by self.old master octets.now) walk.old }
     {
-        let mut frame = Frame::blank();
-        if !decode_into(octets, &mut frame) {
+        if !decode_into(octets, &mut room.frame) {
             return silent(Rule::NoFrame, outcome);
         }
         if !self.has_master(master) {
             return silent(Rule::NoMaster, outcome);
         }
-        match request_in(&frame, master) {
-            Ok(telegram) => self.answer_telegram(master, place, telegram, outcome, walk),
+        match request_in(&room.frame, master) {
+            Ok(telegram) => {
+                self.answer_telegram(master, place, telegram, &mut room.parts, outcome, walk)
+            }
             Err(rule) => silent(rule, outcome),
         }
     }
@@ -52,6 +55,7 @@ impl Stations {
         sender: u8,
         place: u32,
         telegram: &Telegram,
+        parts: &mut Parts,
         outcome: &mut Outcome,
         walk: &mut u32,
     ) -> Facts
@@ -63,15 +67,14 @@ impl Stations {
         ensures outcome { outcome.new ≡ outcome_heard (heard_telegram self.old.slaves sender telegram.now) }
         ensures walk { walk.new ≡ walk_heard (heard_telegram self.old.slaves sender telegram.now) walk.old }
     {
-        let mut parts = Parts::blank();
-        if !telegram.parts_into(&mut parts) {
+        if !telegram.parts_into(parts) {
             return silent(Rule::BadExtension, outcome);
         }
         let request = Request {
             sender,
             place,
             telegram,
-            parts: &parts,
+            parts,
         };
         if telegram.destination() == GLOBAL_ADDRESS {
             if !request.is_global_control() {
