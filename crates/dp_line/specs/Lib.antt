@@ -18,3 +18,4 @@ pub mod RequestAtSlave
 pub mod LineExamples
 pub mod BroadcastExamples
 pub mod IsolationExamples
+pub mod RoomOfReplies

@@ -9,6 +9,7 @@ ghost use Rattle.dp_slave.specs.Services.{service_answer};
 ghost use Rattle.dp_line.specs.declared.event.Outcome.{Outcome as Answers};
 ghost use Rattle.dp_line.specs.Effects.{state_and_holder};
 ghost use Rattle.dp_line.specs.Verdict.{is_global_control as is_global_control_of};
+ghost use Rattle.dp_line.specs.RoomOfReplies.{IsReplyBy};
 ghost use Rattle.dp_line.specs.Served.{answered};
 ghost use Rattle.dp_line.specs.ReplyText.{positive_reply, short_reply};
 ghost use Rattle.dp_line.specs.RequestAtSlave.{answer_to, rule_of, served_to, act_of, read_by, judged, Passes, IsOfProfile, AsksForData};
@@ -108,10 +109,7 @@ impl Request<'_> {
     fn without_data(&self, function: u8, rule: Rule, outcome: &mut Outcome)
         ensures { outcome.new ≡ Answers.Reply (record { items = short_reply self.now.telegram.now function }) rule }
     {
-        *outcome = Outcome::Reply {
-            octets: ArrayVec::new(),
-            rule,
-        };
+        make_reply(rule, outcome);
         if let Outcome::Reply { octets, .. } = outcome {
             reply::short(self.telegram, function, octets);
         }
@@ -140,10 +138,7 @@ impl Request<'_> {
         if self.parts.dsap == Some(GLOBAL_CONTROL) {
             return unanswered(self.control(slave), outcome);
         }
-        *outcome = Outcome::Reply {
-            octets: ArrayVec::new(),
-            rule: Rule::Done,
-        };
+        make_reply(Rule::Done, outcome);
         if let Outcome::Reply { octets, .. } = outcome {
             self.reply(slave, octets);
             slave.remember(self.sender, self.telegram.fc, octets);
@@ -208,6 +203,20 @@ impl Request<'_> {
     {
         let high = slave.data_exchange(&self.parts.payload);
         reply::positive(self.telegram, self.parts, slave.rd_inp(), high, text)
+    }
+}
+
+/// Makes an outcome a reply by this rule, whose text is to be written. A reply that lies there gives its room.
+fn make_reply(rule: Rule, outcome: &mut Outcome)
+    ensures { IsReplyBy rule outcome.new }
+{
+    if let Outcome::Reply { rule: told, .. } = outcome {
+        *told = rule;
+    } else {
+        *outcome = Outcome::Reply {
+            octets: ArrayVec::new(),
+            rule,
+        };
     }
 }
 
