@@ -18,7 +18,7 @@ use crate::event::{Facts, Outcome};
 use crate::reply;
 use arrayvec::ArrayVec;
 use dp_globalctl::Command;
-use dp_responder::{Judged, Rule, judge, judge_sdn};
+use dp_responder::{JudgedLent, Rule, judge_lent, judge_sdn};
 use dp_sap::{CHK_CFG, GET_CFG, GLOBAL_CONTROL, RD_INP, RD_OUTP, SET_PRM, SLAVE_DIAG};
 use dp_slave::Slave;
 use dp_telegram::function_code::{Function, OK, RS};
@@ -92,16 +92,11 @@ impl Request<'_> {
         ensures answer { outcome.new ≡ answer_to self.now slave.old.slave }
     {
         let (points, memory) = (slave.points(), slave.memory());
-        match judge(points, memory, self.sender, self.telegram.fc, self.parts) {
-            Judged::Repeat(octets) => {
-                *outcome = Outcome::Reply {
-                    octets,
-                    rule: Rule::Repeat,
-                }
-            }
-            Judged::Refuse(function, rule) => self.refuse(slave, function, rule, outcome),
-            Judged::Silent(rule) => *outcome = Outcome::Silence(rule),
-            Judged::Pass => self.execute(slave, outcome),
+        match judge_lent(points, memory, self.sender, self.telegram.fc, self.parts) {
+            JudgedLent::Repeat(reply) => repeat(reply, outcome),
+            JudgedLent::Refuse(function, rule) => self.refuse(slave, function, rule, outcome),
+            JudgedLent::Silent(rule) => *outcome = Outcome::Silence(rule),
+            JudgedLent::Pass => self.execute(slave, outcome),
         }
     }
 
@@ -203,6 +198,17 @@ impl Request<'_> {
     {
         let high = slave.data_exchange(&self.parts.payload);
         reply::positive(self.telegram, self.parts, slave.rd_inp(), high, text)
+    }
+}
+
+/// Writes a reply once more.
+fn repeat(reply: &Octets, outcome: &mut Outcome)
+    ensures { outcome.new ≡ Answers.Reply reply.now Rule.Repeat }
+{
+    make_reply(Rule::Repeat, outcome);
+    if let Outcome::Reply { octets, .. } = outcome {
+        octets.clear();
+        octets.try_extend_from_slice(reply).unwrap();
     }
 }
 

@@ -13,6 +13,8 @@ use Rattle.dp_responder.specs.declared.rule.Rule.{Rule}
 use Rattle.dp_responder.specs.declared.rule.Rule.TheVariants as rules
 use Rattle.dp_responder.specs.declared.judgement.Judged.{Judged}
 use Rattle.dp_responder.specs.declared.judgement.Judged.TheVariants as verdicts
+use Rattle.dp_responder.specs.declared.judgement.JudgedLent.{JudgedLent}
+use Rattle.dp_responder.specs.declared.judgement.JudgedLent.TheVariants as lent
 use Rattle.dp_responder.specs.Memory.{Remembered, is_repeat, kept_reply}
 use Rattle.dp_responder.specs.Rules.{first_row}
 
@@ -74,6 +76,13 @@ judged_by last fc rules.Done = verdicts.Pass
 judged_by last fc rules.Repeat = verdicts.Repeat (record { items = kept_reply last })
 judged_by last fc rule =
     if asks_sdn (function_of fc) then verdicts.Silent rule else verdicts.Refuse (refusal_function rule) rule
+
+-- what comes of a request, told by octets that are lent
+abbrev pub judged_lent : JudgedLent → Judged
+judged_lent lent.Pass = verdicts.Pass
+judged_lent (lent.Repeat octets) = verdicts.Repeat octets.now
+judged_lent (lent.Refuse function rule) = verdicts.Refuse function rule
+judged_lent (lent.Silent rule) = verdicts.Silent rule
 
 -- what comes of an SDN by its rule, which is never that of a repeat
 abbrev pub judged_in_silence : Rule → Judged

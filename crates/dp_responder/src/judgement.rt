@@ -7,7 +7,7 @@ ghost use Rattle.dp_responder.specs.declared.judgement.Judged.TheVariants as ver
 ghost use Rattle.dp_responder.specs.declared.rule.Rule.TheVariants as rules;
 ghost use Rattle.dp_responder.specs.Rules.{first_row};
 ghost use Rattle.dp_responder.specs.Memory.{Remembered, is_repeat as is_repeated, remembered_of};
-ghost use Rattle.dp_responder.specs.Judgement.{admits as is_admitted, judged_by, judged_in_silence, judgement, refusal_function as function_by, refusal_rows, takes_length as is_taken, uses as is_used};
+ghost use Rattle.dp_responder.specs.Judgement.{admits as is_admitted, judged_by, judged_in_silence, judged_lent, judgement, refusal_function as function_by, refusal_rows, takes_length as is_taken, uses as is_used};
 
 use crate::memory::{FrameMemory, Last};
 use crate::rule::Rule;
@@ -29,6 +29,19 @@ pub enum Judged {
     Silent(Rule),
 }
 
+/// What comes of a request, as [`Judged`] tells it; the octets of a repeat are lent.
+#[derive(Clone, Copy, Debug, PartialEq, Eq)]
+pub enum JudgedLent<'a> {
+    /// As [`Judged::Pass`].
+    Pass,
+    /// As [`Judged::Repeat`]: these octets are what the slave remembers.
+    Repeat(&'a Octets),
+    /// As [`Judged::Refuse`].
+    Refuse(u8, Rule),
+    /// As [`Judged::Silent`].
+    Silent(Rule),
+}
+
 /// Judges a request by the rows of the verdict from the repeat to the length (own order): repeat,
 /// point off, sender not admitted, sender not listed, another service, point busy, length.
 ///
@@ -37,15 +50,33 @@ pub enum Judged {
 pub fn judge(points: &Points, memory: &FrameMemory, sender: u8, fc: u8, parts: &Parts) -> Judged
     ensures { result ≡ judgement points.now (remembered_of memory.now sender) sender fc parts.now }
 {
+    match judge_lent(points, memory, sender, fc, parts) {
+        JudgedLent::Pass => Judged::Pass,
+        JudgedLent::Repeat(reply) => repeated(reply),
+        JudgedLent::Refuse(function, rule) => Judged::Refuse(function, rule),
+        JudgedLent::Silent(rule) => Judged::Silent(rule),
+    }
+}
+
+/// Like [`judge`], but lends the octets of a repeat, and so spares room for them where there is none.
+pub fn judge_lent<'a>(
+    points: &Points,
+    memory: &'a FrameMemory,
+    sender: u8,
+    fc: u8,
+    parts: &Parts,
+) -> JudgedLent<'a>
+    ensures { judged_lent result ≡ judgement points.now (remembered_of memory.now sender) sender fc parts.now }
+{
     match memory.last_of(sender) {
-        Some(last) if is_repeat(last, fc) => repeated(last),
+        Some(last) if is_repeat(last, fc) => JudgedLent::Repeat(&last.reply),
         _ => judge_anew(points, sender, fc, parts),
     }
 }
 
 /// Judges a request that is no repeat.
-fn judge_anew(points: &Points, sender: u8, fc: u8, parts: &Parts) -> Judged
-    ensures { (last : Option Remembered) → result ≡ judged_by last fc (first_row (refusal_rows (access_row points.now parts.now.dsap) (is_listed points.now parts.now.dsap sender) sender fc parts.now.payload.items)) }
+fn judge_anew<'a>(points: &Points, sender: u8, fc: u8, parts: &Parts) -> JudgedLent<'a>
+    ensures { (last : Option Remembered) → judged_lent result ≡ judged_by last fc (first_row (refusal_rows (access_row points.now parts.now.dsap) (is_listed points.now parts.now.dsap sender) sender fc parts.now.payload.items)) }
 {
     by_rule(refusal(points, sender, fc, parts), fc)
 }
@@ -67,12 +98,12 @@ fn is_repeat(last: &Last, fc: u8) -> bool
 }
 
 /// The reply that is remembered, once more.
-fn repeated(last: &Last) -> Judged
-    ensures { result ≡ verdicts.Repeat (record { items = last.now.reply }) }
+fn repeated(reply: &Octets) -> Judged
+    ensures { result ≡ verdicts.Repeat reply.now }
 {
-    let mut reply = ArrayVec::new();
-    reply.try_extend_from_slice(&last.reply).unwrap();
-    Judged::Repeat(reply)
+    let mut octets = ArrayVec::new();
+    octets.try_extend_from_slice(reply).unwrap();
+    Judged::Repeat(octets)
 }
 
 /// The rule that refuses a request which is no repeat; [`Rule::Done`] where none does.
@@ -111,14 +142,14 @@ fn refusal_at(points: &Points, point: &Point, sender: u8, fc: u8, parts: &Parts)
 }
 
 /// What comes of a request that is no repeat, by its rule; an SDN that is refused gets no reply.
-fn by_rule(rule: Rule, fc: u8) -> Judged
+fn by_rule<'a>(rule: Rule, fc: u8) -> JudgedLent<'a>
     requires { rule ≢ rules.Repeat }
-    ensures { (last : Option Remembered) → result ≡ judged_by last fc rule }
+    ensures { (last : Option Remembered) → judged_lent result ≡ judged_by last fc rule }
 {
     match rule {
-        Rule::Done => Judged::Pass,
-        refusal if Function::of(fc).is_sdn() => Judged::Silent(refusal),
-        refusal => Judged::Refuse(refusal_function(refusal), refusal),
+        Rule::Done => JudgedLent::Pass,
+        refusal if Function::of(fc).is_sdn() => JudgedLent::Silent(refusal),
+        refusal => JudgedLent::Refuse(refusal_function(refusal), refusal),
     }
 }
 

@@ -3,7 +3,7 @@
 //! rows of the verdict from the repeat to the length.
 //!
 //! [`judge`] tells what comes of a request under the slave's points and its [`FrameMemory`], and
-//! [`judge_sdn`] what comes of one that is never replied to;
+//! [`judge_sdn`] what comes of one that is never replied to; [`judge_lent`] lends what [`judge`] copies.
 //! [`FrameMemory::remember`] keeps the reply. [`Rule`] names every row of the verdict.
 #![tactic(auto)]
 
@@ -12,6 +12,6 @@ pub mod laws;
 mod memory;
 mod rule;
 
-pub use judgement::{Judged, judge, judge_sdn};
+pub use judgement::{Judged, JudgedLent, judge, judge_lent, judge_sdn};
 pub use memory::FrameMemory;
 pub use rule::Rule;
