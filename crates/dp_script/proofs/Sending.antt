@@ -14,6 +14,7 @@ use Rattle.dp_script.specs.ScriptLines.{ScriptLine, Sent, Stream, passed, sent_a
 use Rattle.dp_script.specs.ScriptText.{ScriptRack, Obeyed, obeyed, obeyed_by_line}
 use Rattle.dp_text.specs.Writes.{WritesPrefix}
 use Rattle.dp_script.specs.Runs.{Sends, Obeys}
+use Rattle.dp_script.proofs.Writing.{keeps_same}
 
 -- ---- a line
 
@@ -59,6 +60,19 @@ sends journal next streams driven master index octets stream following old new r
     subst (λ (o : Option Sent). Sends o (record { journal = next; streams = set streams index following; driven = driven }) old new r) (sym is)
     (ends sending (record { journal = next; streams = set streams index following; driven = driven }) old new r leaves ok err fault)
 
+nobody : (script_line : ScriptLine) (master : ℕ) (octets : Option (List ℕ)) → None ≡ position (λ s. eqb s.master master) script_line.streams
+    → None ≡ option_and_then (sent script_line master) octets
+nobody script_line master None e = refl
+nobody script_line master (Some octets) e = ap (option_and_then (λ index. option_map (sent_at script_line octets index) (slice_get script_line.streams index))) e
+
+-- no stream of the line is this master's
+pub unsent : (journal : Journal) (streams : List Stream) (driven : List DrivenSlave) (master : ℕ) (octets : Option (List ℕ)) (old : Option (List ℕ))
+    → None ≡ position (λ s. eqb s.master master) streams
+    → Sends (option_and_then (sent (record { journal = journal; streams = streams; driven = driven }) master) octets) (record { journal = journal; streams = streams; driven = driven }) old old (Err stops.NoCommand)
+unsent journal streams driven master octets old e =
+    let script_line : ScriptLine = record { journal = journal; streams = streams; driven = driven } in
+    subst (λ (o : Option Sent). Sends o script_line old old (Err stops.NoCommand)) (nobody script_line master octets e) (keeps_same old)
+
 -- ---- a rack
 
 by_line : (lines : List ScriptLine) (chosen : ℕ) (following : ScriptLine) (old new : Option (List ℕ)) (r : Result (Unit {0}) ObeyFault) (sending : Option Sent) → Sends sending following old new r
@@ -70,15 +84,20 @@ by_line lines chosen following old new (Ok done) None s = absurd s
 by_line lines chosen following old new (Err stops.WriteFault) None s = absurd s
 by_line lines chosen following old new (Err stops.NoCommand) None s = s
 
-pub obeys_send : (lines : List ScriptLine) (chosen : ℕ) (line following : ScriptLine) (master : ℕ) (octets : List ℕ) (old new : Option (List ℕ)) (r : Result (Unit {0}) ObeyFault)
-    → slice_get lines chosen ≡ Some line → Sends (sent line master octets) following old new r
-    → Obeys (obeyed (record { lines = lines; chosen = chosen }) (send master octets)) (record { lines = set lines chosen following; chosen = chosen }) old new r
+sent_by : (lines : List ScriptLine) (chosen : ℕ) (line : ScriptLine) (master : ℕ) (octets : Option (List ℕ)) → slice_get lines chosen ≡ Some line
+    → option_map (obeyed_by_line (record { lines = lines; chosen = chosen })) (option_and_then (sent line master) octets)
+    ≡ option_and_then (obeyed (record { lines = lines; chosen = chosen })) (option_map (send master) octets)
+sent_by lines chosen line master None is = refl
+sent_by lines chosen line master (Some octets) is =
+    sym (ap (option_and_then (λ line. option_map (obeyed_by_line (record { lines = lines; chosen = chosen })) (sent line master octets))) is)
+
+-- a master sends the octets of words to the chosen line, if they are such
+pub obeys_send : (lines : List ScriptLine) (chosen : ℕ) (line following : ScriptLine) (master : ℕ) (octets : Option (List ℕ)) (old new : Option (List ℕ)) (r : Result (Unit {0}) ObeyFault)
+    → slice_get lines chosen ≡ Some line → Sends (option_and_then (sent line master) octets) following old new r
+    → Obeys (option_and_then (obeyed (record { lines = lines; chosen = chosen })) (option_map (send master) octets)) (record { lines = set lines chosen following; chosen = chosen }) old new r
 obeys_send lines chosen line following master octets old new r is s =
-    let script_rack : ScriptRack = record { lines = lines; chosen = chosen } in
-    let here : obeyed script_rack (send master octets) ≡ option_map (obeyed_by_line script_rack) (sent line master octets) =
-    ap (option_and_then (λ line. option_map (obeyed_by_line script_rack) (sent line master octets))) is in
-    subst (λ (o : Option Obeyed). Obeys o (record { lines = set lines chosen following; chosen = chosen }) old new r) (sym here)
-    (by_line lines chosen following old new r (sent line master octets) s)
+    subst (λ (o : Option Obeyed). Obeys o (record { lines = set lines chosen following; chosen = chosen }) old new r) (sent_by lines chosen line master octets is)
+    (by_line lines chosen following old new r (option_and_then (sent line master) octets) s)
 
 -- the line of what is done to it, and its text written
 wrote : (lines : List ScriptLine) (chosen : ℕ) (following : ScriptLine) (text : List ℕ) (sending : Sent) (old new : Option (List ℕ)) (r : Result (Unit {0}) ObeyFault)

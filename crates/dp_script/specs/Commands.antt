@@ -13,6 +13,10 @@ pub data Command : Type 0 where
   write_journal : Command
   operate : OpLine → Command
 
+-- this master sends the octets of words of hex digits, if they are such
+abbrev pub sending_of : ℕ → List ℕ → Option Command
+sending_of master digits = option_map (send master) (octets_of_words (words_of digits))
+
 -- `m M HEX..`: master M sends these octets
 abbrev pub send_of : List (List ℕ) → Option Command
 send_of (master ∷ word ∷ words) =

@@ -4,7 +4,7 @@ ghost use Rattle.std.specs.Prelude.{◌≡◌, option_and_then};
 ghost use Rattle.dp_script.specs.Commands.{command_of, send_of, journal_of};
 ghost use Rattle.dp_script.specs.CommandView.{command_view};
 
-use dp_text::{HexWords, Words, is_text, octet_in, only_octet_in};
+use dp_text::{Words, is_text, octet_in, only_octet_in};
 
 /// What a line of a script asks for.
 #[derive(Drop)]
@@ -15,8 +15,9 @@ pub(crate) enum Command<'a> {
     Send {
         /// The master's address.
         master: u8,
-        /// The octets, where they stand in the line.
-        octets: HexWords<'a>,
+        /// The words of the octets, where they stand in the line. They are looked at and decoded in one pass, when
+        /// the command is obeyed.
+        digits: &'a [u8],
     },
     /// `journal`: the audit text of the line.
     WriteJournal,
@@ -25,7 +26,8 @@ pub(crate) enum Command<'a> {
     Operate(&'a [u8]),
 }
 
-/// The command that a line is, if it is one; a line that may be the operator's is left to be read.
+/// The command that a line is, if it is one; what a master sends, and a line that may be the operator's, is left to be
+/// read.
 pub(crate) fn command_in(line: &[u8]) -> Option<Command<'_>>
     ensures { option_and_then command_view result ≡ command_of line.now }
 {
@@ -53,11 +55,11 @@ fn journal<'a>(words: &mut Words<'a>) -> Option<Command<'a>>
     }
 }
 
-/// What a master sends: its address, and one or more words of hex digits.
+/// What a master sends: its address, and one or more words, which are left to be read.
 fn send<'a>(words: &mut Words<'a>) -> Option<Command<'a>>
     ensures { option_and_then command_view result ≡ send_of words.old }
 {
     let master = octet_in(words.next()?)?;
-    let octets = HexWords::of(words.rest()?)?;
-    Some(Command::Send { master, octets })
+    let digits = words.rest()?;
+    Some(Command::Send { master, digits })
 }

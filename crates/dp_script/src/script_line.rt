@@ -1,6 +1,6 @@
 //! A line in use: its journal, the streams of its masters, and the slaves that devices drive.
 
-ghost use Rattle.std.specs.Prelude.{◌≡◌, ◌≤◌, ◌==◌, length, None, map, position, IfOk, OnOk, OnErr, IfErr};
+ghost use Rattle.std.specs.Prelude.{◌≡◌, ◌≤◌, ◌<◌, ◌==◌, [], ◌++◌, length, take, None, map, option_and_then, position, IfOk, OnOk, OnErr, IfErr};
 ghost use Rattle.std.specs.Io.KnownBytes.{Appends};
 ghost use Rattle.dp_telegram.specs.declared.cutter.Cut.TheVariants as pieces;
 ghost use Rattle.dp_telegram.specs.Stream.{cut_lent, cut_length};
@@ -8,6 +8,8 @@ ghost use Rattle.dp_telegram.specs.FrameText.{frame_at};
 ghost use Rattle.dp_line.specs.declared.event.Event.TheVariants.{Request};
 ghost use Rattle.dp_line.specs.World.{description_of, opening_fault};
 ghost use Rattle.dp_script.specs.ScriptLines.{line_at_start, empty_stream, piece_answered, passed, sent, operated, took, stepped, owned_line, show_line, journal_text};
+ghost use Rattle.dp_text.specs.Words.{words_of};
+ghost use Rattle.dp_text.specs.HexWords.{octets_of_words};
 ghost use Rattle.dp_text.specs.Writes.{WritesPrefix};
 ghost use Rattle.dp_script.specs.Runs.{Sends};
 
@@ -82,20 +84,26 @@ impl ScriptLine {
         self.book.number()
     }
 
-    /// A master sends octets, and the answers are written; it may be none of the line's.
+    /// A master sends the octets of words, and the answers are written; it may be none of the line's, and the words no
+    /// hex digits.
     pub(crate) fn send<W: Write>(
         &mut self,
         master: u8,
-        octets: HexWords<'_>,
+        digits: &[u8],
         text: &mut Text,
         writer: &mut W,
     ) -> Result<(), ObeyFault>
-        ensures { Sends (sent self.old master octets.entry) self.new (W.contents writer.old) (W.contents writer.new) result }
+        ensures { Sends (option_and_then (sent self.old master) (octets_of_words (words_of digits.now))) self.new (W.contents writer.old) (W.contents writer.new) result }
     {
         let Some(index) = index_of(&self.streams, master) else {
             return Err(ObeyFault::NoCommand);
         };
-        self.streams[index].pass_words(&mut self.book, octets, text, writer)
+        let mut chunk = [0; CHUNK];
+        let Some((decoded, octets)) = HexWords::of_into(digits, &mut chunk) else {
+            return Err(ObeyFault::NoCommand);
+        };
+        let stream = &mut self.streams[index];
+        stream.pass_words(&mut self.book, decoded, &mut chunk, octets, text, writer)
     }
 
     /// Does what a line of the operator asks for, and makes the text its answer: none for an empty line or
@@ -177,28 +185,34 @@ fn index_of(streams: &[Stream], master: u8) -> Option<usize>
 }
 
 impl Stream {
-    /// Octets come in words, and the answers to the pieces that they complete are written.
+    /// Octets come in words, of which so many are decoded in a chunk and the others are left, and the answers to the
+    /// pieces that they complete are written.
     fn pass_words<W: Write>(
         &mut self,
         book: &mut Book,
+        decoded: usize,
+        chunk: &mut [u8],
         mut octets: HexWords<'_>,
         text: &mut Text,
         writer: &mut W,
     ) -> Result<(), ObeyFault>
-        ensures journal { OnOk result (book.new ≡ (passed book.old self.old octets.entry).journal) }
-        ensures stream { OnOk result (self.new ≡ (passed book.old self.old octets.entry).stream) }
-        ensures ok { OnOk result (Appends (W.contents writer.old) (W.contents writer.new) (passed book.old self.old octets.entry).text) }
-        ensures err { OnErr result (WritesPrefix (W.contents writer.old) (W.contents writer.new) (passed book.old self.old octets.entry).text) }
+        requires chunk { length chunk.old ≡ CHUNK }
+        requires decoded { decoded ≤ CHUNK }
+        requires rest { decoded < CHUNK → octets ≡ [] }
+        ensures journal { OnOk result (book.new ≡ (passed book.old self.old (take decoded chunk.old ++ octets.entry)).journal) }
+        ensures stream { OnOk result (self.new ≡ (passed book.old self.old (take decoded chunk.old ++ octets.entry)).stream) }
+        ensures ok { OnOk result (Appends (W.contents writer.old) (W.contents writer.new) (passed book.old self.old (take decoded chunk.old ++ octets.entry)).text) }
+        ensures err { OnErr result (WritesPrefix (W.contents writer.old) (W.contents writer.new) (passed book.old self.old (take decoded chunk.old ++ octets.entry)).text) }
         ensures fault { IfErr result (λ stop. stop ≡ ObeyFault.WriteFault) }
     {
         pieces_of_a_stream_do_not_matter();
-        let mut chunk = [0; CHUNK];
+        let mut count = decoded;
         loop {
-            let count = octets.fill(&mut chunk);
             self.pass(book, &chunk[..count], text, writer)?;
             if count < CHUNK {
                 return Ok(());
             }
+            count = octets.fill(chunk);
         }
     }
 

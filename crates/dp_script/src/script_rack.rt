@@ -1,7 +1,7 @@
 //! A rack in use: its lines, and the one that commands speak to.
 
 ghost use Rattle.std.specs.Prelude.{◌≡◌, ◌<◌, ◌==◌, ℕ, List, Option, None, option_and_then, All, map, position, length, IfOk, IfSome};
-ghost use Rattle.dp_script.specs.Commands.{choose_line, send as send_octets, write_journal as journal_asked, operation_of};
+ghost use Rattle.dp_script.specs.Commands.{choose_line, sending_of, write_journal as journal_asked, operation_of};
 ghost use Rattle.dp_line.specs.World.{description_of, opening_fault};
 ghost use Rattle.rack_file.specs.Rack.{rack_described};
 ghost use Rattle.dp_script.specs.CommandView.{command_view};
@@ -13,7 +13,7 @@ use crate::command::Command;
 use crate::obey_fault::ObeyFault;
 use crate::output::write_whole;
 use crate::script_line::ScriptLine;
-use dp_text::{HexWords, Text, op_line_in};
+use dp_text::{Text, op_line_in};
 use rack_file::{Rack, RackLine};
 use std::alloc::{AllocError, Global};
 use std::io::Write;
@@ -61,7 +61,7 @@ impl ScriptRack {
     {
         match command {
             Command::ChooseLine(number) => self.choose(number),
-            Command::Send { master, octets } => self.send(master, octets, text, writer),
+            Command::Send { master, digits } => self.send(master, digits, text, writer),
             Command::WriteJournal => self.write_journal(writer),
             Command::Operate(line) => self.operate(line, text, writer),
         }
@@ -80,17 +80,17 @@ impl ScriptRack {
         }
     }
 
-    /// A master sends octets to the chosen line.
+    /// A master sends the octets of words to the chosen line, if they are hex digits.
     fn send<W: Write>(
         &mut self,
         master: u8,
-        octets: HexWords<'_>,
+        digits: &[u8],
         text: &mut Text,
         writer: &mut W,
     ) -> Result<(), ObeyFault>
-        ensures { Obeys (obeyed self.old (send_octets master octets.entry)) self.new (W.contents writer.old) (W.contents writer.new) result }
+        ensures { Obeys (option_and_then (obeyed self.old) (sending_of master digits.now)) self.new (W.contents writer.old) (W.contents writer.new) result }
     {
-        self.lines[self.chosen].send(master, octets, text, writer)
+        self.lines[self.chosen].send(master, digits, text, writer)
     }
 
     /// Writes the audit text of the chosen line.

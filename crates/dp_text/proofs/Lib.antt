@@ -12,3 +12,4 @@ pub mod HexPairs
 pub mod Writing
 pub mod Limits
 pub mod HexTable
+pub mod HexRows

@@ -1,6 +1,6 @@
 //! Octets in words of hex digits, read in place.
 
-ghost use Rattle.std.specs.Prelude.{◌≡◌, ◌<◌, ◌++◌, ◌&&◌, length, take, min, is_some, None};
+ghost use Rattle.std.specs.Prelude.{◌≡◌, ◌<◌, ◌≤◌, [], ◌++◌, ◌&&◌, length, take, min, is_some, None, option_map, IfSome};
 ghost use Rattle.std.specs.List.{list_all};
 ghost use Rattle.hex.specs.Hex.{is_hex_digit as is_digit_of_hex};
 ghost use Rattle.dp_text.specs.Words.{words_of};
@@ -51,6 +51,40 @@ impl<'a> HexWords<'a> {
     {
         if are_hex_words(text) {
             Some(HexWords { digits: text })
+        } else {
+            None
+        }
+    }
+
+    /// Looks at all of a text of words, as [`HexWords::of`] does, and decodes in the same pass as many octets as have
+    /// room: how many these are, and the octets that are left.
+    ///
+    /// It is not inlined, as [`HexWords::fill`].
+    #[inline(never)]
+    pub fn of_into(text: &'a [u8], octets: &mut [u8]) -> Option<(usize, HexWords<'a>)>
+        ensures read { option_map (λ read. take read.0 octets.new ++ read.1) result ≡ octets_of_words (words_of text.now) }
+        ensures most { IfSome result (λ read. read.0 ≤ length octets.new) }
+        ensures rest { IfSome result (λ read. read.0 < length octets.new → read.1 ≡ []) }
+    {
+        let mut left = text;
+        let mut count = 0;
+        while count < octets.len() {
+            let [high, low, rest @ ..] = left else {
+                return None;
+            };
+            if !is_pair(*high, *low) {
+                return None;
+            }
+            octets[count] = octet_of(*high, *low);
+            count += 1;
+            match rest {
+                [] => return Some((count, HexWords { digits: rest })),
+                [SPACE, more @ ..] => left = more,
+                [_, ..] => left = rest,
+            }
+        }
+        if are_hex_words(left) {
+            Some((count, HexWords { digits: left }))
         } else {
             None
         }

@@ -1,11 +1,15 @@
-use Rattle.std.proofs.Common.{length}
+use Rattle.std.proofs.Common.{◌≡◌, ◌+◌, ◌≤◌, ◌<◌, ◌++◌, [], length, take}
 use Rattle.dp_script.specs.ScriptLines.{passed}
 use Rattle.dp_script.proofs.Passing.{WordsSoFar}
 use Rattle.dp_script.proofs.script_line.Stream.pass_words.Given as goal
 
-abbrev pub invariant-loop : goal.invariant-loop
-invariant-loop g l =
-    WordsSoFar (passed l.fn.book l.fn.self l.fn.octets) (g.W.Write.contents l.fn.writer) (g.W.Write.contents l.writer) l.book l.self l.octets
+-- what is decoded and what is left behind it is what there is to answer
+abbrev pub invariant-loop-octets : goal.invariant-loop-octets
+invariant-loop-octets g l = record {
+  answered : WordsSoFar (passed l.fn.book l.fn.self (take l.decoded l.fn.chunk ++ l.fn.octets)) (g.W.Write.contents l.fn.writer) (g.W.Write.contents l.writer) l.book l.self (take l.count l.chunk ++ l.octets);
+  count : l.count ≤ 64;
+  rest : l.count < 64 → l.octets ≡ [];
+}
 
-abbrev pub decreases-loop : goal.decreases-loop
-decreases-loop g l = length l.octets
+abbrev pub decreases-loop-octets : goal.decreases-loop-octets
+decreases-loop-octets g l = l.count + length l.octets
