@@ -35,6 +35,15 @@ const CHUNK: usize = 64;
 struct Stream {
     master: u8,
     cutter: Cutter,
+    room: Room,
+}
+
+/// Room for a request and for what the line answers. Each frame of a stream is written into it anew, so none clears room
+/// for itself.
+#[derive(Drop)]
+struct Room {
+    event: Event,
+    step: Step,
 }
 
 impl Model for Stream {
@@ -172,6 +181,7 @@ fn empty_streams(alloc: Global, masters: &[u8]) -> Result<Vec<Stream>, AllocErro
         streams.push(Stream {
             master: *master,
             cutter: Cutter::new(),
+            room: blank_room(),
         })?;
     }
     Ok(streams)
@@ -234,7 +244,7 @@ impl Stream {
         loop {
             if let Some(piece) = self.cutter.front() {
                 let count = piece.size();
-                answer_piece(text, book, self.master, piece);
+                answer_piece(text, book, self.master, piece, &mut self.room);
                 self.cutter.pass(count);
                 write_whole(writer, text.as_bytes())?;
             } else if left.is_empty() {
@@ -248,30 +258,52 @@ impl Stream {
 }
 
 /// Makes the text the answer to a piece of a master's stream: a frame is one event of the line.
-fn answer_piece(text: &mut Text, book: &mut Book, master: u8, piece: Piece<'_>)
+fn answer_piece(text: &mut Text, book: &mut Book, master: u8, piece: Piece<'_>, room: &mut Room)
     requires { cut_length (cut_lent piece) ≤ 255 }
     ensures { record { journal = book.new; text = text.new } ≡ piece_answered book.old master (cut_lent piece.entry) }
 {
     match piece {
-        Piece::Frame(octets) => answer_frame(text, book, master, octets),
+        Piece::Frame(octets) => answer_frame(text, book, master, octets, room),
         Piece::Dropped { fault, count } => text.set_dropped(master, fault, count),
     }
 }
 
 /// Makes the text the answer to a frame of a master's stream.
-fn answer_frame(text: &mut Text, book: &mut Book, master: u8, octets: &[u8])
+fn answer_frame(text: &mut Text, book: &mut Book, master: u8, octets: &[u8], room: &mut Room)
     requires { length octets.now ≤ 255 }
     ensures { record { journal = book.new; text = text.new }
         ≡ piece_answered book.old master (pieces.Frame (frame_at octets.now) (record { items = octets.now })) }
 {
-    let mut event = Event::Request {
-        master,
-        octets: ArrayVec::new(),
-    };
-    if let Event::Request { octets: copy, .. } = &mut event {
+    set_request(&mut room.event, master, octets);
+    book.take_into(&room.event, &mut room.step);
+    text.set_answer(master, &room.step.outcome);
+}
+
+/// Makes an event the request of a master with these octets. A request that lies there gives its room.
+fn set_request(event: &mut Event, master: u8, octets: &[u8])
+    requires { length octets.now ≤ 255 }
+    ensures { event.new ≡ Request master (record { items = octets.now }) }
+{
+    if let Event::Request {
+        master: sender,
+        octets: copy,
+    } = event
+    {
+        *sender = master;
+        copy.clear();
         copy.try_extend_from_slice(octets).unwrap();
+    } else {
+        *event = Event::Request {
+            master,
+            octets: ArrayVec::try_from(octets).unwrap(),
+        };
     }
-    let mut step = Step::blank();
-    book.take_into(&event, &mut step);
-    text.set_answer(master, &step.outcome);
+}
+
+/// Room in which nothing lies yet.
+fn blank_room() -> Room {
+    Room {
+        event: Event::Operator(Op::Halt),
+        step: Step::blank(),
+    }
 }
