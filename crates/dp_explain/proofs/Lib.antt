@@ -5,3 +5,10 @@ pub mod Told
 pub mod Knowing
 pub mod Rows
 pub mod Retold
+pub mod Reached
+pub mod Standings
+pub mod ChangesTold
+pub mod Noted
+pub mod FrameMemories
+pub mod Replies
+pub mod Repeated

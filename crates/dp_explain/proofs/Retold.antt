@@ -34,10 +34,10 @@ use Rattle.dp_explain.proofs.Rows.{row_is_read, rows_are}
 
 -- ---- an event that is recorded is taken as its entry says
 
-record IsTaken (world : World) (entry : Entry) : Type 0 where
-  left : (step world entry.event).world ≡ after_entry world entry
-  place : world.count + 1 ≡ entry.place
-  outcome : outcome_told world entry.event ≡ entry.outcome
+pub record IsTaken (world : World) (entry : Entry) : Type 0 where
+  pub left : (step world entry.event).world ≡ after_entry world entry
+  pub place : world.count + 1 ≡ entry.place
+  pub outcome : outcome_told world entry.event ≡ entry.outcome
 
 halt_outcome : (world : World) → outcome_of world (Operator Halt) ≡ Released (record { items = held_addresses world })
 unfolding outcome_of
@@ -47,7 +47,7 @@ effect_outcome : (world : World) (event : Event) → outcome_with (effect world 
 unfolding effect
 effect_outcome world event = refl
 
-taken_by : (world : World) (entry : Entry) → Follows world entry → Way world entry.event → IsTaken world entry
+pub taken_by : (world : World) (entry : Entry) → Follows world entry → Way world entry.event → IsTaken world entry
 taken_by world entry follows (meets_halt halted is none) = absurd (let e : true ≡ false = sym halted ∙ follows.running in cc)
 taken_by world entry follows (is_refused fault running misfits is none) = absurd (let e : ◌≡◌ {A = Option OperatorFault} (Some fault) None = sym misfits ∙ follows.fits in cc)
 taken_by world entry follows (brings_halt last is one other) = record {

@@ -5,3 +5,5 @@ pub mod Holds
 pub mod Known
 pub mod Explained
 pub mod JournalTold
+pub mod Standing
+pub mod Repeats
