@@ -1,77 +1,35 @@
 //! What came of a Global_Control at a slave.
 
 ghost use Rattle.std.specs.Prelude.{◌≡◌, ◌&&◌, not, slice_index, Some};
-ghost use Rattle.dp_slave.specs.Acts.{Control};
 ghost use Rattle.dp_slave.specs.Services.{control_of};
+ghost use Rattle.dp_globalctl.specs.Command.{control_in};
 ghost use Rattle.dp_sentences.specs.Services.{sync_is_asked, freeze_is_asked, acts_words, idle_sync_text, idle_freeze_text, controlled_text, control_text};
 
-use crate::prm_fault::is_set;
 use dp_decode::{Flag, Names};
+use dp_globalctl::Command;
 use dp_prm::Prm;
 use dp_slave::SlaveView;
 use std::fmt;
-use std::marker::Model;
 
-/// Bits of the first octet of a Global_Control by their numbers (IEC 61158-6-3, Global_Control request).
-const CLEAR_DATA: u32 = 1;
-
-const UNFREEZE: u32 = 2;
-
-const FREEZE: u32 = 3;
-
-const UNSYNC: u32 = 4;
-
-const SYNC: u32 = 5;
-
-/// The bits of a Global_Control that are looked at.
-#[derive(Drop)]
-struct Bits {
-    clear_data: bool,
-    unfreeze: bool,
-    freeze: bool,
-    unsync: bool,
-    sync: bool,
+/// What the octets ask for. Group_Select, which has selected the slave, is not told.
+fn command_in(octets: &[u8]) -> Command
+    ensures { control_in result ≡ control_of octets.now }
+{
+    Command::read(&[first_of(octets), 0])
 }
 
-impl Model for Bits {
-    ghost Value = { Control };
-
-    ghost view = { λ bits. record {
-      clear_data = bits.clear_data;
-      unfreeze = bits.unfreeze;
-      freeze = bits.freeze;
-      unsync = bits.unsync;
-      sync = bits.sync;
-    } };
+/// Sync is done: it is asked for, by the parameters too, and not beside Unsync.
+fn syncs(command: &Command, asked: bool) -> bool
+    ensures { result ≡ (not command.now.unsync && (command.now.sync && asked)) }
+{
+    !command.unsync && (command.sync && asked)
 }
 
-impl Bits {
-    fn of(octets: &[u8]) -> Bits
-        ensures { result ≡ control_of octets.now }
-    {
-        let octet = first_of(octets);
-        Bits {
-            clear_data: is_set(CLEAR_DATA, octet),
-            unfreeze: is_set(UNFREEZE, octet),
-            freeze: is_set(FREEZE, octet),
-            unsync: is_set(UNSYNC, octet),
-            sync: is_set(SYNC, octet),
-        }
-    }
-
-    /// Sync is done: it is asked for, by the parameters too, and not beside Unsync.
-    fn syncs(&self, asked: bool) -> bool
-        ensures { result ≡ (not self.now.unsync && (self.now.sync && asked)) }
-    {
-        !self.unsync && (self.sync && asked)
-    }
-
-    /// Freeze is done: it is asked for, by the parameters too, and not beside Unfreeze.
-    fn freezes(&self, asked: bool) -> bool
-        ensures { result ≡ (not self.now.unfreeze && (self.now.freeze && asked)) }
-    {
-        !self.unfreeze && (self.freeze && asked)
-    }
+/// Freeze is done: it is asked for, by the parameters too, and not beside Unfreeze.
+fn freezes(command: &Command, asked: bool) -> bool
+    ensures { result ≡ (not command.now.unfreeze && (command.now.freeze && asked)) }
+{
+    !command.unfreeze && (command.freeze && asked)
 }
 
 /// What is done.
@@ -129,29 +87,29 @@ fn idle_freeze(freeze: bool, unfreeze: bool, asked: bool) -> &'static str
     }
 }
 
-/// What came of the bits of a Global_Control.
+/// What came of a command.
 #[derive(Clone, Copy)]
 struct Done<'a> {
     slave: &'a SlaveView,
-    bits: &'a Bits,
+    command: &'a Command,
 }
 
 impl<'a> fmt::Display for Done<'a> {
-    ghost output = { λ s. Some (controlled_text s.slave.now s.bits.now) };
+    ghost output = { λ s. Some (controlled_text s.slave.now (control_in s.command.now)) };
 
     fn fmt<W: fmt::Write>(&self, f: &mut fmt::Formatter<W>) -> fmt::Result {
-        let bits = self.bits;
+        let command = self.command;
         let asks_sync = asks_sync(&self.slave.prm);
         let asks_freeze = asks_freeze(&self.slave.prm);
         let acts = Acts {
-            clears: bits.clear_data,
-            unsyncs: bits.unsync,
-            syncs: bits.syncs(asks_sync),
-            unfreezes: bits.unfreeze,
-            freezes: bits.freezes(asks_freeze),
+            clears: command.clear_data,
+            unsyncs: command.unsync,
+            syncs: syncs(command, asks_sync),
+            unfreezes: command.unfreeze,
+            freezes: freezes(command, asks_freeze),
         };
-        let sync = idle_sync(bits.sync, bits.unsync, asks_sync);
-        let freeze = idle_freeze(bits.freeze, bits.unfreeze, asks_freeze);
+        let sync = idle_sync(command.sync, command.unsync, asks_sync);
+        let freeze = idle_freeze(command.freeze, command.unfreeze, asks_freeze);
         write!(f, "done: {acts}.{sync}{freeze}")
     }
 }
@@ -167,10 +125,10 @@ impl<'a> fmt::Display for Controlled<'a> {
     ghost output = { λ s. Some (control_text s.slave.now s.octets.now) };
 
     fn fmt<W: fmt::Write>(&self, f: &mut fmt::Formatter<W>) -> fmt::Result {
-        let bits = Bits::of(self.octets);
+        let command = command_in(self.octets);
         let done = Done {
             slave: self.slave,
-            bits: &bits,
+            command: &command,
         };
         write!(f, "{done}")
     }
