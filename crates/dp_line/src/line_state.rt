@@ -226,7 +226,8 @@ impl LineState {
     {
         let facts = self.stations.operate(address, op);
         self.count += 1;
-        recorded(self.count, facts, Outcome::Done, answer)
+        recorded(self.count, facts, answer);
+        answer.outcome.make_done();
     }
 
     /// Time passes, in units of 10 ms.
@@ -235,9 +236,9 @@ impl LineState {
         ensures line { self.new ≡ record self.old { world = (effect self.old.world (Operator (Tick time))).world } }
         ensures answer { answer.new ≡ (effect self.old.world (Operator (Tick time))).answer }
     {
-        let let_go = self.stations.tick(time);
+        self.stations.tick(time, &mut answer.outcome);
         self.count += 1;
-        recorded(self.count, None, Outcome::Released(let_go), answer)
+        recorded(self.count, None, answer);
     }
 
     /// Takes the operator's halt.
@@ -247,7 +248,8 @@ impl LineState {
         ensures answer { answer.new ≡ (effect self.old.world (Operator Halt)).answer }
     {
         let let_go = self.halt();
-        recorded(self.count, None, Outcome::Released(let_go), answer)
+        recorded(self.count, None, answer);
+        answer.outcome = Outcome::Released(let_go);
     }
 
     /// Takes a request that takes a place.
@@ -305,12 +307,11 @@ fn unrecorded(outcome: Outcome, halted: Option<ArrayVec<u8, MOST_SLAVES>>, answe
     answer.halted = halted;
 }
 
-/// Writes the answer to an event that is recorded.
-fn recorded(place: u32, facts: Facts, outcome: Outcome, answer: &mut Step)
-    ensures { answer.new ≡ record { place = Some place; facts = facts; outcome = outcome; halted = None } }
+/// Writes of the answer to an event that is recorded all but its outcome.
+fn recorded(place: u32, facts: Facts, answer: &mut Step)
+    ensures { answer.new ≡ record answer.old { place = Some place; facts = facts; halted = None } }
 {
     answer.place = Some(place);
     answer.facts = facts;
-    answer.outcome = outcome;
     answer.halted = None;
 }

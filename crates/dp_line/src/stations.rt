@@ -135,16 +135,17 @@ impl Stations {
         ensures outcome { outcome.new ≡ Answers.Spread (record { items = map (ruled_by request.now) (held_among self.old.slaves request.now.sender) }) }
         ensures visits { result ≡ length (held_among self.old.slaves request.now.sender) }
     {
+        outcome.make_spread();
+        let Outcome::Spread(rules) = outcome else {
+            return 0;
+        };
         let Stations {
             masters,
             slaves,
             owners,
             ..
         } = self;
-        let mut rules = ArrayVec::new();
-        let visits = lists::control_each(slaves, owners, masters, request, &mut rules);
-        *outcome = Outcome::Spread(rules);
-        visits
+        lists::control_each(slaves, owners, masters, request, rules)
     }
 
     /// Why an operator can't do this; None where it can.
@@ -174,18 +175,22 @@ impl Stations {
         Some(lists::operate_at(slaves, owners, masters, index, op))
     }
 
-    /// Time passes, in units of 10 ms; the addresses of the slaves whose watchdog ran out, ascending.
-    pub(crate) fn tick(&mut self, time: u32) -> ArrayVec<u8, MOST_SLAVES>
+    /// Time passes, in units of 10 ms: writes the addresses of the slaves whose watchdog ran out, ascending.
+    pub(crate) fn tick(&mut self, time: u32, outcome: &mut Outcome)
         ensures slaves { self.new ≡ record self.old { slaves = map (ticked time) self.old.slaves } }
-        ensures let_go { result.items ≡ map address_of_slave (filter (expires time) self.old.slaves) }
+        ensures outcome { outcome.new ≡ Answers.Released (record { items = map address_of_slave (filter (expires time) self.old.slaves) }) }
     {
+        outcome.make_released();
+        let Outcome::Released(let_go) = outcome else {
+            return;
+        };
         let Stations {
             masters,
             slaves,
             owners,
             ..
         } = self;
-        lists::tick_each(slaves, owners, masters, time)
+        lists::tick_each(slaves, owners, masters, time, let_go);
     }
 
     /// Releases every slave; the addresses of those that had a holder, ascending.
