@@ -1,6 +1,6 @@
 -- A command to a line, and to a rack in use, from what its stream leaves.
-use Rattle.std.proofs.Common.{◌≡◌, ℕ, eqb, List, length, get_or, set, Option, Some, None, Result, Ok, Err, OnOk, OnErr, IfErr, refl, sym, ap, subst, ◌∙◌}
-use Rattle.std.specs.Prelude.{position, slice_get, option_map, option_and_then}
+use Rattle.std.proofs.Common.{◌≡◌, ℕ, eqb, true, List, length, get_or, set, Option, Some, None, Result, Ok, Err, OnOk, OnErr, IfErr, refl, sym, ap, subst, ◌∙◌}
+use Rattle.std.specs.Prelude.{is_some, position, slice_get, option_map, option_and_then}
 use Rattle.std.specs.Io.KnownBytes.{Appends}
 use Rattle.std.proofs.lemmas.List.Quantifiers.{position-Some}
 use Rattle.std.proofs.lemmas.Option.{slice_get_read}
@@ -109,14 +109,25 @@ wrote lines chosen following text sending old new r is ok err fault =
     (subst (λ s. Sends (Some s) following old new r) is (ends (record { script_line = following; text = text }) following old new r (on_ok r refl) ok err fault))
 
 -- what a line of the operator asks of the chosen line
-pub obeys_op : (lines : List ScriptLine) (chosen : ℕ) (line following : ScriptLine) (said : Option OpLine) (op : OpLine) (text : List ℕ) (old new : Option (List ℕ)) (r : Result (Unit {0}) ObeyFault)
+does_op : (lines : List ScriptLine) (chosen : ℕ) (line following : ScriptLine) (said : Option OpLine) (op : OpLine) (text : List ℕ) (old new : Option (List ℕ)) (r : Result (Unit {0}) ObeyFault)
     → slice_get lines chosen ≡ Some line → said ≡ Some op → record { script_line = following; text = text } ≡ operated line op
     → OnOk r (Appends old new text) → OnErr r (WritesPrefix old new text) → IfErr r (λ stop. stop ≡ stops.WriteFault)
     → Obeys (option_and_then (obeyed (record { lines = lines; chosen = chosen })) (option_map operate said)) (record { lines = set lines chosen following; chosen = chosen }) old new r
-obeys_op lines chosen line following said op text old new r is says done ok err fault =
+does_op lines chosen line following said op text old new r is says done ok err fault =
     let script_rack : ScriptRack = record { lines = lines; chosen = chosen } in
     let here : option_and_then (obeyed script_rack) (option_map operate said) ≡ Some (obeyed_by_line script_rack (operated line op)) =
     ap (λ (o : Option OpLine). option_and_then (obeyed script_rack) (option_map operate o)) says
     ∙ ap (option_map (λ l. obeyed_by_line script_rack (operated l op))) is in
     subst (λ (o : Option Obeyed). Obeys o (record { lines = set lines chosen following; chosen = chosen }) old new r) (sym here)
     (wrote lines chosen following text (operated line op) old new r done ok err fault)
+
+-- the same where the line has been read, and what it asks for was done
+pub obeys_op : (lines : List ScriptLine) (chosen : ℕ) (line following : ScriptLine) (said : Option OpLine) (read : Option (Unit {0})) (text : List ℕ) (old new : Option (List ℕ)) (r : Result (Unit {0}) ObeyFault)
+    → slice_get lines chosen ≡ Some line → is_some read ≡ true → option_map (λ (d : Unit {0}). record { script_line = following; text = text }) read ≡ option_map (operated line) said
+    → OnOk r (Appends old new text) → OnErr r (WritesPrefix old new text) → IfErr r (λ stop. stop ≡ stops.WriteFault)
+    → Obeys (option_and_then (obeyed (record { lines = lines; chosen = chosen })) (option_map operate said)) (record { lines = set lines chosen following; chosen = chosen }) old new r
+obeys_op lines chosen line following said None text old new r is some done ok err fault = absurd cc
+obeys_op lines chosen line following None (Some d) text old new r is some done ok err fault = absurd cc
+obeys_op lines chosen line following (Some op) (Some d) text old new r is some done ok err fault =
+    let left : record { script_line = following; text = text } ≡ operated line op = cc in
+    does_op lines chosen line following (Some op) op text old new r is refl left ok err fault

@@ -12,3 +12,4 @@ pub mod CheckExamples
 pub mod Input
 pub mod InputExamples
 pub mod Explanations
+pub mod Asking

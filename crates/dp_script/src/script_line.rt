@@ -1,13 +1,17 @@
 //! A line in use: its journal, the streams of its masters, and the slaves that devices drive.
 
-ghost use Rattle.std.specs.Prelude.{◌≡◌, ◌≤◌, ◌<◌, ◌==◌, [], ◌++◌, length, take, None, map, option_and_then, position, IfOk, OnOk, OnErr, IfErr};
+ghost use Rattle.std.specs.Prelude.{◌≡◌, ◌≤◌, ◌<◌, ◌==◌, [], ◌++◌, length, take, None, map, option_map, option_and_then, position, IfOk, OnOk, OnErr, IfErr};
 ghost use Rattle.std.specs.Io.KnownBytes.{Appends};
 ghost use Rattle.dp_telegram.specs.declared.cutter.Cut.TheVariants as pieces;
 ghost use Rattle.dp_telegram.specs.Stream.{cut_lent, cut_length};
 ghost use Rattle.dp_telegram.specs.FrameText.{frame_at};
 ghost use Rattle.dp_line.specs.declared.event.Event.TheVariants.{Request};
 ghost use Rattle.dp_line.specs.World.{description_of, opening_fault};
-ghost use Rattle.dp_script.specs.ScriptLines.{line_at_start, empty_stream, piece_answered, passed, sent, operated, took, stepped, owned_line, show_line, journal_text};
+ghost use Rattle.dp_script.specs.ScriptLines.{line_at_start, empty_stream, piece_answered, passed, sent, told_of, operated, stepped, owned_line, show_line, journal_text};
+ghost use Rattle.dp_script.specs.Asking.{IsAsked};
+ghost use Rattle.dp_audit.specs.Journal.{taken};
+ghost use Rattle.dp_text.specs.OpLines.{op_line_of};
+ghost use Rattle.dp_text.specs.Texts.{outcome_line};
 ghost use Rattle.dp_text.specs.Words.{words_of};
 ghost use Rattle.dp_text.specs.HexWords.{octets_of_words};
 ghost use Rattle.dp_text.specs.Writes.{WritesPrefix};
@@ -22,7 +26,7 @@ use dp_audit::Book;
 use dp_devices::{DrivenSlave, MOST_DRIVEN, driven_slaves};
 use dp_line::{Event, LineSpec, Op, Step};
 use dp_telegram::{Cutter, Piece};
-use dp_text::{HexWords, OpLine, Text};
+use dp_text::{Asked, HexWords, Text, op_line_into};
 use std::alloc::{AllocError, Global};
 use std::io::Write;
 use std::marker::Model;
@@ -38,8 +42,8 @@ struct Stream {
     room: Room,
 }
 
-/// Room for a request and for what the line answers. Each frame of a stream is written into it anew, so none clears room
-/// for itself.
+/// Room for a request, or for what the operator does, and for what the line answers. Each frame of a stream, and each
+/// line of the operator, is written into it anew, so none clears room for itself.
 #[derive(Drop)]
 struct Room {
     event: Event,
@@ -63,6 +67,7 @@ pub(crate) struct ScriptLine {
     book: Book,
     streams: Vec<Stream>,
     driven: ArrayVec<DrivenSlave, MOST_DRIVEN>,
+    room: Room,
 }
 
 impl Model for ScriptLine {
@@ -83,6 +88,7 @@ impl ScriptLine {
             book: Book::open(alloc, line).map_err(|_| AllocError)?,
             streams: empty_streams(alloc, &line.masters)?,
             driven: driven_slaves(line),
+            room: blank_room(),
         })
     }
 
@@ -116,26 +122,21 @@ impl ScriptLine {
     }
 
     /// Does what a line of the operator asks for, and makes the text its answer: none for an empty line or
-    /// a comment.
-    pub(crate) fn operate(&mut self, op_line: OpLine, text: &mut Text)
-        ensures { record { script_line = self.new; text = text.new } ≡ operated self.old op_line }
+    /// a comment. None where the line is no command.
+    ///
+    /// It is not inlined, so that the way of a frame keeps its registers.
+    #[inline(never)]
+    pub(crate) fn operate(&mut self, line: &[u8], text: &mut Text) -> Option<()>
+        ensures { option_map (λ done. record { script_line = self.new; text = text.new }) result ≡ option_map (operated self.old) (op_line_of line.now) }
     {
-        match op_line {
-            OpLine::Event(op) => self.take(op, text),
-            OpLine::Owned(master) => self.list_owned(master, text),
-            OpLine::Show(address) => self.show_slave(address, text),
-            OpLine::Step => self.step(text),
-            OpLine::Nothing => text.clear(),
+        match asked_in(line, &mut self.room.event)? {
+            Asked::Event => answer_op(text, &mut self.book, &mut self.room),
+            Asked::Owned(master) => self.list_owned(master, text),
+            Asked::Show(address) => self.show_slave(address, text),
+            Asked::Step => self.step(text),
+            Asked::Nothing => text.clear(),
         }
-    }
-
-    /// The operator does something, and the text becomes the answer.
-    fn take(&mut self, op: Op, text: &mut Text)
-        ensures { record { script_line = self.new; text = text.new } ≡ took self.old op }
-    {
-        let mut step = Step::blank();
-        self.book.take_into(&Event::Operator(op), &mut step);
-        text.set_outcome(&step.outcome);
+        Some(())
     }
 
     /// The devices feed their slaves, and the text tells how many inputs were recorded.
@@ -277,6 +278,35 @@ fn answer_frame(text: &mut Text, book: &mut Book, master: u8, octets: &[u8], roo
     set_request(&mut room.event, master, octets);
     book.take_into(&room.event, &mut room.step);
     text.set_answer(master, &room.step.outcome);
+}
+
+/// What a line of the operator asks for; what he does is made the event. One of his that lies there gives its room.
+fn asked_in(line: &[u8], event: &mut Event) -> Option<Asked>
+    ensures { IsAsked (op_line_of line.now) result event.new }
+{
+    match event {
+        Event::Operator(op) => op_line_into(line, op),
+        Event::Request { .. } => asked_anew(line, event),
+    }
+}
+
+/// What a line of the operator asks for, where a request lies.
+fn asked_anew(line: &[u8], event: &mut Event) -> Option<Asked>
+    ensures { IsAsked (op_line_of line.now) result event.new }
+{
+    let mut op = Op::Halt;
+    let asked = op_line_into(line, &mut op);
+    *event = Event::Operator(op);
+    asked
+}
+
+/// Makes the text the answer to what the operator does, which is the event in the room.
+fn answer_op(text: &mut Text, book: &mut Book, room: &mut Room)
+    ensures journal { book.new ≡ taken book.old room.old.event }
+    ensures text { text.new ≡ outcome_line (told_of book.old room.old.event) }
+{
+    book.take_into(&room.event, &mut room.step);
+    text.set_outcome(&room.step.outcome);
 }
 
 /// Makes an event the request of a master with these octets. A request that lies there gives its room.

@@ -13,7 +13,7 @@ use crate::command::Command;
 use crate::obey_fault::ObeyFault;
 use crate::output::write_whole;
 use crate::script_line::ScriptLine;
-use dp_text::{Text, op_line_in};
+use dp_text::Text;
 use rack_file::{Rack, RackLine};
 use std::alloc::{AllocError, Global};
 use std::io::Write;
@@ -109,10 +109,9 @@ impl ScriptRack {
     ) -> Result<(), ObeyFault>
         ensures { Obeys (option_and_then (obeyed self.old) (operation_of line.now)) self.new (W.contents writer.old) (W.contents writer.new) result }
     {
-        let Some(op_line) = op_line_in(line) else {
+        if self.lines[self.chosen].operate(line, text).is_none() {
             return Err(ObeyFault::NoCommand);
-        };
-        self.lines[self.chosen].operate(op_line, text);
+        }
         write_whole(writer, text.as_bytes())
     }
 }

@@ -1,11 +1,11 @@
 //! Reading the lines of an operator.
 
-ghost use Rattle.std.specs.Prelude.{◌≡◌, ok_or};
+ghost use Rattle.std.specs.Prelude.{◌≡◌, ok_or, option_map};
 ghost use Rattle.dp_text.specs.Codes.{text_fault_code, text_fault_name};
-ghost use Rattle.dp_text.specs.OpLines.{op_line_of, op_line_of_words, step_of};
+ghost use Rattle.dp_text.specs.OpLines.{line_asked, op_line_of, op_line_of_words};
 
 use crate::number::only_octet_in;
-use crate::ops::{HexCase, op_in};
+use crate::ops::{HexCase, op_into};
 use crate::words::{Words, is_text};
 use dp_line::Op;
 use thiserror::Error;
@@ -22,6 +22,21 @@ pub enum OpLine {
     /// `step`: the devices of the line set the inputs of their slaves.
     Step,
     /// Nothing: the line is empty, or begins with `#`.
+    Nothing,
+}
+
+/// What a line of an operator asks for, where what the operator does lies apart ([`op_line_into`]) (own).
+#[derive(Clone, Copy, Debug, PartialEq, Eq)]
+pub enum Asked {
+    /// The operator does what lies there.
+    Event,
+    /// `owned M`, as [`OpLine::Owned`].
+    Owned(u8),
+    /// `show A`, as [`OpLine::Show`].
+    Show(u8),
+    /// `step`, as [`OpLine::Step`].
+    Step,
+    /// Nothing, as [`OpLine::Nothing`].
     Nothing,
 }
 
@@ -74,35 +89,45 @@ pub fn read_op(line: &str) -> Result<OpLine, TextFault>
 pub fn op_line_in(line: &[u8]) -> Option<OpLine>
     ensures { result ≡ op_line_of line.now }
 {
+    let mut op = Op::Halt;
+    match op_line_into(line, &mut op)? {
+        Asked::Event => Some(OpLine::Event(op)),
+        Asked::Owned(master) => Some(OpLine::Owned(master)),
+        Asked::Show(address) => Some(OpLine::Show(address)),
+        Asked::Step => Some(OpLine::Step),
+        Asked::Nothing => Some(OpLine::Nothing),
+    }
+}
+
+/// Like [`op_line_in`], but writes what the operator does where an `Op` lies, which spares its copies. What lies there
+/// after any other line is left open.
+pub fn op_line_into(line: &[u8], op: &mut Op) -> Option<Asked>
+    ensures { option_map (line_asked op.new) result ≡ op_line_of line.now }
+{
     match line {
-        [] => Some(OpLine::Nothing),
-        [b'#', ..] => Some(OpLine::Nothing),
-        [_, ..] => op_line_in_words(&mut Words::of(line)),
+        [] => Some(Asked::Nothing),
+        [b'#', ..] => Some(Asked::Nothing),
+        [_, ..] => op_line_in_words(&mut Words::of(line), op),
     }
 }
 
 /// The line by its first word.
-fn op_line_in_words(words: &mut Words<'_>) -> Option<OpLine>
-    ensures { result ≡ op_line_of_words words.old }
+fn op_line_in_words(words: &mut Words<'_>, op: &mut Op) -> Option<Asked>
+    ensures { option_map (line_asked op.new) result ≡ op_line_of_words words.old }
 {
     let kind = words.next()?;
     if is_text(kind, b"owned") {
-        return only_octet_in(words).map(|master| OpLine::Owned(master));
+        return only_octet_in(words).map(|master| Asked::Owned(master));
     }
     if is_text(kind, b"show") {
-        return only_octet_in(words).map(|address| OpLine::Show(address));
+        return only_octet_in(words).map(|address| Asked::Show(address));
     }
     if is_text(kind, b"step") {
-        return step_in(words);
+        return match words.next() {
+            None => Some(Asked::Step),
+            Some(_) => None,
+        };
     }
-    Some(OpLine::Event(op_in(HexCase::Either, kind, words)?))
-}
-
-fn step_in(words: &mut Words<'_>) -> Option<OpLine>
-    ensures { result ≡ step_of words.old }
-{
-    match words.next() {
-        None => Some(OpLine::Step),
-        Some(_) => None,
-    }
+    op_into(HexCase::Either, kind, words, op)?;
+    Some(Asked::Event)
 }

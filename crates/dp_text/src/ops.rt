@@ -1,6 +1,6 @@
 //! Reading what an operator does.
 
-ghost use Rattle.std.specs.Prelude.{◌≡◌, ◌∷◌, ◌≤◌, ◌/◌, if◌then◌else◌, option_map, length, Some, None};
+ghost use Rattle.std.specs.Prelude.{◌≡◌, [], ◌∷◌, ◌≤◌, ◌/◌, if◌then◌else◌, option_map, length, Some, None};
 ghost use Rattle.std.specs.Result.{result_ok};
 ghost use Rattle.hex.specs.Hex.{decode_of};
 ghost use Rattle.std.specs.List.{list_any};
@@ -34,42 +34,71 @@ pub enum HexCase {
 pub fn op_in(case: HexCase, kind: &[u8], words: &mut Words<'_>) -> Option<Op>
     ensures { result ≡ op_of_words case (kind.now ∷ words.old) }
 {
+    let mut op = Op::Halt;
+    op_into(case, kind, words, &mut op)?;
+    Some(op)
+}
+
+/// Writes what an operator does where an `Op` lies. One of the same kind gives its room, so that inputs and ticks, which
+/// come often, are not copied.
+pub(crate) fn op_into(case: HexCase, kind: &[u8], words: &mut Words<'_>, op: &mut Op) -> Option<()>
+    ensures { option_map (λ done. op.new) result ≡ op_of_words case (kind.now ∷ words.old) }
+{
     if is_text(kind, b"in") {
-        return input_in(case, words);
+        return input_into(case, words, op);
     }
     if is_text(kind, b"diag") {
-        return diag_in(case, words);
+        return diag_into(case, words, op);
     }
     if is_text(kind, b"busy") {
-        return busy_in(words);
+        return busy_into(words, op);
     }
     if is_text(kind, b"tick") {
-        return tick_in(words);
+        return tick_into(words, op);
     }
     if is_text(kind, b"halt") {
-        return halt_in(words);
+        return halt_into(words, op);
     }
     None
 }
 
 /// The inputs of a slave's device.
-fn input_in(case: HexCase, words: &mut Words<'_>) -> Option<Op>
-    ensures { result ≡ input_of case words.old }
+fn input_into(case: HexCase, words: &mut Words<'_>, op: &mut Op) -> Option<()>
+    ensures { option_map (λ done. op.new) result ≡ input_of case words.old }
 {
     let address = words.next()?;
     let octets = words.next()?;
     if words.next().is_some() {
         return None;
     }
-    Some(Op::Input {
-        address: octet_in(address)?,
-        octets: event_octets_in(case, octets)?,
-    })
+    let address = octet_in(address)?;
+    match op {
+        Op::Input {
+            address: at,
+            octets: inputs,
+        } => {
+            *at = address;
+            event_octets_into(case, octets, inputs)
+        }
+        _ => input_anew(case, address, octets, op),
+    }
+}
+
+/// The inputs of a slave's device, where something else lies.
+fn input_anew(case: HexCase, address: u8, word: &[u8], op: &mut Op) -> Option<()>
+    ensures { option_map (λ done. op.new) result
+        ≡ option_map (λ items. Op.Input address (record { items = items })) (event_octets case 244 word.now) }
+{
+    *op = Op::Input {
+        address,
+        octets: event_octets_in(case, word)?,
+    };
+    Some(())
 }
 
 /// A diagnosis.
-fn diag_in(case: HexCase, words: &mut Words<'_>) -> Option<Op>
-    ensures { result ≡ diag_of case words.old }
+fn diag_into(case: HexCase, words: &mut Words<'_>, op: &mut Op) -> Option<()>
+    ensures { option_map (λ done. op.new) result ≡ diag_of case words.old }
 {
     let address = words.next()?;
     let flags = words.next()?;
@@ -79,18 +108,19 @@ fn diag_in(case: HexCase, words: &mut Words<'_>) -> Option<Op>
     }
     let address = octet_in(address)?;
     let (ext, stat, overflow) = flags_in(flags)?;
-    Some(Op::Diag {
+    *op = Op::Diag {
         address,
         ext,
         stat,
         overflow,
         octets: event_octets_in(case, octets)?,
-    })
+    };
+    Some(())
 }
 
 /// A mark of a point.
-fn busy_in(words: &mut Words<'_>) -> Option<Op>
-    ensures { result ≡ busy_of words.old }
+fn busy_into(words: &mut Words<'_>, op: &mut Op) -> Option<()>
+    ensures { option_map (λ done. op.new) result ≡ busy_of words.old }
 {
     let address = words.next()?;
     let point = words.next()?;
@@ -98,31 +128,45 @@ fn busy_in(words: &mut Words<'_>) -> Option<Op>
     if words.next().is_some() {
         return None;
     }
-    Some(Op::Busy {
+    *op = Op::Busy {
         address: octet_in(address)?,
         point: point_in(point)?,
         on: on_or_off_in(state)?,
-    })
+    };
+    Some(())
 }
 
 /// Time, in units of 10 ms.
-fn tick_in(words: &mut Words<'_>) -> Option<Op>
-    ensures { result ≡ tick_of words.old }
+fn tick_into(words: &mut Words<'_>, op: &mut Op) -> Option<()>
+    ensures { option_map (λ done. op.new) result ≡ tick_of words.old }
 {
     let units = words.next()?;
     if words.next().is_some() {
         return None;
     }
-    Some(Op::Tick(number_in(units, u32::MAX)?))
+    let units = number_in(units, u32::MAX)?;
+    match op {
+        Op::Tick(time) => *time = units,
+        _ => tick_anew(units, op),
+    }
+    Some(())
 }
 
-fn halt_in(words: &mut Words<'_>) -> Option<Op>
-    ensures { result ≡ halt_of words.old }
+/// Time, where something else lies.
+fn tick_anew(units: u32, op: &mut Op)
+    ensures { op.new ≡ Op.Tick units }
+{
+    *op = Op::Tick(units);
+}
+
+fn halt_into(words: &mut Words<'_>, op: &mut Op) -> Option<()>
+    ensures { option_map (λ done. op.new) result ≡ halt_of words.old }
 {
     if words.next().is_some() {
         return None;
     }
-    Some(Op::Halt)
+    *op = Op::Halt;
+    Some(())
 }
 
 /// The flags of a diagnosis: ext, stat and overflow.
@@ -186,19 +230,45 @@ pub(crate) fn event_octets_in<const MOST: usize>(
     requires { MOST ≤ MOST_OCTETS }
     ensures { option_map (λ octets. octets.items) result ≡ event_octets case MOST word.now }
 {
+    let mut octets = ArrayVec::new();
+    event_octets_into(case, word, &mut octets)?;
+    Some(octets)
+}
+
+/// Writes the octets of a word as texts have them where octets lie.
+fn event_octets_into<const MOST: usize>(
+    case: HexCase,
+    word: &[u8],
+    octets: &mut ArrayVec<u8, MOST>,
+) -> Option<()>
+    requires { MOST ≤ MOST_OCTETS }
+    ensures { option_map (λ done. octets.new.items) result ≡ event_octets case MOST word.now }
+{
+    octets.clear();
     if is_text(word, b"-") {
-        return Some(ArrayVec::new());
+        return Some(());
     }
     if is_in_other_case(case, word) {
         return None;
     }
-    octets_of(word)
+    octets_into(word, octets)
 }
 
 /// The octets of a word of whole pairs of hex digits, in either case, at least one.
 pub(crate) fn octets_of<const MOST: usize>(word: &[u8]) -> Option<ArrayVec<u8, MOST>>
     requires { MOST ≤ MOST_OCTETS }
     ensures { option_map (λ octets. octets.items) result ≡ octets_up_to MOST word.now }
+{
+    let mut octets = ArrayVec::new();
+    octets_into(word, &mut octets)?;
+    Some(octets)
+}
+
+/// Writes the octets of a word of whole pairs of hex digits, in either case, at least one, where no octet lies.
+fn octets_into<const MOST: usize>(word: &[u8], octets: &mut ArrayVec<u8, MOST>) -> Option<()>
+    requires most { MOST ≤ MOST_OCTETS }
+    requires empty { octets.old.items ≡ [] }
+    ensures { option_map (λ done. octets.new.items) result ≡ octets_up_to MOST word.now }
 {
     let count = word.len() / 2;
     if count == 0 {
@@ -207,9 +277,9 @@ pub(crate) fn octets_of<const MOST: usize>(word: &[u8]) -> Option<ArrayVec<u8, M
     if count > MOST {
         return None;
     }
-    let mut octets = blank(count);
+    octets.try_extend_from_slice(&BLANK[..count]).unwrap();
     if decodes(word, octets.as_mut_slice()) {
-        Some(octets)
+        Some(())
     } else {
         None
     }
@@ -222,17 +292,6 @@ fn decodes(word: &[u8], octets: &mut [u8]) -> bool
     ensures { (if result then Some octets.new else None) ≡ result_ok (decode_of word.now) }
 {
     hex::decode_to_slice(word, octets).is_ok()
-}
-
-/// So many octets of zeros.
-fn blank<const MOST: usize>(count: usize) -> ArrayVec<u8, MOST>
-    requires most { count ≤ MOST }
-    requires blank { MOST ≤ MOST_OCTETS }
-    ensures { length result.items ≡ count }
-{
-    let mut octets = ArrayVec::new();
-    octets.try_extend_from_slice(&BLANK[..count]).unwrap();
-    octets
 }
 
 /// The word has letters of a case that isn't taken.

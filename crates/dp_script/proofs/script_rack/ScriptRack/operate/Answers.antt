@@ -1,5 +1,5 @@
-use Rattle.std.proofs.Common.{◌∙◌, length, set, subst, refl, sym, ap}
-use Rattle.std.specs.Prelude.{option_and_then}
+use Rattle.std.proofs.Common.{◌∙◌, length, set, subst, refl, ap, rules}
+use Rattle.std.specs.Prelude.{option_map, option_and_then}
 use Rattle.std.proofs.lemmas.Option.{slice_get_read}
 use Rattle.dp_text.specs.OpLines.{op_line_of}
 use Rattle.dp_script.specs.Commands.{operation_of}
@@ -14,8 +14,9 @@ returns g c =
     let chosen = c.self.inside.chosen in
     subst (λ (script_rack : ScriptRack). Obeys (option_and_then (obeyed script_rack) (operation_of c.args.line.now)) (record { lines = set lines chosen c.operate.new.self; chosen = chosen })
     (g.W.Write.contents c.args.writer.now) (g.W.Write.contents c.write_whole.new.writer) c.write_whole.result) c.self.view_is
-    (obeys_op lines chosen c.index_mut.result.now c.operate.new.self (op_line_of c.args.line.now) c.in-Some.op_line c.as_bytes.result.now
+    (obeys_op lines chosen c.index_mut.result.now c.operate.new.self (op_line_of c.args.line.now) c.operate.result c.as_bytes.result.now
     (g.W.Write.contents c.args.writer.now) (g.W.Write.contents c.write_whole.new.writer) c.write_whole.result
     (slice_get_read lines (length lines) chosen c.index_mut.result.now refl c.self.invariant c.index_mut.ensures.value)
-    (sym c.in-Some.ensures) (ap (λ text. record { script_line = c.operate.new.self; text = text }) c.as_bytes.ensures ∙ c.operate.ensures)
+    (search rules)
+    (ap (λ text. option_map (λ (d : Unit {0}). record { script_line = c.operate.new.self; text = text }) c.operate.result) c.as_bytes.ensures ∙ c.operate.ensures)
     c.write_whole.ensures.ok c.write_whole.ensures.err c.write_whole.ensures.fault)
