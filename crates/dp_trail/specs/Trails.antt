@@ -1,6 +1,7 @@
 -- What a trail has written (own).
-use Rattle.std.specs.Prelude.{◌≡◌, ℕ, ◌+◌, ◌≤◌, ◌^◌, ◌⊎◌, Bool, true, false, List, [], ◌∷◌, ◌++◌, length, map, take, Option, Some, None, option_map, Result, Ok, Err}
+use Rattle.std.specs.Prelude.{◌≡◌, ℕ, ◌+◌, ◌≤◌, ◌^◌, ◌⊎◌, Bool, true, false, IfSome, List, [], ◌∷◌, ◌++◌, length, map, take, Option, Some, None, option_map, Result, Ok, Err}
 use Rattle.std.specs.List.{AllByRecursion, flat_map, range_with_len}
+use Rattle.atomic_table.specs.Seated.{TableId}
 use Rattle.dp_audit.specs.declared.entry.Entry.{Entry}
 use Rattle.std.specs.Io.KnownBytes.{Appends}
 use Rattle.dp_text.specs.Writes.{WritesPrefix}
@@ -15,6 +16,20 @@ use Rattle.dp_shared.specs.declared.line_view.Answer.{Answer}
 use Rattle.dp_shared.specs.declared.line_view.Answer.TheVariants as answers
 use Rattle.dp_trail.specs.declared.row.Next.{Next}
 use Rattle.dp_trail.specs.declared.row.Next.TheVariants as nexts
+
+-- ---- whose trail one is
+
+-- the table of a line's lock, the number of the line, and what a writer had before the header
+pub record Whose : Type 0 where
+  pub table : TableId
+  pub number : ℕ
+  pub front : Option (List ℕ)
+
+-- a trail, by its pass and what its writer had at first, is the one that is meant, if one is
+abbrev pub IsTrailOf : Option Whose → TableId → ℕ → Option (List ℕ) → Type 0
+IsTrailOf whose table number front = IfSome whose (λ meant. (table ≡ meant.table) × (number ≡ meant.number) × (front ≡ meant.front))
+
+-- ---- what a trail has written
 
 -- the place and the entry that a look saw; none where it asked for something else, or no entry has the place
 abbrev pub found_by : Question → Answer → List (ℕ × Entry)

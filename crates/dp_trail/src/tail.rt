@@ -83,6 +83,15 @@ impl<'l, W: Write + Drop> Tail<'l, W> {
         writer
     }
 
+    /// The pass, which is still out, and the writer: nothing more is written.
+    pub fn into_parts(self) -> (Pass, W)
+        ensures pass { result.0 ≡ self.entry.pass }
+        ensures writer { result.1 ≡ self.entry.writer }
+    {
+        let Tail { pass, writer, .. } = self;
+        (pass, writer)
+    }
+
     /// How many entries were seen.
     pub fn seen(&self) -> u32
         ensures { result ≡ self.now.seen }
