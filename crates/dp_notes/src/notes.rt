@@ -100,6 +100,18 @@ impl<'a, L: Log + Clock> Notes<'a, L> {
         );
     }
 
+    /// A line was started anew: the file that is complete, and how many entries it has. That it is halted may be told
+    /// again from now on.
+    pub fn started_anew<W: Wait>(&self, rt: &W, line: u8, file: impl Display + Drop, entries: u32) {
+        let mut noted = self.noted.lock(rt);
+        noted.halted.retain(|halted| *halted != line);
+        let time = TimeOfDay::now(self.log);
+        warn!(
+            self.log; target: "rackd",
+            "{time} line {line}: started anew, {file} has {entries} entries"
+        );
+    }
+
     /// The number of the line whose port has this place.
     fn line_at(&self, port: u8) -> u8 {
         match self.lines.get(usize::from(port)) {

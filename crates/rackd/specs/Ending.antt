@@ -5,8 +5,7 @@ use Rattle.rack_file.specs.declared.fault.RackFault.TheVariants as racks
 use Rattle.dp_script.specs.declared.run_fault.RunFault.TheVariants as runs
 use Rattle.dp_script.specs.FaultTexts.{run_fault_text}
 use Rattle.dp_cause.specs.declared.cause.Cause.{Cause}
-use Rattle.rackd.specs.declared.ending.AuditPath.{AuditPath}
-use Rattle.rackd.specs.declared.ending.AuditPath.TheVariants as paths
+use Rattle.rack_server.specs.AuditPaths.{audit_path_text}
 use Rattle.rackd.specs.declared.ending.Fault.{Fault}
 use Rattle.rackd.specs.declared.ending.Fault.TheVariants as faults
 
@@ -25,11 +24,6 @@ status_of (faults.Run (runs.Rack other)) = 2
 status_of (faults.Run (runs.Script line)) = 2
 status_of (faults.Run runs.OutOfMemory) = 3
 status_of (faults.Run runs.WriteFault) = 4
-
--- the path of a folder, or that of a line's file in it
-abbrev pub audit_path_text : AuditPath → List ℕ
-audit_path_text (paths.Folder folder) = folder.now
-audit_path_text (paths.File folder line number) = folder.now ++ codes "/line-" ++ decimal line ++ codes "-" ++ decimal number ++ codes ".audit"
 
 -- the line on standard error, without its LF
 abbrev pub fault_text : Fault → List ℕ

@@ -1,4 +1,2 @@
 pub mod MissingPorts
 pub mod Ending
-pub mod ServedLines
-pub mod ServeOutput

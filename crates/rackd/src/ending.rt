@@ -1,45 +1,15 @@
 //! How the program ends after a fault.
 
 ghost use Rattle.std.specs.Prelude.{◌≡◌, Some};
-ghost use Rattle.rackd.specs.Ending.{status_of, audit_path_text, cause_of, fault_text};
+ghost use Rattle.rackd.specs.Ending.{status_of, cause_of, fault_text};
 
 use dp_cause::Cause;
 use dp_script::RunFault;
 use operator_client::ClientFault;
 use rack_file::RackFault;
+use rack_server::{AuditPath, ServeFault};
 use rackd_words::WordsFault;
 use std::fmt;
-
-/// A path of audit texts. Its `Display` takes no memory.
-#[derive(Clone, Copy)]
-pub enum AuditPath<'a> {
-    /// The folder, as the words name it.
-    Folder(&'a str),
-    /// A file of it: `FOLDER/line-N-K.audit`.
-    File {
-        /// The folder.
-        folder: &'a str,
-        /// The number of the line.
-        line: u8,
-        /// The number of the file among those of the line, from 1.
-        number: u32,
-    },
-}
-
-impl<'a> fmt::Display for AuditPath<'a> {
-    ghost output = { λ path. Some (audit_path_text path) };
-
-    fn fmt<W: fmt::Write>(&self, f: &mut fmt::Formatter<W>) -> fmt::Result {
-        match self {
-            AuditPath::Folder(folder) => f.write_str(folder),
-            AuditPath::File {
-                folder,
-                line,
-                number,
-            } => write!(f, "{folder}/line-{line}-{number}.audit"),
-        }
-    }
-}
 
 /// What kept the program from its work. Its `Display` is the line on standard error without its LF, and
 /// takes no memory.
@@ -74,6 +44,17 @@ impl<'a> From<WordsFault> for Fault<'a> {
         match fault {
             WordsFault::NotText => Fault::BadWord,
             WordsFault::OutOfMemory => Fault::Run(RunFault::OutOfMemory),
+        }
+    }
+}
+
+impl<'a> From<ServeFault<'a>> for Fault<'a> {
+    fn from(fault: ServeFault<'a>) -> Fault<'a> {
+        match fault {
+            ServeFault::CannotListen(port, cause) => Fault::CannotListen(port, cause),
+            ServeFault::CannotMake(path, cause) => Fault::CannotMake(path, cause),
+            ServeFault::CannotWrite(path, cause) => Fault::CannotWrite(path, cause),
+            ServeFault::Run(fault) => Fault::Run(fault),
         }
     }
 }

@@ -6,22 +6,9 @@
 //! is served. `--help` and `--version` are answered on standard output.
 #![tactic(auto)]
 
-mod acceptors;
-mod attendance;
-mod audit_files;
-mod audits;
-mod desk;
-mod doors;
 mod ending;
-mod listening;
 mod missing_port;
-mod opened_lines;
-mod patient;
 mod rack_cause;
-mod recorder;
-mod serve;
-mod served_line;
-mod threads;
 
 use clap::error::ErrorKind as Answer;
 use dp_cause::Cause;
@@ -32,8 +19,8 @@ use log::{Log, info};
 use operator_client::{Operation, operate};
 use rack_cause::rack_cause;
 pub use rack_file::{Rack, RackFault, RackLine, read_rack};
+use rack_server::{Archive, Served, serve_text};
 use rackd_words::{Entries, Invocation, Service, read_words, words_of};
-use serve::{Served, serve_text};
 use std::fs::{self, File, Files};
 use std::io::{self, BufWriter, ErrorKind, Printer, Read, Write};
 use std::net::{Net, TcpListener, TcpStream};
@@ -99,6 +86,7 @@ fn obey<
         + Log
         + Net<Listener = TcpListener, Stream = TcpStream>
         + Files<File = File>
+        + Archive
         + Threads
         + Wait
         + Sync
@@ -192,6 +180,7 @@ fn serve_file<
         + Log
         + Net<Listener = TcpListener, Stream = TcpStream>
         + Files<File = File>
+        + Archive
         + Threads
         + Wait
         + Sync,
@@ -200,7 +189,10 @@ fn serve_file<
     let mut output = buffered(rt)?;
     let served = serve_text(rt, rt.alloc(), rack.as_str(), service, &mut output);
     flushed(output)?;
-    let noted = served.map(|served| note_served(rt, served));
+    let noted = match served {
+        Ok(served) => Ok(note_served(rt, served)),
+        Err(fault) => Err(Fault::from(fault)),
+    };
     reported(rt, rack.as_str(), noted)
 }
 

@@ -1,0 +1,8 @@
+mod Writing
+mod Serving
+mod Sharing
+mod Opening
+mod RacksServed
+mod Halting
+mod Completing
+mod Renewing

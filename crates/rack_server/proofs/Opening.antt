@@ -1,0 +1,42 @@
+-- Lines that are opened, and the seats of workers at them.
+use Rattle.std.proofs.Common.{◌≡◌, ℕ, ◌+◌, ◌<◌, take, get_or, length, map, refl, List, [], ◌∷◌, ◌++◌, All, sym, ap, subst}
+use Rattle.std.proofs.lemmas.List.{take_more}
+use Rattle.std.proofs.lemmas.List.Elements.{All-weaker}
+use Rattle.std.proofs.lemmas.Slice.Zip.{all_zipped_more}
+use Rattle.dp_line.specs.declared.description.LineSpec.{LineSpec}
+use Rattle.dp_shared.specs.Passes.{line_of}
+use Rattle.dp_shared.specs.declared.one_slot.OneSlot.{OneSlot}
+use Rattle.dp_shared.specs.Claims.{Claiming, IsNewSeat, Seated}
+use Rattle.dp_sessions.specs.Pools.{HasSeats, IsSeatAt}
+use Rattle.dp_sessions.specs.declared.port.LineAndClaims.{LineAndClaims}
+use Rattle.rack_server.specs.declared.served_line.ServedLine.{ServedLine}
+use Rattle.rack_server.specs.ServeOutput.{AreOpened, IsOneMore, line_at, specs_of}
+
+-- there is one port more, and these are seats at it
+pub record AreFresh {L : Type 0} (before after : List (LineAndClaims L Claiming)) (fresh : List Seated) : Type 0 where
+  pub port : LineAndClaims L Claiming
+  pub more : after ≡ before ++ port ∷ []
+  pub each : All (IsSeatAt port.claims) fresh
+
+-- new seats hold nothing
+pub new_seats : (claims : Claiming) (fresh : List Seated) → All (IsNewSeat claims.table) fresh → All (IsSeatAt claims) fresh
+new_seats claims fresh all = All-weaker (IsNewSeat claims.table) (IsSeatAt claims) (λ seat new. (new.0, ap (λ v. v.held) new.1)) fresh all
+
+-- a worker with a seat at each port and one at the new one
+pub one_more_seat : {L : Type 0} (before after : List (LineAndClaims L Claiming)) (fresh : List Seated) (own : List Seated) (seat : Seated)
+    → (new : AreFresh before after fresh) → HasSeats before own → IsSeatAt new.port.claims seat → HasSeats after (own ++ seat ∷ [])
+one_more_seat before after fresh own seat new has here =
+    subst (λ ports. HasSeats ports (own ++ seat ∷ [])) (sym new.more) (all_zipped_more (λ port s. IsSeatAt port.claims s) before own new.port seat has here)
+
+-- one line more is opened
+pub opened_more : {S V P C : Type 0} (lines : List ServedLine) (i : ℕ) (line : ServedLine) (before after : List (LineAndClaims (OneSlot S V LineSpec P) C))
+    → i < length lines → get_or lines i line ≡ line → AreOpened (take i lines) before → IsOneMore line.spec before after → AreOpened (take (i + 1) lines) after
+opened_more lines i line before after within is so_far (port, grown, here) =
+    rw (take_more lines i line within, is, grown) (all_zipped_more (λ l p. line_of p.line ≡ l.spec) (take i lines) before line port so_far here)
+
+-- the lines at the ports are those that were opened
+pub opened_specs : {S V P C : Type 0} (lines : List ServedLine) (ports : List (LineAndClaims (OneSlot S V LineSpec P) C)) → AreOpened lines ports → map line_at ports ≡ specs_of lines
+opened_specs [] [] opened = refl
+opened_specs [] (port ∷ ports) opened = absurd opened
+opened_specs (line ∷ lines) [] opened = absurd opened
+opened_specs (line ∷ lines) (port ∷ ports) opened = rw (opened.0, opened_specs lines ports opened.1)

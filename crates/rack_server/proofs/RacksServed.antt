@@ -1,0 +1,117 @@
+-- A rack that is served: its lines by its description, and how that ends.
+use Rattle.std.proofs.Common.{◌≡◌, ℕ, Bool, false, ◌&&◌, List, [], ◌∷◌, length, map, Option, Some, None, is_some, option_and_then, option_map, Err, All, IsPermutation, inl, inr, refl, sym, ap, subst, ◌∙◌}
+use Rattle.std.specs.List.{AllByRecursion, list_all}
+use Rattle.std.proofs.lemmas.List.{length-map}
+use Rattle.std.proofs.lemmas.List.Elements.{All-from_recursion, recursion_from_All}
+use Rattle.std.proofs.lemmas.List.Sorted.{All-permutation, IsPermutation-map, length_permutation}
+use Rattle.dp_line.specs.World.{description_of, opening_fault}
+use Rattle.dp_line.specs.declared.description.LineSpec.{LineSpec}
+use Rattle.rack_file.specs.Rack.{RackDescription, line_described}
+use Rattle.rack_file.specs.declared.fault.RackFault.TheVariants as racks
+use Rattle.rack_file.specs.declared.rack.RackLine.{RackLine}
+use Rattle.rack_server.specs.declared.serve_fault.ServeFault.{ServeFault}
+use Rattle.rack_server.specs.declared.serve_fault.ServeFault.TheVariants as faults
+use Rattle.dp_script.specs.declared.run_fault.RunFault.{RunFault}
+use Rattle.dp_script.specs.declared.run_fault.RunFault.TheVariants as runs
+use Rattle.rack_server.specs.declared.served_line.ServedLine.{ServedLine}
+use Rattle.rack_server.specs.ServedLines.{AreInOrder, ArePutInOrder, all_served, served_line, with_both}
+use Rattle.rack_server.specs.ServeOutput.{AreLinesOf, IsListeningFault, ServesLines, ServesRack, described, has_ports}
+use Rattle.rack_server.proofs.Serving.{same_list, some_parts}
+use Rattle.rack_server.proofs.Writing.{keeps_same}
+
+-- ---- lines by their descriptions
+
+abbrev one : ServedLine → Option ServedLine
+one line = Some line
+
+same_line : (x y : ServedLine) → one x ≡ one y → x ≡ y
+same_line x y e = cc
+
+described_line : (spec : LineSpec) (listen operator : Option ℕ) (line : ServedLine) → with_both spec listen operator ≡ Some line
+    → described line ≡ record { line = description_of spec; listen = listen; operator = operator }
+described_line spec (Some listen) (Some operator) line e =
+    ap described (same_line line (record { spec = spec; listen = listen; operator = operator }) (sym e))
+described_line spec (Some listen) None line e = absurd cc
+described_line spec None operator line e = absurd cc
+
+described_all : (lines : List RackLine) (all : List ServedLine) → all_served lines ≡ Some all → map described all ≡ map line_described lines
+described_all [] all e = ap (map described) (same_list all [] (sym e))
+described_all (x ∷ xs) all e =
+    let (first, others, here, rest, whole) = some_parts (served_line x) (all_served xs) all e in
+    ap (map described) (sym whole) ∙ rw (described_line x.spec x.listen x.operator first here, described_all xs others rest)
+
+-- the lines that are put in order are those of the rack
+pub lines_of_rack : (workers : ℕ) (lines : List RackLine) (all served : List ServedLine) → all_served lines ≡ Some all → AreInOrder all served
+    → AreLinesOf (record { workers = workers; lines = map line_described lines }) served
+lines_of_rack workers lines all served e order = record {
+  same = subst (λ ls. IsPermutation ls (map described served)) (described_all lines all e) (IsPermutation-map described all served order.same);
+  ascend = order.ascend;
+}
+
+-- each line of the rack is served once
+pub as_many_lines : (rack : RackDescription) (served : List ServedLine) → AreLinesOf rack served → length served ≡ length rack.lines
+as_many_lines rack served are = sym (length-map served described) ∙ length_permutation rack.lines (map described served) are.same
+
+open_by_recursion : (lines : List ServedLine) → AllByRecursion (λ line. opening_fault line.line ≡ None) (map described lines)
+    → AllByRecursion (λ line. opening_fault (description_of line.spec) ≡ None) lines
+open_by_recursion [] all = tt
+open_by_recursion (x ∷ xs) all = (all.0, open_by_recursion xs all.1)
+
+-- where each line of the rack can be opened, each line that is put in order can
+pub served_open : (lines : List RackLine) (all served : List ServedLine) → all_served lines ≡ Some all → AreInOrder all served
+    → All (λ line. opening_fault line.line ≡ None) (map line_described lines) → All (λ line. opening_fault (description_of line.spec) ≡ None) served
+served_open lines all served e order fit =
+    All-permutation (λ line. opening_fault (description_of line.spec) ≡ None) all served order.same
+    (All-from_recursion (λ line. opening_fault (description_of line.spec) ≡ None) all
+    (open_by_recursion all (recursion_from_All (λ line. opening_fault line.line ≡ None) (map described all)
+    (subst (All (λ line. opening_fault line.line ≡ None)) (sym (described_all lines all e)) fit))))
+
+one_missing : (spec : LineSpec) (listen operator : Option ℕ) (rest : Option (List ServedLine)) (others : Bool)
+    → option_and_then (λ first. option_map (λ ls. first ∷ ls) rest) (with_both spec listen operator) ≡ None → (rest ≡ None → others ≡ false)
+    → ((is_some listen && is_some operator) && others) ≡ false
+one_missing spec (Some listen) (Some operator) (Some rest) others e later = absurd cc
+one_missing spec (Some listen) (Some operator) None others e later = later refl
+one_missing spec (Some listen) None rest others e later = refl
+one_missing spec None operator rest others e later = refl
+
+-- a line without a port
+pub some_port_is_missing : (lines : List RackLine) → all_served lines ≡ None → list_all has_ports (map line_described lines) ≡ false
+some_port_is_missing [] e = absurd cc
+some_port_is_missing (x ∷ xs) e =
+    one_missing x.spec x.listen x.operator (all_served xs) (list_all has_ports (map line_described xs)) e (some_port_is_missing xs)
+
+-- ---- how it ends
+
+-- lines that aren't put in order
+pub refused_lines : (workers : ℕ) (lines : List RackLine) (old : Option (List ℕ)) (fault : RunFault) → ArePutInOrder (all_served lines) (Err fault)
+    → ServesRack (record { workers = workers; lines = map line_described lines }) old old (Err (faults.Run fault))
+refused_lines workers lines old runs.OutOfMemory told = inl (keeps_same old)
+refused_lines workers lines old (runs.Rack racks.BadKey) told = (some_port_is_missing lines told, keeps_same old)
+refused_lines workers lines old (runs.Rack racks.OutOfMemory) never = absurd never
+refused_lines workers lines old (runs.Rack racks.NotToml) never = absurd never
+refused_lines workers lines old (runs.Rack racks.TwiceLine) never = absurd never
+refused_lines workers lines old (runs.Rack (racks.Open position fault)) never = absurd never
+refused_lines workers lines old (runs.Script line) never = absurd never
+refused_lines workers lines old runs.WriteFault never = absurd never
+
+-- lines that aren't listened at
+pub refused_ports : (rack : RackDescription) (lines : List ServedLine) (old : Option (List ℕ)) (fault : ServeFault) → AreLinesOf rack lines → IsListeningFault lines fault
+    → ServesRack rack old old (Err fault)
+refused_ports rack lines old (faults.CannotListen port cause) of_rack among = (lines, of_rack, among, keeps_same old)
+refused_ports rack lines old (faults.Run runs.OutOfMemory) of_rack told = inl (keeps_same old)
+refused_ports rack lines old (faults.Run (runs.Rack fault)) of_rack never = absurd never
+refused_ports rack lines old (faults.Run (runs.Script line)) of_rack never = absurd never
+refused_ports rack lines old (faults.Run runs.WriteFault) of_rack never = absurd never
+refused_ports rack lines old (faults.CannotMake path cause) of_rack never = absurd never
+refused_ports rack lines old (faults.CannotWrite path cause) of_rack never = absurd never
+
+-- lines that are served in part, or not recorded
+pub stopped : (rack : RackDescription) (lines : List ServedLine) (old new : Option (List ℕ)) (fault : ServeFault) → AreLinesOf rack lines → ServesLines lines old new (Err fault)
+    → ServesRack rack old new (Err fault)
+stopped rack lines old new (faults.CannotMake path cause) of_rack same = same
+stopped rack lines old new (faults.CannotWrite path cause) of_rack served = (lines, of_rack, served)
+stopped rack lines old new (faults.Run runs.OutOfMemory) of_rack part = inr (lines, of_rack, part)
+stopped rack lines old new (faults.Run runs.WriteFault) of_rack part = inr (lines, of_rack, part)
+stopped rack lines old new (faults.Run (runs.Rack fault)) of_rack never = absurd never
+stopped rack lines old new (faults.Run (runs.Script line)) of_rack never = absurd never
+stopped rack lines old new (faults.CannotListen port cause) of_rack never = absurd never

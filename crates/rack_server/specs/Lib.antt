@@ -1,0 +1,6 @@
+pub mod AuditPaths
+pub mod ServedLines
+pub mod ServeOutput
+pub mod Renewals
+pub mod Completed
+pub mod Halts

@@ -1,0 +1,55 @@
+-- A rack whose lines are started anew, and what is written of it (own).
+use Rattle.std.specs.Prelude.{◌≡◌, ◌⊎◌, ℕ, false, List, Option, Result, Ok, Err, Contains}
+use Rattle.std.specs.List.{list_all}
+use Rattle.std.specs.Io.KnownBytes.{Appends, Keeps}
+use Rattle.dp_text.specs.Writes.{WritesPrefix}
+use Rattle.dp_script.specs.declared.run_fault.RunFault.{RunFault}
+use Rattle.dp_script.specs.declared.run_fault.RunFault.TheVariants as runs
+use Rattle.rack_file.specs.Rack.{RackDescription}
+use Rattle.rack_file.specs.declared.fault.RackFault.{RackFault}
+use Rattle.rack_file.specs.declared.fault.RackFault.TheVariants as racks
+use Rattle.rackd_words.specs.declared.invocation.Audit.{Audit}
+use Rattle.rackd_words.specs.declared.invocation.Audit.TheVariants as audits
+use Rattle.rack_server.specs.declared.serve.Served.{Served}
+use Rattle.rack_server.specs.declared.serve_fault.ServeFault.{ServeFault}
+use Rattle.rack_server.specs.declared.serve_fault.ServeFault.TheVariants as faults
+use Rattle.rack_server.specs.declared.served_line.ServedLine.{ServedLine}
+use Rattle.rack_server.specs.ServeOutput.{AreLinesOf, RefusesToServe, ServesLines, ServesRack, has_ports, ports_of, ready}
+
+-- `ready` is written once all that is needed can be had
+abbrev pub Opens : Option (List ℕ) → Option (List ℕ) → Result (Unit {0}) RunFault → Type 0
+Opens old new (Ok done) = Appends old new ready
+Opens old new (Err runs.WriteFault) = WritesPrefix old new ready
+Opens old new (Err runs.OutOfMemory) = Keeps old new
+Opens old new (Err other) = ⊥
+
+-- `ready` is written and nothing else; nothing at all where memory or a file can't be had at the first start of a line
+abbrev pub Renews : Option (List ℕ) → Option (List ℕ) → Result Served ServeFault → Type 0
+Renews old new (Ok served) = Appends old new ready
+Renews old new (Err (faults.CannotMake path cause)) = Keeps old new ⊎ Appends old new ready
+Renews old new (Err (faults.CannotWrite path cause)) = Appends old new ready
+Renews old new (Err (faults.Run runs.WriteFault)) = WritesPrefix old new ready
+Renews old new (Err (faults.Run runs.OutOfMemory)) = Keeps old new ⊎ Appends old new ready
+Renews old new (Err other) = ⊥
+
+-- lines that are listened at, and started anew or not
+abbrev pub ServesLinesAs : Audit → List ServedLine → Option (List ℕ) → Option (List ℕ) → Result Served ServeFault → Type 0
+ServesLinesAs (audits.Renewed folder) lines old new result = Renews old new result
+ServesLinesAs audit lines old new result = ServesLines lines old new result
+
+-- the same of a rack that is started anew: a line without a port is a bad key, and a port may not be had, and then nothing is written
+abbrev pub RenewsRack : RackDescription → Option (List ℕ) → Option (List ℕ) → Result Served ServeFault → Type 0
+RenewsRack rack old new (Err (faults.Run (runs.Rack racks.BadKey))) = (list_all has_ports rack.lines ≡ false) × Keeps old new
+RenewsRack rack old new (Err (faults.CannotListen port cause)) =
+    (lines : List ServedLine) × AreLinesOf rack lines × Contains (ports_of lines) port × Keeps old new
+RenewsRack rack old new result = Renews old new result
+
+-- a rack that is accepted, with lines that are started anew or not
+abbrev pub ServesRackAs : Audit → RackDescription → Option (List ℕ) → Option (List ℕ) → Result Served ServeFault → Type 0
+ServesRackAs (audits.Renewed folder) rack old new result = RenewsRack rack old new result
+ServesRackAs audit rack old new result = ServesRack rack old new result
+
+-- the rack that a text describes, or doesn't
+abbrev pub Serves : Audit → Result RackDescription RackFault → Option (List ℕ) → Option (List ℕ) → Result Served ServeFault → Type 0
+Serves audit (Ok rack) old new result = ServesRackAs audit rack old new result
+Serves audit (Err fault) old new result = RefusesToServe fault old new result

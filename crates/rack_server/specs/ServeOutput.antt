@@ -1,0 +1,168 @@
+-- A rack that is served (own).
+use Rattle.std.specs.Prelude.{◌≡◌, ◌⊎◌, codes, ℕ, Bool, ◌&&◌, false, List, [], ◌∷◌, ◌++◌, map, Option, Some, is_some, Result, Ok, Err, Contains, IsPermutation}
+use Rattle.std.specs.List.{AllZip, flat_map, list_all}
+use Rattle.std.specs.List.Sorted.{IsNonDecreasingBy}
+use Rattle.std.specs.Io.KnownBytes.{Appends, Keeps}
+use Rattle.dp_text.specs.Writes.{WritesPrefix}
+use Rattle.dp_audit.specs.AuditText.{audit_text}
+use Rattle.dp_line.specs.World.{description_of}
+use Rattle.dp_line.specs.declared.description.LineSpec.{LineSpec}
+use Rattle.dp_sessions.specs.declared.port.LineAndClaims.{LineAndClaims}
+use Rattle.dp_shared.specs.Content.{Content, IsHistory}
+use Rattle.dp_shared.specs.LineLock.{IsOf}
+use Rattle.dp_shared.specs.Passes.{line_of}
+use Rattle.dp_shared.specs.declared.one_slot.OneSlot.{OneSlot}
+use Rattle.rack_file.specs.Rack.{LineDescription, RackDescription}
+use Rattle.rack_file.specs.declared.fault.RackFault.{RackFault}
+use Rattle.rack_file.specs.declared.fault.RackFault.TheVariants as racks
+use Rattle.rack_server.specs.declared.serve_fault.ServeFault.{ServeFault}
+use Rattle.rack_server.specs.declared.serve_fault.ServeFault.TheVariants as faults
+use Rattle.dp_script.specs.declared.run_fault.RunFault.{RunFault}
+use Rattle.dp_script.specs.declared.run_fault.RunFault.TheVariants as runs
+use Rattle.rack_server.specs.declared.serve.Served.{Served}
+use Rattle.rack_server.specs.declared.served_line.ServedLine.{ServedLine}
+use Rattle.rack_server.specs.ServedLines.{number_of}
+
+-- ---- listening
+
+-- the ports of lines in turn, that for masters first
+abbrev pub ports_of : List ServedLine → List ℕ
+ports_of lines = flat_map (λ line. line.listen ∷ line.operator ∷ []) lines
+
+-- a port of these lines can't be had, or memory is refused
+abbrev pub IsListeningFault : List ServedLine → ServeFault → Type 0
+IsListeningFault lines (faults.CannotListen port cause) = Contains (ports_of lines) port
+IsListeningFault lines (faults.Run runs.OutOfMemory) = Unit {0}
+IsListeningFault lines other = ⊥
+
+-- the folder or a file of audit texts can't be had, or memory is refused
+abbrev pub IsRecordingFault : ServeFault → Type 0
+IsRecordingFault (faults.CannotMake path cause) = Unit {0}
+IsRecordingFault (faults.Run runs.OutOfMemory) = Unit {0}
+IsRecordingFault other = ⊥
+
+-- ---- opened lines
+
+-- each port has the line that is described there
+abbrev pub AreOpened : {S V P C : Type 0} → List ServedLine → List (LineAndClaims (OneSlot S V LineSpec P) C) → Type 0
+AreOpened lines ports = AllZip (λ line port. line_of port.line ≡ line.spec) lines ports
+
+-- a port with this line more
+abbrev pub IsOneMore : {S V P C : Type 0} → LineSpec → List (LineAndClaims (OneSlot S V LineSpec P) C) → List (LineAndClaims (OneSlot S V LineSpec P) C) → Type 0
+IsOneMore {S} {V} {P} {C} line before after = (port : LineAndClaims (OneSlot S V LineSpec P) C) × (after ≡ before ++ port ∷ []) × (line_of port.line ≡ line)
+
+-- ---- the end
+
+-- what a line leaves: a journal of it, whose entries are a legal history
+pub record IsLeftBy (line : LineSpec) (content : Content) : Type 0 where
+  pub of_line : IsOf line content.book
+  pub history : IsHistory content
+
+abbrev pub text_of : Content → List ℕ
+text_of content = audit_text content.book.number content.book.entries
+
+-- the audit text of what a line leaves is written, or a prefix of it
+abbrev pub WritesAudit : LineSpec → Option (List ℕ) → Option (List ℕ) → Result (Unit {0}) RunFault → Type 0
+WritesAudit line old new (Ok done) = (content : Content) × IsLeftBy line content × Appends old new (text_of content)
+WritesAudit line old new (Err runs.WriteFault) = (content : Content) × IsLeftBy line content × WritesPrefix old new (text_of content)
+WritesAudit line old new (Err runs.OutOfMemory) = Keeps old new
+WritesAudit line old new (Err other) = ⊥
+
+-- what these lines leave is written, line by line
+pub record AreWritten (lines : List LineSpec) (old new : Option (List ℕ)) : Type 0 where
+  pub left : List Content
+  pub each : AllZip IsLeftBy lines left
+  pub written : Appends old new (flat_map text_of left)
+
+-- what the first of these lines leave is written, and a prefix of what the next one leaves
+pub record AreBrokenOff (lines : List LineSpec) (old new : Option (List ℕ)) : Type 0 where
+  pub first : List LineSpec
+  pub later : List LineSpec
+  pub lines_are : lines ≡ first ++ later
+  pub left : List Content
+  pub each : AllZip IsLeftBy first left
+  pub written : WritesPrefix old new (flat_map text_of left)
+
+abbrev pub line_at : {S V P C : Type 0} → LineAndClaims (OneSlot S V LineSpec P) C → LineSpec
+line_at port = line_of port.line
+
+abbrev pub EndsLines : List LineSpec → Option (List ℕ) → Option (List ℕ) → Result (Unit {0}) RunFault → Type 0
+EndsLines lines old new (Ok done) = AreWritten lines old new
+EndsLines lines old new (Err runs.WriteFault) = AreBrokenOff lines old new
+EndsLines lines old new (Err runs.OutOfMemory) = AreBrokenOff lines old new
+EndsLines lines old new (Err other) = ⊥
+
+-- ---- serving
+
+-- what is written once every port is listened at
+abbrev pub ready : List ℕ
+ready = codes "ready\n"
+
+abbrev pub specs_of : List ServedLine → List LineSpec
+specs_of lines = map (λ line. line.spec) lines
+
+-- `ready` is written, and then what these lines leave
+abbrev pub AreServed : List ServedLine → Option (List ℕ) → Option (List ℕ) → Type 0
+AreServed lines old new = (between : Option (List ℕ)) × Appends old between ready × AreWritten (specs_of lines) between new
+
+-- a prefix of `ready` is written, or it and a part of what these lines leave
+abbrev pub AreServedInPart : List ServedLine → Option (List ℕ) → Option (List ℕ) → Type 0
+AreServedInPart lines old new = WritesPrefix old new ready
+    ⊎ ((between : Option (List ℕ)) × Appends old between ready × AreBrokenOff (specs_of lines) between new)
+
+-- `ready` is written once all that is needed can be had
+abbrev pub Attends : Option (List ℕ) → Option (List ℕ) → Result (Option ℕ) RunFault → Type 0
+Attends old new (Ok served) = Appends old new ready
+Attends old new (Err runs.WriteFault) = WritesPrefix old new ready
+Attends old new (Err runs.OutOfMemory) = Keeps old new
+Attends old new (Err other) = ⊥
+
+-- where a file for an audit text can't be had, nothing is written; where it took a row no more, all is
+abbrev pub ServesLines : List ServedLine → Option (List ℕ) → Option (List ℕ) → Result Served ServeFault → Type 0
+ServesLines lines old new (Ok served) = AreServed lines old new
+ServesLines lines old new (Err (faults.CannotMake path cause)) = Keeps old new
+ServesLines lines old new (Err (faults.CannotWrite path cause)) = AreServed lines old new
+ServesLines lines old new (Err (faults.Run runs.WriteFault)) = AreServedInPart lines old new
+ServesLines lines old new (Err (faults.Run runs.OutOfMemory)) = AreServedInPart lines old new
+ServesLines lines old new (Err other) = ⊥
+
+-- ---- a rack
+
+-- a line has both its ports
+abbrev pub has_ports : LineDescription → Bool
+has_ports line = is_some line.listen && is_some line.operator
+
+abbrev pub described : ServedLine → LineDescription
+described line = record { line = description_of line.spec; listen = Some line.listen; operator = Some line.operator }
+
+-- these are the lines of a rack, each with its ports, in ascending order of their numbers
+pub record AreLinesOf (rack : RackDescription) (lines : List ServedLine) : Type 0 where
+  pub same : IsPermutation rack.lines (map described lines)
+  pub ascend : IsNonDecreasingBy number_of lines
+
+-- the lines of a rack are served, in the order of their numbers
+abbrev pub IsServed : RackDescription → Option (List ℕ) → Option (List ℕ) → Type 0
+IsServed rack old new = (lines : List ServedLine) × AreLinesOf rack lines × AreServed lines old new
+
+abbrev pub IsServedInPart : RackDescription → Option (List ℕ) → Option (List ℕ) → Type 0
+IsServedInPart rack old new = Keeps old new ⊎ ((lines : List ServedLine) × AreLinesOf rack lines × AreServedInPart lines old new)
+
+-- a rack that is accepted is served; a line without a port is a bad key, and then nothing is written, nor where a port of the rack can't be
+-- had, or the folder or a file for an audit text; where such a file took a row no more, all is served; and where memory, a thread or a write is
+-- refused, what is written is a part
+abbrev pub ServesRack : RackDescription → Option (List ℕ) → Option (List ℕ) → Result Served ServeFault → Type 0
+ServesRack rack old new (Ok served) = IsServed rack old new
+ServesRack rack old new (Err (faults.Run (runs.Rack racks.BadKey))) = (list_all has_ports rack.lines ≡ false) × Keeps old new
+ServesRack rack old new (Err (faults.CannotListen port cause)) =
+    (lines : List ServedLine) × AreLinesOf rack lines × Contains (ports_of lines) port × Keeps old new
+ServesRack rack old new (Err (faults.CannotMake path cause)) = Keeps old new
+ServesRack rack old new (Err (faults.CannotWrite path cause)) = IsServed rack old new
+ServesRack rack old new (Err (faults.Run runs.OutOfMemory)) = IsServedInPart rack old new
+ServesRack rack old new (Err (faults.Run runs.WriteFault)) = IsServedInPart rack old new
+ServesRack rack old new (Err other) = ⊥
+
+-- a rack that isn't accepted is reported, or that memory is out, and nothing is written
+abbrev pub RefusesToServe : RackFault → Option (List ℕ) → Option (List ℕ) → Result Served ServeFault → Type 0
+RefusesToServe fault old new (Err (faults.Run (runs.Rack told))) = (told ≡ fault) × Keeps old new
+RefusesToServe fault old new (Err (faults.Run runs.OutOfMemory)) = Keeps old new
+RefusesToServe fault old new other = ⊥

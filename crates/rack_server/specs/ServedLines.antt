@@ -1,0 +1,38 @@
+-- The lines of a rack that can be served, and the order in which they are (own).
+use Rattle.std.specs.Prelude.{◌≡◌, ℕ, List, [], ◌∷◌, Option, Some, None, option_and_then, option_map, Result, Ok, Err, Vec, IsPermutation}
+use Rattle.std.specs.List.Sorted.{IsNonDecreasingBy}
+use Rattle.std.specs.declared.alloc.Global.{Global}
+use Rattle.dp_line.specs.declared.description.LineSpec.{LineSpec}
+use Rattle.rack_file.specs.declared.fault.RackFault.TheVariants as racks
+use Rattle.rack_file.specs.declared.rack.RackLine.{RackLine}
+use Rattle.dp_script.specs.declared.run_fault.RunFault.{RunFault}
+use Rattle.dp_script.specs.declared.run_fault.RunFault.TheVariants as runs
+use Rattle.rack_server.specs.declared.served_line.ServedLine.{ServedLine}
+
+-- a line with its ports, if it has one for masters and one for its operator
+abbrev pub with_both : LineSpec → Option ℕ → Option ℕ → Option ServedLine
+with_both spec (Some listen) (Some operator) = Some (record { spec = spec; listen = listen; operator = operator })
+with_both spec listen operator = None
+
+abbrev pub served_line : RackLine → Option ServedLine
+served_line line = with_both line.spec line.listen line.operator
+
+-- all of them with their ports, if each has both
+abbrev pub all_served : List RackLine → Option (List ServedLine)
+all_served [] = Some []
+all_served (line ∷ lines) = option_and_then (λ first. option_map (λ others. first ∷ others) (all_served lines)) (served_line line)
+
+abbrev pub number_of : ServedLine → ℕ
+number_of line = line.spec.number
+
+-- these lines, in ascending order of their numbers
+pub record AreInOrder (lines served : List ServedLine) : Type 0 where
+  pub same : IsPermutation lines served
+  pub ascend : IsNonDecreasingBy number_of served
+
+-- lines are put in order, and a key is bad exactly where a port is missing; memory may be refused
+abbrev pub ArePutInOrder : Option (List ServedLine) → Result (Vec ServedLine Global) RunFault → Type 0
+ArePutInOrder all (Ok served) = (lines : List ServedLine) × (all ≡ Some lines) × AreInOrder lines served.items
+ArePutInOrder all (Err (runs.Rack racks.BadKey)) = all ≡ None
+ArePutInOrder all (Err runs.OutOfMemory) = Unit {0}
+ArePutInOrder all (Err other) = ⊥

@@ -1,0 +1,99 @@
+//! Listening at the ports of lines.
+
+ghost use Rattle.std.specs.Prelude.{◌≡◌, IfErr, IfOk, length};
+ghost use Rattle.rack_server.specs.ServeOutput.{IsListeningFault};
+
+use crate::serve_fault::ServeFault;
+use crate::served_line::ServedLine;
+use dp_cause::Cause;
+use dp_script::RunFault;
+use std::alloc::Global;
+use std::net::{Ipv4Addr, Net, TcpListener};
+
+/// Where a line listens.
+#[derive(Drop)]
+pub(crate) struct Listening<L> {
+    /// For masters.
+    pub(crate) masters: L,
+    /// For its operator.
+    pub(crate) operators: L,
+}
+
+/// Listens at the two ports of each line in turn, that for masters first.
+///
+/// `CannotListen` with the first port that can't be had, or `OutOfMemory`; then nothing is listened at.
+pub(crate) fn listen_at_lines<'a, N: Net>(
+    net: &N,
+    alloc: Global,
+    lines: &[ServedLine],
+) -> Result<Vec<Listening<N::Listener>>, ServeFault<'a>>
+    ensures each { IfOk result (λ all. length all.items ≡ length lines.now) }
+    ensures fault { IfErr result (IsListeningFault lines.now) }
+{
+    let mut all = Vec::new(alloc);
+    for line in lines {
+        let masters = match listen_at(net, lines, line.listen) {
+            Ok(masters) => masters,
+            Err(cause) => return Err(ServeFault::CannotListen(line.listen, cause)),
+        };
+        let operators = match listen_at(net, lines, line.operator) {
+            Ok(operators) => operators,
+            Err(cause) => return Err(ServeFault::CannotListen(line.operator, cause)),
+        };
+        if all.push(Listening { masters, operators }).is_err() {
+            return Err(ServeFault::Run(RunFault::OutOfMemory));
+        }
+    }
+    Ok(all)
+}
+
+/// Listens at a port of this machine, for clients on it; or why that can't be had.
+fn listen_at<N: Net>(net: &N, lines: &[ServedLine], port: u16) -> Result<N::Listener, Cause> {
+    match TcpListener::bind(net, (Ipv4Addr::LOCALHOST, port)) {
+        Ok(listener) => Ok(listener),
+        Err(error) => match Cause::of(&error) {
+            Cause::InUse if is_twice(lines, port) => Err(Cause::TwiceInRack),
+            cause => Err(cause),
+        },
+    }
+}
+
+/// Two ports of these lines have this number.
+fn is_twice(lines: &[ServedLine], port: u16) -> bool {
+    let masters = lines.iter().filter(|line| line.listen == port).count();
+    let operators = lines.iter().filter(|line| line.operator == port).count();
+    masters > 1 || operators > 1 || masters == 1 && operators == 1
+}
+
+/// Makes sure that each worker and the operator of each line can have a connection at one time, which takes two
+/// descriptors, and that each line can have a file and wait for one more connection, for which the system sets a
+/// descriptor aside: as many are taken, and given back.
+///
+/// `CannotListen` with the first port where they can't be had, or `OutOfMemory`.
+pub(crate) fn try_connections<'a>(
+    alloc: Global,
+    lines: &[ServedLine],
+    listening: &[Listening<TcpListener>],
+    workers: u8,
+) -> Result<(), ServeFault<'a>>
+    ensures { IfErr result (IsListeningFault lines.now) }
+{
+    let Some(line) = lines.first() else {
+        return Ok(());
+    };
+    let Some(here) = listening.first() else {
+        return Ok(());
+    };
+    let connections = usize::from(workers) + lines.len();
+    let mut held = Vec::new(alloc);
+    for _ in 0..2 * (connections + lines.len()) {
+        let descriptor = match here.masters.try_clone() {
+            Ok(descriptor) => descriptor,
+            Err(error) => return Err(ServeFault::CannotListen(line.listen, Cause::of(&error))),
+        };
+        if held.push(descriptor).is_err() {
+            return Err(ServeFault::Run(RunFault::OutOfMemory));
+        }
+    }
+    Ok(())
+}

@@ -1,0 +1,122 @@
+//! What records lines before their answers leave.
+
+ghost use Rattle.std.specs.Prelude.{◌≡◌, ◌≤◌, IfErr, IfOk, length};
+ghost use Rattle.rack_server.specs.ServeOutput.{AreOpened, IsRecordingFault};
+
+use crate::archive::Archive;
+use crate::audit_files::{AuditFile, complete, make_folder, open_file};
+use crate::doors::Doors;
+use crate::serve_fault::{AuditPath, ServeFault};
+use crate::served_line::ServedLine;
+use dp_script::RunFault;
+use dp_sessions::Port;
+use dp_shared::Line;
+use dp_text::WriteFault;
+use dp_trail::{CatchUp, CaughtUp, NoTrail, Trail};
+use std::alloc::Global;
+use std::fs::{File, Files};
+use std::io::Write;
+use std::marker::Brand;
+use std::net::Net;
+use std::sync::Wait;
+
+/// What records a line before its answers leave: the trail in its file, where it has one. Where a row can't be
+/// written, the doors of the rack are shut.
+#[derive(Drop)]
+pub(crate) struct Recorder<'a, 'l, N, T> {
+    pub(crate) net: &'l N,
+    pub(crate) doors: &'l Doors,
+    pub(crate) file: Option<AuditFile<'a, T>>,
+}
+
+impl<N: Net, T: CatchUp> CatchUp for Recorder<'_, '_, N, T> {
+    fn catch_up<H: Wait>(&self, rt: &H) -> Result<CaughtUp, WriteFault> {
+        let Some(file) = &self.file else {
+            return NoTrail.catch_up(rt);
+        };
+        match file.trail.catch_up(rt) {
+            Ok(caught_up) => Ok(caught_up),
+            Err(fault) => {
+                self.doors.shut(rt, self.net);
+                Err(fault)
+            }
+        }
+    }
+}
+
+/// What records each of these lines: a new file in the folder, where one is named, which is made first.
+///
+/// `CannotMake` with the path that can't be had, or `OutOfMemory`.
+pub(crate) fn record_lines<'a, 'l, H: Files<File = File> + Archive + Wait>(
+    rt: &'l H,
+    alloc: Global,
+    doors: &'l Doors,
+    folder: Option<&'a str>,
+    lines: &[ServedLine],
+    ports: &'l [Port],
+) -> Result<Vec<Recorder<'a, 'l, H, Trail<'l, File, Brand>>>, ServeFault<'a>>
+    requires opened { AreOpened lines.now ports.now }
+    requires few { length lines.now ≤ 8 }
+    ensures each { IfOk result (λ all. length all.items ≡ length lines.now) }
+    ensures fault { IfErr result IsRecordingFault }
+{
+    if let Some(folder) = folder {
+        match make_folder(rt, folder) {
+            Ok(()) => {}
+            Err(fault) => return Err(fault),
+        }
+    }
+    let mut all = Vec::new(alloc);
+    for line in lines {
+        let port = &ports[all.len()];
+        let file = match file_of(rt, alloc, folder, &port.line, line.spec.number) {
+            Ok(file) => file,
+            Err(fault) => return Err(fault),
+        };
+        let recorder = Recorder {
+            net: rt,
+            doors,
+            file,
+        };
+        if all.push(recorder).is_err() {
+            return Err(ServeFault::Run(RunFault::OutOfMemory));
+        }
+    }
+    Ok(all)
+}
+
+/// The file of the line of this number, where a folder is named.
+fn file_of<'a, 'l, H: Archive + Wait>(
+    rt: &H,
+    alloc: Global,
+    folder: Option<&'a str>,
+    line: &'l Line,
+    number: u8,
+) -> Result<Option<AuditFile<'a, Trail<'l, File, Brand>>>, ServeFault<'a>>
+    ensures { IfErr result IsRecordingFault }
+{
+    let Some(folder) = folder else {
+        return Ok(None);
+    };
+    match open_file(rt, alloc, folder, line, number) {
+        Ok(file) => Ok(Some(file)),
+        Err(fault) => Err(fault),
+    }
+}
+
+/// Has each trail catch up a last time, and gives its pass back: the path of the first file that doesn't have all
+/// its rows.
+pub(crate) fn first_incomplete<'a, H: Wait, N, F: Write + Drop>(
+    rt: &H,
+    recorders: Vec<Recorder<'a, '_, N, Trail<'_, F, Brand>>>,
+) -> Option<AuditPath<'a>> {
+    let mut first = None;
+    for recorder in recorders {
+        if let Some(AuditFile { path, trail }) = recorder.file {
+            if !complete(rt, trail) && first.is_none() {
+                first = Some(path);
+            }
+        }
+    }
+    first
+}

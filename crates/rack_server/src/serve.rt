@@ -1,0 +1,295 @@
+//! A rack, served at sockets.
+
+ghost use Rattle.std.specs.Prelude.{◌≡◌, ◌≤◌, All, None, length};
+ghost use Rattle.dp_sessions.specs.Pools.{HasSeats};
+ghost use Rattle.dp_line.specs.World.{description_of, opening_fault};
+ghost use Rattle.rack_file.specs.Rack.{rack_described};
+ghost use Rattle.rack_file.specs.RackFile.{rack_in};
+ghost use Rattle.rack_server.specs.ServeOutput.{AreOpened, ServesLines};
+ghost use Rattle.rack_server.specs.Renewals.{Serves, ServesLinesAs, ServesRackAs};
+
+use crate::archive::Archive;
+use crate::attending::attend_recorded;
+use crate::audits::write_audits;
+use crate::doors::Doors;
+use crate::listening::{Listening, listen_at_lines, try_connections};
+use crate::opened_lines::{OpenedLines, open_lines};
+use crate::recorder::record_lines;
+use crate::renewal::{Renewal, serve_renewing};
+use crate::serve_fault::ServeFault;
+use crate::served_line::{ServedLine, lines_to_serve};
+use dp_notes::{LineNumbers, Notes};
+use dp_script::RunFault;
+use log::Log;
+use rack_file::laws::{
+    accepted_lines_can_be_opened, accepted_racks_have_1_to_8_lines,
+    accepted_racks_have_1_to_32_workers,
+};
+use rack_file::{Rack, RackFault, read_rack};
+use rackd_words::{Audit, Service};
+use std::alloc::Global;
+use std::fs::{File, Files};
+use std::io::Write;
+use std::net::{Net, TcpListener, TcpStream};
+use std::sync::Wait;
+use std::thread::Threads;
+use std::time::Clock;
+
+/// How many sessions were served.
+#[derive(Clone, Copy)]
+pub struct Served {
+    /// Those of masters.
+    pub masters: u32,
+    /// Those of operators.
+    pub operators: u32,
+}
+
+/// Serves the rack that a text describes on this machine, at the ports of its lines: so many connections at
+/// each port, or without end. It writes `ready`, and when all sessions have ended the audit text of each line,
+/// in ascending order of their numbers.
+///
+/// Where lines are started anew, it writes `ready` alone (`Renewed`).
+///
+/// `Rack` where the rack isn't accepted or a line has no port, `CannotListen` where a port can't be had, or descriptors
+/// for its connections, `CannotMake` where the folder or a file for an audit text can't be had, and then nothing is
+/// written; `WriteFault`; `OutOfMemory` also where a thread is refused. Where that is so only behind `ready`, the audit
+/// texts are written before the end all the same. `CannotWrite` where a file of an audit text took a row no more: what
+/// was being served ends then, and the audit texts are written.
+pub fn serve_text<
+    'a,
+    H: Net<Listener = TcpListener, Stream = TcpStream>
+        + Files<File = File>
+        + Archive
+        + Threads
+        + Wait
+        + Clock
+        + Log
+        + Sync,
+    W: Write,
+>(
+    rt: &H,
+    alloc: Global,
+    rack: &str,
+    service: Service<'a>,
+    writer: &mut W,
+) -> Result<Served, ServeFault<'a>>
+    ensures { Serves service.entry.audit (rack_in rack.now) (W.contents writer.old) (W.contents writer.new) result }
+{
+    accepted_racks_have_1_to_8_lines();
+    accepted_racks_have_1_to_32_workers();
+    accepted_lines_can_be_opened();
+    match read_rack(alloc, rack) {
+        Ok(rack) => serve_rack(rt, alloc, rack, service, writer),
+        Err(RackFault::OutOfMemory) => Err(ServeFault::Run(RunFault::OutOfMemory)),
+        Err(fault) => Err(ServeFault::Run(RunFault::Rack(fault))),
+    }
+}
+
+/// Serves a rack that is accepted.
+fn serve_rack<
+    'a,
+    H: Net<Listener = TcpListener, Stream = TcpStream>
+        + Files<File = File>
+        + Archive
+        + Threads
+        + Wait
+        + Clock
+        + Log
+        + Sync,
+    W: Write,
+>(
+    rt: &H,
+    alloc: Global,
+    rack: Rack,
+    service: Service<'a>,
+    writer: &mut W,
+) -> Result<Served, ServeFault<'a>>
+    requires few { length (rack_described rack).lines ≤ 8 }
+    requires workers { (1 ≤ rack.workers) × (rack.workers ≤ 32) }
+    requires fit { All (λ line. opening_fault line.line ≡ None) (rack_described rack).lines }
+    ensures { ServesRackAs service.entry.audit (rack_described rack) (W.contents writer.old) (W.contents writer.new) result }
+{
+    let Rack { workers, lines } = rack;
+    let lines = match lines_to_serve(alloc, lines) {
+        Ok(lines) => lines,
+        Err(fault) => return Err(ServeFault::Run(fault)),
+    };
+    let listening = match listen_at_lines(rt, alloc, &lines) {
+        Ok(listening) => listening,
+        Err(fault) => return Err(fault),
+    };
+    match try_connections(alloc, &lines, &listening, workers) {
+        Ok(()) => {}
+        Err(fault) => return Err(fault),
+    }
+    serve_as(rt, alloc, &lines, listening, workers, service, writer)
+}
+
+/// Serves lines that are listened at: each once, recorded in a file or not, or started anew whenever it is halted.
+fn serve_as<
+    'a,
+    H: Net<Listener = TcpListener, Stream = TcpStream>
+        + Files<File = File>
+        + Archive
+        + Threads
+        + Wait
+        + Clock
+        + Log
+        + Sync,
+    W: Write,
+>(
+    rt: &H,
+    alloc: Global,
+    lines: &[ServedLine],
+    listening: Vec<Listening<TcpListener>>,
+    workers: u8,
+    service: Service<'a>,
+    writer: &mut W,
+) -> Result<Served, ServeFault<'a>>
+    requires few { length lines.now ≤ 8 }
+    requires each { length listening.items ≡ length lines.now }
+    requires workers { (1 ≤ workers) × (workers ≤ 32) }
+    requires fit { All (λ line. opening_fault (description_of line.spec) ≡ None) lines.now }
+    ensures { ServesLinesAs service.entry.audit lines.now (W.contents writer.old) (W.contents writer.new) result }
+{
+    match service.audit {
+        Audit::Renewed(folder) => {
+            let renewal = renewal_of(folder, service, workers);
+            serve_renewing(rt, alloc, lines, listening, renewal, writer)
+        }
+        Audit::Folder(folder) => {
+            serve_once(
+                rt,
+                alloc,
+                lines,
+                listening,
+                workers,
+                Some(folder),
+                service,
+                writer,
+            )
+        }
+        Audit::Nowhere => {
+            serve_once(rt, alloc, lines, listening, workers, None, service, writer)
+        }
+    }
+}
+
+/// Opens lines that are listened at, and serves them, each once.
+fn serve_once<
+    'a,
+    H: Net<Listener = TcpListener, Stream = TcpStream>
+        + Files<File = File>
+        + Archive
+        + Threads
+        + Wait
+        + Clock
+        + Log
+        + Sync,
+    W: Write,
+>(
+    rt: &H,
+    alloc: Global,
+    lines: &[ServedLine],
+    listening: Vec<Listening<TcpListener>>,
+    workers: u8,
+    folder: Option<&'a str>,
+    service: Service<'a>,
+    writer: &mut W,
+) -> Result<Served, ServeFault<'a>>
+    requires few { length lines.now ≤ 8 }
+    requires each { length listening.items ≡ length lines.now }
+    requires workers { (1 ≤ workers) × (workers ≤ 32) }
+    requires fit { All (λ line. opening_fault (description_of line.spec) ≡ None) lines.now }
+    ensures { ServesLines lines.now (W.contents writer.old) (W.contents writer.new) result }
+{
+    let Ok(opened) = open_lines(alloc, lines, workers) else {
+        return Err(ServeFault::Run(RunFault::OutOfMemory));
+    };
+    serve_lines(rt, alloc, lines, listening, opened, folder, service, writer)
+}
+
+/// How lines are served that are started anew, by the words and the rack.
+fn renewal_of<'a>(folder: &'a str, service: Service<'a>, workers: u8) -> Renewal<'a>
+    ensures { result.workers ≡ workers }
+{
+    Renewal {
+        folder,
+        sessions: sessions_of(service),
+        telling: service.telling,
+        workers,
+    }
+}
+
+/// How many connections each port accepts; where there is no end of them, more than can come.
+fn sessions_of(service: Service<'_>) -> u64 {
+    service.sessions.map_or(u64::MAX, |count| u64::from(count))
+}
+
+/// Serves the lines that are listened at, and records them.
+pub(crate) fn serve_lines<
+    'a,
+    's,
+    H: Net<Listener = TcpListener, Stream = TcpStream>
+        + Files<File = File>
+        + Archive
+        + Threads
+        + Wait
+        + Clock
+        + Log
+        + Sync,
+    W: Write,
+>(
+    rt: &'s H,
+    alloc: Global,
+    lines: &'s [ServedLine],
+    listening: Vec<Listening<TcpListener>>,
+    opened: OpenedLines,
+    folder: Option<&'a str>,
+    service: Service<'a>,
+    writer: &mut W,
+) -> Result<Served, ServeFault<'a>>
+    requires few { length lines.now ≤ 8 }
+    requires each { length listening.items ≡ length lines.now }
+    requires opened { AreOpened lines.now opened.ports.items }
+    requires workers { (1 ≤ length opened.seats.items) × (length opened.seats.items ≤ 32) }
+    requires seats { All (λ own. HasSeats opened.ports.items own.items) opened.seats.items }
+    ensures { ServesLines lines.now (W.contents writer.old) (W.contents writer.new) result }
+{
+    let OpenedLines { ports, seats } = opened;
+    let doors = Doors::unopened(&listening);
+    let recorders = match record_lines(rt, alloc, &doors, folder, lines, &ports) {
+        Ok(recorders) => recorders,
+        Err(fault) => return Err(fault),
+    };
+    let notes = Notes::new(rt, service.telling, numbers_of(lines), seats.len() as u32);
+    let attended = attend_recorded(
+        rt,
+        alloc,
+        &doors,
+        &notes,
+        lines,
+        listening,
+        &ports,
+        seats,
+        recorders,
+        sessions_of(service),
+        writer,
+    );
+    match attended {
+        Ok(attended) => match write_audits(alloc, ports, writer) {
+            Ok(()) => attended.outcome(),
+            Err(fault) => Err(ServeFault::Run(fault)),
+        },
+        Err(fault) => Err(ServeFault::Run(fault)),
+    }
+}
+
+/// The numbers of lines.
+pub(crate) fn numbers_of(lines: &[ServedLine]) -> LineNumbers {
+    let mut numbers = LineNumbers::new();
+    for line in lines {
+        let _ = numbers.try_push(line.spec.number);
+    }
+    numbers
+}

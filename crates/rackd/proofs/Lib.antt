@@ -1,5 +1,0 @@
-mod Writing
-mod Serving
-mod Sharing
-mod Opening
-mod RacksServed
