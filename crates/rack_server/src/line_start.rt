@@ -175,7 +175,12 @@ fn serve_beside<
                 start.end();
                 return Err(PoolFault::NoThread);
             }
-            serve()
+            let served = serve();
+            // Where no worker could be had the two would wait for connections that nobody serves.
+            if served.is_err() {
+                start.end();
+            }
+            served
         },
     )
 }
