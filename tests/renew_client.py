@@ -1291,7 +1291,8 @@ def refused_threads(trial):
     of that happens before a line is halted."""
     if subprocess.run([REFUSE, "0", "/bin/true"], capture_output=True).returncode == 98:
         raise NotHere
-    enough, ends = least_threads(trial), []
+    # The lines start at one time, and each serves on without its last worker: with a thread more for each none is refused.
+    enough, ends = least_threads(trial) + 2, []
     for words in [str(enough)] + [f"{count},1" for count in range(enough, enough + 5)]:
         program = wrapper(trial, f"refuse-{words}", f'{REFUSE} {words} {trial.program} "$@"')
         with serve(trial, {1: 6, 2: 100}, program=program, workers=2, folder=trial.path(f"trails-{words}")) as server:
