@@ -1,7 +1,7 @@
 -- Words of whole pairs of hex digits, pair by pair.
-use Rattle.std.proofs.Common.{◌≡◌, ◌≢◌, ℕ, ◌-◌, ◌<◌, ◌≤◌, ◌%◌, ◌==◌, true, false, ◌&&◌, Bool, List, [], ◌∷◌, length, take, drop, Option, None, is_some, inl, inr, refl, sym, ap, ◌∙◌, arith}
+use Rattle.std.proofs.Common.{◌≡◌, ◌≢◌, ℕ, ◌+◌, ◌*◌, ◌-◌, ◌<◌, ◌≤◌, ◌%◌, ◌==◌, true, false, ◌&&◌, Bool, List, [], ◌∷◌, length, take, drop, Option, None, is_some, inl, inr, refl, sym, ap, ◌∙◌, arith}
 use Rattle.std.specs.Prelude.{slice_index_or}
-use Rattle.std.proofs.lemmas.List.{take_rest}
+use Rattle.std.proofs.lemmas.List.{drop_more, take_rest}
 use Rattle.std.specs.List.{slice_split, onto_first, list_all}
 use Rattle.std.specs.Result.{result_ok}
 use Rattle.std.proofs.lemmas.Bool.{cases_Bool, cases_eq, cond-false, eqb-true, ne_eqb}
@@ -184,3 +184,85 @@ goes_on (high ∷ low ∷ rest) long pair some other =
     let (first, second) = both_true (is_hex_digit high) (is_hex_digit low) pair in
     ap are_hex (rest_is high low rest)
     ∙ on_by high low rest (omega (arith, some, ap length (rest_is high low rest))) (λ e. other (ap (λ (r : List ℕ). slice_index_or r 0 0) (rest_is high low rest) ∙ e)) first second
+
+-- ---- what is behind a pair
+
+-- it is words behind the digits 00, and so behind any pair
+abbrev pub are_behind : List ℕ → Bool
+are_behind left = are_hex (48 ∷ 48 ∷ left)
+
+-- a pair is read
+behind : (high low : ℕ) (rest : List ℕ) → (is_hex_digit high && is_hex_digit low) ≡ true → are_hex (high ∷ low ∷ rest) ≡ are_behind rest
+behind high low [] pair =
+    let (first, second) = both_true (is_hex_digit high) (is_hex_digit low) pair in
+    last_pair high low first second ∙ sym (last_pair 48 48 refl refl)
+behind high low (next ∷ more) pair =
+    let (first, second) = both_true (is_hex_digit high) (is_hex_digit low) pair in
+    elim (cases_eq next 32) [
+      | inl space ↦ pair_and_space high low next more first second space ∙ sym (pair_and_space 48 48 next more refl refl space)
+      | inr other ↦ pair_and_digits high low next more first second (ne_eqb next 32 other) ∙ sym (pair_and_digits 48 48 next more refl refl (ne_eqb next 32 other))
+    ]
+
+behind_space : (next : ℕ) (more : List ℕ) → next ≡ 32 → are_behind (next ∷ more) ≡ are_hex more
+behind_space next more space = pair_and_space 48 48 next more refl refl space
+
+behind_other : (next : ℕ) (more : List ℕ) → next ≢ 32 → are_behind (next ∷ more) ≡ are_hex (next ∷ more)
+behind_other next more other = pair_and_digits 48 48 next more refl refl (ne_eqb next 32 other)
+
+not_space : (digit : ℕ) → is_hex_digit digit ≡ true → digit ≢ 32
+not_space digit hex space = let e : is_hex_digit digit ≡ is_hex_digit 32 = ap is_hex_digit space in absurd cc
+
+another : (high low : ℕ) (rest : List ℕ) → (is_hex_digit high && is_hex_digit low) ≡ true → are_behind (high ∷ low ∷ rest) ≡ are_behind rest
+another high low rest pair =
+    let (first, second) = both_true (is_hex_digit high) (is_hex_digit low) pair in
+    behind_other high (low ∷ rest) (not_space high first) ∙ behind high low rest pair
+
+pub none_behind : (left : List ℕ) → length left < 1 → are_behind left ≡ true
+none_behind [] short = last_pair 48 48 refl refl
+none_behind (next ∷ more) short = absurd (omega (arith, short))
+
+pub space_behind : (left : List ℕ) → 1 ≤ length left → slice_index_or left 0 0 ≡ 32 → are_hex (take (length left - 1) (drop 1 left)) ≡ are_behind left
+space_behind [] some space = absurd (omega (arith, some))
+space_behind (next ∷ more) some space = ap are_hex (take_rest (next ∷ more) 1) ∙ sym (behind_space next more space)
+
+pub digit_behind : (left : List ℕ) → 1 ≤ length left → slice_index_or left 0 0 ≢ 32 → are_hex left ≡ are_behind left
+digit_behind [] some other = absurd (omega (arith, some))
+digit_behind (next ∷ more) some other = sym (behind_other next more other)
+
+pub pair_read : (text : List ℕ) → 2 ≤ length text → (is_hex_digit (slice_index_or text 0 0) && is_hex_digit (slice_index_or text 1 0)) ≡ true
+    → are_behind (behind_pair text) ≡ are_hex text
+pair_read [] long pair = absurd (omega (arith, long))
+pair_read (high ∷ []) long pair = absurd (omega (arith, long))
+pair_read (high ∷ low ∷ rest) long pair = ap are_behind (rest_is high low rest) ∙ sym (behind high low rest pair)
+
+-- ---- pairs by their index
+
+pub front_pair : (text : List ℕ) (count : ℕ) → 2 * count + 1 < length text
+    → drop (2 * count) text ≡ slice_index_or text (2 * count) 0 ∷ slice_index_or text (2 * count + 1) 0 ∷ drop (2 * (count + 1)) text
+front_pair text count long =
+    let next : 2 * count + 1 + 1 ≡ 2 * (count + 1) = omega arith in
+    drop_more text (2 * count) 0 (omega (arith, long))
+    ∙ ap (λ (rest : List ℕ). slice_index_or text (2 * count) 0 ∷ rest)
+    (drop_more text (2 * count + 1) 0 long ∙ ap (λ n. slice_index_or text (2 * count + 1) 0 ∷ drop n text) next)
+
+pub pair_more_read : (text : List ℕ) (count : ℕ) → 2 * count + 1 < length text
+    → (is_hex_digit (slice_index_or text (2 * count) 0) && is_hex_digit (slice_index_or text (2 * count + 1) 0)) ≡ true
+    → (0 < count → are_behind (drop (2 * count) text) ≡ are_hex text) → are_behind (drop (2 * (count + 1)) text) ≡ are_hex text
+pair_more_read text count long pair so_far =
+    let high = slice_index_or text (2 * count) 0 in
+    let low = slice_index_or text (2 * count + 1) 0 in
+    let rest = drop (2 * (count + 1)) text in
+    let front = front_pair text count long in
+    elim (cases_eq count 0) [
+      | inl none ↦
+          let start : 0 ≡ 2 * count = omega (arith, none) in
+          sym (behind high low rest pair) ∙ sym (ap are_hex (ap (λ n. drop n text) start ∙ front))
+      | inr some ↦ sym (ap are_behind front ∙ another high low rest pair) ∙ so_far (omega (arith, some))
+    ]
+
+pub first_other : (text : List ℕ) (count : ℕ) → count ≡ 0 → 2 * count + 1 < length text
+    → (is_hex_digit (slice_index_or text (2 * count) 0) && is_hex_digit (slice_index_or text (2 * count + 1) 0)) ≡ false → are_hex text ≡ false
+first_other text count none long other =
+    let start : 0 ≡ 2 * count = omega (arith, none) in
+    ap are_hex (ap (λ n. drop n text) start ∙ front_pair text count long)
+    ∙ other_pair (slice_index_or text (2 * count) 0) (slice_index_or text (2 * count + 1) 0) (drop (2 * (count + 1)) text) other

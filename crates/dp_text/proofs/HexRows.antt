@@ -1,11 +1,11 @@
 -- Texts of words of hex digits, decoded in the pass that looks at them.
 use Rattle.std.proofs.Common.{◌≡◌, ℕ, ◌+◌, ◌-◌, ◌<◌, ◌≤◌, ◌==◌, true, false, ◌&&◌, Bool, List, [], ◌∷◌, ◌++◌, length, take, drop, set, Option, Some, None, is_some, inl, inr, refl, sym, ap, ◌∙◌, arith, append_assoc}
 use Rattle.std.specs.Prelude.{slice_index_or}
-use Rattle.std.proofs.lemmas.List.{take_rest, take_more_set, nil_from_length}
+use Rattle.std.proofs.lemmas.List.{take_rest, take_more_set}
 use Rattle.std.proofs.lemmas.Bool.{cases_Bool, cond-false, eqb-true}
 use Rattle.hex.specs.Hex.{is_hex_digit}
 use Rattle.dp_text.specs.HexWords.{octets_of_words, pair_octet, spelt_behind}
-use Rattle.dp_text.proofs.HexPairs.{are_hex, behind_pair, words_in}
+use Rattle.dp_text.proofs.HexPairs.{are_hex, words_in}
 use Rattle.dp_text.proofs.HexSpellings.{some_value, words_spell}
 
 no_space : (digit : ℕ) → is_hex_digit digit ≡ true → (digit == 32) ≡ false
@@ -19,22 +19,16 @@ first_true true b e = refl
 first_true false b e = absurd cc
 
 -- what a pair in front and the digits behind it spell
-pub pair_spells : (text : List ℕ) → 2 ≤ length text → (is_hex_digit (slice_index_or text 0 0) && is_hex_digit (slice_index_or text 1 0)) ≡ true
-    → spelt_behind None text ≡ pair_octet (slice_index_or text 0 0) (slice_index_or text 1 0) ∷ spelt_behind None (behind_pair text)
-pair_spells [] long pair = absurd (omega (arith, long))
-pair_spells (digit ∷ []) long pair = absurd (omega (arith, long))
-pair_spells (high ∷ low ∷ rest) long pair =
+pub pair_spelt : (high low : ℕ) (rest : List ℕ) → (is_hex_digit high && is_hex_digit low) ≡ true
+    → spelt_behind None (high ∷ low ∷ rest) ≡ pair_octet high low ∷ spelt_behind None rest
+pair_spelt high low rest pair =
     cond-false (high == 32) (spelt_behind None (low ∷ rest)) (spelt_behind (Some high) (low ∷ rest)) (no_space high (first_true (is_hex_digit high) (is_hex_digit low) pair))
-    ∙ ap (λ (r : List ℕ). pair_octet high low ∷ spelt_behind None r) (sym (take_rest (high ∷ low ∷ rest) 2))
 
 -- a space in front spells nothing
 pub space_spells : (text : List ℕ) → 1 ≤ length text → slice_index_or text 0 0 ≡ 32 → spelt_behind None text ≡ spelt_behind None (take (length text - 1) (drop 1 text))
 space_spells [] some space = absurd (omega (arith, some))
 space_spells (digit ∷ rest) some space =
     ap (λ (d : ℕ). spelt_behind None (d ∷ rest)) space ∙ ap (spelt_behind None) (sym (take_rest (digit ∷ rest) 1))
-
-pub nothing_spells : (text : List ℕ) → length text < 1 → spelt_behind None text ≡ []
-nothing_spells text short = ap (spelt_behind None) (nil_from_length text (omega (arith, short)))
 
 -- one more octet is decoded
 pub one_more : (all octets before behind : List ℕ) (count octet : ℕ) → count < length octets → all ≡ take count octets ++ before → before ≡ octet ∷ behind

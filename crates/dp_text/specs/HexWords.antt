@@ -1,7 +1,8 @@
 -- Octets in words of hex digits (own).
-use Rattle.std.specs.Prelude.{ℕ, ◌+◌, ◌*◌, ◌%◌, ◌==◌, if◌then◌else◌, List, [], ◌∷◌, ◌++◌, length, Option, Some, None, option_map, option_and_then, unwrap_or}
+use Rattle.std.specs.Prelude.{ℕ, ◌+◌, ◌*◌, ◌%◌, ◌==◌, if◌then◌else◌, Bool, List, [], ◌∷◌, ◌++◌, length, is_some, Option, Some, None, option_map, option_and_then, unwrap_or}
 use Rattle.std.specs.Result.{result_ok}
 use Rattle.hex.specs.Hex.{decode_of, hex_digit_value}
+use Rattle.dp_text.specs.Words.{words_of}
 
 -- the octets of a word of whole pairs of hex digits, in either case; None where the word is empty or isn't such
 abbrev pub octets_of_word : List ℕ → Option (List ℕ)
@@ -29,3 +30,7 @@ spelt_behind high [] = []
 spelt_behind None (digit ∷ digits) =
     if digit == 32 then spelt_behind None digits else spelt_behind (Some digit) digits
 spelt_behind (Some high) (low ∷ digits) = pair_octet high low ∷ spelt_behind None digits
+
+-- what stands behind a pair may stand there: behind the digits 00 the text is words
+abbrev pub goes_on : List ℕ → Bool
+goes_on rest = is_some (octets_of_words (words_of (48 ∷ 48 ∷ rest)))

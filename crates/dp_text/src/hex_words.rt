@@ -1,30 +1,46 @@
 //! Octets in words of hex digits, read in place.
 
-ghost use Rattle.std.specs.Prelude.{◌≡◌, ◌<◌, ◌≤◌, [], ◌++◌, ◌&&◌, length, take, min, is_some, None, option_map, IfSome};
-ghost use Rattle.std.specs.List.{list_all};
+ghost use Rattle.std.specs.Prelude.{◌≡◌, ◌<◌, ◌≤◌, ◌*◌, ◌%◌, false, nat_lt, if◌then◌else◌, [], ◌∷◌, ◌++◌, ◌&&◌, length, take, drop, min, is_some, None, option_map, IfSome};
 ghost use Rattle.hex.specs.Hex.{is_hex_digit as is_digit_of_hex};
 ghost use Rattle.dp_text.specs.Words.{words_of};
-ghost use Rattle.dp_text.specs.HexWords.{octets_of_word, octets_of_words, digit_value, pair_octet, spelt_behind};
+ghost use Rattle.dp_text.specs.HexWords.{octets_of_words, digit_value, pair_octet, spelt_behind, goes_on};
 
 use crate::words::SPACE;
 use std::marker::Model;
 
-/// Of each octet its value as a hex digit in either case, and 255 where it is none.
-const VALUES: [u8; 256] = [
-    255, 255, 255, 255, 255, 255, 255, 255, 255, 255, 255, 255, 255, 255, 255, 255, 255, 255, 255,
-    255, 255, 255, 255, 255, 255, 255, 255, 255, 255, 255, 255, 255, 255, 255, 255, 255, 255, 255,
-    255, 255, 255, 255, 255, 255, 255, 255, 255, 255, 0, 1, 2, 3, 4, 5, 6, 7, 8, 9, 255, 255, 255,
-    255, 255, 255, 255, 10, 11, 12, 13, 14, 15, 255, 255, 255, 255, 255, 255, 255, 255, 255, 255,
-    255, 255, 255, 255, 255, 255, 255, 255, 255, 255, 255, 255, 255, 255, 255, 255, 10, 11, 12, 13,
-    14, 15, 255, 255, 255, 255, 255, 255, 255, 255, 255, 255, 255, 255, 255, 255, 255, 255, 255,
-    255, 255, 255, 255, 255, 255, 255, 255, 255, 255, 255, 255, 255, 255, 255, 255, 255, 255, 255,
-    255, 255, 255, 255, 255, 255, 255, 255, 255, 255, 255, 255, 255, 255, 255, 255, 255, 255, 255,
-    255, 255, 255, 255, 255, 255, 255, 255, 255, 255, 255, 255, 255, 255, 255, 255, 255, 255, 255,
-    255, 255, 255, 255, 255, 255, 255, 255, 255, 255, 255, 255, 255, 255, 255, 255, 255, 255, 255,
-    255, 255, 255, 255, 255, 255, 255, 255, 255, 255, 255, 255, 255, 255, 255, 255, 255, 255, 255,
-    255, 255, 255, 255, 255, 255, 255, 255, 255, 255, 255, 255, 255, 255, 255, 255, 255, 255, 255,
-    255, 255, 255, 255, 255, 255, 255, 255, 255, 255, 255, 255, 255, 255, 255, 255, 255, 255, 255,
-    255, 255, 255,
+/// Of each octet 16 times its value as a hex digit in either case, and 16 times 255 where it is none. Then of each octet
+/// its value, and 511 where it is none. So a sum of one of each is below 256 where both octets are digits, and nowhere
+/// else. A second table would cost an instruction more for each octet.
+const VALUES: [u32; 512] = [
+    4080, 4080, 4080, 4080, 4080, 4080, 4080, 4080, 4080, 4080, 4080, 4080, 4080, 4080, 4080, 4080,
+    4080, 4080, 4080, 4080, 4080, 4080, 4080, 4080, 4080, 4080, 4080, 4080, 4080, 4080, 4080, 4080,
+    4080, 4080, 4080, 4080, 4080, 4080, 4080, 4080, 4080, 4080, 4080, 4080, 4080, 4080, 4080, 4080,
+    0, 16, 32, 48, 64, 80, 96, 112, 128, 144, 4080, 4080, 4080, 4080, 4080, 4080, 4080, 160, 176,
+    192, 208, 224, 240, 4080, 4080, 4080, 4080, 4080, 4080, 4080, 4080, 4080, 4080, 4080, 4080,
+    4080, 4080, 4080, 4080, 4080, 4080, 4080, 4080, 4080, 4080, 4080, 4080, 4080, 4080, 160, 176,
+    192, 208, 224, 240, 4080, 4080, 4080, 4080, 4080, 4080, 4080, 4080, 4080, 4080, 4080, 4080,
+    4080, 4080, 4080, 4080, 4080, 4080, 4080, 4080, 4080, 4080, 4080, 4080, 4080, 4080, 4080, 4080,
+    4080, 4080, 4080, 4080, 4080, 4080, 4080, 4080, 4080, 4080, 4080, 4080, 4080, 4080, 4080, 4080,
+    4080, 4080, 4080, 4080, 4080, 4080, 4080, 4080, 4080, 4080, 4080, 4080, 4080, 4080, 4080, 4080,
+    4080, 4080, 4080, 4080, 4080, 4080, 4080, 4080, 4080, 4080, 4080, 4080, 4080, 4080, 4080, 4080,
+    4080, 4080, 4080, 4080, 4080, 4080, 4080, 4080, 4080, 4080, 4080, 4080, 4080, 4080, 4080, 4080,
+    4080, 4080, 4080, 4080, 4080, 4080, 4080, 4080, 4080, 4080, 4080, 4080, 4080, 4080, 4080, 4080,
+    4080, 4080, 4080, 4080, 4080, 4080, 4080, 4080, 4080, 4080, 4080, 4080, 4080, 4080, 4080, 4080,
+    4080, 4080, 4080, 4080, 4080, 4080, 4080, 4080, 4080, 4080, 4080, 4080, 4080, 4080, 4080, 4080,
+    4080, 4080, 4080, 4080, 4080, 4080, 4080, 4080, 4080, 4080, 4080, 4080, 4080, 511, 511, 511,
+    511, 511, 511, 511, 511, 511, 511, 511, 511, 511, 511, 511, 511, 511, 511, 511, 511, 511, 511,
+    511, 511, 511, 511, 511, 511, 511, 511, 511, 511, 511, 511, 511, 511, 511, 511, 511, 511, 511,
+    511, 511, 511, 511, 511, 511, 511, 0, 1, 2, 3, 4, 5, 6, 7, 8, 9, 511, 511, 511, 511, 511, 511,
+    511, 10, 11, 12, 13, 14, 15, 511, 511, 511, 511, 511, 511, 511, 511, 511, 511, 511, 511, 511,
+    511, 511, 511, 511, 511, 511, 511, 511, 511, 511, 511, 511, 511, 10, 11, 12, 13, 14, 15, 511,
+    511, 511, 511, 511, 511, 511, 511, 511, 511, 511, 511, 511, 511, 511, 511, 511, 511, 511, 511,
+    511, 511, 511, 511, 511, 511, 511, 511, 511, 511, 511, 511, 511, 511, 511, 511, 511, 511, 511,
+    511, 511, 511, 511, 511, 511, 511, 511, 511, 511, 511, 511, 511, 511, 511, 511, 511, 511, 511,
+    511, 511, 511, 511, 511, 511, 511, 511, 511, 511, 511, 511, 511, 511, 511, 511, 511, 511, 511,
+    511, 511, 511, 511, 511, 511, 511, 511, 511, 511, 511, 511, 511, 511, 511, 511, 511, 511, 511,
+    511, 511, 511, 511, 511, 511, 511, 511, 511, 511, 511, 511, 511, 511, 511, 511, 511, 511, 511,
+    511, 511, 511, 511, 511, 511, 511, 511, 511, 511, 511, 511, 511, 511, 511, 511, 511, 511, 511,
+    511, 511, 511, 511, 511, 511, 511, 511, 511, 511, 511, 511, 511, 511, 511, 511, 511, 511, 511,
 ];
 
 /// The octets of words of hex digits, decoded where they are asked for. Contracts see those that are
@@ -66,24 +82,26 @@ impl<'a> HexWords<'a> {
         ensures most { IfSome result (λ read. read.0 ≤ length octets.new) }
         ensures rest { IfSome result (λ read. read.0 < length octets.new → read.1 ≡ []) }
     {
-        let mut left = text;
-        let mut count = 0;
+        let mut count = pairs_into(text, octets);
+        // Behind the test of the count, this would cost each octet an instruction more.
+        let (_, mut left) = text.split_at(2 * count);
+        if count == 0 {
+            return Some((0, HexWords::of(text)?));
+        }
         while count < octets.len() {
-            let [high, low, rest @ ..] = left else {
-                return None;
-            };
-            if !is_pair(*high, *low) {
-                return None;
-            }
-            octets[count] = octet_of(*high, *low);
-            count += 1;
-            match rest {
-                [] => return Some((count, HexWords { digits: rest })),
-                [SPACE, more @ ..] => left = more,
-                [_, ..] => left = rest,
+            match left {
+                [] => return Some((count, HexWords { digits: left })),
+                [SPACE, word @ ..] => {
+                    left = pair_into(word, &mut octets[count])?;
+                    count += 1;
+                }
+                [_, ..] => {
+                    left = pair_into(left, &mut octets[count])?;
+                    count += 1;
+                }
             }
         }
-        if are_hex_words(left) {
+        if goes_on_in_words(left) {
             Some((count, HexWords { digits: left }))
         } else {
             None
@@ -116,6 +134,57 @@ impl<'a> HexWords<'a> {
     }
 }
 
+/// Decodes the pairs that the first word begins with, as many as have room, and says how many.
+///
+/// It goes by an index, with one test of room and text: most texts are one word, and each octet counts.
+fn pairs_into(text: &[u8], octets: &mut [u8]) -> usize
+    ensures room { result ≤ length octets.new }
+    ensures within { 2 * result ≤ length text.now }
+    ensures octets { spelt_behind None text.now ≡ take result octets.new ++ spelt_behind None (drop (2 * result) text.now) }
+    ensures words { 0 < result → goes_on (drop (2 * result) text.now) ≡ is_some (octets_of_words (words_of text.now)) }
+    ensures none { result ≡ 0 → 0 < length octets.new → octets_of_words (words_of text.now) ≡ None }
+{
+    let most = octets.len().min(text.len() / 2);
+    let mut count = 0;
+    while count < most {
+        let high = text[2 * count];
+        let low = text[2 * count + 1];
+        if !is_pair(high, low) {
+            return count;
+        }
+        octets[count] = octet_of(high, low);
+        count += 1;
+    }
+    count
+}
+
+/// Decodes the pair that a text begins with, and gives what is behind it. None where it begins with none.
+fn pair_into<'a>(text: &'a [u8], octet: &mut u8) -> Option<&'a [u8]>
+    ensures octet { IfSome result (λ rest. spelt_behind None text.now ≡ octet.new ∷ spelt_behind None rest.now) }
+    ensures words { IfSome result (λ rest. goes_on rest.now ≡ is_some (octets_of_words (words_of text.now))) }
+    ensures none { result ≡ None → is_some (octets_of_words (words_of text.now)) ≡ false }
+{
+    let [high, low, rest @ ..] = text else {
+        return None;
+    };
+    if !is_pair(*high, *low) {
+        return None;
+    }
+    *octet = octet_of(*high, *low);
+    Some(rest)
+}
+
+/// What is behind a pair may be there: nothing, more digits of its word, or a space and more words.
+fn goes_on_in_words(left: &[u8]) -> bool
+    ensures { result ≡ goes_on left.now }
+{
+    match left {
+        [] => true,
+        [SPACE, more @ ..] => are_hex_words(more),
+        [_, ..] => are_hex_words(left),
+    }
+}
+
 /// Each word of the text is one or more whole pairs of hex digits. A pair ends the text, or a word, or
 /// another one follows.
 fn are_hex_words(text: &[u8]) -> bool
@@ -140,25 +209,32 @@ fn are_hex_words(text: &[u8]) -> bool
 fn is_pair(high: u8, low: u8) -> bool
     ensures { result ≡ (is_digit_of_hex high && is_digit_of_hex low) }
 {
-    is_hex_digit(high) && is_hex_digit(low)
-}
-
-fn is_hex_digit(digit: u8) -> bool
-    ensures { result ≡ is_digit_of_hex digit }
-{
-    value_of(digit) < 16
+    sum_of(high, low) < 256
 }
 
 /// The octet of two hex digits.
 fn octet_of(high: u8, low: u8) -> u8
     ensures { result ≡ pair_octet high low }
 {
-    ((16 * u16::from(value_of(high)) + u16::from(value_of(low))) % 256) as u8
+    (sum_of(high, low) % 256) as u8
 }
 
-/// The value of a hex digit, and 255 of what is none.
-fn value_of(digit: u8) -> u8
-    ensures { result ≡ digit_value digit }
+/// The octet of two hex digits, and more than an octet where one is none: one test is enough for both.
+fn sum_of(high: u8, low: u8) -> u32
+    ensures octet { result % 256 ≡ pair_octet high low }
+    ensures digits { nat_lt result 256 ≡ (is_digit_of_hex high && is_digit_of_hex low) }
+{
+    high_of(high) + low_of(low)
+}
+
+fn high_of(digit: u8) -> u32
+    ensures { result ≡ 16 * digit_value digit }
 {
     VALUES[usize::from(digit)]
+}
+
+fn low_of(digit: u8) -> u32
+    ensures { result ≡ (if is_digit_of_hex digit then digit_value digit else 511) }
+{
+    VALUES[256 + usize::from(digit)]
 }

@@ -128,6 +128,19 @@ fn fills(alloc: Global, text: &str, expected: &str) -> Result<(), Fail> {
     is_same(alloc, &found, expected)
 }
 
+/// Three octets are filled with the first of those of hex words, and then three others with the rest: how many, and
+/// what they are. A text that is no hex words is told as `none`.
+fn reads_into(alloc: Global, text: &str, expected: &str) -> Result<(), Fail> {
+    let mut octets = [0; 3];
+    let Some((count, mut words)) = HexWords::of_into(text.as_bytes(), &mut octets) else {
+        return is_same(alloc, "none", expected);
+    };
+    let mut more = [0; 3];
+    let left = words.fill(&mut more);
+    let found = format!(in alloc; "{count} {octets:?}, {left} {more:?}")?;
+    is_same(alloc, &found, expected)
+}
+
 /// None of these texts is an event.
 fn are_no_events(texts: &[&str]) -> Result<(), Fail> {
     for text in texts {
@@ -220,6 +233,31 @@ fn reads_octets_in_words(rt: HostRuntime) -> Result<(), Fail> {
         "0f F0aB 33",
         "3 [15, 240, 171], 1 [51, 240, 171], 0 [51, 240, 171]",
     )
+}
+
+#[test]
+fn reads_first_octets_in_words(rt: HostRuntime) -> Result<(), Fail> {
+    let rows = [
+        ("0f F0aB 33", "3 [15, 240, 171], 1 [51, 0, 0]"),
+        ("0ff0ab33", "3 [15, 240, 171], 1 [51, 0, 0]"),
+        ("0fF0", "2 [15, 240, 0], 0 [0, 0, 0]"),
+        ("0f F0", "2 [15, 240, 0], 0 [0, 0, 0]"),
+        ("0f F0aB ", "none"),
+        ("0f F0aB  33", "none"),
+        ("0f F0aB 3", "none"),
+        ("0fF0aBG3", "none"),
+        ("0fF0aB3G", "none"),
+        ("0f F", "none"),
+        ("0f ", "none"),
+        ("0f  F0", "none"),
+        (" 0f", "none"),
+        ("F", "none"),
+        ("", "none"),
+    ];
+    for (text, expected) in rows {
+        reads_into(rt.alloc(), text, expected)?;
+    }
+    Ok(())
 }
 
 #[test]

@@ -1,7 +1,0 @@
-use Rattle.std.proofs.Common.{get_or, arith, ap, ◌∙◌}
-use Rattle.dp_text.specs.declared.hex_words.TheConstants.{VALUES}
-use Rattle.dp_text.proofs.HexTable.{value_at}
-use Rattle.dp_text.proofs.hex_words.value_of.Goals as goal
-
-pub returns : goal.returns
-returns c = ap (λ index. get_or VALUES index 0) c.from.ensures ∙ value_at c.args.digit (omega arith)
