@@ -1,3 +1,4 @@
 pub mod Diagnosis
 pub mod DiagnosisText
 pub mod DiagnosisTextExamples
+pub mod Lent

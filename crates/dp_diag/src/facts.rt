@@ -2,6 +2,7 @@
 
 ghost use Rattle.std.specs.Prelude.{◌≡◌, ◌^◌, ◌<◌, if◌then◌else◌};
 ghost use Rattle.dp_diag.specs.DiagnosisText.{diagnosis_text, octet_of, station_status_1, station_status_2, station_status_3};
+ghost use Rattle.dp_diag.specs.Lent.{facts_lent};
 
 use crate::diag::Diag;
 use arrayvec::ArrayVec;
@@ -29,6 +30,26 @@ pub struct DiagFacts {
     pub diag: Diag,
 }
 
+/// All that the diagnosis of a slave tells, as [`DiagFacts`] has it; what the slave keeps of its
+/// diagnosis is lent.
+#[derive(Clone, Copy, Debug, PartialEq, Eq)]
+pub struct DiagFactsLent<'a> {
+    /// As [`DiagFacts::state`].
+    pub state: State,
+    /// As [`DiagFacts::holder`].
+    pub holder: Option<u8>,
+    /// As [`DiagFacts::ident`].
+    pub ident: u16,
+    /// As [`DiagFacts::wd_on`].
+    pub wd_on: bool,
+    /// As [`DiagFacts::freeze_mode`].
+    pub freeze_mode: bool,
+    /// As [`DiagFacts::sync_mode`].
+    pub sync_mode: bool,
+    /// As [`DiagFacts::diag`].
+    pub diag: &'a Diag,
+}
+
 /// The octets of the diagnosis, 6 to 244 of them (IEC 61158-6-3, Slave_Diag response).
 pub fn octets(facts: &DiagFacts) -> ArrayVec<u8, MOST_DATA>
     ensures { result.items ≡ diagnosis_text facts.now }
@@ -41,6 +62,22 @@ pub fn octets(facts: &DiagFacts) -> ArrayVec<u8, MOST_DATA>
 /// Puts the octets of the diagnosis where octets lie, as [`octets`] answers them.
 pub fn octets_into(facts: &DiagFacts, octets: &mut ArrayVec<u8, MOST_DATA>)
     ensures { octets.new.items ≡ diagnosis_text facts.now }
+{
+    let facts = DiagFactsLent {
+        state: facts.state,
+        holder: facts.holder,
+        ident: facts.ident,
+        wd_on: facts.wd_on,
+        freeze_mode: facts.freeze_mode,
+        sync_mode: facts.sync_mode,
+        diag: &facts.diag,
+    };
+    octets_lent_into(&facts, octets);
+}
+
+/// Like [`octets_into`], but of facts that lend what the slave keeps of its diagnosis.
+pub fn octets_lent_into(facts: &DiagFactsLent<'_>, octets: &mut ArrayVec<u8, MOST_DATA>)
+    ensures { octets.new.items ≡ diagnosis_text (facts_lent facts.now) }
 {
     let [ident_high, ident_low] = facts.ident.to_be_bytes();
     let head = [
@@ -58,8 +95,8 @@ pub fn octets_into(facts: &DiagFacts, octets: &mut ArrayVec<u8, MOST_DATA>)
 
 /// Station_status_1 (IEC 61158-6-3, Slave_Diag response).
 #[tactic(auto, using(crate::proofs::Bits::or_station_status_1))]
-fn octet_1(facts: &DiagFacts) -> u8
-    ensures { result ≡ octet_of (station_status_1 facts.now) }
+fn octet_1(facts: &DiagFactsLent<'_>) -> u8
+    ensures { result ≡ octet_of (station_status_1 (facts_lent facts.now)) }
 {
     bit(1, facts.state != State::DataExch)
         | bit(2, facts.diag.cfg_fault)
@@ -70,8 +107,8 @@ fn octet_1(facts: &DiagFacts) -> u8
 
 /// Station_status_2 (IEC 61158-6-3, Slave_Diag response).
 #[tactic(auto, using(crate::proofs::Bits::or_station_status_2))]
-fn octet_2(facts: &DiagFacts) -> u8
-    ensures { result ≡ octet_of (station_status_2 facts.now) }
+fn octet_2(facts: &DiagFactsLent<'_>) -> u8
+    ensures { result ≡ octet_of (station_status_2 (facts_lent facts.now)) }
 {
     bit(0, facts.state == State::WaitPrm)
         | bit(1, facts.diag.stat)
@@ -82,8 +119,8 @@ fn octet_2(facts: &DiagFacts) -> u8
 }
 
 /// Station_status_3 (IEC 61158-6-3, Slave_Diag response).
-fn octet_3(facts: &DiagFacts) -> u8
-    ensures { result ≡ octet_of (station_status_3 facts.now) }
+fn octet_3(facts: &DiagFactsLent<'_>) -> u8
+    ensures { result ≡ octet_of (station_status_3 (facts_lent facts.now)) }
 {
     bit(7, facts.diag.overflow)
 }

@@ -2,7 +2,8 @@
 //! and the octets that tell a master of it.
 //!
 //! A [`Diag`] is the part of a slave's state that its application and its faults set, and
-//! [`DiagFacts`] is all that a diagnosis tells; [`octets`] writes it.
+//! [`DiagFacts`] is all that a diagnosis tells; [`octets`] writes it, and [`octets_lent_into`] the
+//! same of [`DiagFactsLent`], which lend the [`Diag`].
 #![tactic(auto)]
 
 mod diag;
@@ -11,4 +12,4 @@ pub mod laws;
 
 pub use diag::{Diag, MOST_EXTENDED};
 pub use dp_sap::State;
-pub use facts::{DiagFacts, octets, octets_into};
+pub use facts::{DiagFacts, DiagFactsLent, octets, octets_into, octets_lent_into};

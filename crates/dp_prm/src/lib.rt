@@ -2,14 +2,17 @@
 //! slave, and whether it takes them.
 //!
 //! [`read`] tells the [`PrmVerdict`] of the octets under the [`Limits`] of a slave; an accepted
-//! locking request has the parameters as a [`Prm`].
+//! locking request has the parameters as a [`Prm`]. [`read_lent`] tells the same as a
+//! [`PrmVerdictLent`], whose user parameters are those of the octets.
 #![tactic(auto)]
 
 pub mod laws;
+mod lent;
 mod limits;
 mod prm;
 mod reading;
 
+pub use lent::{PrmLent, PrmVerdictLent};
 pub use limits::Limits;
 pub use prm::{MOST_USER_PARAMETERS, Prm, PrmVerdict};
-pub use reading::{MOST_OCTETS, read};
+pub use reading::{MOST_OCTETS, read, read_lent};

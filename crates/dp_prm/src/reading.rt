@@ -1,11 +1,12 @@
 //! The octets of a parameter telegram into what they mean.
 
 ghost use Rattle.std.specs.Prelude.{◌≡◌, ◌<◌, ◌≤◌, ◌*◌, ◌&&◌, ◌||◌, ◌==◌, Some, None, if◌then◌else◌, not, length};
-ghost use Rattle.dp_prm.specs.Meaning.{meaning_of, most_octets, is_set as is_set_of};
+ghost use Rattle.dp_prm.specs.Meaning.{meaning_of, most_octets, most_user_parameters, is_set as is_set_of};
+ghost use Rattle.dp_prm.specs.Lent.{user_lent, verdict_lent};
 
+use crate::lent::{PrmLent, PrmVerdictLent};
 use crate::limits::Limits;
-use crate::prm::{MOST_USER_PARAMETERS, Prm, PrmVerdict};
-use arrayvec::ArrayVec;
+use crate::prm::PrmVerdict;
 
 /// The most octets of a parameter telegram (IEC 61158-6-3, data unit).
 pub const MOST_OCTETS: usize = 244;
@@ -22,7 +23,7 @@ const FREEZE_REQ: u32 = 4;
 const WD_ON: u32 = 3;
 
 /// The meaning of octets that are too few.
-const TOO_SHORT: PrmVerdict = PrmVerdict::Fault {
+const TOO_SHORT: PrmVerdictLent<'static> = PrmVerdictLent::Fault {
     not_supported: false,
 };
 
@@ -41,6 +42,20 @@ pub fn read(octets: &[u8], limits: &Limits) -> PrmVerdict
     requires { length octets.now ≤ most_octets }
     ensures { result ≡ meaning_of octets.now limits.now }
 {
+    match read_lent(octets, limits) {
+        PrmVerdictLent::MinTsdr(min_tsdr) => PrmVerdict::MinTsdr(min_tsdr),
+        PrmVerdictLent::Unlock => PrmVerdict::Unlock,
+        PrmVerdictLent::Lock(prm) => PrmVerdict::Lock(prm.kept()),
+        PrmVerdictLent::Fault { not_supported } => PrmVerdict::Fault { not_supported },
+    }
+}
+
+/// Like [`read`], but lends the user parameters, 0 to 237 octets, and so copies none.
+pub fn read_lent<'a>(octets: &'a [u8], limits: &Limits) -> PrmVerdictLent<'a>
+    requires { length octets.now ≤ most_octets }
+    ensures verdict { verdict_lent result ≡ meaning_of octets.now limits.now }
+    ensures few { length (user_lent result) ≤ most_user_parameters }
+{
     let [
         status,
         wd_fact_1,
@@ -55,36 +70,26 @@ pub fn read(octets: &[u8], limits: &Limits) -> PrmVerdict
         return TOO_SHORT;
     };
     if is_set(UNLOCK_REQ, *status) {
-        return PrmVerdict::Unlock;
+        return PrmVerdictLent::Unlock;
     }
     if !is_set(LOCK_REQ, *status) {
-        return PrmVerdict::MinTsdr(*min_tsdr);
+        return PrmVerdictLent::MinTsdr(*min_tsdr);
     }
     let ident = u16::from_be_bytes([*ident_high, *ident_low]);
     let factor_0 = has_factor_0(*status, *wd_fact_1, *wd_fact_2);
     let not_supported = is_not_supported(*status, limits);
     let too_many = user.len() > usize::from(limits.user_max);
     if ident != limits.ident || factor_0 || not_supported || too_many {
-        return PrmVerdict::Fault { not_supported };
+        return PrmVerdictLent::Fault { not_supported };
     }
-    PrmVerdict::Lock(Prm {
+    PrmVerdictLent::Lock(PrmLent {
         watchdog: watchdog_time(*status, *wd_fact_1, *wd_fact_2),
         sync_req: is_set(SYNC_REQ, *status),
         freeze_req: is_set(FREEZE_REQ, *status),
         min_tsdr: *min_tsdr,
         group: *group,
-        user: copied(user),
+        user,
     })
-}
-
-/// The user parameters, to be kept.
-fn copied(user: &[u8]) -> ArrayVec<u8, MOST_USER_PARAMETERS>
-    requires { length user.now ≤ MOST_USER_PARAMETERS }
-    ensures { result.items ≡ user.now }
-{
-    let mut copy = ArrayVec::new();
-    copy.try_extend_from_slice(user).unwrap();
-    copy
 }
 
 /// A watchdog is to run, and a factor of its time is 0.

@@ -2,11 +2,11 @@
 //! rows of the verdict.
 
 ghost use Rattle.std.specs.Prelude.{◌≡◌, ◌≤◌, ◌<◌, ◌==◌, false, length, Some};
-ghost use Rattle.dp_sap.specs.AccessTable.{most_data};
-ghost use Rattle.dp_prm.specs.Meaning.{most_octets as most_parameters};
+ghost use Rattle.dp_prm.specs.Meaning.{most_octets as most_parameters, most_user_parameters};
+ghost use Rattle.dp_prm.specs.Lent.{prm_lent};
 ghost use Rattle.dp_diag.specs.Diagnosis.{is_due_high};
 ghost use Rattle.dp_diag.specs.DiagnosisText.{diagnosis_text};
-ghost use Rattle.dp_slave.specs.SlaveRecord.{configurations as configurations_of, diag_facts, is_held_by as is_held_by_master, limits_of, output_length, released};
+ghost use Rattle.dp_slave.specs.SlaveRecord.{diag_facts, is_held_by as is_held_by_master, limits_of, output_length, released};
 ghost use Rattle.dp_slave.specs.SlaveParts.{with_slave};
 ghost use Rattle.dp_slave.specs.Acts.{configures, exchanges, exchanges_none, faults, locks, misconfigures, sets_min_tsdr, tells_diagnosis, unlocks};
 ghost use Rattle.dp_slave.specs.Fields.{acted, left_again as left_again_of};
@@ -17,8 +17,8 @@ use crate::data_octets::DataOctets;
 use crate::slave::{Slave, data_lengths};
 use arrayvec::ArrayVec;
 use dp_cfg::choose;
-use dp_diag::{Diag, DiagFacts};
-use dp_prm::{Limits, Prm, PrmVerdict, read};
+use dp_diag::DiagFactsLent;
+use dp_prm::{Limits, PrmLent, PrmVerdictLent, read_lent};
 use dp_sap::{MOST_DATA, State};
 
 impl Slave {
@@ -29,11 +29,11 @@ impl Slave {
         requires { length octets.now ≤ most_parameters }
         ensures { self.new ≡ with_slave self.old (acted self.old.slave (set_prm_act self.old.slave sender number octets.now)) }
     {
-        match read(octets, &self.limits()) {
-            PrmVerdict::MinTsdr(min_tsdr) => self.set_min_tsdr(sender, min_tsdr),
-            PrmVerdict::Unlock => self.unlock(),
-            PrmVerdict::Lock(prm) => self.lock(sender, number, prm),
-            PrmVerdict::Fault { not_supported } => self.refuse_parameters(not_supported),
+        match read_lent(octets, &self.limits()) {
+            PrmVerdictLent::MinTsdr(min_tsdr) => self.set_min_tsdr(sender, min_tsdr),
+            PrmVerdictLent::Unlock => self.unlock(),
+            PrmVerdictLent::Lock(prm) => self.lock(sender, number, &prm),
+            PrmVerdictLent::Fault { not_supported } => self.refuse_parameters(not_supported),
         }
     }
 
@@ -51,28 +51,48 @@ impl Slave {
 
     /// A lock by the sender, at this place of the journal; who holds the slave already keeps its place.
     #[tactic(auto, unfolding(crate::specs::Fields::acted))]
-    fn lock(&mut self, sender: u8, number: u32, prm: Prm)
-        ensures { self.new ≡ with_slave self.old (acted self.old.slave (locks sender number prm)) }
+    fn lock(&mut self, sender: u8, number: u32, prm: &PrmLent<'_>)
+        requires { length prm.now.user.now ≤ most_user_parameters }
+        ensures { self.new ≡ with_slave self.old (acted self.old.slave (locks sender number (prm_lent prm.now))) }
     {
+        if prm.min_tsdr != 0 {
+            self.min_tsdr = prm.min_tsdr;
+        }
+        self.left = prm.watchdog;
+        self.keep_parameters(prm);
         if !self.is_held_by(sender) {
             self.since = number;
         }
         let out_len = self.points.out_len();
         self.points
             .move_to(State::WaitCfg, Some(sender), out_len, false);
-        if prm.min_tsdr != 0 {
-            self.min_tsdr = prm.min_tsdr;
-        }
         self.cfg = None;
         self.outputs.clear();
         self.latest.clear();
         self.sync_mode = false;
         self.freeze_mode = false;
-        self.left = prm.watchdog;
         self.diag.prm_fault = false;
         self.diag.cfg_fault = false;
         self.diag.not_supported = false;
-        self.prm = Some(prm);
+    }
+
+    /// The parameters are kept, where those of before lie if there are any.
+    fn keep_parameters(&mut self, prm: &PrmLent<'_>)
+        requires { length prm.now.user.now ≤ most_user_parameters }
+        ensures { self.new ≡ with_slave self.old (record self.old.slave { prm = Some (prm_lent prm.now) }) }
+    {
+        match &mut self.prm {
+            Some(kept) => prm.keep_in(kept),
+            None => self.keep_first_parameters(prm),
+        }
+    }
+
+    /// The parameters are kept, where none lie.
+    fn keep_first_parameters(&mut self, prm: &PrmLent<'_>)
+        requires { length prm.now.user.now ≤ most_user_parameters }
+        ensures { self.new ≡ with_slave self.old (record self.old.slave { prm = Some (prm_lent prm.now) }) }
+    {
+        self.prm = Some(prm.kept());
     }
 
     /// Parameters that are refused: the slave is let go with the fault.
@@ -236,28 +256,20 @@ impl Slave {
         ensures slave { self.new ≡ with_slave self.old (acted self.old.slave (tells_diagnosis sender)) }
         ensures octets { octets.new.items ≡ diagnosis_text (diag_facts self.old.slave) }
     {
-        let mut facts = DiagFacts {
+        let facts = DiagFactsLent {
             state: self.points.state(),
             holder: self.points.holder(),
             ident: self.description.ident,
             wd_on: self.left.is_some(),
             freeze_mode: self.freeze_mode,
             sync_mode: self.sync_mode,
-            diag: Diag {
-                octets: ArrayVec::new(),
-                ..self.diag
-            },
+            diag: &self.diag,
         };
-        facts
-            .diag
-            .octets
-            .try_extend_from_slice(&self.diag.octets)
-            .unwrap();
+        dp_diag::octets_lent_into(&facts, octets);
         if self.is_held_by(sender) {
             self.diag.unread = false;
             self.left = self.left_again();
         }
-        dp_diag::octets_into(&facts, octets);
     }
 
     /// The master holds the slave.
