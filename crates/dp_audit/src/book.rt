@@ -4,13 +4,14 @@ ghost use Rattle.std.specs.Prelude.{◌≡◌, ◌+◌, ◌≤◌, ◌<◌, [], 
 ghost use Rattle.std.specs.List.{AllByRecursion, list_all};
 ghost use Rattle.dp_text.specs.Events.{IsWithinLimits};
 ghost use Rattle.dp_telegram.specs.Access.{is_station};
-ghost use Rattle.dp_line.specs.declared.event.Event.TheVariants.{Operator};
+ghost use Rattle.dp_line.specs.declared.event.Event.TheVariants.{Operator, Request};
 ghost use Rattle.dp_line.specs.declared.event.Op.TheVariants.{Halt};
 ghost use Rattle.dp_line.specs.declared.event.Outcome.TheVariants.{Released};
-ghost use Rattle.dp_line.specs.World.{HaveMasters, description_of, opening_fault, start_of};
+ghost use Rattle.dp_line.specs.World.{HaveMasters, description_of, opening_fault};
 ghost use Rattle.dp_line.specs.Steps.{step as step_of};
 ghost use Rattle.dp_audit.specs.Journal.{added, opened, receipt_of, taken};
 ghost use Rattle.dp_audit.specs.Legal.{IsLegal, after_entries};
+ghost use Rattle.dp_audit.specs.Lent.{event_lent};
 ghost use Rattle.dp_audit.specs.Packed.{record_octets};
 ghost use Rattle.dp_audit.specs.Records.{entry_at};
 ghost use Rattle.dp_audit.specs.AuditText.{audit_text};
@@ -18,11 +19,13 @@ ghost use Rattle.dp_text.specs.Writes.{WritesPrefix};
 ghost use Rattle.std.specs.Io.KnownBytes.{Appends};
 
 use crate::entry::{Entry, Receipt};
+use crate::event_lent::EventLent;
 use crate::records::Records;
 use crate::writing::write_journal;
 use arrayvec::ArrayVec;
 use dp_line::laws::facts_tell_masters;
 use dp_line::{Event, LineSpec, LineState, MOST_SLAVES, Op, OpenFault, Outcome, Step};
+use dp_telegram::WholeFrame;
 use dp_text::WriteFault;
 use std::alloc::Global;
 use std::io::Write;
@@ -99,6 +102,19 @@ impl Book {
         self.state.holders_are_masters();
         let before = Snapshot::of(&self.state);
         self.state.take_into(event, answer);
+        keep(&mut self.records, &before, EventLent::Event(event), answer);
+    }
+
+    /// Like [`Book::take_into`], of the request that a whole frame of a master is: its octets are neither copied nor
+    /// judged again.
+    pub fn take_frame_into(&mut self, master: u8, frame: &WholeFrame<'_>, answer: &mut Step)
+        ensures answer { answer.new ≡ (step_of self.old.state.world (Request master (record { items = frame.now }))).answer }
+        ensures journal { self.new ≡ taken self.old (Request master (record { items = frame.now })) }
+    {
+        self.state.holders_are_masters();
+        let before = Snapshot::of(&self.state);
+        self.state.take_frame_into(master, frame, answer);
+        let event = EventLent::Frame { master, frame };
         keep(&mut self.records, &before, event, answer);
     }
 
@@ -179,13 +195,13 @@ fn room_for(alloc: Global, capacity: u32) -> Result<Records, OpenFault>
 }
 
 /// Keeps what the step of a line records: its event, or the halt in its stead, or nothing.
-fn keep(records: &mut Records, before: &Snapshot<LineState>, event: &Event, step: &Step)
-    requires step { step.now ≡ (step_of before.now.value.world event.now).answer }
+fn keep(records: &mut Records, before: &Snapshot<LineState>, event: EventLent<'_>, step: &Step)
+    requires step { step.now ≡ (step_of before.now.value.world (event_lent event)).answer }
     requires holders { HaveMasters before.now.value.world.masters before.now.value.world.slaves }
     requires stations { list_all is_station before.now.value.world.masters ≡ true }
     requires counted { before.now.value.world.count ≡ length records.old.entries }
     requires room { before.now.value.world.halted ≡ false → before.now.value.world.count + 1 ≤ records.old.capacity }
-    ensures { records.new ≡ record records.old { entries = records.old.entries ++ added before.now.value.world event.now } }
+    ensures { records.new ≡ record records.old { entries = records.old.entries ++ added before.now.value.world (event_lent event.entry) } }
 {
     facts_tell_masters();
     match (&step.place, &step.halted) {
@@ -203,5 +219,6 @@ fn keep_halt(records: &mut Records, addresses: &ArrayVec<u8, MOST_SLAVES>)
     } }
 {
     let outcome = Outcome::Released(addresses.clone().unwrap());
-    records.push(&Event::Operator(Op::Halt), &None, &outcome);
+    let event = Event::Operator(Op::Halt);
+    records.push(EventLent::Event(&event), &None, &outcome);
 }

@@ -4,6 +4,7 @@
 mod book;
 mod checking;
 mod entry;
+mod event_lent;
 mod fault;
 mod kinds;
 pub mod laws;

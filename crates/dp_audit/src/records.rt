@@ -2,14 +2,16 @@
 
 ghost use Rattle.std.specs.Prelude.{◌≡◌, ◌+◌, ◌≤◌, ◌<◌, [], ◌∷◌, ◌++◌, length, IfOk, option_map};
 ghost use Rattle.std.specs.List.{AllByRecursion};
+ghost use Rattle.dp_audit.specs.Lent.{event_lent};
 ghost use Rattle.dp_audit.specs.Packed.{HasToldHolder, HasToldPoint, IsNoRefusal, IsPackable, record_octets};
 ghost use Rattle.dp_audit.specs.Records.{HavePlaces, RecordsView, entry_at};
 ghost use Rattle.dp_audit.specs.Unpacked.{numbered};
 
 use crate::entry::Entry;
+use crate::event_lent::EventLent;
 use crate::packing::{event_size, outcome_size, pack_answer, pack_event};
 use crate::unpacking::{first_record, read_entry};
-use dp_line::{Event, Facts, Outcome};
+use dp_line::{Facts, Outcome};
 use std::alloc::{AllocError, Global};
 use std::marker::Model;
 
@@ -54,13 +56,13 @@ impl Records {
     }
 
     /// Puts an entry behind the others, at the next place. It takes no memory.
-    pub(crate) fn push(&mut self, event: &Event, facts: &Facts, outcome: &Outcome)
+    pub(crate) fn push(&mut self, event: EventLent<'_>, facts: &Facts, outcome: &Outcome)
         requires room { length self.old.entries < self.old.capacity }
-        requires point { HasToldPoint event.now }
+        requires point { HasToldPoint (event_lent event) }
         requires holder { HasToldHolder facts.now }
         requires recorded { IsNoRefusal outcome.now }
         ensures { self.new ≡ record self.old {
-          entries = self.old.entries ++ (record { place = length self.old.entries + 1; event = event.now; facts = facts.now; outcome = outcome.now }) ∷ [];
+          entries = self.old.entries ++ (record { place = length self.old.entries + 1; event = event_lent event.entry; facts = facts.now; outcome = outcome.now }) ∷ [];
         } }
     {
         let size = event_size(event) + 2 + outcome_size(outcome);

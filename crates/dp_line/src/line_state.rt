@@ -3,10 +3,12 @@
 ghost use Rattle.std.specs.Prelude.{◌≡◌, ◌==◌, false, None, Some, IfOk, IfSome, MatchResult, option_map};
 ghost use Rattle.std.specs.List.{list_any};
 ghost use Rattle.dp_slave.specs.View.{view_of};
-ghost use Rattle.dp_line.specs.World.{Ascend, HaveMasters, description_of, opening_fault, slave_at, takes_no_more};
+ghost use Rattle.dp_line.specs.World.{Ascend, HaveMasters, description_of, is_last_place, opening_fault, slave_at, takes_no_more};
 ghost use Rattle.dp_line.specs.Owned.{owned};
 ghost use Rattle.dp_line.specs.declared.event.Event.TheVariants.{Request, Operator};
 ghost use Rattle.dp_line.specs.declared.event.Op.TheVariants.{Halt, Tick};
+ghost use Rattle.dp_line.specs.declared.event.Outcome.TheVariants.{Silence};
+ghost use Rattle.dp_responder.specs.declared.rule.Rule.TheVariants.{Halted};
 ghost use Rattle.dp_line.specs.Events.{address_of_op, misfit, misfit_among};
 ghost use Rattle.dp_line.specs.Effects.{effect, halted_world, held_addresses};
 ghost use Rattle.dp_line.specs.Hearing.{heard};
@@ -17,10 +19,11 @@ use crate::description::LineSpec;
 use crate::event::{Event, Facts, Op, Outcome, Step};
 use crate::fault::{OpenFault, OperatorFault};
 use crate::limits::MOST_SLAVES;
-use crate::stations::{Room, Stations};
+use crate::stations::Stations;
 use arrayvec::ArrayVec;
 use dp_responder::Rule;
 use dp_slave::SlaveView;
+use dp_telegram::WholeFrame;
 use std::alloc::Global;
 use std::marker::Model;
 
@@ -32,7 +35,6 @@ pub struct LineState {
     halted: bool,
     last_walk: u32,
     stations: Stations,
-    room: Room,
 }
 
 impl Model for LineState {
@@ -80,7 +82,6 @@ impl LineState {
             halted: false,
             last_walk: 0,
             stations,
-            room: Room::new(),
         })
     }
 
@@ -109,13 +110,38 @@ impl LineState {
         if let Some(fault) = self.misfit(event) {
             return unrecorded(Outcome::Refused(fault), None, answer);
         }
-        if self.capacity - self.count <= 1 {
+        if self.is_at_last_place() {
             return self.halt_for(event, answer);
         }
         match event {
             Event::Request { master, octets } => self.take_request(*master, octets, answer),
             Event::Operator(op) => self.take_op(op, answer),
         }
+    }
+
+    /// Takes a request of a master, a whole frame, as [`LineState::take_into`] takes the event that it is; its octets are
+    /// neither copied nor judged again.
+    pub fn take_frame_into(&mut self, master: u8, frame: &WholeFrame<'_>, answer: &mut Step)
+        ensures world { self.new.world ≡ (step self.old.world (Request master (record { items = frame.now }))).world }
+        ensures answer { answer.new ≡ (step self.old.world (Request master (record { items = frame.now }))).answer }
+        ensures walk { self.new.last_walk ≡ walk_after self.old.world (Request master (record { items = frame.now })) self.old.last_walk }
+    {
+        if self.halted {
+            return silent_by_halt(answer);
+        }
+        if self.is_at_last_place() {
+            return self.halt_for_frame(answer);
+        }
+        self.take_frame(master, frame, answer);
+    }
+
+    /// Records the halt at the last place, where a frame was to have it.
+    fn halt_for_frame(&mut self, answer: &mut Step)
+        requires { self.old.world.halted ≡ false }
+        ensures line { self.new ≡ record self.old { world = halted_world self.old.world } }
+        ensures answer { answer.new ≡ unrecorded_step (Silence Halted) (Some (held_addresses self.old.world)) }
+    {
+        unrecorded(Outcome::Silence(Rule::Halted), Some(self.halt()), answer)
     }
 
     /// Records the halt at the last place, where an event was to have it. What it releases lies here, so that no
@@ -188,6 +214,14 @@ impl LineState {
         ensures { HaveMasters self.now.world.masters self.now.world.slaves }
     {
         self.stations.have_masters();
+    }
+
+    /// One place is left, which is the halt's.
+    fn is_at_last_place(&self) -> bool
+        requires { self.now.world.halted ≡ false }
+        ensures { result ≡ is_last_place self.now.world }
+    {
+        self.capacity - self.count <= 1
     }
 
     /// Why an event doesn't fit; None where it does.
@@ -266,7 +300,26 @@ impl LineState {
             master,
             place,
             octets,
-            &mut self.room,
+            &mut answer.outcome,
+            &mut self.last_walk,
+        );
+        self.count = place;
+    }
+
+    /// Takes a whole frame that takes a place.
+    fn take_frame(&mut self, master: u8, frame: &WholeFrame<'_>, answer: &mut Step)
+        requires { takes_no_more self.old.world ≡ false }
+        ensures world { self.new.world ≡ (effect self.old.world (Request master (record { items = frame.now }))).world }
+        ensures answer { answer.new ≡ (effect self.old.world (Request master (record { items = frame.now }))).answer }
+        ensures walk { self.new.last_walk ≡ walk_heard (heard self.old.world master frame.now) self.old.last_walk }
+    {
+        let place = self.count + 1;
+        answer.place = Some(place);
+        answer.halted = None;
+        answer.facts = self.stations.answer_frame(
+            master,
+            place,
+            frame,
             &mut answer.outcome,
             &mut self.last_walk,
         );
@@ -294,6 +347,13 @@ fn told_halted(event: &Event) -> Outcome
         Event::Request { .. } => Outcome::Silence(Rule::Halted),
         Event::Operator(_) => Outcome::Refused(OperatorFault::Halted),
     }
+}
+
+/// Writes the answer to a frame on a halted line.
+fn silent_by_halt(answer: &mut Step)
+    ensures { answer.new ≡ unrecorded_step (Silence Halted) None }
+{
+    unrecorded(Outcome::Silence(Rule::Halted), None, answer)
 }
 
 /// Writes the answer to an event that isn't recorded, with the addresses of the slaves that had a holder where

@@ -1,6 +1,6 @@
 //! What comes of a request, before it is served.
 
-ghost use Rattle.std.specs.Prelude.{◌≡◌, ◌≢◌, ◌≤◌, Option, Some, length, true};
+ghost use Rattle.std.specs.Prelude.{◌≡◌, ◌≢◌, Option, Some, length, true};
 ghost use Rattle.dp_telegram.specs.FunctionCode.{asks_sdn, function_of};
 ghost use Rattle.dp_sap.specs.AccessTable.{access_row, is_listed};
 ghost use Rattle.dp_responder.specs.declared.judgement.Judged.TheVariants as verdicts;
@@ -14,7 +14,7 @@ use crate::rule::Rule;
 use arrayvec::ArrayVec;
 use dp_sap::{Access, Point, Points, Service};
 use dp_telegram::function_code::{self, Function, RR, RS, UE};
-use dp_telegram::{Octets, Parts};
+use dp_telegram::{Octets, Parts, PartsLent};
 
 /// What comes of a request, before it is served.
 #[derive(Clone, Debug, Drop, PartialEq, Eq)]
@@ -50,7 +50,7 @@ pub enum JudgedLent<'a> {
 pub fn judge(points: &Points, memory: &FrameMemory, sender: u8, fc: u8, parts: &Parts) -> Judged
     ensures { result ≡ judgement points.now (remembered_of memory.now sender) sender fc parts.now }
 {
-    match judge_lent(points, memory, sender, fc, parts) {
+    match judge_lent(points, memory, sender, fc, &parts.lent()) {
         JudgedLent::Pass => Judged::Pass,
         JudgedLent::Repeat(reply) => repeated(reply),
         JudgedLent::Refuse(function, rule) => Judged::Refuse(function, rule),
@@ -64,7 +64,7 @@ pub fn judge_lent<'a>(
     memory: &'a FrameMemory,
     sender: u8,
     fc: u8,
-    parts: &Parts,
+    parts: &PartsLent<'_>,
 ) -> JudgedLent<'a>
     ensures { judged_lent result ≡ judgement points.now (remembered_of memory.now sender) sender fc parts.now }
 {
@@ -75,7 +75,7 @@ pub fn judge_lent<'a>(
 }
 
 /// Judges a request that is no repeat.
-fn judge_anew<'a>(points: &Points, sender: u8, fc: u8, parts: &Parts) -> JudgedLent<'a>
+fn judge_anew<'a>(points: &Points, sender: u8, fc: u8, parts: &PartsLent<'_>) -> JudgedLent<'a>
     ensures { (last : Option Remembered) → judged_lent result ≡ judged_by last fc (first_row (refusal_rows (access_row points.now parts.now.dsap) (is_listed points.now parts.now.dsap sender) sender fc parts.now.payload.items)) }
 {
     by_rule(refusal(points, sender, fc, parts), fc)
@@ -83,7 +83,7 @@ fn judge_anew<'a>(points: &Points, sender: u8, fc: u8, parts: &Parts) -> JudgedL
 
 /// Judges an SDN, which is no repeat and gets no reply, by the same rows: the rule that refuses it;
 /// [`Rule::Done`] where it passes.
-pub fn judge_sdn(points: &Points, sender: u8, fc: u8, parts: &Parts) -> Rule
+pub fn judge_sdn(points: &Points, sender: u8, fc: u8, parts: &PartsLent<'_>) -> Rule
     requires { asks_sdn (function_of fc) ≡ true }
     ensures { (last : Option Remembered) → judgement points.now last sender fc parts.now ≡ judged_in_silence result }
 {
@@ -107,11 +107,11 @@ fn repeated(reply: &Octets) -> Judged
 }
 
 /// The rule that refuses a request which is no repeat; [`Rule::Done`] where none does.
-fn refusal(points: &Points, sender: u8, fc: u8, parts: &Parts) -> Rule
+fn refusal(points: &Points, sender: u8, fc: u8, parts: &PartsLent<'_>) -> Rule
     ensures rule { result ≡ first_row (refusal_rows (access_row points.now parts.now.dsap) (is_listed points.now parts.now.dsap sender) sender fc parts.now.payload.items) }
     ensures repeat { result ≢ rules.Repeat }
 {
-    let point = points.find(parts.dsap);
+    let point = points.find(parts.dsap());
     if !point.active {
         return Rule::NotActive;
     }
@@ -119,14 +119,14 @@ fn refusal(points: &Points, sender: u8, fc: u8, parts: &Parts) -> Rule
 }
 
 /// The rule that refuses a request at this point, which is on; [`Rule::Done`] where none does.
-fn refusal_at(points: &Points, point: &Point, sender: u8, fc: u8, parts: &Parts) -> Rule
+fn refusal_at(points: &Points, point: &Point, sender: u8, fc: u8, parts: &PartsLent<'_>) -> Rule
     ensures rule { result ≡ first_row (refusal_rows (Some point.now) (is_listed points.now parts.now.dsap sender) sender fc parts.now.payload.items) }
     ensures repeat { result ≢ rules.Repeat }
 {
     if !admits(point.access, sender) {
         return Rule::NotHolder;
     }
-    if !points.listed(parts.dsap, sender) {
+    if !points.listed(parts.dsap(), sender) {
         return Rule::NotListed;
     }
     if !uses(fc, point.service) {
@@ -135,7 +135,7 @@ fn refusal_at(points: &Points, point: &Point, sender: u8, fc: u8, parts: &Parts)
     if point.busy {
         return Rule::Busy;
     }
-    if !takes_length(point, parts.payload.len()) {
+    if !takes_length(point, parts.payload().len()) {
         return Rule::Length;
     }
     Rule::Done

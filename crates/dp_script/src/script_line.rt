@@ -2,10 +2,7 @@
 
 ghost use Rattle.std.specs.Prelude.{◌≡◌, ◌≤◌, ◌<◌, ◌==◌, [], ◌++◌, length, take, None, map, option_map, option_and_then, position, IfOk, OnOk, OnErr, IfErr};
 ghost use Rattle.std.specs.Io.KnownBytes.{Appends};
-ghost use Rattle.dp_telegram.specs.declared.cutter.Cut.TheVariants as pieces;
-ghost use Rattle.dp_telegram.specs.Stream.{cut_lent, cut_length};
-ghost use Rattle.dp_telegram.specs.FrameText.{frame_at};
-ghost use Rattle.dp_line.specs.declared.event.Event.TheVariants.{Request};
+ghost use Rattle.dp_telegram.specs.Stream.{cut_lent};
 ghost use Rattle.dp_line.specs.World.{description_of, opening_fault};
 ghost use Rattle.dp_script.specs.ScriptLines.{line_at_start, empty_stream, piece_answered, passed, sent, told_of, operated, stepped, owned_line, show_line, journal_text};
 ghost use Rattle.dp_script.specs.Asking.{IsAsked};
@@ -34,16 +31,16 @@ use std::marker::Model;
 /// Octets that are decoded at once.
 const CHUNK: usize = 64;
 
-/// What a master sends, in whatever pieces it comes.
+/// What a master sends, in whatever pieces it comes, and room for what the line answers: each answer is written into it
+/// anew, so none clears room for itself.
 #[derive(Drop)]
 struct Stream {
     master: u8,
     cutter: Cutter,
-    room: Room,
+    step: Step,
 }
 
-/// Room for a request, or for what the operator does, and for what the line answers. Each frame of a stream, and each
-/// line of the operator, is written into it anew, so none clears room for itself.
+/// Room for what the operator does, and for what the line answers.
 #[derive(Drop)]
 struct Room {
     event: Event,
@@ -182,7 +179,7 @@ fn empty_streams(alloc: Global, masters: &[u8]) -> Result<Vec<Stream>, AllocErro
         streams.push(Stream {
             master: *master,
             cutter: Cutter::new(),
-            room: blank_room(),
+            step: Step::blank(),
         })?;
     }
     Ok(streams)
@@ -245,7 +242,7 @@ impl Stream {
         loop {
             if let Some(piece) = self.cutter.front() {
                 let count = piece.size();
-                answer_piece(text, book, self.master, piece, &mut self.room);
+                answer_piece(text, book, self.master, piece, &mut self.step);
                 self.cutter.pass(count);
                 write_whole(writer, text.as_bytes())?;
             } else if left.is_empty() {
@@ -259,25 +256,16 @@ impl Stream {
 }
 
 /// Makes the text the answer to a piece of a master's stream: a frame is one event of the line.
-fn answer_piece(text: &mut Text, book: &mut Book, master: u8, piece: Piece<'_>, room: &mut Room)
-    requires { cut_length (cut_lent piece) ≤ 255 }
+fn answer_piece(text: &mut Text, book: &mut Book, master: u8, piece: Piece<'_>, step: &mut Step)
     ensures { record { journal = book.new; text = text.new } ≡ piece_answered book.old master (cut_lent piece.entry) }
 {
     match piece {
-        Piece::Frame(octets) => answer_frame(text, book, master, octets, room),
+        Piece::Frame(frame) => {
+            book.take_frame_into(master, &frame, step);
+            text.set_answer(master, &step.outcome);
+        }
         Piece::Dropped { fault, count } => text.set_dropped(master, fault, count),
     }
-}
-
-/// Makes the text the answer to a frame of a master's stream.
-fn answer_frame(text: &mut Text, book: &mut Book, master: u8, octets: &[u8], room: &mut Room)
-    requires { length octets.now ≤ 255 }
-    ensures { record { journal = book.new; text = text.new }
-        ≡ piece_answered book.old master (pieces.Frame (frame_at octets.now) (record { items = octets.now })) }
-{
-    set_request(&mut room.event, master, octets);
-    book.take_into(&room.event, &mut room.step);
-    text.set_answer(master, &room.step.outcome);
 }
 
 /// What a line of the operator asks for; what he does is made the event. One of his that lies there gives its room.
@@ -307,27 +295,6 @@ fn answer_op(text: &mut Text, book: &mut Book, room: &mut Room)
 {
     book.take_into(&room.event, &mut room.step);
     text.set_outcome(&room.step.outcome);
-}
-
-/// Makes an event the request of a master with these octets. A request that lies there gives its room.
-fn set_request(event: &mut Event, master: u8, octets: &[u8])
-    requires { length octets.now ≤ 255 }
-    ensures { event.new ≡ Request master (record { items = octets.now }) }
-{
-    if let Event::Request {
-        master: sender,
-        octets: copy,
-    } = event
-    {
-        *sender = master;
-        copy.clear();
-        copy.try_extend_from_slice(octets).unwrap();
-    } else {
-        *event = Event::Request {
-            master,
-            octets: ArrayVec::try_from(octets).unwrap(),
-        };
-    }
 }
 
 /// Room in which nothing lies yet.

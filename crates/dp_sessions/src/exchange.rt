@@ -174,9 +174,9 @@ fn answer<T: Wait, W: Write, G: Gate>(
         × IsCutOff (W.contents writer.old) (W.contents writer.new) (map reply_in receipts)) }
 {
     match piece {
-        Piece::Frame(octets) => {
+        Piece::Frame(frame) => {
             gate.enter(rt, pass.line(), pass.address());
-            let receipt = line.exchange_lent(rt, pass, octets);
+            let receipt = line.exchange_lent(rt, pass, frame.octets());
             gate.answered(rt, pass.line(), &receipt);
             write_whole(writer, octets_in(&receipt.outcome))
         }

@@ -11,7 +11,7 @@ use Rattle.dp_telegram.specs.declared.cutter.Cut.TheVariants as pieces
 use Rattle.dp_telegram.specs.FrameText.{sd2, Spells, fault_of, frame_at, frame_length, head_length, head_is_right, end_is_right, is_start, delimiter}
 use Rattle.dp_telegram.specs.Stream.{IsWhole, StartsWith, cut_length, piece_by, piece_of, first_cut}
 use Rattle.dp_telegram.proofs.Texts.{Spells-frame_of}
-use Rattle.dp_telegram.proofs.Faults.{frame_length_some, head_within_frame, head_length_some, delimiter_same, right_same, size_same, InFront, end_same, frame_same, Means, means, no_start_fault, bad_head_fault, bad_end_fault, piece_in_front}
+use Rattle.dp_telegram.proofs.Faults.{frame_length_some, head_within_frame, head_length_some, delimiter_same, right_same, size_same, InFront, end_same, frame_same, Means, means, no_start_fault, bad_head_fault, bad_end_fault, whole_fault, piece_in_front}
 
 -- what is read of a frame that stands in front
 parts_found : (fault : Option FrameFault) (x y : Frame) → (if is_none fault then Some x else None) ≡ Some y → (fault ≡ None) × (x ≡ y)
@@ -177,3 +177,7 @@ pub frame_parted : (s : List ℕ) → InFront s → frame_at (take (frame_length
 frame_parted s front =
     let part = parted s front.room in
     sym (frame_same (take (frame_length s) s) (drop (frame_length s) s) part.there (omega (arith, part.whole))) ∙ ap frame_at (take-append-drop (frame_length s) s)
+
+-- the frame in front is one
+pub fault_parted : (s : List ℕ) → InFront s → end_is_right s ≡ true → fault_of (take (frame_length s) s) ≡ None
+fault_parted s front right = whole_fault (take (frame_length s) s) (front_parted s front) (end_parted s front ∙ right) (parted s front.room).whole

@@ -5,4 +5,6 @@ pub mod FrameExamples
 pub mod Stream
 pub mod StreamExamples
 pub mod Encoding
+pub mod Lent
+pub mod Replies
 pub mod Names

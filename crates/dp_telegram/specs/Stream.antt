@@ -109,7 +109,7 @@ left_of stream = left_behind (piece_of stream) stream
 
 -- a piece whose octets are lent is this piece: the octets of a frame say which frame it is
 abbrev pub cut_lent : Piece → Cut
-cut_lent (lent.Frame octets) = pieces.Frame (frame_at octets.now) (record { items = octets.now })
+cut_lent (lent.Frame octets) = pieces.Frame (frame_at octets) (record { items = octets })
 cut_lent (lent.Dropped fault count) = pieces.Dropped fault count
 
 -- the pieces of a stream, and the rest

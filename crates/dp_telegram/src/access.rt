@@ -1,12 +1,13 @@
 //! The service access points that a telegram names.
 
-ghost use Rattle.std.specs.Prelude.{◌≡◌, ◌+◌, ◌<◌, ◌≤◌, ◌↔◌, [], ◌++◌, if◌then◌else◌, length, Some, None, option_to_list, option_map};
+ghost use Rattle.std.specs.Prelude.{◌≡◌, ◌+◌, ◌<◌, ◌≤◌, ◌↔◌, ◌++◌, length, Some, IfSome, option_to_list, option_map};
 ghost use Rattle.std.specs.Option.{ForSome};
 ghost use Rattle.dp_telegram.specs.Access.{HasParts, parts_of, request_of, request_parts, extension_of, announces, address_of, address_octet as address_octet_of};
 ghost use Rattle.dp_telegram.specs.declared.access.Parts.{Parts};
 ghost use Rattle.dp_telegram.specs.declared.frame.Telegram.{Telegram};
 
 use crate::frame::{Frame, Telegram};
+use crate::lent::{PartsLent, TelegramLent};
 use arrayvec::ArrayVec;
 
 /// Bit 7 of an address octet.
@@ -27,15 +28,11 @@ pub struct Parts {
 }
 
 impl Parts {
-    /// No points and no payload: room for [`Telegram::parts_into`].
-    pub fn blank() -> Parts
-        ensures { result ≡ record { dsap = None; ssap = None; payload = record { items = [] } } }
+    /// The same parts, whose payload is lent.
+    pub fn lent(&self) -> PartsLent<'_>
+        ensures { result ≡ self.now }
     {
-        Parts {
-            dsap: None,
-            ssap: None,
-            payload: ArrayVec::new(),
-        }
+        PartsLent::of(self)
     }
 }
 
@@ -48,37 +45,16 @@ impl Telegram {
         ensures computed { result ≡ parts_of self.now }
         ensures parts { (parts : Parts) → (result ≡ Some parts) ↔ HasParts self.now parts }
     {
-        let mut parts = Parts::blank();
-        if self.parts_into(&mut parts) {
-            Some(parts)
-        } else {
-            None
-        }
-    }
-
-    /// Puts what [`Telegram::parts`] tells where parts lie, and says whether there is such; where there
-    /// isn't, they stay. It moves no parts, which costs the copy of 264 octets each time.
-    pub fn parts_into(&self, parts: &mut Parts) -> bool
-        ensures found { (if result then Some parts.new else None) ≡ parts_of self.now }
-        ensures stays { (if result then parts.old else parts.new) ≡ parts.old }
-    {
-        let Some((dsap, rest)) = extension(self.da, &self.du) else {
-            return false;
-        };
-        let Some((ssap, rest)) = extension(self.sa, rest) else {
-            return false;
-        };
-        parts.dsap = dsap;
-        parts.ssap = ssap;
-        parts.payload.clear();
-        parts.payload.try_extend_from_slice(rest).unwrap();
-        true
+        let telegram = TelegramLent::of(self);
+        let parts = telegram.parts()?;
+        Some(parts.copied())
     }
 }
 
 /// The point that an address octet announces at the front of the octets, and what follows it.
-fn extension(address: u8, octets: &[u8]) -> Option<(Option<u8>, &[u8])>
-    ensures { option_map (λ x. (x.0, x.1.now)) result ≡ extension_of (announces address) octets.now }
+pub(crate) fn extension(address: u8, octets: &[u8]) -> Option<(Option<u8>, &[u8])>
+    ensures point { option_map (λ x. (x.0, x.1.now)) result ≡ extension_of (announces address) octets.now }
+    ensures fewer { IfSome result (λ x. length x.1.now ≤ length octets.now) }
 {
     if address < ANNOUNCES {
         return Some((None, octets));
@@ -118,12 +94,12 @@ pub fn request(da: u8, sa: u8, fc: u8, dsap: Option<u8>, ssap: Option<u8>, paylo
 }
 
 /// An extension octet, where there is a point.
-fn push_point(du: &mut ArrayVec<u8, 246>, point: Option<u8>)
-    requires { length du.old.items ≤ 1 }
-    ensures { du.new.items ≡ du.old.items ++ option_to_list point }
+pub(crate) fn push_point<const N: usize>(octets: &mut ArrayVec<u8, N>, point: Option<u8>)
+    requires { length octets.old.items < N }
+    ensures { octets.new.items ≡ octets.old.items ++ option_to_list point }
 {
     if let Some(number) = point {
-        du.push(number);
+        octets.push(number);
     }
 }
 

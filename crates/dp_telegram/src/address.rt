@@ -14,7 +14,7 @@ pub const GLOBAL_ADDRESS: u8 = 127;
 pub const LAST_STATION: u8 = 126;
 
 /// The bits of an address octet that are the address.
-const ADDRESS_BITS: u8 = 0x7F;
+pub(crate) const ADDRESS_BITS: u8 = 0x7F;
 
 /// A station may have this address: 0 to 126.
 pub const fn is_station(address: u8) -> bool

@@ -2,12 +2,13 @@
 
 ghost use Rattle.std.specs.Prelude.{◌≡◌, ◌+◌, ◌-◌, ◌<◌, ◌≤◌, ◌↔◌, ℕ, List, [], ◌++◌, length, take, drop, min, slice_range, option_map, IfSome, OnSome, IfNone, IsNone, IsTrue, Some};
 ghost use Rattle.dp_telegram.specs.declared.cutter.Cut.TheVariants as pieces;
-ghost use Rattle.dp_telegram.specs.FrameText.{fault_of, delimiter, is_start, head_is_right, frame_length, frame_at};
+ghost use Rattle.dp_telegram.specs.FrameText.{fault_of, delimiter, is_start, end_is_right, head_is_right, frame_length, frame_at};
 ghost use Rattle.dp_telegram.specs.Stream.{piece_of, left_of, cut_lent, frame_in_front, cut_length, StartsWith, StartsWithNone, cuts_of, uncut, with_handed};
 
-use crate::decoding::{fault_in, frame_in, frame_size};
+use crate::decoding::{fault_in, frame_size};
 use crate::fault::FrameFault;
 use crate::frame::{Frame, MOST_OCTETS, Octets};
+use crate::lent::{WholeFrame, frame_in};
 use arrayvec::ArrayVec;
 use std::marker::Model;
 
@@ -37,10 +38,10 @@ pub enum Cut {
 
 /// A piece of a stream whose octets are lent where they lie: the same piece as a [`Cut`], with
 /// nothing copied and nothing decoded.
-#[derive(Clone, Copy, Debug, PartialEq, Eq)]
+#[derive(Debug, Drop)]
 pub enum Piece<'a> {
-    /// The octets of a frame.
-    Frame(&'a [u8]),
+    /// A frame.
+    Frame(WholeFrame<'a>),
     /// Octets that are no frame and are dropped, as in [`Cut::Dropped`].
     Dropped {
         /// Why they are dropped.
@@ -56,7 +57,7 @@ impl Piece<'_> {
         ensures { result ≡ cut_length (cut_lent self.now) }
     {
         match self {
-            Piece::Frame(octets) => octets.len(),
+            Piece::Frame(frame) => frame.octets().len(),
             Piece::Dropped { count, .. } => usize::from(*count),
         }
     }
@@ -225,14 +226,15 @@ fn lent_piece(fault: Option<FrameFault>, octets: &[u8]) -> Option<Piece<'_>>
 }
 
 /// The octets of the frame in front: its head is right, and all of its octets are there.
-fn lent_frame(octets: &[u8]) -> &[u8]
+fn lent_frame(octets: &[u8]) -> WholeFrame<'_>
     requires start { IsTrue (is_start (delimiter octets.now)) }
     requires right { IsTrue (head_is_right octets.now) }
     requires whole { frame_length octets.now ≤ length octets.now }
-    ensures octets { result.now ≡ take (frame_length octets.now) octets.now }
-    ensures same { frame_at result.now ≡ frame_at octets.now }
+    requires ends { IsTrue (end_is_right octets.now) }
+    ensures octets { result ≡ take (frame_length octets.now) octets.now }
+    ensures same { frame_at result ≡ frame_at octets.now }
 {
-    &octets[..frame_size(octets)]
+    WholeFrame::of(&octets[..frame_size(octets)])
 }
 
 /// The frame in front: its head is right, and all of its octets are there.
@@ -245,7 +247,7 @@ fn first_frame(octets: &[u8]) -> Option<Cut>
 {
     let size = frame_size(octets);
     Some(Cut::Frame {
-        frame: frame_in(octets),
+        frame: frame_in(octets).copied(),
         octets: ArrayVec::try_from(&octets[..size]).unwrap(),
     })
 }

@@ -4,7 +4,9 @@ ghost use Rattle.std.specs.Prelude.{◌≡◌, ◌+◌, ◌≤◌, ◌++◌, [],
 ghost use Rattle.dp_telegram.specs.declared.frame.Frame.TheVariants as frames;
 ghost use Rattle.dp_telegram.specs.FrameText.{Spells, text_of, checked, body_of, reading_of};
 ghost use Rattle.dp_telegram.specs.Encoding.{head_text};
+ghost use Rattle.dp_telegram.specs.Replies.{reply_telegram};
 
+use crate::access::push_point;
 use crate::delimiter::{ED, SC, SD1, SD2, SD4, check_sum};
 use crate::frame::{Frame, Octets, Telegram};
 use arrayvec::ArrayVec;
@@ -53,6 +55,42 @@ impl Telegram {
     }
 }
 
+/// A reply with data, before it is written: nothing of it is copied (IEC 61158-4-3, response telegrams).
+#[derive(Clone, Copy, Debug)]
+pub struct DataReply<'a> {
+    /// Destination address octet.
+    pub da: u8,
+    /// Source address octet.
+    pub sa: u8,
+    /// Function code.
+    pub fc: u8,
+    /// The source point, which stands first in the data unit, where there is one.
+    pub ssap: Option<u8>,
+    /// The destination point, which stands behind it.
+    pub dsap: Option<u8>,
+    /// The octets behind the points; with them at most 246.
+    pub data: &'a [u8],
+}
+
+impl DataReply<'_> {
+    /// Makes a text that of the telegram which the reply is.
+    pub fn encode_into(&self, text: &mut Octets)
+        requires { length (reply_telegram self.now).du.items ≤ 246 }
+        ensures { text.new.items ≡ text_of (frames.Telegram (reply_telegram self.now)) }
+    {
+        text.clear();
+        push_head(text, self.length());
+        push_reply(text, self);
+    }
+
+    /// How many octets its data unit has.
+    fn length(&self) -> usize
+        ensures { result ≡ length (reply_telegram self.now).du.items }
+    {
+        usize::from(self.ssap.is_some()) + usize::from(self.dsap.is_some()) + self.data.len()
+    }
+}
+
 /// The start delimiter of a telegram, with the lengths that follow it in SD2.
 fn push_head(text: &mut Octets, data_length: usize)
     requires empty { text.old.items ≡ [] }
@@ -77,6 +115,24 @@ fn push_checked(text: &mut Octets, telegram: &Telegram)
     text.push(telegram.sa);
     text.push(telegram.fc);
     text.try_extend_from_slice(&telegram.du).unwrap();
+    let check_sequence = check_sum(&text[head..]);
+    text.push(check_sequence);
+    text.push(ED);
+}
+
+/// The same of a reply.
+fn push_reply(text: &mut Octets, reply: &DataReply<'_>)
+    requires head { length text.old.items ≤ 4 }
+    requires most { length (reply_telegram reply.now).du.items ≤ 246 }
+    ensures { text.new.items ≡ text.old.items ++ checked (body_of (reply_telegram reply.now)) }
+{
+    let head = text.len();
+    text.push(reply.da);
+    text.push(reply.sa);
+    text.push(reply.fc);
+    push_point(text, reply.ssap);
+    push_point(text, reply.dsap);
+    text.try_extend_from_slice(reply.data).unwrap();
     let check_sequence = check_sum(&text[head..]);
     text.push(check_sequence);
     text.push(ED);

@@ -4,7 +4,7 @@
 //! A [`Frame`] is what one text on the line says; [`decode`] reads the text of one whole frame and
 //! [`encode`] writes one. [`Telegram::parts`] takes the extension octets of a data unit apart, and
 //! [`request`] builds a telegram from its parts. A [`Cutter`] cuts a stream, fed in any pieces, into
-//! frames and dropped octets.
+//! frames and dropped octets. [`WholeFrame`] and [`TelegramLent`] read frames where they lie.
 #![tactic(auto)]
 
 mod access;
@@ -17,14 +17,16 @@ mod fault;
 mod frame;
 pub mod function_code;
 pub mod laws;
+mod lent;
 pub mod stream_laws;
 
 pub use access::{Parts, request};
 pub use address::{GLOBAL_ADDRESS, LAST_STATION, is_station};
 pub use cutter::{Cut, Cutter, Piece};
-pub use decoding::{decode, decode_into};
+pub use decoding::decode;
 pub use delimiter::SC;
-pub use encoding::{acknowledge_into, encode};
+pub use encoding::{DataReply, acknowledge_into, encode};
 pub use fault::FrameFault;
 pub use frame::{Frame, MOST_OCTETS, Octets, Telegram};
 pub use function_code::Function;
+pub use lent::{FrameLent, PartsLent, TelegramLent, WholeFrame};

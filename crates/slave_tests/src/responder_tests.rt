@@ -100,7 +100,7 @@ fn sdn_text(
     if !Function::of(fc).is_sdn() {
         return Err("an SDN")?;
     }
-    match judge_sdn(points, sender, fc, parts) {
+    match judge_sdn(points, sender, fc, &parts.lent()) {
         Rule::Done => text(alloc, "pass"),
         rule => text(alloc, rule.name()),
     }

@@ -52,8 +52,8 @@ fn cut_text(alloc: Global, cut: &Option<Cut>) -> Result<String, Fail> {
 fn front_text(alloc: Global, cutter: &Cutter) -> Result<String, Fail> {
     match cutter.front() {
         None => text(alloc, "none"),
-        Some(Piece::Frame(octets)) => {
-            let octets = hex_text(alloc, octets)?;
+        Some(Piece::Frame(frame)) => {
+            let octets = hex_text(alloc, frame.octets())?;
             Ok(format!(in alloc; "frame {octets}")?)
         }
         Some(Piece::Dropped { fault, count }) => {

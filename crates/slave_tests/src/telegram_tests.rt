@@ -3,8 +3,8 @@
 use crate::rows::{Answers, play};
 use crate::words::{Words, flag, hex_text, repeated, text};
 use dp_telegram::{
-    Frame, GLOBAL_ADDRESS, LAST_STATION, Octets, Telegram, acknowledge_into, decode, encode,
-    is_station, request,
+    DataReply, Frame, FrameLent, GLOBAL_ADDRESS, LAST_STATION, Octets, Telegram, TelegramLent,
+    WholeFrame, acknowledge_into, decode, encode, is_station, request,
 };
 use std::alloc::Global;
 use std::test::Fail;
@@ -24,19 +24,24 @@ fn over_a_text() -> Codec {
 }
 
 impl Answers for Codec {
-    /// Commands are `decode HEX`, `acknowledge`, `write TELEGRAM`, `request DA SA FC DSAP SSAP HEX`,
-    /// `parts TELEGRAM`, `addresses TELEGRAM`, `source FRAME`, `stations` and `code FC`. A telegram is
-    /// `DA SA FC DU` in hex, a frame `ack`, `token DA SA` or `telegram` and such.
+    /// Commands are `decode HEX`, `whole HEX`, `acknowledge`, `write TELEGRAM`, `reply DA SA FC SSAP DSAP HEX`,
+    /// `request DA SA FC DSAP SSAP HEX`, `parts TELEGRAM`, `addresses TELEGRAM`, `source FRAME`, `stations` and
+    /// `code FC`. A telegram is `DA SA FC DU` in hex, a frame `ack`, `token DA SA` or `telegram` and such.
     fn answer(&mut self, alloc: Global, command: &str) -> Result<String, Fail> {
         let mut words = Words::of(command);
         match words.word()? {
             "decode" => decoded(alloc, &words.octets(alloc)?),
+            "whole" => whole_text(alloc, &words.octets(alloc)?),
             "acknowledge" => {
                 acknowledge_into(&mut self.text);
                 hex_text(alloc, &self.text)
             }
             "write" => {
                 telegram_of(alloc, &mut words)?.encode_into(&mut self.text);
+                hex_text(alloc, &self.text)
+            }
+            "reply" => {
+                write_reply(alloc, &mut words, &mut self.text)?;
                 hex_text(alloc, &self.text)
             }
             "request" => requested(alloc, &mut words),
@@ -99,6 +104,70 @@ fn decoded(alloc: Global, octets: &[u8]) -> Result<String, Fail> {
         }
         Err(fault) => Ok(format!(in alloc; "{} {}", fault.name(), fault.code())?),
     }
+}
+
+/// `OCTETS SOURCE FRAME` of a frame where it lies, or `none`.
+fn whole_text(alloc: Global, octets: &[u8]) -> Result<String, Fail> {
+    let Some(whole) = WholeFrame::read(octets) else {
+        return text(alloc, "none");
+    };
+    let octets = hex_text(alloc, whole.octets())?;
+    let frame = whole.frame();
+    let told = lent_text(alloc, &frame)?;
+    Ok(format!(in alloc; "{octets} {:?} {told}", frame.source())?)
+}
+
+/// The text of a frame that is lent.
+fn lent_text(alloc: Global, frame: &FrameLent<'_>) -> Result<String, Fail> {
+    match frame {
+        FrameLent::Ack => text(alloc, "ack"),
+        FrameLent::Token { da, sa } => Ok(format!(in alloc; "token {da:02x} {sa:02x}")?),
+        FrameLent::Telegram(telegram) => telegram_lent_text(alloc, telegram),
+    }
+}
+
+/// `telegram DA SA FC FUNCTION DESTINATION SOURCE`, whether it is a request, and its parts.
+fn telegram_lent_text(alloc: Global, telegram: &TelegramLent<'_>) -> Result<String, Fail> {
+    let (da, sa, fc) = (telegram.da(), telegram.sa(), telegram.fc());
+    let (destination, source) = (telegram.destination(), telegram.source());
+    let (function, is_request) = (telegram.function(), telegram.is_request());
+    let parts = lent_parts_text(alloc, telegram)?;
+    Ok(format!(in alloc;
+        "telegram {da:02x} {sa:02x} {fc:02x} {function:?} {destination} {source} {is_request} {parts}"
+    )?)
+}
+
+/// `DSAP SSAP HEX`, or `none`.
+fn lent_parts_text(alloc: Global, telegram: &TelegramLent<'_>) -> Result<String, Fail> {
+    let Some(parts) = telegram.parts() else {
+        return text(alloc, "none");
+    };
+    let payload = hex_text(alloc, parts.payload())?;
+    Ok(format!(in alloc; "{:?} {:?} {payload}", parts.dsap(), parts.ssap())?)
+}
+
+/// Writes the reply of the next words.
+fn write_reply(alloc: Global, words: &mut Words<'_>, text: &mut Octets) -> Result<(), Fail> {
+    let (da, sa, fc) = (
+        words.octet(alloc)?,
+        words.octet(alloc)?,
+        words.octet(alloc)?,
+    );
+    let (ssap, dsap) = (words.number_or_none()?, words.number_or_none()?);
+    let data = words.octets(alloc)?;
+    if data.len() > 244 {
+        return Err("no reply")?;
+    }
+    let reply = DataReply {
+        da,
+        sa,
+        fc,
+        ssap,
+        dsap,
+        data: &data,
+    };
+    reply.encode_into(text);
+    Ok(())
 }
 
 /// The request with the parts of the next words.
@@ -233,6 +302,40 @@ request 5 1 5d none none 1234 => telegram 05 01 5d 1234
 parts 85 81 6d 7c3e => none
 parts 85 01 6d - => none
 parts 85 81 6d 3c => none
+",
+    )
+}
+
+#[test]
+fn reads_frames_where_they_lie(rt: HostRuntime) -> Result<(), Fail> {
+    play(
+        rt.alloc(),
+        &mut over_a_text(),
+        "\
+whole 6805056885816d3c3eed16 => 6805056885816d3c3eed16 Some(1) telegram 85 81 6d SrdHigh 5 1 true Some(60) Some(62) -
+whole 6805056805016d1234b916 => 6805056805016d1234b916 Some(1) telegram 05 01 6d SrdHigh 5 1 true None None 1234
+whole 100501494f16 => 100501494f16 Some(1) telegram 05 01 49 FdlStatus 5 1 true None None -
+whole 100105000616 => 100105000616 Some(5) telegram 01 05 00 Reserved 1 5 false None None -
+whole 6804046885016d3c2f16 => 6804046885016d3c2f16 Some(1) telegram 85 01 6d SrdHigh 5 1 true Some(60) None -
+whole 6804046885016d7c6f16 => 6804046885016d7c6f16 Some(1) telegram 85 01 6d SrdHigh 5 1 true none
+whole dc0201 => dc0201 Some(1) token 02 01
+whole e5 => e5 None ack
+whole e5e5 => none
+whole 6805056885816d3c3eee16 => none
+whole - => none
+",
+    )
+}
+
+#[test]
+fn writes_replies_with_data(rt: HostRuntime) -> Result<(), Fail> {
+    play(
+        rt.alloc(),
+        &mut over_a_text(),
+        "\
+reply 81 85 08 62 60 020500ff80a1 => 680b0b688185083e3c020500ff80a1af16
+reply 01 05 08 none none abcd => 68050568010508abcd8616
+reply 01 05 0a none 60 - => 6804046801050a3c4c16
 ",
     )
 }

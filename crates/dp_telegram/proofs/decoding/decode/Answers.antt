@@ -18,4 +18,4 @@ returns-in-Some-clause-frame c frame =
 pub returns-in-None-clause-frame : goal.returns-in-None-clause-frame
 returns-in-None-clause-frame c frame =
     let octets = c.args.octets.now in
-    read_is_spelt octets _ frame (ap Ok c.frame_in.ensures ∙ ap (λ (f : Option FrameFault). unless_faulty f (frame_at octets)) c.in-None.ensures)
+    read_is_spelt octets _ frame (ap Ok (c.copied.ensures ∙ c.frame_in.ensures) ∙ ap (λ (f : Option FrameFault). unless_faulty f (frame_at octets)) c.in-None.ensures)

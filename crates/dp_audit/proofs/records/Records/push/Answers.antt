@@ -4,6 +4,7 @@ use Rattle.dp_sap.specs.declared.state.State.{State}
 use Rattle.dp_line.specs.declared.event.Event.{Event}
 use Rattle.dp_line.specs.declared.event.Outcome.{Outcome}
 use Rattle.dp_audit.specs.declared.entry.Entry.{Entry}
+use Rattle.dp_audit.specs.Lent.{event_lent}
 use Rattle.dp_audit.specs.Packed.{IsPackable, packed_event, packed_outcome, record_octets}
 use Rattle.dp_audit.specs.RecordsInvariant.{AreStored, entries_in}
 use Rattle.dp_audit.proofs.Stores.{counted, octets_count, pushed, record_is}
@@ -70,13 +71,13 @@ Kept c =
     let starts = c.push_reserved.new.self in
     let before = entries_in c.self.inside.octets.items 1 c.self.inside.starts.items in
     AreStored (entries_in octets.items 1 starts.items) octets.items starts.items c.self.inside.capacity (vec_capacity octets) (vec_capacity starts)
-    × (entries_in octets.items 1 starts.items ≡ before ++ entry_of before c.args.event.now c.args.facts.now c.args.outcome.now ∷ [])
+    × (entries_in octets.items 1 starts.items ≡ before ++ entry_of before (event_lent c.args.event) c.args.facts.now c.args.outcome.now ∷ [])
 
 kept : (c : goal.After-pack_answer) → Kept c
 kept c =
     let octets = c.self.inside.octets in
     let starts = c.self.inside.starts in
-    let entry = entry_of (entries_in octets.items 1 starts.items) c.args.event.now c.args.facts.now c.args.outcome.now in
+    let entry = entry_of (entries_in octets.items 1 starts.items) (event_lent c.args.event) c.args.facts.now c.args.outcome.now in
     let packable : IsPackable entry = record { event = c.pack_event.ensures.limits; point = c.requires.point; holder = c.requires.holder; outcome = c.pack_answer.ensures.limits } in
     let view = ap (λ v. length v.entries) c.self.view_is in
     let bound = ap (λ v. v.capacity) c.self.view_is in
@@ -96,4 +97,4 @@ invariant_of-self c = (kept c).0
 pub returns : goal.returns
 returns c =
     ap (λ entries. record { entries = entries; capacity = c.self.inside.capacity }) (kept c).1
-    ∙ ap (λ view. record { entries = view.entries ++ entry_of view.entries c.args.event.now c.args.facts.now c.args.outcome.now ∷ []; capacity = view.capacity }) c.self.view_is
+    ∙ ap (λ view. record { entries = view.entries ++ entry_of view.entries (event_lent c.args.event) c.args.facts.now c.args.outcome.now ∷ []; capacity = view.capacity }) c.self.view_is

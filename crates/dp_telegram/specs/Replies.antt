@@ -1,0 +1,13 @@
+-- The telegram that a reply with data is.
+use Rattle.std.specs.Prelude.{◌++◌, option_to_list}
+use Rattle.dp_telegram.specs.declared.frame.Telegram.{Telegram}
+use Rattle.dp_telegram.specs.declared.encoding.DataReply.{DataReply}
+
+-- the source point stands first, and then the destination point (IEC 61158-4-3, address extension)
+abbrev pub reply_telegram : DataReply → Telegram
+reply_telegram reply = record {
+  da = reply.da;
+  sa = reply.sa;
+  fc = reply.fc;
+  du = record { items = option_to_list reply.ssap ++ option_to_list reply.dsap ++ reply.data.now };
+}
