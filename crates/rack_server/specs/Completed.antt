@@ -1,11 +1,13 @@
 -- When the file of a line that was halted is complete (own).
-use Rattle.std.specs.Prelude.{◌≡◌, ℕ, List, [], ◌∷◌, ◌++◌, length, Option}
+use Rattle.std.specs.Prelude.{◌≡◌, ℕ, Bool, ◌&&◌, ◌==◌, false, List, [], ◌∷◌, ◌++◌, length, Option}
 use Rattle.dp_line.specs.declared.description.LineSpec.{LineSpec}
 use Rattle.dp_line.specs.declared.event.Event.TheVariants.{Operator}
 use Rattle.dp_line.specs.declared.event.Op.TheVariants.{Halt}
 use Rattle.dp_audit.specs.declared.entry.Entry.{Entry}
-use Rattle.dp_shared.specs.Content.{Content}
+use Rattle.dp_shared.specs.Content.{Content, world_now}
+use Rattle.dp_shared.specs.LineLock.{FitsPass}
 use Rattle.dp_shared.specs.declared.line_view.Look.{Look}
+use Rattle.dp_shared.specs.declared.line_view.PassView.{PassView}
 use Rattle.dp_trail.specs.Trails.{AreFrom, IsWhole, found, seen_text}
 use Rattle.rack_server.specs.ServeOutput.{IsLeftBy, text_of}
 
@@ -29,3 +31,14 @@ pub record IsComplete (line : LineSpec) (front now : Option (List ℕ)) (entries
   pub ends : EndsWithHalt content.book.entries
   pub many : length content.book.entries ≡ entries
   pub text : IsWhole front now (text_of content)
+
+-- the line is halted, and its journal has as many entries as were seen
+abbrev pub is_finished : Content → ℕ → Bool
+is_finished content seen = (world_now content).halted && length content.book.entries == seen
+
+-- what this line leaves, with all that this pass saw of it, isn't halted, or has other entries than so many
+pub record IsUnfinished (line : LineSpec) (pass : PassView) (seen : ℕ) : Type 0 where
+  pub content : Content
+  pub left : IsLeftBy line content
+  pub fits : FitsPass content pass
+  pub short : is_finished content seen ≡ false

@@ -1,7 +1,9 @@
 -- A rack whose lines are started anew, and what is written of it (own).
-use Rattle.std.specs.Prelude.{◌≡◌, ◌⊎◌, ℕ, false, List, Option, Result, Ok, Err, Contains}
+use Rattle.std.specs.Prelude.{◌≡◌, ◌⊎◌, ℕ, false, List, Option, Some, None, Result, Ok, Err, Contains}
+use Rattle.std.specs.Borrow.{Bor}
 use Rattle.std.specs.List.{list_all}
 use Rattle.std.specs.Io.KnownBytes.{Appends, Keeps}
+use Rattle.dp_cause.specs.declared.cause.Cause.TheVariants.{NotTaken}
 use Rattle.dp_text.specs.Writes.{WritesPrefix}
 use Rattle.dp_script.specs.declared.run_fault.RunFault.{RunFault}
 use Rattle.dp_script.specs.declared.run_fault.RunFault.TheVariants as runs
@@ -10,7 +12,11 @@ use Rattle.rack_file.specs.declared.fault.RackFault.{RackFault}
 use Rattle.rack_file.specs.declared.fault.RackFault.TheVariants as racks
 use Rattle.rackd_words.specs.declared.invocation.Audit.{Audit}
 use Rattle.rackd_words.specs.declared.invocation.Audit.TheVariants as audits
+use Rattle.rack_server.specs.declared.house.DownFault.{DownFault}
+use Rattle.rack_server.specs.declared.house.DownFault.TheVariants as downs
+use Rattle.rack_server.specs.declared.house.Ended.{Ended}
 use Rattle.rack_server.specs.declared.serve.Served.{Served}
+use Rattle.rack_server.specs.declared.serve_fault.AuditPath.TheVariants as paths
 use Rattle.rack_server.specs.declared.serve_fault.ServeFault.{ServeFault}
 use Rattle.rack_server.specs.declared.serve_fault.ServeFault.TheVariants as faults
 use Rattle.rack_server.specs.declared.served_line.ServedLine.{ServedLine}
@@ -31,6 +37,20 @@ Renews old new (Err (faults.CannotWrite path cause)) = Appends old new ready
 Renews old new (Err (faults.Run runs.WriteFault)) = WritesPrefix old new ready
 Renews old new (Err (faults.Run runs.OutOfMemory)) = Keeps old new ⊎ Appends old new ready
 Renews old new (Err other) = ⊥
+
+-- the fault that ends the program, by that of a line, whose file is in the folder
+abbrev pub told_of : Bor (List ℕ) → DownFault → ServeFault
+told_of folder (downs.CannotMake line number cause) = faults.CannotMake (paths.File folder line number) cause
+told_of folder (downs.CannotWrite line number) = faults.CannotWrite (paths.File folder line number) NotTaken
+told_of folder downs.OutOfMemory = faults.Run runs.OutOfMemory
+
+-- the first fault of a line, or how many sessions were served
+abbrev pub ends_by : Bor (List ℕ) → ℕ → ℕ → Option DownFault → Result Served ServeFault
+ends_by folder masters operators None = Ok (record { masters = masters; operators = operators })
+ends_by folder masters operators (Some fault) = Err (told_of folder fault)
+
+abbrev pub outcome_of : Bor (List ℕ) → Ended → Result Served ServeFault
+outcome_of folder ended = ends_by folder ended.masters ended.operators ended.fault
 
 -- lines that are listened at, and started anew or not
 abbrev pub ServesLinesAs : Audit → List ServedLine → Option (List ℕ) → Option (List ℕ) → Result Served ServeFault → Type 0

@@ -1,6 +1,6 @@
 //! The files that get the audit texts of lines while these are served.
 
-ghost use Rattle.std.specs.Prelude.{IfErr};
+ghost use Rattle.std.specs.Prelude.{◌≤◌, IfErr, IfOk};
 ghost use Rattle.rack_server.specs.ServeOutput.{IsRecordingFault};
 
 use crate::archive::Archive;
@@ -87,7 +87,8 @@ pub(crate) fn next_file<'a, H: Archive>(
     line: u8,
     first: u32,
 ) -> Result<NewFile, ServeFault<'a>>
-    ensures { IfErr result IsRecordingFault }
+    ensures number { IfOk result (λ made. first ≤ made.number) }
+    ensures fault { IfErr result IsRecordingFault }
 {
     for number in first..=u32::MAX {
         let path = AuditPath::File {

@@ -1,9 +1,9 @@
 //! A rack whose lines are started anew whenever they are halted.
 
-ghost use Rattle.std.specs.Prelude.{◌≡◌, ◌≤◌, ℕ, List, Option, All, Err, IfErr, None, OnOk, length};
+ghost use Rattle.std.specs.Prelude.{◌≡◌, ◌≤◌, ℕ, List, Option, All, Err, IfErr, IfOk, None, OnOk, length, map};
 ghost use Rattle.std.specs.Io.KnownBytes.{Appends};
 ghost use Rattle.dp_line.specs.World.{description_of, opening_fault};
-ghost use Rattle.rack_server.specs.Renewals.{Opens, Renews};
+ghost use Rattle.rack_server.specs.Renewals.{Opens, Renews, outcome_of};
 ghost use Rattle.rack_server.specs.ServeOutput.{IsRecordingFault, ready};
 
 use crate::acceptors::Accept;
@@ -176,7 +176,8 @@ fn keep_house<
 
 /// How the program ends, once nothing is served any more.
 fn outcome<'a>(folder: &'a str, ended: Ended) -> Result<Served, ServeFault<'a>>
-    ensures { (old new : Option (List ℕ)) → Appends old new ready → Renews old new result }
+    ensures exact { result ≡ outcome_of folder.entry ended }
+    ensures renews { (old new : Option (List ℕ)) → Appends old new ready → Renews old new result }
 {
     let Ended {
         masters,
@@ -238,6 +239,7 @@ fn openable_lines<'s>(
 ) -> Result<Vec<OpenableLine<'s>>, AllocError>
     requires workers { (1 ≤ workers) × (workers ≤ 32) }
     requires fit { All (λ line. opening_fault (description_of line.spec) ≡ None) lines.now }
+    ensures { IfOk result (λ openable. map (λ one. one.line.now) openable.items ≡ lines.now) }
 {
     let mut openable = Vec::new(alloc);
     for line in lines {

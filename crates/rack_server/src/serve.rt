@@ -1,6 +1,6 @@
 //! A rack, served at sockets.
 
-ghost use Rattle.std.specs.Prelude.{◌≡◌, ◌≤◌, All, None, length};
+ghost use Rattle.std.specs.Prelude.{◌≡◌, ◌≤◌, ◌-◌, ◌^◌, All, None, length, unwrap_or};
 ghost use Rattle.dp_sessions.specs.Pools.{HasSeats};
 ghost use Rattle.dp_line.specs.World.{description_of, opening_fault};
 ghost use Rattle.rack_file.specs.Rack.{rack_described};
@@ -211,7 +211,10 @@ fn serve_once<
 
 /// How lines are served that are started anew, by the words and the rack.
 fn renewal_of<'a>(folder: &'a str, service: Service<'a>, workers: u8) -> Renewal<'a>
-    ensures { result.workers ≡ workers }
+    ensures folder { result.folder ≡ folder.entry }
+    ensures sessions { result.sessions ≡ unwrap_or service.entry.sessions (2 ^ 64 - 1) }
+    ensures telling { result.telling ≡ service.entry.telling }
+    ensures workers { result.workers ≡ workers }
 {
     Renewal {
         folder,
@@ -222,7 +225,9 @@ fn renewal_of<'a>(folder: &'a str, service: Service<'a>, workers: u8) -> Renewal
 }
 
 /// How many connections each port accepts; where there is no end of them, more than can come.
-fn sessions_of(service: Service<'_>) -> u64 {
+fn sessions_of(service: Service<'_>) -> u64
+    ensures { result ≡ unwrap_or service.entry.sessions (2 ^ 64 - 1) }
+{
     service.sessions.map_or(u64::MAX, |count| u64::from(count))
 }
 

@@ -1,9 +1,9 @@
 //! What the trail of a line leaves once the line is served no more, and when the file of it is complete.
 
-ghost use Rattle.std.specs.Prelude.{◌≡◌, List, Option, IfOk, IfSome, ℕ};
+ghost use Rattle.std.specs.Prelude.{◌≡◌, List, Option, IfNone, IfOk, IfSome, ℕ};
 ghost use Rattle.dp_shared.specs.Passes.{line_of, table_of};
 ghost use Rattle.dp_trail.specs.Trails.{IsTrailOf};
-ghost use Rattle.rack_server.specs.Completed.{HasSeen, IsComplete};
+ghost use Rattle.rack_server.specs.Completed.{HasSeen, IsComplete, IsUnfinished};
 
 use dp_shared::{Line, Pass};
 use dp_trail::laws::a_trail_has_the_first_entries;
@@ -65,9 +65,10 @@ pub fn complete<W: Write + Drop>(
 ) -> Result<Option<u32>, AllocError>
     requires ours { left.pass.table ≡ table_of line }
     requires number { left.pass.line ≡ (line_of line).number }
-    ensures { IfOk result (λ done. IfSome done (λ entries. (front : Option (List ℕ))
+    ensures complete { IfOk result (λ done. IfSome done (λ entries. (front : Option (List ℕ))
         → HasSeen front (W.contents left.writer) left.pass.line left.pass.view.looks left.seen
         → IsComplete (line_of line) front (W.contents left.writer) entries)) }
+    ensures unfinished { IfOk result (λ done. IfNone done (IsUnfinished (line_of line) left.pass.view left.seen)) }
 {
     a_trail_has_the_first_entries();
     let Remains { pass, seen, .. } = left;

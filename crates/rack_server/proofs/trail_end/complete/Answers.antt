@@ -5,8 +5,8 @@ use Rattle.dp_shared.specs.Passes.{line_of}
 use Rattle.rack_server.proofs.Completing.{completed}
 use Rattle.rack_server.proofs.trail_end.complete.Goals as goal
 
-pub returns-then-count-seen : goal.returns-then-count-seen
-returns-then-count-seen g c =
+pub returns-then-count-seen-clause-complete : goal.returns-then-count-seen-clause-complete
+returns-then-count-seen-clause-complete g c =
     let passes : c.push.new.self.items ≡ c.args.left.pass ∷ [] = search rules in
     let (of_line, history, numbered, fit, differ) = c.in-Ok.ensures in
     let fits : AllByRecursion (λ pass. FitsPass c.in-Ok.closed pass.view) (c.args.left.pass ∷ []) = rw passes at fit in
