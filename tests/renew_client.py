@@ -1293,7 +1293,8 @@ def refused_threads(trial):
         raise NotHere
     # The lines start at one time, and each serves on without its last worker: with a thread more for each none is refused.
     enough, ends = least_threads(trial) + 2, []
-    for words in [str(enough)] + [f"{count},1" for count in range(enough, enough + 5)]:
+    # A start of two workers asks for eight threads, the last two for them: each, and each two in a row, are refused once.
+    for words in [str(enough)] + [f"{count},{refused}" for refused in (1, 2) for count in range(enough, enough + 8)]:
         program = wrapper(trial, f"refuse-{words}", f'{REFUSE} {words} {trial.program} "$@"')
         with serve(trial, {1: 6, 2: 100}, program=program, workers=2, folder=trial.path(f"trails-{words}")) as server:
             ends.append(ends_or_serves_on(trial, server))
