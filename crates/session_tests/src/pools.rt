@@ -268,7 +268,7 @@ fn served_at<H: Threads + Wait + Sync>(
 #[test]
 fn jobs_of_no_port_are_dropped(rt: HostRuntime) -> Result<(), Fail> {
     is_told(
-        served_at(&rt, rt.alloc(), &[2, 0, 255, 1])?,
+        served_at(&rt, rt.alloc(), &[2, 0, 33, 255, 1])?,
         "2 served, free true, octets 36",
     )
 }

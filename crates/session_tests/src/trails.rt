@@ -134,7 +134,7 @@ fn serve_between<T: Wait, C: CatchUp>(
 }
 
 /// Serves a session of these reads at a fresh line, with a trail that has room for so many octets or without one:
-/// the log, and how the session ended.
+/// the log, and how the session ended. Behind it the trail has room again, and catches up with a request of another.
 fn log_of<T: Wait>(
     rt: &T,
     alloc: Global,
@@ -152,7 +152,13 @@ fn log_of<T: Wait>(
     let end = if room.is_some() {
         let trail = Trail::<_, Brand>::of(Tail::open(rt, &port.line, Rows { rt, log: &log })?);
         let end = serve_between(rt, &trail, &port, &mut seat, &log, reads.as_slice());
-        trail.into_tail().close(rt);
+        let mut other = port.line.open_pass(rt, 2)?;
+        port.line
+            .exchange(rt, &mut other, &octets_of("100902495416")?);
+        log.lock(rt).room = 1000;
+        let mut tail = trail.into_tail();
+        let _ = tail.catch_up(rt);
+        tail.close(rt);
         end
     } else {
         serve_between(rt, &NoTrail, &port, &mut seat, &log, reads.as_slice())
@@ -192,12 +198,13 @@ rack-audit 2 line 1
 > 100901495316
 2 req 1 100901495316 | none | silence NoStation
 > -
+3 req 2 100902495416 | none | silence NoStation
 EndOfInput
 ",
     )
 }
 
-/// Where a row can't be written whole, its reply isn't written either.
+/// Where a row can't be written whole, its reply isn't written either, and no row behind it, though there is room again.
 #[test]
 fn no_reply_behind_a_cut_row(rt: HostRuntime) -> Result<(), Fail> {
     let told = log_of(
