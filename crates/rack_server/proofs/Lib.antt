@@ -6,3 +6,4 @@ mod RacksServed
 mod Halting
 mod Completing
 mod Renewing
+mod Staffing

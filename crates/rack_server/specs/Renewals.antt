@@ -1,5 +1,5 @@
 -- A rack whose lines are started anew, and what is written of it (own).
-use Rattle.std.specs.Prelude.{◌≡◌, ◌⊎◌, ℕ, false, List, Option, Some, None, Result, Ok, Err, Contains}
+use Rattle.std.specs.Prelude.{◌≡◌, ◌⊎◌, ℕ, false, List, [], ◌∷◌, Option, Some, None, Result, Ok, Err, Contains}
 use Rattle.std.specs.Borrow.{Bor}
 use Rattle.std.specs.List.{list_all}
 use Rattle.std.specs.Io.KnownBytes.{Appends, Keeps}
@@ -15,6 +15,9 @@ use Rattle.rackd_words.specs.declared.invocation.Audit.TheVariants as audits
 use Rattle.rack_server.specs.declared.house.DownFault.{DownFault}
 use Rattle.rack_server.specs.declared.house.DownFault.TheVariants as downs
 use Rattle.rack_server.specs.declared.house.Ended.{Ended}
+use Rattle.rack_server.specs.declared.listening.Listening.{Listening}
+use Rattle.rack_server.specs.declared.porter.Guests.{Guests}
+use Rattle.rack_server.specs.declared.porter.Guests.TheVariants.{Masters, Operators}
 use Rattle.rack_server.specs.declared.serve.Served.{Served}
 use Rattle.rack_server.specs.declared.serve_fault.AuditPath.TheVariants as paths
 use Rattle.rack_server.specs.declared.serve_fault.ServeFault.{ServeFault}
@@ -37,6 +40,10 @@ Renews old new (Err (faults.CannotWrite path cause)) = Appends old new ready
 Renews old new (Err (faults.Run runs.WriteFault)) = WritesPrefix old new ready
 Renews old new (Err (faults.Run runs.OutOfMemory)) = Keeps old new ⊎ Appends old new ready
 Renews old new (Err other) = ⊥
+
+-- where porters of a line listen, and who comes there
+abbrev pub porters_at : {L : Type 0} → Listening L → List (L × Guests)
+porters_at here = (here.masters, Masters) ∷ (here.operators, Operators) ∷ []
 
 -- the fault that ends the program, by that of a line, whose file is in the folder
 abbrev pub told_of : Bor (List ℕ) → DownFault → ServeFault

@@ -1,9 +1,10 @@
 //! A rack whose lines are started anew whenever they are halted.
 
-ghost use Rattle.std.specs.Prelude.{◌≡◌, ◌≤◌, ℕ, List, Option, All, Err, IfErr, IfOk, None, OnOk, length, map};
+ghost use Rattle.std.specs.Prelude.{◌≡◌, ◌≤◌, ℕ, List, ◌∷◌, [], ◌++◌, Option, All, Err, IfErr, IfOk, None, OnOk, length, map};
 ghost use Rattle.std.specs.Io.KnownBytes.{Appends};
+ghost use Rattle.std.specs.List.{flat_map, range_with_len};
 ghost use Rattle.dp_line.specs.World.{description_of, opening_fault};
-ghost use Rattle.rack_server.specs.Renewals.{Opens, Renews, outcome_of};
+ghost use Rattle.rack_server.specs.Renewals.{Opens, Renews, outcome_of, porters_at};
 ghost use Rattle.rack_server.specs.ServeOutput.{IsRecordingFault, ready};
 
 use crate::acceptors::Accept;
@@ -90,6 +91,7 @@ pub(crate) fn serve_renewing<
     writer: &mut W,
 ) -> Result<Served, ServeFault<'a>>
     requires few { length lines.now ≤ 8 }
+    requires each { length listening.items ≡ length lines.now }
     requires workers { (1 ≤ renewal.workers) × (renewal.workers ≤ 32) }
     requires fit { All (λ line. opening_fault (description_of line.spec) ≡ None) lines.now }
     ensures { Renews (W.contents writer.old) (W.contents writer.new) result }
@@ -146,6 +148,8 @@ fn keep_house<
     posts: Vec<Post>,
     writer: &mut W,
 ) -> Result<Ended, RunFault>
+    requires few { length lines.now ≤ 8 }
+    requires each { length posts.items ≡ length lines.now }
     requires workers { (1 ≤ renewal.workers) × (renewal.workers ≤ 32) }
     requires fit { All (λ line. opening_fault (description_of line.spec) ≡ None) lines.now }
     ensures ok { OnOk result (Appends (W.contents writer.old) (W.contents writer.new) ready) }
@@ -206,7 +210,7 @@ fn outcome<'a>(folder: &'a str, ended: Ended) -> Result<Served, ServeFault<'a>>
     }
 }
 
-/// Where each line is listened at, with a new file of the folder for it.
+/// Where each line is listened at, in the order of the lines, with a new file of the folder for it.
 ///
 /// `CannotMake` with the path that can't be had, or `OutOfMemory`.
 fn post_lines<'a, H: Archive>(
@@ -216,7 +220,9 @@ fn post_lines<'a, H: Archive>(
     listening: Vec<Listening<TcpListener>>,
     folder: &'a str,
 ) -> Result<Vec<Post>, ServeFault<'a>>
-    ensures { IfErr result IsRecordingFault }
+    requires each { length listening.items ≡ length lines.now }
+    ensures posts { IfOk result (λ posts. map (λ post. post.here) posts.items ≡ listening.items) }
+    ensures fault { IfErr result IsRecordingFault }
 {
     let mut posts = Vec::new(alloc);
     for (line, here) in lines.iter().zip(listening) {
@@ -268,6 +274,8 @@ fn keep_lines<
     renewal: Renewal<'_>,
     writer: &mut W,
 ) -> Result<(), RunFault>
+    requires few { length lines.items ≤ 8 }
+    requires each { length posts.items ≡ length lines.items }
     ensures { Opens (W.contents writer.old) (W.contents writer.new) result }
 {
     let each = THREADS + BESIDE + usize::from(renewal.workers);
@@ -297,12 +305,19 @@ struct Staff<'a, H> {
 }
 
 impl<'a, H> Staff<'a, H> {
-    /// The staff of these lines; or memory was refused.
+    /// The staff of these lines, in their order; or memory was refused.
     fn of(
         house: &'a House<'a, H>,
         lines: Vec<OpenableLine<'a>>,
         posts: Vec<Post>,
-    ) -> Result<Staff<'a, H>, AllocError> {
+    ) -> Result<Staff<'a, H>, AllocError>
+        requires few { length lines.items ≤ 8 }
+        requires each { length posts.items ≡ length lines.items }
+        ensures lines { IfOk result (λ staff. map (λ keeper. keeper.line) staff.keepers.items ≡ lines.entry.items) }
+        ensures ports { IfOk result (λ staff. map (λ keeper. keeper.port) staff.keepers.items ≡ range_with_len 0 (length lines.entry.items)) }
+        ensures files { IfOk result (λ staff. map (λ keeper. keeper.first) staff.keepers.items ≡ map (λ post. post.file) posts.items) }
+        ensures porters { IfOk result (λ staff. map (λ porter. (porter.listener, porter.guests)) staff.porters.items ≡ flat_map (λ post. porters_at post.here) posts.items) }
+    {
         let mut staff = Staff {
             porters: Vec::new(house.alloc),
             keepers: Vec::new(house.alloc),
@@ -322,7 +337,12 @@ impl<'a, H> Staff<'a, H> {
         line: OpenableLine<'a>,
         port: u8,
         post: Post,
-    ) -> Result<(), AllocError> {
+    ) -> Result<(), AllocError>
+        ensures lines { OnOk result (map (λ keeper. keeper.line) self.new.keepers.items ≡ map (λ keeper. keeper.line) self.old.keepers.items ++ line.entry ∷ []) }
+        ensures ports { OnOk result (map (λ keeper. keeper.port) self.new.keepers.items ≡ map (λ keeper. keeper.port) self.old.keepers.items ++ port ∷ []) }
+        ensures files { OnOk result (map (λ keeper. keeper.first) self.new.keepers.items ≡ map (λ keeper. keeper.first) self.old.keepers.items ++ post.file ∷ []) }
+        ensures porters { OnOk result (map (λ porter. (porter.listener, porter.guests)) self.new.porters.items ≡ map (λ porter. (porter.listener, porter.guests)) self.old.porters.items ++ porters_at post.here) }
+    {
         let Post { here, file } = post;
         let (of_masters, masters) = queue(house.alloc, WAITING)?;
         let (of_operators, operators) = queue(house.alloc, OPERATORS)?;
