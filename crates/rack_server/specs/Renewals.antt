@@ -45,6 +45,12 @@ Renews old new (Err other) = ⊥
 abbrev pub porters_at : {L : Type 0} → Listening L → List (L × Guests)
 porters_at here = (here.masters, Masters) ∷ (here.operators, Operators) ∷ []
 
+-- what ends the start of a line of this number is told of its own file
+abbrev pub IsDownAt : ℕ → ℕ → DownFault → Type 0
+IsDownAt line file (downs.CannotMake of_line of_file cause) = (of_line ≡ line) × (of_file ≡ file)
+IsDownAt line file (downs.CannotWrite of_line of_file) = (of_line ≡ line) × (of_file ≡ file)
+IsDownAt line file downs.OutOfMemory = Unit {0}
+
 -- the fault that ends the program, by that of a line, whose file is in the folder
 abbrev pub told_of : Bor (List ℕ) → DownFault → ServeFault
 told_of folder (downs.CannotMake line number cause) = faults.CannotMake (paths.File folder line number) cause

@@ -1,10 +1,11 @@
 //! What keeps a line served: it is started anew whenever it is halted.
 
-ghost use Rattle.std.specs.Prelude.{◌≡◌, ◌≤◌, ℕ, [], ◌∷◌, List, Option, All, IfOk, IfSome, None, length};
+ghost use Rattle.std.specs.Prelude.{◌≡◌, ◌≤◌, ℕ, [], ◌∷◌, List, Option, All, IfErr, IfOk, IfSome, None, length};
 ghost use Rattle.dp_line.specs.World.{description_of, opening_fault};
 ghost use Rattle.dp_sessions.specs.Pools.{HasSeats};
 ghost use Rattle.dp_shared.specs.Passes.{line_of, table_of};
 ghost use Rattle.rack_server.specs.Completed.{HasSeen, IsComplete};
+ghost use Rattle.rack_server.specs.Renewals.{IsDownAt};
 
 use crate::archive::Archive;
 use crate::audit_files::NewFile;
@@ -159,8 +160,9 @@ fn serve_once<
     place: Place<'s>,
     file: F,
 ) -> Result<Option<u32>, DownFault>
-    ensures { IfOk result (λ done. IfSome done (λ entries. (now : Option (List ℕ))
+    ensures complete { IfOk result (λ done. IfSome done (λ entries. (now : Option (List ℕ))
         × IsComplete line.entry.line.now.spec (F.contents file) now entries)) }
+    ensures fault { IfErr result (IsDownAt line.entry.line.now.spec.number place.entry.file) }
 {
     if !can_start(house.rt, usize::from(line.workers) + BESIDE) {
         return Err(DownFault::OutOfMemory);
@@ -198,6 +200,7 @@ fn serve_open<
     requires seats { All (λ own. HasSeats (port.now ∷ []) own.items) seats.items }
     ensures ours { IfOk result (λ left. (left.pass.table ≡ table_of port.now.line) × (left.pass.line ≡ (line_of port.now.line).number)) }
     ensures seen { IfOk result (λ left. HasSeen (F.contents file) (F.contents left.writer) left.pass.line left.pass.view.looks left.seen) }
+    ensures fault { IfErr result (IsDownAt line.entry.line.now.spec.number place.entry.file) }
 {
     let number = line.line.spec.number;
     let tail = match Tail::open(house.rt, &port.line, file) {

@@ -1,9 +1,10 @@
 //! A line from its opening to its halt, served at sockets.
 
-ghost use Rattle.std.specs.Prelude.{◌≤◌, ℕ, [], ◌∷◌, List, Option, All, IfOk, length};
+ghost use Rattle.std.specs.Prelude.{◌≤◌, ℕ, [], ◌∷◌, List, Option, All, IfErr, IfOk, length};
 ghost use Rattle.dp_sessions.specs.Pools.{HasSeats};
 ghost use Rattle.dp_trail.specs.Trails.{IsTrailOf};
 ghost use Rattle.rack_server.specs.Completed.{HasSeen};
+ghost use Rattle.rack_server.specs.Renewals.{IsDownAt};
 
 use crate::acceptors::TURNS;
 use crate::audit_files::AuditFile;
@@ -67,8 +68,9 @@ pub(crate) fn serve_recorded<
     requires known { IsTrailOf K.whose tail.pass.table tail.pass.line (F.contents tail.opened.value) }
     requires workers { (1 ≤ length seats.items) × (length seats.items ≤ 32) }
     requires seats { All (λ own. HasSeats (desk.port.now ∷ []) own.items) seats.items }
-    ensures { IfOk result (λ left. (front : Option (List ℕ)) × IsTrailOf K.whose left.pass.table left.pass.line front
+    ensures left { IfOk result (λ left. (front : Option (List ℕ)) × IsTrailOf K.whose left.pass.table left.pass.line front
         × HasSeen front (F.contents left.writer) left.pass.line left.pass.view.looks left.seen) }
+    ensures fault { IfErr result (IsDownAt desk.entry.line.now.number place.entry.file) }
 {
     let number = desk.line.number;
     let path = AuditPath::File {
