@@ -98,9 +98,10 @@ With --audit FOLDER the audit text of each line is written to a new file line-N-
 while it is served: the row of an event is there before its answer is sent. 'check' wants such a text
 from its header on, without 'ready'. With --renew a line that is halted, since its journal is full or
 by its operator, is started anew: its sessions end, its file is complete, and the line begins again
-with a new file, so that a rack runs for days; standard output has 'ready' alone then. With --log connections, ends of sessions and octets that are no
-telegram are told on standard error, with --log requests each request and its answer too. That a line
-is halted is always told.
+with a new file, so that a rack runs for days; standard output has 'ready' alone then.
+
+With --log, connections, ends of sessions and octets that are no telegram are told on standard error,
+with --log requests each request and its answer too. That a line is halted is always told.
 
 'operate' is an operator at hand of a line that is served: the lines of standard input go to its port
 'operator', and the answers to standard output. With --tick MS (10 to 86400000) the time that passes
