@@ -1,4 +1,5 @@
 mod Writing
+mod Recording
 mod Serving
 mod Sharing
 mod Opening

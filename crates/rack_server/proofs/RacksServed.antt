@@ -1,12 +1,13 @@
 -- A rack that is served: its lines by its description, and how that ends.
-use Rattle.std.proofs.Common.{◌≡◌, ℕ, Bool, false, ◌&&◌, List, [], ◌∷◌, length, map, Option, Some, None, is_some, option_and_then, option_map, Err, All, IsPermutation, inl, inr, refl, sym, ap, subst, ◌∙◌}
+use Rattle.std.proofs.Common.{◌≡◌, ℕ, Bool, false, ◌&&◌, List, [], ◌∷◌, length, map, Option, Some, None, is_some, option_and_then, option_map, Err, All, Contains, IsPermutation, inl, inr, refl, sym, ap, subst, ◌∙◌}
+use Rattle.std.specs.Borrow.{Bor}
 use Rattle.std.specs.List.{AllByRecursion, list_all}
 use Rattle.std.proofs.lemmas.List.{length-map}
 use Rattle.std.proofs.lemmas.List.Elements.{All-from_recursion, recursion_from_All}
-use Rattle.std.proofs.lemmas.List.Sorted.{All-permutation, IsPermutation-map, length_permutation}
+use Rattle.std.proofs.lemmas.List.Sorted.{All-permutation, Contains-permutation, IsPermutation-map, IsPermutation-sym, length_permutation}
 use Rattle.dp_line.specs.World.{description_of, opening_fault}
 use Rattle.dp_line.specs.declared.description.LineSpec.{LineSpec}
-use Rattle.rack_file.specs.Rack.{RackDescription, line_described}
+use Rattle.rack_file.specs.Rack.{LineDescription, RackDescription, line_described}
 use Rattle.rack_file.specs.declared.fault.RackFault.TheVariants as racks
 use Rattle.rack_file.specs.declared.rack.RackLine.{RackLine}
 use Rattle.rack_server.specs.declared.serve_fault.ServeFault.{ServeFault}
@@ -14,8 +15,11 @@ use Rattle.rack_server.specs.declared.serve_fault.ServeFault.TheVariants as faul
 use Rattle.dp_script.specs.declared.run_fault.RunFault.{RunFault}
 use Rattle.dp_script.specs.declared.run_fault.RunFault.TheVariants as runs
 use Rattle.rack_server.specs.declared.served_line.ServedLine.{ServedLine}
-use Rattle.rack_server.specs.ServedLines.{AreInOrder, ArePutInOrder, all_served, served_line, with_both}
-use Rattle.rack_server.specs.ServeOutput.{AreLinesOf, IsListeningFault, ServesLines, ServesRack, described, has_ports}
+use Rattle.rack_server.specs.declared.serve_fault.AuditPath.{AuditPath}
+use Rattle.rack_server.specs.AuditPaths.{IsFileIn, IsPathIn}
+use Rattle.rack_server.specs.ServedLines.{AreInOrder, ArePutInOrder, all_served, line_numbers, served_line, with_both}
+use Rattle.rack_server.specs.ServeOutput.{AreLinesOf, IsListeningFault, ServesLines, ServesRack, described, has_ports, rack_numbers}
+use Rattle.rack_server.proofs.Recording.{file_grows, path_grows}
 use Rattle.rack_server.proofs.Serving.{same_list, some_parts}
 use Rattle.rack_server.proofs.Writing.{keeps_same}
 
@@ -80,38 +84,62 @@ some_port_is_missing [] e = absurd cc
 some_port_is_missing (x ∷ xs) e =
     one_missing x.spec x.listen x.operator (all_served xs) (list_all has_ports (map line_described xs)) e (some_port_is_missing xs)
 
+-- ---- numbers
+
+abbrev described_number : LineDescription → ℕ
+described_number line = line.line.number
+
+numbers_described : (lines : List ServedLine) → map described_number (map described lines) ≡ line_numbers lines
+numbers_described [] = refl
+numbers_described (x ∷ xs) = ap (λ ns. x.spec.number ∷ ns) (numbers_described xs)
+
+-- a line that is served is one of the rack
+pub number_of_rack : (rack : RackDescription) (lines : List ServedLine) → AreLinesOf rack lines → (n : ℕ) → Contains (line_numbers lines) n → Contains (rack_numbers rack) n
+number_of_rack rack lines are n among =
+    Contains-permutation (map described_number (map described lines)) (rack_numbers rack) n
+    (IsPermutation-sym _ _ (IsPermutation-map described_number rack.lines (map described lines) are.same))
+    (subst (λ ns. Contains ns n) (sym (numbers_described lines)) among)
+
+pub file_of_rack : (folder : Option (Bor (List ℕ))) (rack : RackDescription) (lines : List ServedLine) (path : AuditPath) → AreLinesOf rack lines → IsFileIn folder (line_numbers lines) path
+    → IsFileIn folder (rack_numbers rack) path
+file_of_rack folder rack lines path are = file_grows folder (line_numbers lines) (rack_numbers rack) (number_of_rack rack lines are) path
+
+pub path_of_rack : (folder : Option (Bor (List ℕ))) (rack : RackDescription) (lines : List ServedLine) (path : AuditPath) → AreLinesOf rack lines → IsPathIn folder (line_numbers lines) path
+    → IsPathIn folder (rack_numbers rack) path
+path_of_rack folder rack lines path are = path_grows folder (line_numbers lines) (rack_numbers rack) (number_of_rack rack lines are) path
+
 -- ---- how it ends
 
 -- lines that aren't put in order
-pub refused_lines : (workers : ℕ) (lines : List RackLine) (old : Option (List ℕ)) (fault : RunFault) → ArePutInOrder (all_served lines) (Err fault)
-    → ServesRack (record { workers = workers; lines = map line_described lines }) old old (Err (faults.Run fault))
-refused_lines workers lines old runs.OutOfMemory told = inl (keeps_same old)
-refused_lines workers lines old (runs.Rack racks.BadKey) told = (some_port_is_missing lines told, keeps_same old)
-refused_lines workers lines old (runs.Rack racks.OutOfMemory) never = absurd never
-refused_lines workers lines old (runs.Rack racks.NotToml) never = absurd never
-refused_lines workers lines old (runs.Rack racks.TwiceLine) never = absurd never
-refused_lines workers lines old (runs.Rack (racks.Open position fault)) never = absurd never
-refused_lines workers lines old (runs.Script line) never = absurd never
-refused_lines workers lines old runs.WriteFault never = absurd never
+pub refused_lines : (folder : Option (Bor (List ℕ))) (workers : ℕ) (lines : List RackLine) (old : Option (List ℕ)) (fault : RunFault) → ArePutInOrder (all_served lines) (Err fault)
+    → ServesRack folder (record { workers = workers; lines = map line_described lines }) old old (Err (faults.Run fault))
+refused_lines folder workers lines old runs.OutOfMemory told = inl (keeps_same old)
+refused_lines folder workers lines old (runs.Rack racks.BadKey) told = (some_port_is_missing lines told, keeps_same old)
+refused_lines folder workers lines old (runs.Rack racks.OutOfMemory) never = absurd never
+refused_lines folder workers lines old (runs.Rack racks.NotToml) never = absurd never
+refused_lines folder workers lines old (runs.Rack racks.TwiceLine) never = absurd never
+refused_lines folder workers lines old (runs.Rack (racks.Open position fault)) never = absurd never
+refused_lines folder workers lines old (runs.Script line) never = absurd never
+refused_lines folder workers lines old runs.WriteFault never = absurd never
 
 -- lines that aren't listened at
-pub refused_ports : (rack : RackDescription) (lines : List ServedLine) (old : Option (List ℕ)) (fault : ServeFault) → AreLinesOf rack lines → IsListeningFault lines fault
-    → ServesRack rack old old (Err fault)
-refused_ports rack lines old (faults.CannotListen port cause) of_rack among = (lines, of_rack, among, keeps_same old)
-refused_ports rack lines old (faults.Run runs.OutOfMemory) of_rack told = inl (keeps_same old)
-refused_ports rack lines old (faults.Run (runs.Rack fault)) of_rack never = absurd never
-refused_ports rack lines old (faults.Run (runs.Script line)) of_rack never = absurd never
-refused_ports rack lines old (faults.Run runs.WriteFault) of_rack never = absurd never
-refused_ports rack lines old (faults.CannotMake path cause) of_rack never = absurd never
-refused_ports rack lines old (faults.CannotWrite path cause) of_rack never = absurd never
+pub refused_ports : (folder : Option (Bor (List ℕ))) (rack : RackDescription) (lines : List ServedLine) (old : Option (List ℕ)) (fault : ServeFault) → AreLinesOf rack lines → IsListeningFault lines fault
+    → ServesRack folder rack old old (Err fault)
+refused_ports folder rack lines old (faults.CannotListen port cause) of_rack among = (lines, of_rack, among, keeps_same old)
+refused_ports folder rack lines old (faults.Run runs.OutOfMemory) of_rack told = inl (keeps_same old)
+refused_ports folder rack lines old (faults.Run (runs.Rack fault)) of_rack never = absurd never
+refused_ports folder rack lines old (faults.Run (runs.Script line)) of_rack never = absurd never
+refused_ports folder rack lines old (faults.Run runs.WriteFault) of_rack never = absurd never
+refused_ports folder rack lines old (faults.CannotMake path cause) of_rack never = absurd never
+refused_ports folder rack lines old (faults.CannotWrite path cause) of_rack never = absurd never
 
 -- lines that are served in part, or not recorded
-pub stopped : (rack : RackDescription) (lines : List ServedLine) (old new : Option (List ℕ)) (fault : ServeFault) → AreLinesOf rack lines → ServesLines lines old new (Err fault)
-    → ServesRack rack old new (Err fault)
-stopped rack lines old new (faults.CannotMake path cause) of_rack same = same
-stopped rack lines old new (faults.CannotWrite path cause) of_rack served = (lines, of_rack, served)
-stopped rack lines old new (faults.Run runs.OutOfMemory) of_rack part = inr (lines, of_rack, part)
-stopped rack lines old new (faults.Run runs.WriteFault) of_rack part = inr (lines, of_rack, part)
-stopped rack lines old new (faults.Run (runs.Rack fault)) of_rack never = absurd never
-stopped rack lines old new (faults.Run (runs.Script line)) of_rack never = absurd never
-stopped rack lines old new (faults.CannotListen port cause) of_rack never = absurd never
+pub stopped : (folder : Option (Bor (List ℕ))) (rack : RackDescription) (lines : List ServedLine) (old new : Option (List ℕ)) (fault : ServeFault) → AreLinesOf rack lines → ServesLines folder lines old new (Err fault)
+    → ServesRack folder rack old new (Err fault)
+stopped folder rack lines old new (faults.CannotMake path cause) of_rack (at, same) = (path_of_rack folder rack lines path of_rack at, same)
+stopped folder rack lines old new (faults.CannotWrite path cause) of_rack (at, served) = (file_of_rack folder rack lines path of_rack at, (lines, of_rack, served))
+stopped folder rack lines old new (faults.Run runs.OutOfMemory) of_rack part = inr (lines, of_rack, part)
+stopped folder rack lines old new (faults.Run runs.WriteFault) of_rack part = inr (lines, of_rack, part)
+stopped folder rack lines old new (faults.Run (runs.Rack fault)) of_rack never = absurd never
+stopped folder rack lines old new (faults.Run (runs.Script line)) of_rack never = absurd never
+stopped folder rack lines old new (faults.CannotListen port cause) of_rack never = absurd never

@@ -1,5 +1,6 @@
 -- The lines of a rack that is served, and what is written of them.
 use Rattle.std.proofs.Common.{◌≡◌, ℕ, zero, suc, ◌+◌, ◌<◌, List, [], ◌∷◌, ◌++◌, map, length, take, slice_index_or, get_or, Option, Some, None, option_and_then, option_map, Ok, Err, Contains, inl, inr, refl, sym, ap, subst, ◌∙◌, append_assoc, arith}
+use Rattle.std.specs.Borrow.{Bor}
 use Rattle.std.specs.List.{AllZip, flat_map, range_with_len}
 use Rattle.std.specs.Io.KnownBytes.{Appends}
 use Rattle.std.proofs.lemmas.List.{append-nil, map-append, map-id, take_more}
@@ -15,7 +16,7 @@ use Rattle.dp_script.specs.declared.run_fault.RunFault.TheVariants as runs
 use Rattle.rack_server.specs.declared.serve_fault.ServeFault.{ServeFault}
 use Rattle.rack_server.specs.declared.serve_fault.ServeFault.TheVariants as faults
 use Rattle.rack_server.specs.declared.served_line.ServedLine.{ServedLine}
-use Rattle.rack_server.specs.ServedLines.{all_served, served_line}
+use Rattle.rack_server.specs.ServedLines.{all_served, line_numbers, served_line}
 use Rattle.rack_server.specs.ServeOutput.{Attends, AreBrokenOff, AreServed, AreServedInPart, AreWritten, EndsLines, IsLeftBy, IsRecordingFault, ServesLines, WritesAudit, ports_of, ready, specs_of, text_of}
 use Rattle.rack_server.proofs.Writing.{appends_more, appends_none, keeps_more, keeps_nothing, keeps_same}
 
@@ -197,26 +198,28 @@ served_uncounted lines a c (b, said, w) = inr (
 )
 
 -- or a part of it
-pub served_in_part : (lines : List ServedLine) (specs : List LineSpec) (a b c : Option (List ℕ)) (fault : RunFault) → specs ≡ specs_of lines → Appends a b ready
-    → EndsLines specs b c (Err fault) → ServesLines lines a c (Err (faults.Run fault))
-served_in_part lines specs a b c runs.WriteFault same said w = inr (b, said, subst (λ ls. AreBrokenOff ls b c) same w)
-served_in_part lines specs a b c runs.OutOfMemory same said w = inr (b, said, subst (λ ls. AreBrokenOff ls b c) same w)
-served_in_part lines specs a b c (runs.Rack fault) same said never = absurd never
-served_in_part lines specs a b c (runs.Script at) same said never = absurd never
+pub served_in_part : (folder : Option (Bor (List ℕ))) (lines : List ServedLine) (specs : List LineSpec) (a b c : Option (List ℕ)) (fault : RunFault) → specs ≡ specs_of lines → Appends a b ready
+    → EndsLines specs b c (Err fault) → ServesLines folder lines a c (Err (faults.Run fault))
+served_in_part folder lines specs a b c runs.WriteFault same said w = inr (b, said, subst (λ ls. AreBrokenOff ls b c) same w)
+served_in_part folder lines specs a b c runs.OutOfMemory same said w = inr (b, said, subst (λ ls. AreBrokenOff ls b c) same w)
+served_in_part folder lines specs a b c (runs.Rack fault) same said never = absurd never
+served_in_part folder lines specs a b c (runs.Script at) same said never = absurd never
 
 -- nothing of it
-pub served_not_at_all : (lines : List ServedLine) (a b : Option (List ℕ)) (fault : RunFault) → Attends a b (Err fault) → ServesLines lines a b (Err (faults.Run fault))
-served_not_at_all lines a b runs.WriteFault cut = inl cut
-served_not_at_all lines a b runs.OutOfMemory same = inl ([], ready, refl, keeps_nothing a b same)
-served_not_at_all lines a b (runs.Rack fault) never = absurd never
-served_not_at_all lines a b (runs.Script at) never = absurd never
+pub served_not_at_all : (folder : Option (Bor (List ℕ))) (lines : List ServedLine) (a b : Option (List ℕ)) (fault : RunFault) → Attends a b (Err fault)
+    → ServesLines folder lines a b (Err (faults.Run fault))
+served_not_at_all folder lines a b runs.WriteFault cut = inl cut
+served_not_at_all folder lines a b runs.OutOfMemory same = inl ([], ready, refl, keeps_nothing a b same)
+served_not_at_all folder lines a b (runs.Rack fault) never = absurd never
+served_not_at_all folder lines a b (runs.Script at) never = absurd never
 
 -- the lines aren't recorded
-pub served_unopened : (lines : List ServedLine) (old : Option (List ℕ)) (fault : ServeFault) → IsRecordingFault fault → ServesLines lines old old (Err fault)
-served_unopened lines old (faults.CannotMake path cause) told = keeps_same old
-served_unopened lines old (faults.Run runs.OutOfMemory) told = inl ([], ready, refl, appends_none old)
-served_unopened lines old (faults.Run (runs.Rack fault)) never = absurd never
-served_unopened lines old (faults.Run (runs.Script at)) never = absurd never
-served_unopened lines old (faults.Run runs.WriteFault) never = absurd never
-served_unopened lines old (faults.CannotListen port cause) never = absurd never
-served_unopened lines old (faults.CannotWrite path cause) never = absurd never
+pub served_unopened : (folder : Option (Bor (List ℕ))) (lines : List ServedLine) (old : Option (List ℕ)) (fault : ServeFault) → IsRecordingFault folder (line_numbers lines) fault
+    → ServesLines folder lines old old (Err fault)
+served_unopened folder lines old (faults.CannotMake path cause) told = (told, keeps_same old)
+served_unopened folder lines old (faults.Run runs.OutOfMemory) told = inl ([], ready, refl, appends_none old)
+served_unopened folder lines old (faults.Run (runs.Rack fault)) never = absurd never
+served_unopened folder lines old (faults.Run (runs.Script at)) never = absurd never
+served_unopened folder lines old (faults.Run runs.WriteFault) never = absurd never
+served_unopened folder lines old (faults.CannotListen port cause) never = absurd never
+served_unopened folder lines old (faults.CannotWrite path cause) never = absurd never

@@ -1,4 +1,5 @@
 pub mod AuditPaths
+pub mod Recordings
 pub mod ServedLines
 pub mod ServeOutput
 pub mod Renewals

@@ -1,5 +1,6 @@
 -- A rack that is served (own).
 use Rattle.std.specs.Prelude.{◌≡◌, ◌⊎◌, codes, ℕ, Bool, ◌&&◌, false, List, [], ◌∷◌, ◌++◌, map, Option, Some, is_some, Result, Ok, Err, Contains, IsPermutation}
+use Rattle.std.specs.Borrow.{Bor}
 use Rattle.std.specs.List.{AllZip, flat_map, list_all}
 use Rattle.std.specs.List.Sorted.{IsNonDecreasingBy}
 use Rattle.std.specs.Io.KnownBytes.{Appends, Keeps}
@@ -15,13 +16,15 @@ use Rattle.dp_shared.specs.declared.one_slot.OneSlot.{OneSlot}
 use Rattle.rack_file.specs.Rack.{LineDescription, RackDescription}
 use Rattle.rack_file.specs.declared.fault.RackFault.{RackFault}
 use Rattle.rack_file.specs.declared.fault.RackFault.TheVariants as racks
+use Rattle.rack_server.specs.declared.serve_fault.AuditPath.{AuditPath}
 use Rattle.rack_server.specs.declared.serve_fault.ServeFault.{ServeFault}
 use Rattle.rack_server.specs.declared.serve_fault.ServeFault.TheVariants as faults
 use Rattle.dp_script.specs.declared.run_fault.RunFault.{RunFault}
 use Rattle.dp_script.specs.declared.run_fault.RunFault.TheVariants as runs
 use Rattle.rack_server.specs.declared.serve.Served.{Served}
 use Rattle.rack_server.specs.declared.served_line.ServedLine.{ServedLine}
-use Rattle.rack_server.specs.ServedLines.{number_of}
+use Rattle.rack_server.specs.AuditPaths.{IsFileIn, IsPathIn}
+use Rattle.rack_server.specs.ServedLines.{line_numbers, number_of}
 
 -- ---- listening
 
@@ -35,11 +38,17 @@ IsListeningFault lines (faults.CannotListen port cause) = Contains (ports_of lin
 IsListeningFault lines (faults.Run runs.OutOfMemory) = Unit {0}
 IsListeningFault lines other = ⊥
 
--- the folder or a file of audit texts can't be had, or memory is refused
-abbrev pub IsRecordingFault : ServeFault → Type 0
-IsRecordingFault (faults.CannotMake path cause) = Unit {0}
-IsRecordingFault (faults.Run runs.OutOfMemory) = Unit {0}
-IsRecordingFault other = ⊥
+-- the folder of audit texts can't be had, or a file of it for one of the lines with these numbers, or memory is refused
+abbrev pub IsRecordingFault : Option (Bor (List ℕ)) → List ℕ → ServeFault → Type 0
+IsRecordingFault folder numbers (faults.CannotMake path cause) = IsPathIn folder numbers path
+IsRecordingFault folder numbers (faults.Run runs.OutOfMemory) = Unit {0}
+IsRecordingFault folder numbers other = ⊥
+
+-- the file of this path doesn't take its header, or memory is refused
+abbrev pub IsNotBegun : AuditPath → ServeFault → Type 0
+IsNotBegun path (faults.CannotMake told cause) = told ≡ path
+IsNotBegun path (faults.Run runs.OutOfMemory) = Unit {0}
+IsNotBegun path other = ⊥
 
 -- ---- opened lines
 
@@ -117,16 +126,20 @@ Attends old new (Err runs.WriteFault) = WritesPrefix old new ready
 Attends old new (Err runs.OutOfMemory) = Keeps old new
 Attends old new (Err other) = ⊥
 
--- where a file for an audit text can't be had, nothing is written; where it took a row no more, all is
-abbrev pub ServesLines : List ServedLine → Option (List ℕ) → Option (List ℕ) → Result Served ServeFault → Type 0
-ServesLines lines old new (Ok served) = AreServed lines old new
-ServesLines lines old new (Err (faults.CannotMake path cause)) = Keeps old new
-ServesLines lines old new (Err (faults.CannotWrite path cause)) = AreServed lines old new
-ServesLines lines old new (Err (faults.Run runs.WriteFault)) = AreServedInPart lines old new
-ServesLines lines old new (Err (faults.Run runs.OutOfMemory)) = AreServedInPart lines old new
-ServesLines lines old new (Err other) = ⊥
+-- where the folder of the audit texts or a file of it can't be had, nothing is written; where a file took a row no more, all is; the path told is
+-- the folder's, or that of a file for one of these lines
+abbrev pub ServesLines : Option (Bor (List ℕ)) → List ServedLine → Option (List ℕ) → Option (List ℕ) → Result Served ServeFault → Type 0
+ServesLines folder lines old new (Ok served) = AreServed lines old new
+ServesLines folder lines old new (Err (faults.CannotMake path cause)) = IsPathIn folder (line_numbers lines) path × Keeps old new
+ServesLines folder lines old new (Err (faults.CannotWrite path cause)) = IsFileIn folder (line_numbers lines) path × AreServed lines old new
+ServesLines folder lines old new (Err (faults.Run runs.WriteFault)) = AreServedInPart lines old new
+ServesLines folder lines old new (Err (faults.Run runs.OutOfMemory)) = AreServedInPart lines old new
+ServesLines folder lines old new (Err other) = ⊥
 
 -- ---- a rack
+
+abbrev pub rack_numbers : RackDescription → List ℕ
+rack_numbers rack = map (λ line. line.line.number) rack.lines
 
 -- a line has both its ports
 abbrev pub has_ports : LineDescription → Bool
@@ -149,17 +162,17 @@ IsServedInPart rack old new = Keeps old new ⊎ ((lines : List ServedLine) × Ar
 
 -- a rack that is accepted is served; a line without a port is a bad key, and then nothing is written, nor where a port of the rack can't be
 -- had, or the folder or a file for an audit text; where such a file took a row no more, all is served; and where memory, a thread or a write is
--- refused, what is written is a part
-abbrev pub ServesRack : RackDescription → Option (List ℕ) → Option (List ℕ) → Result Served ServeFault → Type 0
-ServesRack rack old new (Ok served) = IsServed rack old new
-ServesRack rack old new (Err (faults.Run (runs.Rack racks.BadKey))) = (list_all has_ports rack.lines ≡ false) × Keeps old new
-ServesRack rack old new (Err (faults.CannotListen port cause)) =
+-- refused, what is written is a part. The path told is the folder's, or that of a file for a line of the rack
+abbrev pub ServesRack : Option (Bor (List ℕ)) → RackDescription → Option (List ℕ) → Option (List ℕ) → Result Served ServeFault → Type 0
+ServesRack folder rack old new (Ok served) = IsServed rack old new
+ServesRack folder rack old new (Err (faults.Run (runs.Rack racks.BadKey))) = (list_all has_ports rack.lines ≡ false) × Keeps old new
+ServesRack folder rack old new (Err (faults.CannotListen port cause)) =
     (lines : List ServedLine) × AreLinesOf rack lines × Contains (ports_of lines) port × Keeps old new
-ServesRack rack old new (Err (faults.CannotMake path cause)) = Keeps old new
-ServesRack rack old new (Err (faults.CannotWrite path cause)) = IsServed rack old new
-ServesRack rack old new (Err (faults.Run runs.OutOfMemory)) = IsServedInPart rack old new
-ServesRack rack old new (Err (faults.Run runs.WriteFault)) = IsServedInPart rack old new
-ServesRack rack old new (Err other) = ⊥
+ServesRack folder rack old new (Err (faults.CannotMake path cause)) = IsPathIn folder (rack_numbers rack) path × Keeps old new
+ServesRack folder rack old new (Err (faults.CannotWrite path cause)) = IsFileIn folder (rack_numbers rack) path × IsServed rack old new
+ServesRack folder rack old new (Err (faults.Run runs.OutOfMemory)) = IsServedInPart rack old new
+ServesRack folder rack old new (Err (faults.Run runs.WriteFault)) = IsServedInPart rack old new
+ServesRack folder rack old new (Err other) = ⊥
 
 -- a rack that isn't accepted is reported, or that memory is out, and nothing is written
 abbrev pub RefusesToServe : RackFault → Option (List ℕ) → Option (List ℕ) → Result Served ServeFault → Type 0

@@ -1,5 +1,5 @@
 -- The lines of a rack that can be served, and the order in which they are (own).
-use Rattle.std.specs.Prelude.{◌≡◌, ℕ, List, [], ◌∷◌, Option, Some, None, option_and_then, option_map, Result, Ok, Err, Vec, IsPermutation}
+use Rattle.std.specs.Prelude.{◌≡◌, ℕ, List, [], ◌∷◌, map, Option, Some, None, option_and_then, option_map, Result, Ok, Err, Vec, IsPermutation}
 use Rattle.std.specs.List.Sorted.{IsNonDecreasingBy}
 use Rattle.std.specs.declared.alloc.Global.{Global}
 use Rattle.dp_line.specs.declared.description.LineSpec.{LineSpec}
@@ -24,6 +24,9 @@ all_served (line ∷ lines) = option_and_then (λ first. option_map (λ others. 
 
 abbrev pub number_of : ServedLine → ℕ
 number_of line = line.spec.number
+
+abbrev pub line_numbers : List ServedLine → List ℕ
+line_numbers lines = map number_of lines
 
 -- these lines, in ascending order of their numbers
 pub record AreInOrder (lines served : List ServedLine) : Type 0 where

@@ -1,10 +1,14 @@
 //! Attending lines: connections are accepted and served, and what is served is recorded.
 
-ghost use Rattle.std.specs.Prelude.{◌≡◌, ◌≤◌, ℕ, List, Option, All, Err, IfErr, OnErr, OnOk, length};
+ghost use Rattle.std.specs.Prelude.{◌≡◌, ◌≤◌, ℕ, List, Option, All, Contains, Err, IfErr, IfOk, IfSome, OnErr, OnOk, Some, length};
+ghost use Rattle.std.specs.Borrow.{Bor};
 ghost use Rattle.std.specs.Io.KnownBytes.{Appends};
 ghost use Rattle.dp_text.specs.Writes.{WritesPrefix};
 ghost use Rattle.dp_sessions.specs.Pools.{HasSeats};
 ghost use Rattle.rack_server.specs.declared.served_line.ServedLine.{ServedLine};
+ghost use Rattle.rack_server.specs.AuditPaths.{IsFileIn};
+ghost use Rattle.rack_server.specs.Recordings.{paths_of};
+ghost use Rattle.rack_server.specs.ServedLines.{line_numbers};
 ghost use Rattle.rack_server.specs.ServeOutput.{AreOpened, AreServed, Attends, ServesLines, ready};
 
 use crate::acceptors::Acceptors;
@@ -55,7 +59,8 @@ pub(crate) struct Attended<'a> {
 impl<'a> Attended<'a> {
     /// How the program ends, once the audit texts are written.
     pub(crate) fn outcome(self) -> Result<Served, ServeFault<'a>>
-        ensures { (lines : List ServedLine) → (old new : Option (List ℕ)) → AreServed lines old new → ServesLines lines old new result }
+        ensures { (folder : Option (Bor (List ℕ))) → (lines : List ServedLine) → IfSome self.entry.incomplete (IsFileIn folder (line_numbers lines))
+            → (old new : Option (List ℕ)) → AreServed lines old new → ServesLines folder lines old new result }
     {
         let Attended {
             masters,
@@ -98,6 +103,7 @@ pub(crate) fn attend_recorded<
     requires workers { (1 ≤ length seats.items) × (length seats.items ≤ 32) }
     requires seats { All (λ own. HasSeats ports.now own.items) seats.items }
     ensures ok { OnOk result (Appends (W.contents writer.old) (W.contents writer.new) ready) }
+    ensures incomplete { IfOk result (λ attended. IfSome attended.incomplete (λ path. Contains (paths_of recorders.entry.items) (Some path))) }
     ensures err { IfErr result (λ fault. Attends (W.contents writer.old) (W.contents writer.new) (Err fault)) }
 {
     let operators = AtomicU32::new(0);

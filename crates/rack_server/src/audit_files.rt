@@ -1,7 +1,8 @@
 //! The files that get the audit texts of lines while these are served.
 
-ghost use Rattle.std.specs.Prelude.{◌≤◌, IfErr, IfOk};
-ghost use Rattle.rack_server.specs.ServeOutput.{IsRecordingFault};
+ghost use Rattle.std.specs.Prelude.{◌≡◌, ◌≤◌, [], ◌∷◌, IfErr, IfOk, Some};
+ghost use Rattle.rack_server.specs.AuditPaths.{IsFileIn};
+ghost use Rattle.rack_server.specs.ServeOutput.{IsNotBegun, IsRecordingFault};
 
 use crate::archive::Archive;
 use crate::serve_fault::{AuditPath, ServeFault};
@@ -29,7 +30,7 @@ pub(crate) struct AuditFile<'a, T> {
 ///
 /// `CannotMake` with its path.
 pub(crate) fn make_folder<'a>(files: &impl Files, folder: &'a str) -> Result<(), ServeFault<'a>>
-    ensures { IfErr result IsRecordingFault }
+    ensures { IfErr result (IsRecordingFault (Some folder.entry) []) }
 {
     match fs::create_dir_all(files, folder) {
         Ok(()) => Ok(()),
@@ -56,7 +57,8 @@ pub(crate) fn open_file<'a, 'l, H: Archive + Wait>(
     line: &'l Line,
     number: u8,
 ) -> Result<AuditFile<'a, Trail<'l, File, Brand>>, ServeFault<'a>>
-    ensures { IfErr result IsRecordingFault }
+    ensures path { IfOk result (λ file. IsFileIn (Some folder.entry) (number ∷ []) file.path) }
+    ensures fault { IfErr result (IsRecordingFault (Some folder.entry) (number ∷ [])) }
 {
     match next_file(rt, alloc, folder, number, 1) {
         Ok(
@@ -88,7 +90,7 @@ pub(crate) fn next_file<'a, H: Archive>(
     first: u32,
 ) -> Result<NewFile, ServeFault<'a>>
     ensures number { IfOk result (λ made. first ≤ made.number) }
-    ensures fault { IfErr result IsRecordingFault }
+    ensures fault { IfErr result (IsRecordingFault (Some folder.entry) (line ∷ [])) }
 {
     for number in first..=u32::MAX {
         let path = AuditPath::File {
@@ -123,7 +125,8 @@ fn begin<'a, 'l, H: Wait, F: Write + Drop>(
     file: F,
     path: AuditPath<'a>,
 ) -> Result<AuditFile<'a, Trail<'l, F, Brand>>, ServeFault<'a>>
-    ensures { IfErr result IsRecordingFault }
+    ensures path { IfOk result (λ file. file.path ≡ path.entry) }
+    ensures fault { IfErr result (IsNotBegun path.entry) }
 {
     match Tail::open(rt, line, file) {
         Ok(tail) => Ok(AuditFile {

@@ -1,5 +1,7 @@
 //! What all lines of a rack share that are started anew.
 
+ghost use Rattle.std.specs.Prelude.{◌≤◌, IfOk};
+
 use crate::archive::Archive;
 use crate::audit_files::{NewFile, next_file};
 use crate::doors::Doors;
@@ -14,15 +16,28 @@ use std::net::Net;
 use std::sync::{Mutex, Wait};
 use std::time::Clock;
 
-/// Why a line can't be started anew, or is served no more. Files are named by the number of their line and their own.
+/// Why a line can't be started anew, or is served no more. Files are named by their number among those of the line.
 #[derive(Clone, Copy)]
 pub(crate) enum DownFault {
     /// The file of its next audit text can't be had, or doesn't take its header.
-    CannotMake(u8, u32, Cause),
+    CannotMake(u32, Cause),
     /// This file took a row no more.
-    CannotWrite(u8, u32),
+    CannotWrite(u32),
     /// Memory or a thread was refused.
     OutOfMemory,
+}
+
+/// The fault of a line, where it is the first one of the rack. Each line has its own, so that the file of a fault is
+/// one of its line.
+pub(crate) type LineEnd = Mutex<Option<DownFault>>;
+
+/// The first fault of a rack.
+#[derive(Clone, Copy)]
+pub(crate) struct LineFault {
+    /// The number of the line.
+    pub(crate) line: u8,
+    /// What it is.
+    pub(crate) fault: DownFault,
 }
 
 /// What came of the lines.
@@ -32,8 +47,8 @@ pub(crate) struct Ended {
     pub(crate) masters: u32,
     /// How many sessions of operators were served.
     pub(crate) operators: u32,
-    /// The first fault.
-    pub(crate) fault: Option<DownFault>,
+    /// Whether a fault has ended the rack.
+    pub(crate) is_down: bool,
 }
 
 /// What all lines of a rack share that are started anew.
@@ -82,28 +97,42 @@ impl<H: Wait + Log + Clock> House<'_, H> {
 }
 
 impl<H: Wait + Net> House<'_, H> {
-    /// Nothing is served any more, for this reason; the first one is told.
-    pub(crate) fn close(&self, fault: DownFault) {
-        let mut ended = self.ended.lock(self.rt);
-        if ended.fault.is_none() {
-            ended.fault = Some(fault);
+    /// Nothing is served any more, by the fault of the line that has this end; the first one is told.
+    pub(crate) fn close(&self, end: &LineEnd, fault: DownFault) {
+        if self.goes_down() {
+            *end.lock(self.rt) = Some(fault);
         }
-        drop(ended);
         self.doors.shut(self.rt, self.rt);
+    }
+
+    /// Nothing is served any more, since a thread was refused.
+    pub(crate) fn close_unserved(&self) {
+        self.goes_down();
+        self.doors.shut(self.rt, self.rt);
+    }
+
+    /// A fault ends the rack; whether it is the first one.
+    fn goes_down(&self) -> bool {
+        let mut ended = self.ended.lock(self.rt);
+        let is_first = !ended.is_down;
+        ended.is_down = true;
+        is_first
     }
 }
 
 impl<H: Archive> House<'_, H> {
     /// The file for the next audit text of a line, behind the one of this number.
-    pub(crate) fn file_behind(&self, line: u8, number: u32) -> Result<NewFile, DownFault> {
+    pub(crate) fn file_behind(&self, line: u8, number: u32) -> Result<NewFile, DownFault>
+        ensures { IfOk result (λ next. number ≤ next.number) }
+    {
         let next = number.saturating_add(1);
         match next_file(self.rt, self.alloc, self.folder, line, next) {
             Ok(file) => Ok(file),
             Err(ServeFault::CannotMake(AuditPath::File { number, .. }, cause)) => {
-                Err(DownFault::CannotMake(line, number, cause))
+                Err(DownFault::CannotMake(number, cause))
             }
             Err(ServeFault::CannotMake(AuditPath::Folder(_), cause)) => {
-                Err(DownFault::CannotMake(line, number, cause))
+                Err(DownFault::CannotMake(number, cause))
             }
             Err(_) => Err(DownFault::OutOfMemory),
         }

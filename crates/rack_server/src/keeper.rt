@@ -10,7 +10,7 @@ ghost use Rattle.rack_server.specs.Renewals.{IsDownAt};
 use crate::archive::Archive;
 use crate::audit_files::NewFile;
 use crate::desk::Desk;
-use crate::house::{DownFault, House};
+use crate::house::{DownFault, House, LineEnd};
 use crate::line_start::{Completed, Place, serve_recorded};
 use crate::lobby::Lobby;
 use crate::opened_lines::{OpenedLine, open_line};
@@ -38,6 +38,8 @@ pub(crate) const BESIDE: usize = 2;
 pub(crate) struct OpenableLine<'a> {
     /// The line.
     pub(crate) line: &'a ServedLine,
+    /// What ends it.
+    pub(crate) end: &'a LineEnd,
     /// How many workers the rack has, 1 to 32.
     pub(crate) workers: u8,
     ghost opens: { opening_fault (description_of line.now.spec) ≡ None },
@@ -101,7 +103,7 @@ fn keep_line<
             Ok(Some((file, complete))) => next = (file, Some(complete)),
             Ok(None) => return,
             Err(fault) => {
-                house.close(fault);
+                house.close(line.end, fault);
                 return;
             }
         }
@@ -126,7 +128,9 @@ fn keep_start<
     port: u8,
     file: NewFile,
     before: Option<Completed>,
-) -> Result<Option<(NewFile, Completed)>, DownFault> {
+) -> Result<Option<(NewFile, Completed)>, DownFault>
+    ensures { IfOk result (λ next. IfSome next (λ both. (both.1.file ≡ file.number) × (file.number ≤ both.0.number))) }
+{
     let NewFile { number, file } = file;
     let place = Place {
         lobby,
@@ -162,7 +166,7 @@ fn serve_once<
 ) -> Result<Option<u32>, DownFault>
     ensures complete { IfOk result (λ done. IfSome done (λ entries. (now : Option (List ℕ))
         × IsComplete line.entry.line.now.spec (F.contents file) now entries)) }
-    ensures fault { IfErr result (IsDownAt line.entry.line.now.spec.number place.entry.file) }
+    ensures fault { IfErr result (IsDownAt place.entry.file) }
 {
     if !can_start(house.rt, usize::from(line.workers) + BESIDE) {
         return Err(DownFault::OutOfMemory);
@@ -200,18 +204,17 @@ fn serve_open<
     requires seats { All (λ own. HasSeats (port.now ∷ []) own.items) seats.items }
     ensures ours { IfOk result (λ left. (left.pass.table ≡ table_of port.now.line) × (left.pass.line ≡ (line_of port.now.line).number)) }
     ensures seen { IfOk result (λ left. HasSeen (F.contents file) (F.contents left.writer) left.pass.line left.pass.view.looks left.seen) }
-    ensures fault { IfErr result (IsDownAt line.entry.line.now.spec.number place.entry.file) }
+    ensures fault { IfErr result (IsDownAt place.entry.file) }
 {
-    let number = line.line.spec.number;
     let tail = match Tail::open(house.rt, &port.line, file) {
         Ok(tail) => tail,
         Err(TrailFault::NoPass) => return Err(DownFault::OutOfMemory),
         Err(TrailFault::WriteFault) => {
-            return Err(DownFault::CannotMake(number, place.file, Cause::NotTaken));
+            return Err(DownFault::CannotMake(place.file, Cause::NotTaken));
         }
     };
     if let Some(before) = place.before {
-        house.tell_anew(number, before);
+        house.tell_anew(line.line.spec.number, before);
     }
     let desk = Desk {
         port,

@@ -70,12 +70,11 @@ pub(crate) fn serve_recorded<
     requires seats { All (λ own. HasSeats (desk.port.now ∷ []) own.items) seats.items }
     ensures left { IfOk result (λ left. (front : Option (List ℕ)) × IsTrailOf K.whose left.pass.table left.pass.line front
         × HasSeen front (F.contents left.writer) left.pass.line left.pass.view.looks left.seen) }
-    ensures fault { IfErr result (IsDownAt desk.entry.line.now.number place.entry.file) }
+    ensures fault { IfErr result (IsDownAt place.entry.file) }
 {
-    let number = desk.line.number;
     let path = AuditPath::File {
         folder: house.folder,
-        line: number,
+        line: desk.line.number,
         number: place.file,
     };
     let recorder = Recorder {
@@ -97,7 +96,7 @@ pub(crate) fn serve_recorded<
     }
     match left {
         Some(left) => Ok(left),
-        None => Err(DownFault::CannotWrite(number, place.file)),
+        None => Err(DownFault::CannotWrite(place.file)),
     }
 }
 

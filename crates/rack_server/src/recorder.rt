@@ -1,6 +1,9 @@
 //! What records lines before their answers leave.
 
-ghost use Rattle.std.specs.Prelude.{◌≡◌, ◌≤◌, IfErr, IfOk, length};
+ghost use Rattle.std.specs.Prelude.{◌≡◌, ◌≤◌, [], ◌∷◌, Contains, IfErr, IfOk, IfSome, Some, length, option_map};
+ghost use Rattle.rack_server.specs.AuditPaths.{AreRecordedIn, IsRecordedIn};
+ghost use Rattle.rack_server.specs.Recordings.{path_of, paths_of};
+ghost use Rattle.rack_server.specs.ServedLines.{line_numbers};
 ghost use Rattle.rack_server.specs.ServeOutput.{AreOpened, IsRecordingFault};
 
 use crate::archive::Archive;
@@ -58,7 +61,8 @@ pub(crate) fn record_lines<'a, 'l, H: Files<File = File> + Archive + Wait>(
     requires opened { AreOpened lines.now ports.now }
     requires few { length lines.now ≤ 8 }
     ensures each { IfOk result (λ all. length all.items ≡ length lines.now) }
-    ensures fault { IfErr result IsRecordingFault }
+    ensures paths { IfOk result (λ all. AreRecordedIn folder.entry (line_numbers lines.now) (paths_of all.items)) }
+    ensures fault { IfErr result (IsRecordingFault folder.entry (line_numbers lines.now)) }
 {
     if let Some(folder) = folder {
         match make_folder(rt, folder) {
@@ -93,7 +97,8 @@ fn file_of<'a, 'l, H: Archive + Wait>(
     line: &'l Line,
     number: u8,
 ) -> Result<Option<AuditFile<'a, Trail<'l, File, Brand>>>, ServeFault<'a>>
-    ensures { IfErr result IsRecordingFault }
+    ensures path { IfOk result (λ file. IsRecordedIn folder.entry number (path_of file)) }
+    ensures fault { IfErr result (IsRecordingFault folder.entry (number ∷ [])) }
 {
     let Some(folder) = folder else {
         return Ok(None);
@@ -109,14 +114,27 @@ fn file_of<'a, 'l, H: Archive + Wait>(
 pub(crate) fn first_incomplete<'a, H: Wait, N, F: Write + Drop>(
     rt: &H,
     recorders: Vec<Recorder<'a, '_, N, Trail<'_, F, Brand>>>,
-) -> Option<AuditPath<'a>> {
+) -> Option<AuditPath<'a>>
+    ensures { IfSome result (λ path. Contains (paths_of recorders.entry.items) (Some path)) }
+{
     let mut first = None;
     for recorder in recorders {
-        if let Some(AuditFile { path, trail }) = recorder.file {
-            if !complete(rt, trail) && first.is_none() {
-                first = Some(path);
-            }
-        }
+        first = first.or(incomplete(rt, recorder.file));
     }
     first
+}
+
+/// Has the trail of a file catch up a last time: the path of the file, where it doesn't have all its rows.
+fn incomplete<'a, H: Wait, F: Write + Drop>(
+    rt: &H,
+    file: Option<AuditFile<'a, Trail<'_, F, Brand>>>,
+) -> Option<AuditPath<'a>>
+    ensures { IfSome result (λ path. path_of file.entry ≡ Some path) }
+{
+    let AuditFile { path, trail } = file?;
+    if complete(rt, trail) {
+        None
+    } else {
+        Some(path)
+    }
 }

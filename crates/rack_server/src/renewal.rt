@@ -1,10 +1,11 @@
 //! A rack whose lines are started anew whenever they are halted.
 
-ghost use Rattle.std.specs.Prelude.{◌≡◌, ◌≤◌, ℕ, List, ◌∷◌, [], ◌++◌, Option, All, Err, IfErr, IfOk, None, OnOk, length, map};
+ghost use Rattle.std.specs.Prelude.{◌≡◌, ◌≤◌, ℕ, List, ◌∷◌, [], ◌++◌, Option, Some, All, Contains, Err, IfErr, IfOk, IfSome, None, OnOk, length, map};
 ghost use Rattle.std.specs.Io.KnownBytes.{Appends};
 ghost use Rattle.std.specs.List.{flat_map, range_with_len};
 ghost use Rattle.dp_line.specs.World.{description_of, opening_fault};
-ghost use Rattle.rack_server.specs.Renewals.{Opens, Renews, outcome_of, porters_at};
+ghost use Rattle.rack_server.specs.Renewals.{Opens, Renews, outcome_of, porters_at, told_of};
+ghost use Rattle.rack_server.specs.ServedLines.{line_numbers};
 ghost use Rattle.rack_server.specs.ServeOutput.{IsRecordingFault, ready};
 
 use crate::acceptors::Accept;
@@ -12,7 +13,7 @@ use crate::archive::Archive;
 use crate::attending::{WAITING, write_ready};
 use crate::audit_files::{NewFile, make_folder, next_file};
 use crate::doors::{Door, Doors};
-use crate::house::{DownFault, Ended, House};
+use crate::house::{DownFault, Ended, House, LineEnd, LineFault};
 use crate::keeper::{BESIDE, Keeper, OpenableLine, keep};
 use crate::listening::Listening;
 use crate::lobby::{Lobby, Queue};
@@ -94,7 +95,7 @@ pub(crate) fn serve_renewing<
     requires each { length listening.items ≡ length lines.now }
     requires workers { (1 ≤ renewal.workers) × (renewal.workers ≤ 32) }
     requires fit { All (λ line. opening_fault (description_of line.spec) ≡ None) lines.now }
-    ensures { Renews (W.contents writer.old) (W.contents writer.new) result }
+    ensures { Renews renewal.entry.folder (line_numbers lines.now) (W.contents writer.old) (W.contents writer.new) result }
 {
     // Room for all lines at once is tried, and given back: a rack that is too large is told before `ready`.
     if open_lines(alloc, lines, renewal.workers).is_err() {
@@ -116,13 +117,40 @@ pub(crate) fn serve_renewing<
         numbers_of(lines),
         u32::from(renewal.workers),
     );
+    let Ok(ends) = ends_of(alloc, lines) else {
+        return Err(ServeFault::Run(RunFault::OutOfMemory));
+    };
     let kept = keep_house(
-        rt, alloc, &doors, &notes, folder, renewal, lines, posts, writer,
+        rt, alloc, &doors, &notes, folder, renewal, lines, &ends, posts, writer,
     );
     match kept {
-        Ok(ended) => outcome(folder, ended),
+        Ok(ended) => outcome(folder, ended, first_fault(lines, ends)),
         Err(fault) => Err(ServeFault::Run(fault)),
     }
+}
+
+/// The ends of these lines, none of which has one yet.
+fn ends_of(alloc: Global, lines: &[ServedLine]) -> Result<Vec<LineEnd>, AllocError>
+    ensures { IfOk result (λ ends. length ends.items ≡ length lines.now) }
+{
+    let mut ends = Vec::new(alloc);
+    for _ in lines {
+        ends.push(Mutex::new(None))?;
+    }
+    Ok(ends)
+}
+
+/// The fault of the first of these lines that has one.
+fn first_fault(lines: &[ServedLine], ends: Vec<LineEnd>) -> Option<LineFault>
+    ensures { IfSome result (λ down. Contains (line_numbers lines.now) down.line) }
+{
+    for (line, end) in lines.iter().zip(ends) {
+        if let Some(fault) = end.into_inner() {
+            let line = line.spec.number;
+            return Some(LineFault { line, fault });
+        }
+    }
+    None
 }
 
 /// Serves lines, each where it is listened at and with its first file, until nobody comes any more, or a fault ends
@@ -145,11 +173,13 @@ fn keep_house<
     folder: &'s str,
     renewal: Renewal<'_>,
     lines: &'s [ServedLine],
+    ends: &'s [LineEnd],
     posts: Vec<Post>,
     writer: &mut W,
 ) -> Result<Ended, RunFault>
     requires few { length lines.now ≤ 8 }
     requires each { length posts.items ≡ length lines.now }
+    requires ends { length ends.now ≡ length lines.now }
     requires workers { (1 ≤ renewal.workers) × (renewal.workers ≤ 32) }
     requires fit { All (λ line. opening_fault (description_of line.spec) ≡ None) lines.now }
     ensures ok { OnOk result (Appends (W.contents writer.old) (W.contents writer.new) ready) }
@@ -165,10 +195,10 @@ fn keep_house<
         ended: Mutex::new(Ended {
             masters: 0,
             operators: 0,
-            fault: None,
+            is_down: false,
         }),
     };
-    let Ok(openable) = openable_lines(alloc, lines, renewal.workers) else {
+    let Ok(openable) = openable_lines(alloc, lines, ends, renewal.workers) else {
         return Err(RunFault::OutOfMemory);
     };
     match keep_lines(&house, openable, posts, renewal, writer) {
@@ -178,35 +208,54 @@ fn keep_house<
     Ok(house.ended.into_inner())
 }
 
-/// How the program ends, once nothing is served any more.
-fn outcome<'a>(folder: &'a str, ended: Ended) -> Result<Served, ServeFault<'a>>
-    ensures exact { result ≡ outcome_of folder.entry ended }
-    ensures renews { (old new : Option (List ℕ)) → Appends old new ready → Renews old new result }
+/// How the program ends, once nothing is served any more, by the fault of a line where there was one.
+fn outcome<'a>(
+    folder: &'a str,
+    ended: Ended,
+    down: Option<LineFault>,
+) -> Result<Served, ServeFault<'a>>
+    ensures exact { result ≡ outcome_of folder.entry ended down }
+    ensures renews { (numbers : List ℕ) → IfSome down (λ fault. Contains numbers fault.line) → (old new : Option (List ℕ)) → Appends old new ready
+        → Renews folder.entry numbers old new result }
 {
     let Ended {
         masters,
         operators,
-        fault,
+        is_down,
     } = ended;
+    match down {
+        Some(LineFault { line, fault }) => Err(told(folder, line, fault)),
+        None => {
+            if is_down {
+                return Err(ServeFault::Run(RunFault::OutOfMemory));
+            }
+            Ok(Served { masters, operators })
+        }
+    }
+}
+
+/// The fault that ends the program, by that of the line of this number.
+fn told<'a>(folder: &'a str, line: u8, fault: DownFault) -> ServeFault<'a>
+    ensures { result ≡ told_of folder.entry line fault }
+{
     match fault {
-        None => Ok(Served { masters, operators }),
-        Some(DownFault::CannotMake(line, number, cause)) => Err(ServeFault::CannotMake(
+        DownFault::CannotMake(number, cause) => ServeFault::CannotMake(
             AuditPath::File {
                 folder,
                 line,
                 number,
             },
             cause,
-        )),
-        Some(DownFault::CannotWrite(line, number)) => Err(ServeFault::CannotWrite(
+        ),
+        DownFault::CannotWrite(number) => ServeFault::CannotWrite(
             AuditPath::File {
                 folder,
                 line,
                 number,
             },
             Cause::NotTaken,
-        )),
-        Some(DownFault::OutOfMemory) => Err(ServeFault::Run(RunFault::OutOfMemory)),
+        ),
+        DownFault::OutOfMemory => ServeFault::Run(RunFault::OutOfMemory),
     }
 }
 
@@ -222,7 +271,7 @@ fn post_lines<'a, H: Archive>(
 ) -> Result<Vec<Post>, ServeFault<'a>>
     requires each { length listening.items ≡ length lines.now }
     ensures posts { IfOk result (λ posts. map (λ post. post.here) posts.items ≡ listening.items) }
-    ensures fault { IfErr result IsRecordingFault }
+    ensures fault { IfErr result (IsRecordingFault (Some folder.entry) (line_numbers lines.now)) }
 {
     let mut posts = Vec::new(alloc);
     for (line, here) in lines.iter().zip(listening) {
@@ -237,19 +286,23 @@ fn post_lines<'a, H: Archive>(
     Ok(posts)
 }
 
-/// Lines that can be opened, for so many workers.
+/// Lines that can be opened, each with its end, for so many workers.
 fn openable_lines<'s>(
     alloc: Global,
     lines: &'s [ServedLine],
+    ends: &'s [LineEnd],
     workers: u8,
 ) -> Result<Vec<OpenableLine<'s>>, AllocError>
+    requires few { length lines.now ≤ 8 }
+    requires each { length ends.now ≡ length lines.now }
     requires workers { (1 ≤ workers) × (workers ≤ 32) }
     requires fit { All (λ line. opening_fault (description_of line.spec) ≡ None) lines.now }
     ensures { IfOk result (λ openable. map (λ one. one.line.now) openable.items ≡ lines.now) }
 {
     let mut openable = Vec::new(alloc);
     for line in lines {
-        openable.push(OpenableLine { line, workers })?;
+        let end = &ends[openable.len()];
+        openable.push(OpenableLine { line, end, workers })?;
     }
     Ok(openable)
 }
@@ -290,7 +343,7 @@ fn keep_lines<
     };
     let Staff { porters, keepers } = staff;
     if !work_all(house, porters, keepers, renewal.sessions) {
-        house.close(DownFault::OutOfMemory);
+        house.close_unserved();
     }
     Ok(())
 }

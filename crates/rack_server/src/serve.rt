@@ -201,7 +201,7 @@ fn serve_once<
     requires each { length listening.items ≡ length lines.now }
     requires workers { (1 ≤ workers) × (workers ≤ 32) }
     requires fit { All (λ line. opening_fault (description_of line.spec) ≡ None) lines.now }
-    ensures { ServesLines lines.now (W.contents writer.old) (W.contents writer.new) result }
+    ensures { ServesLines folder.entry lines.now (W.contents writer.old) (W.contents writer.new) result }
 {
     let Ok(opened) = open_lines(alloc, lines, workers) else {
         return Err(ServeFault::Run(RunFault::OutOfMemory));
@@ -259,7 +259,7 @@ pub(crate) fn serve_lines<
     requires opened { AreOpened lines.now opened.ports.items }
     requires workers { (1 ≤ length opened.seats.items) × (length opened.seats.items ≤ 32) }
     requires seats { All (λ own. HasSeats opened.ports.items own.items) opened.seats.items }
-    ensures { ServesLines lines.now (W.contents writer.old) (W.contents writer.new) result }
+    ensures { ServesLines folder.entry lines.now (W.contents writer.old) (W.contents writer.new) result }
 {
     let OpenedLines { ports, seats } = opened;
     let doors = Doors::unopened(&listening);

@@ -1,15 +1,30 @@
-use Rattle.std.proofs.Common.{rules, ◌≡◌, length, arith}
+use Rattle.std.proofs.Common.{rules, ◌≡◌, ◌++◌, ◌∷◌, [], length, sym, arith}
 use Rattle.std.proofs.lemmas.Slice.Zip.{AllZip-long}
 use Rattle.dp_shared.specs.Passes.{line_of}
+use Rattle.rack_server.specs.ServedLines.{line_numbers}
+use Rattle.rack_server.proofs.Recording.{fault_among, number_at, recorded_more}
 use Rattle.rack_server.proofs.recorder.record_lines.Goals as goal
 
 pub offset_bounds-ports-len : goal.offset_bounds-ports-len
 offset_bounds-ports-len g c =
     let place : c.len.result ≡ length c.loop-line.all.items = search rules in
-    let all = c.loop-line.invariant in let within = c.loop-line-test.true in let few = c.requires.few in omega (arith, place, all, within, few)
+    let all = c.loop-line.invariant.0 in let within = c.loop-line-test.true in let few = c.requires.few in omega (arith, place, all, within, few)
 
 pub bounds-ports-len : goal.bounds-ports-len
 bounds-ports-len g c =
     let long = AllZip-long (λ line port. line_of port.line ≡ line.spec) c.args.lines.now c.args.ports.now c.requires.opened in
     let place : c.len.result ≡ length c.loop-line.all.items = search rules in
-    let all = c.loop-line.invariant in let within = c.loop-line-test.true in omega (arith, long, place, all, within)
+    let all = c.loop-line.invariant.0 in let within = c.loop-line-test.true in omega (arith, long, place, all, within)
+
+pub returns-in-Err-file_of-clause-fault : goal.returns-in-Err-file_of-clause-fault
+returns-in-Err-file_of-clause-fault g c =
+    fault_among c.args.folder (line_numbers c.args.lines.now) c.line-item.result.spec.number c.in-Err-file_of.fault
+    (number_at c.args.lines.now c.loop-line.line-index c.line-item.result c.loop-line-test.true (sym c.line-item.is)) c.in-Err-file_of.ensures.fault
+
+pub loop-line-preserved : goal.loop-line-preserved
+loop-line-preserved g c =
+    let more : c.push.new.self.items ≡ c.loop-line.all.items ++ record { net = c.args.rt; doors = c.args.doors; file = c.in-Ok-file_of.file } ∷ [] = search rules in (
+      search rules,
+      recorded_more c.args.folder c.args.lines.now c.loop-line.line-index c.line-item.result c.loop-line.all.items c.push.new.self.items _ c.loop-line-test.true (sym c.line-item.is)
+          c.loop-line.invariant.1 more c.in-Ok-file_of.ensures.path,
+    )
