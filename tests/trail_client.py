@@ -983,9 +983,8 @@ def few_descriptors(trial):
                 continue
             hold(f"with {most} descriptors it says {row}", row == b"")
             status, _, told_of = server.ended()
-            row = told_of.partition("\n")[0]
-            hold(f"with {most} descriptors: {status}, {row}",
-                 status == 2 and re.match("rackd: cannot (make|listen on|read) .", row))
+            hold(f"with {most} descriptors: {status}, {told_of}",
+                 status == 2 and re.fullmatch("rackd: cannot (make|listen on|read) .+\n  too few descriptors\n", told_of))
     return f"it serves with {', '.join(map(str, served)) or 'none'}"
 
 
