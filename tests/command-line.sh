@@ -120,6 +120,7 @@ run '' --help
 hold 'help' eval '[ "$status" = 0 ] && [ ! -s "$work/err" ] && [[ $(cat "$work/out") == *"rackd run RACK SCRIPT"*"rackd check RACK AUDIT"*"rackd explain RACK AUDIT [--summary]"*"rackd serve RACK [--sessions N]"*"rackd operate PORT [--tick MS] [--step MS]"*"exactly %%"*"'journal'"*"Exit statuses"*"  1  a check that is not legal"* ]]'
 cp "$work/out" "$work/help"
 help=$(cat "$work/help")
+hold 'no row of the help has more than 102 characters' eval '[ "$status" = 0 ] && ! grep -n ".\{103\}" "$work/help"'
 example='[[line]]'${help#*'[[line]]'}
 "$program" <<<"${example%%$'\n\n'*}" >"$work/out" 2>"$work/err"
 status=$?
