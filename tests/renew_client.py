@@ -1217,26 +1217,34 @@ def folder_gone(trial):
 
 
 def full_disk(trial):
-    """A file may have no more octets: that ends the program, in a journal behind some that were complete."""
+    """A file may have no more octets: that ends the program, in a journal behind some that were complete. The file that
+    is told is one of the line that has no more room, whichever line that is."""
+    for line, other in (1, 2), (2, 1):
+        is_told_of(trial, line, other)
+
+
+def is_told_of(trial, line, other):
+    """Ends the case where another file is told than the one of this line that takes a row no more."""
     long_row = f"diag 5 - {'a5' * 238}"
-    with serve(trial, {1: 20, 2: 100}, limits=[(resource.RLIMIT_FSIZE, FULL)]) as server:
-        idles = served(server, 2, 1)
+    limits = [(resource.RLIMIT_FSIZE, FULL)]
+    with serve(trial, {line: 20, other: 100}, folder=trial.path(f"full-{line}"), limits=limits) as server:
+        idles = served(server, other, 1)
         for _ in range(3):
-            fill(server, 1)
-        operator, answers = Operator(server.rack.operators[1]), []
+            fill(server, line)
+        operator, answers = Operator(server.rack.operators[line]), []
         with contextlib.suppress(ConnectionError):
             while not answers or answers[-1]:
                 answers.append(operator.ask(long_row))
         status, said, _ = server.ended()
         expect("status and output", (5, b""), (status, said))
-        expect("faults", [f"rackd: cannot write {server.path(1, 4)}"], server.faults())
-        sees_the_end("a master of line 2", idles.connection, time.monotonic())
+        expect("faults", [f"rackd: cannot write {server.path(line, 4)}"], server.faults())
+        sees_the_end("a master of the other line", idles.connection, time.monotonic())
         for number in 1, 2, 3:
-            is_complete(trial, server, 1, number)
-        text = whole(server.text(1, 4))
+            is_complete(trial, server, line, number)
+        text = whole(server.text(line, 4))
         trial.legal(server.rack, text)
         hold("an answer came whose row isn't there", answers.count("done") <= text.count(b"| done\n"))
-        expect("the files", [1, 2, 3, 4], server.numbers(1))
+        expect("the files", [1, 2, 3, 4], server.numbers(line))
 
 
 def full_device(trial):

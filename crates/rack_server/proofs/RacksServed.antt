@@ -16,7 +16,7 @@ use Rattle.dp_script.specs.declared.run_fault.RunFault.{RunFault}
 use Rattle.dp_script.specs.declared.run_fault.RunFault.TheVariants as runs
 use Rattle.rack_server.specs.declared.served_line.ServedLine.{ServedLine}
 use Rattle.rack_server.specs.declared.serve_fault.AuditPath.{AuditPath}
-use Rattle.rack_server.specs.AuditPaths.{IsFileIn, IsPathIn}
+use Rattle.rack_server.specs.AuditPaths.{IsFileIn, IsFolderOrFileIn}
 use Rattle.rack_server.specs.ServedLines.{AreInOrder, ArePutInOrder, all_served, line_numbers, served_line, with_both}
 use Rattle.rack_server.specs.ServeOutput.{AreLinesOf, IsListeningFault, ServesLines, ServesRack, described, has_ports, rack_numbers}
 use Rattle.rack_server.proofs.Recording.{file_grows, path_grows}
@@ -104,8 +104,8 @@ pub file_of_rack : (folder : Option (Bor (List ℕ))) (rack : RackDescription) (
     → IsFileIn folder (rack_numbers rack) path
 file_of_rack folder rack lines path are = file_grows folder (line_numbers lines) (rack_numbers rack) (number_of_rack rack lines are) path
 
-pub path_of_rack : (folder : Option (Bor (List ℕ))) (rack : RackDescription) (lines : List ServedLine) (path : AuditPath) → AreLinesOf rack lines → IsPathIn folder (line_numbers lines) path
-    → IsPathIn folder (rack_numbers rack) path
+pub path_of_rack : (folder : Option (Bor (List ℕ))) (rack : RackDescription) (lines : List ServedLine) (path : AuditPath) → AreLinesOf rack lines → IsFolderOrFileIn folder (line_numbers lines) path
+    → IsFolderOrFileIn folder (rack_numbers rack) path
 path_of_rack folder rack lines path are = path_grows folder (line_numbers lines) (rack_numbers rack) (number_of_rack rack lines are) path
 
 -- ---- how it ends
@@ -137,7 +137,7 @@ refused_ports folder rack lines old (faults.CannotWrite path cause) of_rack neve
 pub stopped : (folder : Option (Bor (List ℕ))) (rack : RackDescription) (lines : List ServedLine) (old new : Option (List ℕ)) (fault : ServeFault) → AreLinesOf rack lines → ServesLines folder lines old new (Err fault)
     → ServesRack folder rack old new (Err fault)
 stopped folder rack lines old new (faults.CannotMake path cause) of_rack (at, same) = (path_of_rack folder rack lines path of_rack at, same)
-stopped folder rack lines old new (faults.CannotWrite path cause) of_rack (at, served) = (file_of_rack folder rack lines path of_rack at, (lines, of_rack, served))
+stopped folder rack lines old new (faults.CannotWrite path cause) of_rack (cut, served) = ((file_of_rack folder rack lines path of_rack cut.0, cut.1), (lines, of_rack, served))
 stopped folder rack lines old new (faults.Run runs.OutOfMemory) of_rack part = inr (lines, of_rack, part)
 stopped folder rack lines old new (faults.Run runs.WriteFault) of_rack part = inr (lines, of_rack, part)
 stopped folder rack lines old new (faults.Run (runs.Rack fault)) of_rack never = absurd never

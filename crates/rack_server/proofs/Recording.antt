@@ -1,19 +1,21 @@
 -- The paths of audit texts, by the lines that they are of.
-use Rattle.std.proofs.Common.{◌≡◌, ℕ, zero, suc, ◌+◌, ◌<◌, List, [], ◌∷◌, ◌++◌, length, take, slice_index_or, get_or, Option, Some, None, IfSome, Contains, refl, sym, ap, subst, arith}
+use Rattle.std.proofs.Common.{◌≡◌, ℕ, zero, suc, ◌+◌, ◌<◌, List, [], ◌∷◌, ◌++◌, length, take, drop, slice_index_or, get_or, Option, Some, None, IfSome, Contains, refl, sym, ap, subst, arith, map, ◌∙◌}
 use Rattle.std.specs.Borrow.{Bor}
 use Rattle.std.specs.Option.{option_or}
 use Rattle.std.proofs.lemmas.List.{map-append, take_more}
 use Rattle.std.proofs.lemmas.List.Elements.{Contains-append_left, Contains-append_right, Contains-push}
 use Rattle.std.proofs.lemmas.Slice.Zip.{all_zipped_more}
 use Rattle.dp_script.specs.declared.run_fault.RunFault.TheVariants as runs
+use Rattle.rack_server.specs.declared.house.FaultSlot.{FaultSlot}
 use Rattle.rack_server.specs.declared.recorder.Recorder.{Recorder}
 use Rattle.rack_server.specs.declared.serve_fault.AuditPath.{AuditPath}
 use Rattle.rack_server.specs.declared.serve_fault.AuditPath.TheVariants as paths
 use Rattle.rack_server.specs.declared.serve_fault.ServeFault.{ServeFault}
 use Rattle.rack_server.specs.declared.serve_fault.ServeFault.TheVariants as faults
 use Rattle.rack_server.specs.declared.served_line.ServedLine.{ServedLine}
-use Rattle.rack_server.specs.AuditPaths.{AreRecordedIn, IsFileIn, IsPathIn, IsRecordedIn}
+use Rattle.rack_server.specs.AuditPaths.{AreRecordedIn, IsFileIn, IsFolderOrFileIn, IsRecordedIn}
 use Rattle.rack_server.specs.Recordings.{path_of, paths_of}
+use Rattle.rack_server.specs.Renewals.{AreSlotsOf}
 use Rattle.rack_server.specs.ServedLines.{line_numbers, number_of}
 use Rattle.rack_server.specs.ServeOutput.{IsRecordingFault}
 
@@ -33,13 +35,28 @@ number_at (x ∷ xs) zero line within is = (0, omega arith, ap number_of is)
 number_at (x ∷ xs) (suc i) line within is =
     Contains-append_right (x.spec.number ∷ []) (line_numbers xs) line.spec.number (number_at xs i line (omega arith) is)
 
--- so it is where it is the first of those that are left
-pub number_behind : (front : List ServedLine) (line : ServedLine) (later rest lines : List ServedLine) → rest ≡ line ∷ later → front ++ rest ≡ lines
-    → Contains (line_numbers lines) line.spec.number
-number_behind front line later rest lines here whole =
-    subst (λ ls. Contains (line_numbers ls) line.spec.number) whole (subst (λ r. Contains (line_numbers (front ++ r)) line.spec.number) (sym here)
-    (subst (λ ns. Contains ns line.spec.number) (sym (map-append number_of front (line ∷ later)))
-    (Contains-append_right (line_numbers front) (line_numbers (line ∷ later)) line.spec.number (0, omega arith, refl))))
+-- so it is of the first of those that are left
+pub among_behind : {A : Type 0} (f : A → ℕ) (front : List A) (x : A) (later rest all : List A) → rest ≡ x ∷ later → front ++ rest ≡ all → Contains (map f all) (f x)
+among_behind f front x later rest all here whole =
+    subst (λ xs. Contains (map f xs) (f x)) whole (subst (λ r. Contains (map f (front ++ r)) (f x)) (sym here)
+    (subst (λ ns. Contains ns (f x)) (sym (map-append f front (x ∷ later)))
+    (Contains-append_right (map f front) (map f (x ∷ later)) (f x) (0, omega arith, refl))))
+
+same_heads : (m n : ℕ) (ms ns : List ℕ) → m ∷ ms ≡ n ∷ ns → m ≡ n
+same_heads m n ms ns e = ap (λ xs. slice_index_or xs 0 m) e
+
+same_tails : (m n : ℕ) (ms ns : List ℕ) → m ∷ ms ≡ n ∷ ns → ms ≡ ns
+same_tails m n ms ns e = ap (drop 1) e
+
+-- the slot at the place of a line has its number
+pub slot_at : (lines : List ServedLine) (slots : List FaultSlot) (i : ℕ) (line : ServedLine) (slot : FaultSlot) → AreSlotsOf lines slots → i < length lines
+    → line ≡ slice_index_or lines i line → slot ≡ slice_index_or slots i slot → slot.line ≡ line.spec.number
+slot_at [] slots i line slot are within is-line is-slot = let no : ⊥ = omega arith in absurd no
+slot_at (x ∷ xs) [] i line slot are within is-line is-slot = let no = ap length are in absurd (omega (arith, no))
+slot_at (x ∷ xs) (s ∷ ss) zero line slot are within is-line is-slot =
+    ap (λ (one : FaultSlot). one.line) is-slot ∙ same_heads s.line x.spec.number (map (λ one. one.line) ss) (line_numbers xs) are ∙ sym (ap number_of is-line)
+slot_at (x ∷ xs) (s ∷ ss) (suc i) line slot are within is-line is-slot =
+    slot_at xs ss i line slot (same_tails s.line x.spec.number (map (λ one. one.line) ss) (line_numbers xs) are) (omega arith) is-line is-slot
 
 -- ---- more lines
 
@@ -48,7 +65,7 @@ file_grows None few many grows path never = absurd never
 file_grows (Some folder) few many grows (paths.Folder named) never = absurd never
 file_grows (Some folder) few many grows (paths.File named line number) is = (is.0, grows line is.1)
 
-pub path_grows : (folder : Option (Bor (List ℕ))) (few many : List ℕ) → ((n : ℕ) → Contains few n → Contains many n) → (path : AuditPath) → IsPathIn folder few path → IsPathIn folder many path
+pub path_grows : (folder : Option (Bor (List ℕ))) (few many : List ℕ) → ((n : ℕ) → Contains few n → Contains many n) → (path : AuditPath) → IsFolderOrFileIn folder few path → IsFolderOrFileIn folder many path
 path_grows None few many grows path never = absurd never
 path_grows (Some folder) few many grows (paths.Folder named) is = is
 path_grows (Some folder) few many grows (paths.File named line number) is = (is.0, grows line is.1)

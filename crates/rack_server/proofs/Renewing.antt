@@ -1,5 +1,5 @@
 -- A rack whose lines are started anew or not: how serving it ends, by the lines.
-use Rattle.std.proofs.Common.{ℕ, List, map, Option, Some, None, Result, Ok, Err, inl}
+use Rattle.std.proofs.Common.{ℕ, List, map, Option, Some, None, Result, Ok, Err, inl, inr}
 use Rattle.std.specs.Borrow.{Bor}
 use Rattle.dp_script.specs.declared.run_fault.RunFault.{RunFault}
 use Rattle.dp_script.specs.declared.run_fault.RunFault.TheVariants as runs
@@ -61,8 +61,9 @@ once folder rack lines old new (Err fault) of_rack part = stopped folder rack li
 anew : (folder : Bor (List ℕ)) (rack : RackDescription) (lines : List ServedLine) (old new : Option (List ℕ)) (result : Result Served ServeFault) → AreLinesOf rack lines
     → Renews folder (line_numbers lines) old new result → RenewsRack folder rack old new result
 anew folder rack lines old new (Ok served) of_rack renewed = renewed
-anew folder rack lines old new (Err (faults.CannotMake path cause)) of_rack (at, written) = (path_of_rack (Some folder) rack lines path of_rack at, written)
-anew folder rack lines old new (Err (faults.CannotWrite path cause)) of_rack (at, written) = (file_of_rack (Some folder) rack lines path of_rack at, written)
+anew folder rack lines old new (Err (faults.CannotMake path cause)) of_rack (inl (at, same)) = inl (path_of_rack (Some folder) rack lines path of_rack at, same)
+anew folder rack lines old new (Err (faults.CannotMake path cause)) of_rack (inr (at, said)) = inr (file_of_rack (Some folder) rack lines path of_rack at, said)
+anew folder rack lines old new (Err (faults.CannotWrite path cause)) of_rack (cut, said) = ((file_of_rack (Some folder) rack lines path of_rack cut.0, cut.1), said)
 anew folder rack lines old new (Err (faults.Run runs.OutOfMemory)) of_rack renewed = renewed
 anew folder rack lines old new (Err (faults.Run runs.WriteFault)) of_rack renewed = renewed
 anew folder rack lines old new (Err (faults.Run (runs.Rack fault))) of_rack never = absurd never

@@ -18,10 +18,9 @@ IsFileIn (Some folder) numbers (paths.Folder named) = ⊥
 IsFileIn None numbers path = ⊥
 
 -- this folder itself, or such a file
-abbrev pub IsPathIn : Option (Bor (List ℕ)) → List ℕ → AuditPath → Type 0
-IsPathIn (Some folder) numbers (paths.File named line number) = (named.now ≡ folder.now) × Contains numbers line
-IsPathIn (Some folder) numbers (paths.Folder named) = named.now ≡ folder.now
-IsPathIn None numbers path = ⊥
+abbrev pub IsFolderOrFileIn : Option (Bor (List ℕ)) → List ℕ → AuditPath → Type 0
+IsFolderOrFileIn (Some folder) numbers (paths.Folder named) = named.now ≡ folder.now
+IsFolderOrFileIn folder numbers path = IsFileIn folder numbers path
 
 -- a line of this number has a file of its own in the folder, and none where there is no folder
 abbrev pub IsRecordedIn : Option (Bor (List ℕ)) → ℕ → Option AuditPath → Type 0

@@ -1,5 +1,5 @@
 -- A rack whose lines are started anew, and what is written of it (own).
-use Rattle.std.specs.Prelude.{◌≡◌, ◌⊎◌, ℕ, Bool, true, false, List, [], ◌∷◌, Option, Some, None, Result, Ok, Err, Contains}
+use Rattle.std.specs.Prelude.{◌≡◌, ◌≤◌, ◌⊎◌, ℕ, Bool, true, false, List, [], ◌∷◌, map, Option, Some, None, Result, Ok, Err, Contains}
 use Rattle.std.specs.Borrow.{Bor}
 use Rattle.std.specs.List.{list_all}
 use Rattle.std.specs.Io.KnownBytes.{Appends, Keeps}
@@ -15,6 +15,7 @@ use Rattle.rackd_words.specs.declared.invocation.Audit.TheVariants as audits
 use Rattle.rack_server.specs.declared.house.DownFault.{DownFault}
 use Rattle.rack_server.specs.declared.house.DownFault.TheVariants as downs
 use Rattle.rack_server.specs.declared.house.Ended.{Ended}
+use Rattle.rack_server.specs.declared.house.FaultSlot.{FaultSlot}
 use Rattle.rack_server.specs.declared.house.LineFault.{LineFault}
 use Rattle.rack_server.specs.declared.listening.Listening.{Listening}
 use Rattle.rack_server.specs.declared.porter.Guests.{Guests}
@@ -24,9 +25,9 @@ use Rattle.rack_server.specs.declared.serve_fault.AuditPath.TheVariants as paths
 use Rattle.rack_server.specs.declared.serve_fault.ServeFault.{ServeFault}
 use Rattle.rack_server.specs.declared.serve_fault.ServeFault.TheVariants as faults
 use Rattle.rack_server.specs.declared.served_line.ServedLine.{ServedLine}
-use Rattle.rack_server.specs.AuditPaths.{IsFileIn, IsPathIn}
+use Rattle.rack_server.specs.AuditPaths.{IsFileIn, IsFolderOrFileIn}
 use Rattle.rack_server.specs.ServedLines.{line_numbers}
-use Rattle.rack_server.specs.ServeOutput.{AreLinesOf, RefusesToServe, ServesLines, ServesRack, has_ports, ports_of, rack_numbers, ready}
+use Rattle.rack_server.specs.ServeOutput.{AreLinesOf, IsCut, RefusesToServe, ServesLines, ServesRack, has_ports, ports_of, rack_numbers, ready}
 
 -- `ready` is written once all that is needed can be had
 abbrev pub Opens : Option (List ℕ) → Option (List ℕ) → Result (Unit {0}) RunFault → Type 0
@@ -35,12 +36,13 @@ Opens old new (Err runs.WriteFault) = WritesPrefix old new ready
 Opens old new (Err runs.OutOfMemory) = Keeps old new
 Opens old new (Err other) = ⊥
 
--- `ready` is written and nothing else; nothing at all where memory or a file can't be had at the first start of a line. The path told is the folder's,
--- or that of a file for a line of these numbers
+-- `ready` is written and nothing else; nothing at all where memory, the folder of the audit texts or a file of it can't be had at the first start of a
+-- line. The file is of a line with one of these numbers, and behind `ready` a file it is
 abbrev pub Renews : Bor (List ℕ) → List ℕ → Option (List ℕ) → Option (List ℕ) → Result Served ServeFault → Type 0
 Renews folder numbers old new (Ok served) = Appends old new ready
-Renews folder numbers old new (Err (faults.CannotMake path cause)) = IsPathIn (Some folder) numbers path × (Keeps old new ⊎ Appends old new ready)
-Renews folder numbers old new (Err (faults.CannotWrite path cause)) = IsFileIn (Some folder) numbers path × Appends old new ready
+Renews folder numbers old new (Err (faults.CannotMake path cause)) =
+    (IsFolderOrFileIn (Some folder) numbers path × Keeps old new) ⊎ (IsFileIn (Some folder) numbers path × Appends old new ready)
+Renews folder numbers old new (Err (faults.CannotWrite path cause)) = IsCut (Some folder) numbers path cause × Appends old new ready
 Renews folder numbers old new (Err (faults.Run runs.WriteFault)) = WritesPrefix old new ready
 Renews folder numbers old new (Err (faults.Run runs.OutOfMemory)) = Keeps old new ⊎ Appends old new ready
 Renews folder numbers old new (Err other) = ⊥
@@ -49,11 +51,21 @@ Renews folder numbers old new (Err other) = ⊥
 abbrev pub porters_at : {L : Type 0} → Listening L → List (L × Guests)
 porters_at here = (here.masters, Masters) ∷ (here.operators, Operators) ∷ []
 
+-- each slot is that of the line at its place
+abbrev pub AreSlotsOf : List ServedLine → List FaultSlot → Type 0
+AreSlotsOf lines slots = map (λ slot. slot.line) slots ≡ line_numbers lines
+
 -- what ends the start of a line is told of its own file
-abbrev pub IsDownAt : ℕ → DownFault → Type 0
-IsDownAt file (downs.CannotMake told cause) = told ≡ file
-IsDownAt file (downs.CannotWrite told) = told ≡ file
-IsDownAt file downs.OutOfMemory = Unit {0}
+abbrev pub NamesFile : ℕ → DownFault → Type 0
+NamesFile file (downs.CannotMake told cause) = told ≡ file
+NamesFile file (downs.CannotWrite told) = told ≡ file
+NamesFile file downs.OutOfMemory = Unit {0}
+
+-- no file of a line before this one can't be had, or memory is refused
+abbrev pub NamesNoFileBefore : ℕ → DownFault → Type 0
+NamesNoFileBefore file (downs.CannotMake told cause) = file ≤ told
+NamesNoFileBefore file (downs.CannotWrite told) = ⊥
+NamesNoFileBefore file downs.OutOfMemory = Unit {0}
 
 -- the fault that ends the program, by that of the line of this number, whose file is in the folder
 abbrev pub told_of : Bor (List ℕ) → ℕ → DownFault → ServeFault
@@ -62,14 +74,14 @@ told_of folder line (downs.CannotWrite number) = faults.CannotWrite (paths.File 
 told_of folder line downs.OutOfMemory = faults.Run runs.OutOfMemory
 
 -- where no line has a fault: memory or a thread was refused, or so many sessions were served
-abbrev pub counted : Bool → ℕ → ℕ → Result Served ServeFault
-counted true masters operators = Err (faults.Run runs.OutOfMemory)
-counted false masters operators = Ok (record { masters = masters; operators = operators })
+abbrev pub outcome_without_fault : Bool → ℕ → ℕ → Result Served ServeFault
+outcome_without_fault true masters operators = Err (faults.Run runs.OutOfMemory)
+outcome_without_fault false masters operators = Ok (record { masters = masters; operators = operators })
 
 -- the fault of a line, if one ended the rack
 abbrev pub outcome_of : Bor (List ℕ) → Ended → Option LineFault → Result Served ServeFault
 outcome_of folder ended (Some down) = Err (told_of folder down.line down.fault)
-outcome_of folder ended None = counted ended.is_down ended.masters ended.operators
+outcome_of folder ended None = outcome_without_fault ended.is_down ended.masters ended.operators
 
 -- lines that are listened at, and started anew or not
 abbrev pub ServesLinesAs : Audit → List ServedLine → Option (List ℕ) → Option (List ℕ) → Result Served ServeFault → Type 0

@@ -1,9 +1,11 @@
 -- A rack that is served (own).
-use Rattle.std.specs.Prelude.{◌≡◌, ◌⊎◌, codes, ℕ, Bool, ◌&&◌, false, List, [], ◌∷◌, ◌++◌, map, Option, Some, is_some, Result, Ok, Err, Contains, IsPermutation}
+use Rattle.std.specs.Prelude.{◌≡◌, ◌≤◌, ◌⊎◌, codes, ℕ, Bool, ◌&&◌, false, List, [], ◌∷◌, ◌++◌, map, Option, Some, None, is_some, Result, Ok, Err, Contains, IsPermutation}
 use Rattle.std.specs.Borrow.{Bor}
 use Rattle.std.specs.List.{AllZip, flat_map, list_all}
 use Rattle.std.specs.List.Sorted.{IsNonDecreasingBy}
 use Rattle.std.specs.Io.KnownBytes.{Appends, Keeps}
+use Rattle.dp_cause.specs.declared.cause.Cause.{Cause}
+use Rattle.dp_cause.specs.declared.cause.Cause.TheVariants.{NotTaken}
 use Rattle.dp_text.specs.Writes.{WritesPrefix}
 use Rattle.dp_audit.specs.AuditText.{audit_text}
 use Rattle.dp_line.specs.World.{description_of}
@@ -17,13 +19,14 @@ use Rattle.rack_file.specs.Rack.{LineDescription, RackDescription}
 use Rattle.rack_file.specs.declared.fault.RackFault.{RackFault}
 use Rattle.rack_file.specs.declared.fault.RackFault.TheVariants as racks
 use Rattle.rack_server.specs.declared.serve_fault.AuditPath.{AuditPath}
+use Rattle.rack_server.specs.declared.serve_fault.AuditPath.TheVariants as paths
 use Rattle.rack_server.specs.declared.serve_fault.ServeFault.{ServeFault}
 use Rattle.rack_server.specs.declared.serve_fault.ServeFault.TheVariants as faults
 use Rattle.dp_script.specs.declared.run_fault.RunFault.{RunFault}
 use Rattle.dp_script.specs.declared.run_fault.RunFault.TheVariants as runs
 use Rattle.rack_server.specs.declared.serve.Served.{Served}
 use Rattle.rack_server.specs.declared.served_line.ServedLine.{ServedLine}
-use Rattle.rack_server.specs.AuditPaths.{IsFileIn, IsPathIn}
+use Rattle.rack_server.specs.AuditPaths.{IsFileIn, IsFolderOrFileIn}
 use Rattle.rack_server.specs.ServedLines.{line_numbers, number_of}
 
 -- ---- listening
@@ -40,13 +43,18 @@ IsListeningFault lines other = ⊥
 
 -- the folder of audit texts can't be had, or a file of it for one of the lines with these numbers, or memory is refused
 abbrev pub IsRecordingFault : Option (Bor (List ℕ)) → List ℕ → ServeFault → Type 0
-IsRecordingFault folder numbers (faults.CannotMake path cause) = IsPathIn folder numbers path
+IsRecordingFault folder numbers (faults.CannotMake path cause) = IsFolderOrFileIn folder numbers path
 IsRecordingFault folder numbers (faults.Run runs.OutOfMemory) = Unit {0}
 IsRecordingFault folder numbers other = ⊥
 
--- the file of this path doesn't take its header, or memory is refused
+-- no file before this number can't be had
+abbrev pub NamesFileFrom : ℕ → ServeFault → Type 0
+NamesFileFrom first (faults.CannotMake (paths.File folder line number) cause) = first ≤ number
+NamesFileFrom first other = Unit {0}
+
+-- the file of this path doesn't take its header whole, or memory is refused
 abbrev pub IsNotBegun : AuditPath → ServeFault → Type 0
-IsNotBegun path (faults.CannotMake told cause) = told ≡ path
+IsNotBegun path (faults.CannotMake told cause) = (told ≡ path) × (cause ≡ NotTaken)
 IsNotBegun path (faults.Run runs.OutOfMemory) = Unit {0}
 IsNotBegun path other = ⊥
 
@@ -126,12 +134,22 @@ Attends old new (Err runs.WriteFault) = WritesPrefix old new ready
 Attends old new (Err runs.OutOfMemory) = Keeps old new
 Attends old new (Err other) = ⊥
 
--- where the folder of the audit texts or a file of it can't be had, nothing is written; where a file took a row no more, all is; the path told is
--- the folder's, or that of a file for one of these lines
+-- the file of a line with one of these numbers took a row no more
+abbrev pub IsCut : Option (Bor (List ℕ)) → List ℕ → AuditPath → Cause → Type 0
+IsCut folder numbers path cause = IsFileIn folder numbers path × (cause ≡ NotTaken)
+
+-- how serving lines has ended, by the first file that took a row no more, and by how many sessions were served
+abbrev pub attended_outcome : Option AuditPath → Option ℕ → ℕ → Result Served ServeFault
+attended_outcome (Some path) masters operators = Err (faults.CannotWrite path NotTaken)
+attended_outcome None (Some masters) operators = Ok (record { masters = masters; operators = operators })
+attended_outcome None None operators = Err (faults.Run runs.OutOfMemory)
+
+-- where the folder of the audit texts or a file of it for one of these lines can't be had, nothing is written; where such a file took a row no
+-- more, all is
 abbrev pub ServesLines : Option (Bor (List ℕ)) → List ServedLine → Option (List ℕ) → Option (List ℕ) → Result Served ServeFault → Type 0
 ServesLines folder lines old new (Ok served) = AreServed lines old new
-ServesLines folder lines old new (Err (faults.CannotMake path cause)) = IsPathIn folder (line_numbers lines) path × Keeps old new
-ServesLines folder lines old new (Err (faults.CannotWrite path cause)) = IsFileIn folder (line_numbers lines) path × AreServed lines old new
+ServesLines folder lines old new (Err (faults.CannotMake path cause)) = IsFolderOrFileIn folder (line_numbers lines) path × Keeps old new
+ServesLines folder lines old new (Err (faults.CannotWrite path cause)) = IsCut folder (line_numbers lines) path cause × AreServed lines old new
 ServesLines folder lines old new (Err (faults.Run runs.WriteFault)) = AreServedInPart lines old new
 ServesLines folder lines old new (Err (faults.Run runs.OutOfMemory)) = AreServedInPart lines old new
 ServesLines folder lines old new (Err other) = ⊥
@@ -161,15 +179,15 @@ abbrev pub IsServedInPart : RackDescription → Option (List ℕ) → Option (Li
 IsServedInPart rack old new = Keeps old new ⊎ ((lines : List ServedLine) × AreLinesOf rack lines × AreServedInPart lines old new)
 
 -- a rack that is accepted is served; a line without a port is a bad key, and then nothing is written, nor where a port of the rack can't be
--- had, or the folder or a file for an audit text; where such a file took a row no more, all is served; and where memory, a thread or a write is
--- refused, what is written is a part. The path told is the folder's, or that of a file for a line of the rack
+-- had, or the folder of the audit texts or a file of it for a line of the rack; where such a file took a row no more, all is served; and where
+-- memory, a thread or a write is refused, what is written is a part
 abbrev pub ServesRack : Option (Bor (List ℕ)) → RackDescription → Option (List ℕ) → Option (List ℕ) → Result Served ServeFault → Type 0
 ServesRack folder rack old new (Ok served) = IsServed rack old new
 ServesRack folder rack old new (Err (faults.Run (runs.Rack racks.BadKey))) = (list_all has_ports rack.lines ≡ false) × Keeps old new
 ServesRack folder rack old new (Err (faults.CannotListen port cause)) =
     (lines : List ServedLine) × AreLinesOf rack lines × Contains (ports_of lines) port × Keeps old new
-ServesRack folder rack old new (Err (faults.CannotMake path cause)) = IsPathIn folder (rack_numbers rack) path × Keeps old new
-ServesRack folder rack old new (Err (faults.CannotWrite path cause)) = IsFileIn folder (rack_numbers rack) path × IsServed rack old new
+ServesRack folder rack old new (Err (faults.CannotMake path cause)) = IsFolderOrFileIn folder (rack_numbers rack) path × Keeps old new
+ServesRack folder rack old new (Err (faults.CannotWrite path cause)) = IsCut folder (rack_numbers rack) path cause × IsServed rack old new
 ServesRack folder rack old new (Err (faults.Run runs.OutOfMemory)) = IsServedInPart rack old new
 ServesRack folder rack old new (Err (faults.Run runs.WriteFault)) = IsServedInPart rack old new
 ServesRack folder rack old new (Err other) = ⊥

@@ -9,7 +9,7 @@ ghost use Rattle.rack_server.specs.declared.served_line.ServedLine.{ServedLine};
 ghost use Rattle.rack_server.specs.AuditPaths.{IsFileIn};
 ghost use Rattle.rack_server.specs.Recordings.{paths_of};
 ghost use Rattle.rack_server.specs.ServedLines.{line_numbers};
-ghost use Rattle.rack_server.specs.ServeOutput.{AreOpened, AreServed, Attends, ServesLines, ready};
+ghost use Rattle.rack_server.specs.ServeOutput.{AreOpened, AreServed, Attends, ServesLines, attended_outcome, ready};
 
 use crate::acceptors::Acceptors;
 use crate::attendance::Attendance;
@@ -59,7 +59,8 @@ pub(crate) struct Attended<'a> {
 impl<'a> Attended<'a> {
     /// How the program ends, once the audit texts are written.
     pub(crate) fn outcome(self) -> Result<Served, ServeFault<'a>>
-        ensures { (folder : Option (Bor (List ℕ))) → (lines : List ServedLine) → IfSome self.entry.incomplete (IsFileIn folder (line_numbers lines))
+        ensures exact { result ≡ attended_outcome self.entry.incomplete self.entry.masters self.entry.operators }
+        ensures serves { (folder : Option (Bor (List ℕ))) → (lines : List ServedLine) → IfSome self.entry.incomplete (IsFileIn folder (line_numbers lines))
             → (old new : Option (List ℕ)) → AreServed lines old new → ServesLines folder lines old new result }
     {
         let Attended {

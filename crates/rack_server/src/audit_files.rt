@@ -2,7 +2,7 @@
 
 ghost use Rattle.std.specs.Prelude.{◌≡◌, ◌≤◌, [], ◌∷◌, IfErr, IfOk, Some};
 ghost use Rattle.rack_server.specs.AuditPaths.{IsFileIn};
-ghost use Rattle.rack_server.specs.ServeOutput.{IsNotBegun, IsRecordingFault};
+ghost use Rattle.rack_server.specs.ServeOutput.{IsNotBegun, IsRecordingFault, NamesFileFrom};
 
 use crate::archive::Archive;
 use crate::serve_fault::{AuditPath, ServeFault};
@@ -91,6 +91,7 @@ pub(crate) fn next_file<'a, H: Archive>(
 ) -> Result<NewFile, ServeFault<'a>>
     ensures number { IfOk result (λ made. first ≤ made.number) }
     ensures fault { IfErr result (IsRecordingFault (Some folder.entry) (line ∷ [])) }
+    ensures later { IfErr result (NamesFileFrom first) }
 {
     for number in first..=u32::MAX {
         let path = AuditPath::File {

@@ -1,6 +1,7 @@
 //! What all lines of a rack share that are started anew.
 
-ghost use Rattle.std.specs.Prelude.{◌≤◌, IfOk};
+ghost use Rattle.std.specs.Prelude.{◌<◌, IfErr, IfOk};
+ghost use Rattle.rack_server.specs.Renewals.{NamesNoFileBefore};
 
 use crate::archive::Archive;
 use crate::audit_files::{NewFile, next_file};
@@ -27,9 +28,15 @@ pub(crate) enum DownFault {
     OutOfMemory,
 }
 
-/// The fault of a line, where it is the first one of the rack. Each line has its own, so that the file of a fault is
-/// one of its line.
-pub(crate) type LineEnd = Mutex<Option<DownFault>>;
+/// Where the fault of a line is put, if it is the first one of the rack. The number of the line stands beside the lock,
+/// behind which nothing would be known of it.
+#[derive(Drop)]
+pub(crate) struct FaultSlot {
+    /// The number of the line.
+    pub(crate) line: u8,
+    /// The fault.
+    pub(crate) fault: Mutex<Option<DownFault>>,
+}
 
 /// The first fault of a rack.
 #[derive(Clone, Copy)]
@@ -97,22 +104,22 @@ impl<H: Wait + Log + Clock> House<'_, H> {
 }
 
 impl<H: Wait + Net> House<'_, H> {
-    /// Nothing is served any more, by the fault of the line that has this end; the first one is told.
-    pub(crate) fn close(&self, end: &LineEnd, fault: DownFault) {
-        if self.goes_down() {
-            *end.lock(self.rt) = Some(fault);
+    /// Nothing is served any more, by the fault of the line that has this slot; the first one is told.
+    pub(crate) fn close(&self, slot: &FaultSlot, fault: DownFault) {
+        if self.mark_down() {
+            *slot.fault.lock(self.rt) = Some(fault);
         }
         self.doors.shut(self.rt, self.rt);
     }
 
     /// Nothing is served any more, since a thread was refused.
     pub(crate) fn close_unserved(&self) {
-        self.goes_down();
+        self.mark_down();
         self.doors.shut(self.rt, self.rt);
     }
 
-    /// A fault ends the rack; whether it is the first one.
-    fn goes_down(&self) -> bool {
+    /// Marks that a fault ends the rack; whether it is the first one.
+    fn mark_down(&self) -> bool {
         let mut ended = self.ended.lock(self.rt);
         let is_first = !ended.is_down;
         ended.is_down = true;
@@ -123,16 +130,19 @@ impl<H: Wait + Net> House<'_, H> {
 impl<H: Archive> House<'_, H> {
     /// The file for the next audit text of a line, behind the one of this number.
     pub(crate) fn file_behind(&self, line: u8, number: u32) -> Result<NewFile, DownFault>
-        ensures { IfOk result (λ next. number ≤ next.number) }
+        ensures next { IfOk result (λ next. number < next.number) }
+        ensures fault { IfErr result (NamesNoFileBefore number) }
     {
-        let next = number.saturating_add(1);
+        let Some(next) = number.checked_add(1) else {
+            return Err(DownFault::CannotMake(u32::MAX, Cause::Unknown));
+        };
         match next_file(self.rt, self.alloc, self.folder, line, next) {
             Ok(file) => Ok(file),
             Err(ServeFault::CannotMake(AuditPath::File { number, .. }, cause)) => {
                 Err(DownFault::CannotMake(number, cause))
             }
             Err(ServeFault::CannotMake(AuditPath::Folder(_), cause)) => {
-                Err(DownFault::CannotMake(number, cause))
+                Err(DownFault::CannotMake(u32::MAX, cause))
             }
             Err(_) => Err(DownFault::OutOfMemory),
         }

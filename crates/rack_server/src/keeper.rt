@@ -1,16 +1,16 @@
 //! What keeps a line served: it is started anew whenever it is halted.
 
-ghost use Rattle.std.specs.Prelude.{◌≡◌, ◌≤◌, ℕ, [], ◌∷◌, List, Option, All, IfErr, IfOk, IfSome, None, length};
+ghost use Rattle.std.specs.Prelude.{◌≡◌, ◌≤◌, ◌<◌, ℕ, [], ◌∷◌, List, Option, All, IfErr, IfOk, IfSome, None, length};
 ghost use Rattle.dp_line.specs.World.{description_of, opening_fault};
 ghost use Rattle.dp_sessions.specs.Pools.{HasSeats};
 ghost use Rattle.dp_shared.specs.Passes.{line_of, table_of};
 ghost use Rattle.rack_server.specs.Completed.{HasSeen, IsComplete};
-ghost use Rattle.rack_server.specs.Renewals.{IsDownAt};
+ghost use Rattle.rack_server.specs.Renewals.{NamesFile};
 
 use crate::archive::Archive;
 use crate::audit_files::NewFile;
 use crate::desk::Desk;
-use crate::house::{DownFault, House, LineEnd};
+use crate::house::{DownFault, FaultSlot, House};
 use crate::line_start::{Completed, Place, serve_recorded};
 use crate::lobby::Lobby;
 use crate::opened_lines::{OpenedLine, open_line};
@@ -38,10 +38,11 @@ pub(crate) const BESIDE: usize = 2;
 pub(crate) struct OpenableLine<'a> {
     /// The line.
     pub(crate) line: &'a ServedLine,
-    /// What ends it.
-    pub(crate) end: &'a LineEnd,
+    /// Where its fault is put, if that is the first one of the rack.
+    pub(crate) slot: &'a FaultSlot,
     /// How many workers the rack has, 1 to 32.
     pub(crate) workers: u8,
+    ghost own: { slot.now.line ≡ line.now.spec.number },
     ghost opens: { opening_fault (description_of line.now.spec) ≡ None },
     ghost staffed: { (1 ≤ workers) × (workers ≤ 32) },
 }
@@ -103,7 +104,7 @@ fn keep_line<
             Ok(Some((file, complete))) => next = (file, Some(complete)),
             Ok(None) => return,
             Err(fault) => {
-                house.close(line.end, fault);
+                house.close(line.slot, fault);
                 return;
             }
         }
@@ -129,7 +130,7 @@ fn keep_start<
     file: NewFile,
     before: Option<Completed>,
 ) -> Result<Option<(NewFile, Completed)>, DownFault>
-    ensures { IfOk result (λ next. IfSome next (λ both. (both.1.file ≡ file.number) × (file.number ≤ both.0.number))) }
+    ensures { IfOk result (λ next. IfSome next (λ both. (both.1.file ≡ file.number) × (file.number < both.0.number))) }
 {
     let NewFile { number, file } = file;
     let place = Place {
@@ -166,7 +167,7 @@ fn serve_once<
 ) -> Result<Option<u32>, DownFault>
     ensures complete { IfOk result (λ done. IfSome done (λ entries. (now : Option (List ℕ))
         × IsComplete line.entry.line.now.spec (F.contents file) now entries)) }
-    ensures fault { IfErr result (IsDownAt place.entry.file) }
+    ensures fault { IfErr result (NamesFile place.entry.file) }
 {
     if !can_start(house.rt, usize::from(line.workers) + BESIDE) {
         return Err(DownFault::OutOfMemory);
@@ -204,7 +205,7 @@ fn serve_open<
     requires seats { All (λ own. HasSeats (port.now ∷ []) own.items) seats.items }
     ensures ours { IfOk result (λ left. (left.pass.table ≡ table_of port.now.line) × (left.pass.line ≡ (line_of port.now.line).number)) }
     ensures seen { IfOk result (λ left. HasSeen (F.contents file) (F.contents left.writer) left.pass.line left.pass.view.looks left.seen) }
-    ensures fault { IfErr result (IsDownAt place.entry.file) }
+    ensures fault { IfErr result (NamesFile place.entry.file) }
 {
     let tail = match Tail::open(house.rt, &port.line, file) {
         Ok(tail) => tail,

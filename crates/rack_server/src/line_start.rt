@@ -4,7 +4,7 @@ ghost use Rattle.std.specs.Prelude.{◌≤◌, ℕ, [], ◌∷◌, List, Option,
 ghost use Rattle.dp_sessions.specs.Pools.{HasSeats};
 ghost use Rattle.dp_trail.specs.Trails.{IsTrailOf};
 ghost use Rattle.rack_server.specs.Completed.{HasSeen};
-ghost use Rattle.rack_server.specs.Renewals.{IsDownAt};
+ghost use Rattle.rack_server.specs.Renewals.{NamesFile};
 
 use crate::acceptors::TURNS;
 use crate::audit_files::AuditFile;
@@ -70,7 +70,7 @@ pub(crate) fn serve_recorded<
     requires seats { All (λ own. HasSeats (desk.port.now ∷ []) own.items) seats.items }
     ensures left { IfOk result (λ left. (front : Option (List ℕ)) × IsTrailOf K.whose left.pass.table left.pass.line front
         × HasSeen front (F.contents left.writer) left.pass.line left.pass.view.looks left.seen) }
-    ensures fault { IfErr result (IsDownAt place.entry.file) }
+    ensures fault { IfErr result (NamesFile place.entry.file) }
 {
     let path = AuditPath::File {
         folder: house.folder,

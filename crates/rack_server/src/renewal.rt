@@ -4,7 +4,7 @@ ghost use Rattle.std.specs.Prelude.{◌≡◌, ◌≤◌, ℕ, List, ◌∷◌, 
 ghost use Rattle.std.specs.Io.KnownBytes.{Appends};
 ghost use Rattle.std.specs.List.{flat_map, range_with_len};
 ghost use Rattle.dp_line.specs.World.{description_of, opening_fault};
-ghost use Rattle.rack_server.specs.Renewals.{Opens, Renews, outcome_of, porters_at, told_of};
+ghost use Rattle.rack_server.specs.Renewals.{AreSlotsOf, Opens, Renews, outcome_of, porters_at, told_of};
 ghost use Rattle.rack_server.specs.ServedLines.{line_numbers};
 ghost use Rattle.rack_server.specs.ServeOutput.{IsRecordingFault, ready};
 
@@ -13,7 +13,7 @@ use crate::archive::Archive;
 use crate::attending::{WAITING, write_ready};
 use crate::audit_files::{NewFile, make_folder, next_file};
 use crate::doors::{Door, Doors};
-use crate::house::{DownFault, Ended, House, LineEnd, LineFault};
+use crate::house::{DownFault, Ended, FaultSlot, House, LineFault};
 use crate::keeper::{BESIDE, Keeper, OpenableLine, keep};
 use crate::listening::Listening;
 use crate::lobby::{Lobby, Queue};
@@ -101,6 +101,9 @@ pub(crate) fn serve_renewing<
     if open_lines(alloc, lines, renewal.workers).is_err() {
         return Err(ServeFault::Run(RunFault::OutOfMemory));
     }
+    let Ok(slots) = slots_of(alloc, lines) else {
+        return Err(ServeFault::Run(RunFault::OutOfMemory));
+    };
     match make_folder(rt, renewal.folder) {
         Ok(()) => {}
         Err(fault) => return Err(fault),
@@ -117,36 +120,36 @@ pub(crate) fn serve_renewing<
         numbers_of(lines),
         u32::from(renewal.workers),
     );
-    let Ok(ends) = ends_of(alloc, lines) else {
-        return Err(ServeFault::Run(RunFault::OutOfMemory));
-    };
     let kept = keep_house(
-        rt, alloc, &doors, &notes, folder, renewal, lines, &ends, posts, writer,
+        rt, alloc, &doors, &notes, folder, renewal, lines, &slots, posts, writer,
     );
     match kept {
-        Ok(ended) => outcome(folder, ended, first_fault(lines, ends)),
+        Ok(ended) => outcome(folder, ended, fault_in(slots)),
         Err(fault) => Err(ServeFault::Run(fault)),
     }
 }
 
-/// The ends of these lines, none of which has one yet.
-fn ends_of(alloc: Global, lines: &[ServedLine]) -> Result<Vec<LineEnd>, AllocError>
-    ensures { IfOk result (λ ends. length ends.items ≡ length lines.now) }
+/// The slots for the faults of these lines, none of which has one yet.
+fn slots_of(alloc: Global, lines: &[ServedLine]) -> Result<Vec<FaultSlot>, AllocError>
+    ensures { IfOk result (λ slots. AreSlotsOf lines.now slots.items) }
 {
-    let mut ends = Vec::new(alloc);
-    for _ in lines {
-        ends.push(Mutex::new(None))?;
+    let mut slots = Vec::new(alloc);
+    for line in lines {
+        slots.push(FaultSlot {
+            line: line.spec.number,
+            fault: Mutex::new(None),
+        })?;
     }
-    Ok(ends)
+    Ok(slots)
 }
 
-/// The fault of the first of these lines that has one.
-fn first_fault(lines: &[ServedLine], ends: Vec<LineEnd>) -> Option<LineFault>
-    ensures { IfSome result (λ down. Contains (line_numbers lines.now) down.line) }
+/// The fault in these slots, of which one at the most has one.
+fn fault_in(slots: Vec<FaultSlot>) -> Option<LineFault>
+    ensures { IfSome result (λ down. Contains (map (λ slot. slot.line) slots.items) down.line) }
 {
-    for (line, end) in lines.iter().zip(ends) {
-        if let Some(fault) = end.into_inner() {
-            let line = line.spec.number;
+    for slot in slots {
+        let FaultSlot { line, fault } = slot;
+        if let Some(fault) = fault.into_inner() {
             return Some(LineFault { line, fault });
         }
     }
@@ -173,13 +176,13 @@ fn keep_house<
     folder: &'s str,
     renewal: Renewal<'_>,
     lines: &'s [ServedLine],
-    ends: &'s [LineEnd],
+    slots: &'s [FaultSlot],
     posts: Vec<Post>,
     writer: &mut W,
 ) -> Result<Ended, RunFault>
     requires few { length lines.now ≤ 8 }
     requires each { length posts.items ≡ length lines.now }
-    requires ends { length ends.now ≡ length lines.now }
+    requires slots { AreSlotsOf lines.now slots.now }
     requires workers { (1 ≤ renewal.workers) × (renewal.workers ≤ 32) }
     requires fit { All (λ line. opening_fault (description_of line.spec) ≡ None) lines.now }
     ensures ok { OnOk result (Appends (W.contents writer.old) (W.contents writer.new) ready) }
@@ -198,7 +201,7 @@ fn keep_house<
             is_down: false,
         }),
     };
-    let Ok(openable) = openable_lines(alloc, lines, ends, renewal.workers) else {
+    let Ok(openable) = openable_lines(alloc, lines, slots, renewal.workers) else {
         return Err(RunFault::OutOfMemory);
     };
     match keep_lines(&house, openable, posts, renewal, writer) {
@@ -286,28 +289,32 @@ fn post_lines<'a, H: Archive>(
     Ok(posts)
 }
 
-/// Lines that can be opened, each with its end, for so many workers.
+/// Lines that can be opened, each with its slot, for so many workers.
 fn openable_lines<'s>(
     alloc: Global,
     lines: &'s [ServedLine],
-    ends: &'s [LineEnd],
+    slots: &'s [FaultSlot],
     workers: u8,
 ) -> Result<Vec<OpenableLine<'s>>, AllocError>
     requires few { length lines.now ≤ 8 }
-    requires each { length ends.now ≡ length lines.now }
+    requires slots { AreSlotsOf lines.now slots.now }
     requires workers { (1 ≤ workers) × (workers ≤ 32) }
     requires fit { All (λ line. opening_fault (description_of line.spec) ≡ None) lines.now }
     ensures { IfOk result (λ openable. map (λ one. one.line.now) openable.items ≡ lines.now) }
 {
     let mut openable = Vec::new(alloc);
     for line in lines {
-        let end = &ends[openable.len()];
-        openable.push(OpenableLine { line, end, workers })?;
+        let slot = &slots[openable.len()];
+        openable.push(OpenableLine {
+            line,
+            slot,
+            workers,
+        })?;
     }
     Ok(openable)
 }
 
-/// Writes `ready`, and serves the lines until nobody comes any more, or a fault ends it, which the house has.
+/// Writes `ready`, and serves the lines until nobody comes any more, or a fault ends it, which is in the slot of its line.
 ///
 /// `OutOfMemory` where memory or threads can't be had, and then nothing is written; `WriteFault`.
 fn keep_lines<

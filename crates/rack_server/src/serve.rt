@@ -54,8 +54,8 @@ pub struct Served {
 /// for its connections, `CannotMake` where the folder or a file for an audit text can't be had, and then nothing is
 /// written; `WriteFault`; `OutOfMemory` also where a thread is refused. Where that is so only behind `ready`, the audit
 /// texts are written before the end all the same. `CannotWrite` where a file of an audit text took a row no more: what
-/// was being served ends then, and the audit texts are written. The path of both is that of the folder, or of a file of it
-/// for a line of the rack.
+/// was being served ends then, and the audit texts are written. What can't be made is the folder that the words name, or
+/// a file of it for a line of the rack, and what can't be written is such a file.
 pub fn serve_text<
     'a,
     H: Net<Listener = TcpListener, Stream = TcpStream>

@@ -20,7 +20,7 @@ returns g c =
 
 pub returns-in-Ok-write_audits : goal.returns-in-Ok-write_audits
 returns-in-Ok-write_audits g c =
-    c.outcome.ensures c.args.folder c.args.lines.now
+    c.outcome.ensures.serves c.args.folder c.args.lines.now
     (incomplete_in c.args.folder (line_numbers c.args.lines.now) (paths_of c.in-Ok.recorders.items) c.in-Ok-attended.attended.incomplete c.in-Ok.ensures.paths
     c.in-Ok-attended.ensures.incomplete)
     (g.W.Write.contents c.args.writer.now) (g.W.Write.contents c.write_audits.new.writer)
