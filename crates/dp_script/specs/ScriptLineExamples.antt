@@ -24,7 +24,7 @@ text_on_literals = tt
 
 -- the line, before anything came
 abbrev journal_1 : Journal
-journal_1 = record { number = 1; opening = fresh; entries = []; state = record { world = fresh; last_walk = 0 } }
+journal_1 = record { number = 1; opening = fresh; room = fresh.capacity; entries = []; state = record { world = fresh; last_walk = 0 } }
 
 abbrev line_1 : ScriptLine
 line_1 = record { journal = journal_1; streams = record { master = 1; held = [] } ∷ record { master = 2; held = [] } ∷ []; driven = [] }
