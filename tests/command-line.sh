@@ -135,7 +135,7 @@ for words in word -h -V --hel --help=1 --version=1 '' '--line 1' help 'play rack
   serve 'serve rack word' 'serve --help' 'serve --sessions 1' 'serve rack --sessions' 'serve rack --sessions 0' \
   'serve rack --sessions 1000001' 'serve rack --sessions x' 'serve rack --sessions -1' \
   'serve rack --sessions 1 --sessions 1' 'serve rack --session 1' 'serve rack --sessions +5' 'serve rack --sessions 05' \
-  'serve rack --renew' 'serve rack --audit a --renew --renew' 'serve rack --renew --audit' \
+  'serve rack --audit a --renew' \
   'serve rack --audit' 'serve rack --audit a --audit b' 'serve --audit a' 'serve --log' 'serve rack --log loud' \
   'serve rack --log --log'; do
   if [ "$words" ]; then read -ra list <<<"$words"; else list=(''); fi

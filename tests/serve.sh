@@ -582,6 +582,21 @@ tells 1 "INFO line 1: req 1 $diag_1 -> silence Halted"
 tells 1 'INFO line 1: tick 2 -> released'
 tells 1 'INFO line 1: tick 4 -> refused Halted'
 
+# ---- a program that is stopped and goes on again: its reads are interrupted, and no session ends by that
+
+serve 'stopped' "$work/noted"
+master 'a master of a program that is stopped' "$masters" 1; one=$fd
+connect "$operators"; operator=$fd
+orders 'an operator of it' "$operator" 'tick 1' released
+for _ in 1 2 3 4 5; do
+  kill -STOP "$server"; sleep 0.05
+  kill -CONT "$server"; sleep 0.05
+done
+asks 'the master behind that' "$one" "$diag_1" "$fresh_1"
+orders 'the operator behind that' "$operator" 'tick 2' released
+hang_up "$one"; hang_up "$operator"
+stop
+
 # ---- threads that are refused: a line with two workers needs four, which are tried before they are started
 
 # starved NAME COUNT: the program ends with status 3; before that it writes the audit text of its line, of so many entries

@@ -7,7 +7,6 @@ use dp_sessions::{OpenGate, Port, serve};
 use dp_shared::WorkerSeat;
 use dp_trail::{Tail, Trail, Trailed};
 use std::io::{self, Read, Write};
-use std::marker::Brand;
 use std::net::{Net, TcpListener, TcpStream};
 use std::sync::Wait;
 use std::sync::atomic::AtomicU32;
@@ -114,7 +113,7 @@ impl<F: Write + Drop> Answers for Recorded<F> {
         let Ok(tail) = Tail::open(rt, &port.line, file) else {
             return;
         };
-        let trail = Trail::<_, Brand>::of(tail);
+        let trail = Trail::of(tail);
         let mut reader = Trailed::new(rt, &trail, stream);
         let mut writer = Trailed::new(rt, &trail, replies);
         serve(

@@ -37,6 +37,8 @@ struct Asked {
 /// What was told or counted, and is needed again.
 #[derive(Drop)]
 struct Noted {
+    /// The lines that their operators are about to halt.
+    halting: ArrayVec<u8, MOST_LINES>,
     /// The lines of which it was told that they are halted.
     halted: ArrayVec<u8, MOST_LINES>,
     /// What the sessions under way have asked for.
@@ -64,6 +66,7 @@ impl<'a, L: Log + Clock> Notes<'a, L> {
             workers,
             attended: AtomicU32::new(0),
             noted: Mutex::new(Noted {
+                halting: ArrayVec::new(),
                 halted: ArrayVec::new(),
                 asked: ArrayVec::new(),
             }),
@@ -100,18 +103,6 @@ impl<'a, L: Log + Clock> Notes<'a, L> {
         );
     }
 
-    /// A line was started anew: the file that is complete, and how many entries it has. That it is halted may be told
-    /// again from now on.
-    pub fn started_anew<W: Wait>(&self, rt: &W, line: u8, file: impl Display + Drop, entries: u32) {
-        let mut noted = self.noted.lock(rt);
-        noted.halted.retain(|halted| *halted != line);
-        let time = TimeOfDay::now(self.log);
-        warn!(
-            self.log; target: "rackd",
-            "{time} line {line}: started anew, {file} has {entries} entries"
-        );
-    }
-
     /// The number of the line whose port has this place.
     fn line_at(&self, port: u8) -> u8 {
         match self.lines.get(usize::from(port)) {
@@ -129,13 +120,17 @@ impl<'a, L: Log + Clock> Notes<'a, L> {
         }
     }
 
-    /// Tells that a line is halted, once.
+    /// Tells that a line is halted, once, and why. While its operator is about to halt it the answer to that alone says
+    /// why: who is answered meanwhile that the line is halted may have been behind it.
     fn tell_halt<W: Wait>(&self, rt: &W, line: u8, receipt: &Receipt) {
         let Some(cause) = cause_of_halt(receipt) else {
             return;
         };
         let mut noted = self.noted.lock(rt);
-        if !noted.halted.contains(&line) {
+        if is_halt(&receipt.event) {
+            noted.halting.retain(|halting| *halting != line);
+        }
+        if !noted.halting.contains(&line) && !noted.halted.contains(&line) {
             let _ = noted.halted.try_push(line);
             let time = TimeOfDay::now(self.log);
             warn!(self.log; target: "rackd", "{time} line {line}: halted, {cause}");
@@ -250,12 +245,23 @@ impl<L: Log + Clock> Gate for Notes<'_, L> {
         }
     }
 
+    fn operates<W: Wait>(&self, rt: &W, line: u8, op: &Op) {
+        if let Op::Halt = op {
+            let _ = self.noted.lock(rt).halting.try_push(line);
+        }
+    }
+
     fn operated<W: Wait>(&self, rt: &W, line: u8, receipt: &Receipt) {
         self.tell_halt(rt, line, receipt);
         if self.telling == Telling::Requests {
             self.tell_receipt(rt, line, receipt);
         }
     }
+}
+
+/// The operator halts the line.
+fn is_halt(event: &Event) -> bool {
+    matches!(event, Event::Operator(Op::Halt))
 }
 
 /// Why a line is halted, as far as an event shows it: its operator halted it, or it answers so.

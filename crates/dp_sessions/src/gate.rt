@@ -2,6 +2,7 @@
 
 use crate::session_end::SessionEnd;
 use dp_audit::Receipt;
+use dp_line::Op;
 use dp_telegram::FrameFault;
 use std::sync::Wait;
 
@@ -27,6 +28,9 @@ pub trait Gate {
     /// Called where a session of a pool has ended that was not accepted: the place of its port among those of
     /// the pool, and the address that it gave, if it gave one.
     fn turned_away<W: Wait>(&self, _rt: &W, _port: u8, _address: Option<u8>, _end: SessionEnd) {}
+
+    /// Called before each event of an operator.
+    fn operates<W: Wait>(&self, _rt: &W, _line: u8, _op: &Op) {}
 
     /// Called behind each event of an operator, before its answer is written.
     fn operated<W: Wait>(&self, _rt: &W, _line: u8, _receipt: &Receipt) {}

@@ -86,6 +86,7 @@ fn operate<T: Wait, G: Gate>(
 {
     match op_line {
         OpLine::Event(op) => {
+            gate.operates(rt, pass.line(), &op);
             let receipt = line.operate(rt, pass, op);
             gate.operated(rt, pass.line(), &receipt);
             text.set_outcome(&receipt.outcome);
@@ -154,7 +155,9 @@ fn feed_as_seen<T: Wait, G: Gate>(
     let Some(slave) = seen else {
         return 0;
     };
-    let receipt = line.operate(rt, pass, driven.next_input(slave));
+    let op = driven.next_input(slave);
+    gate.operates(rt, pass.line(), &op);
+    let receipt = line.operate(rt, pass, op);
     gate.operated(rt, pass.line(), &receipt);
     match receipt.place {
         Some(_) => 1,

@@ -4,7 +4,3 @@ mod Serving
 mod Sharing
 mod Opening
 mod RacksServed
-mod Halting
-mod Completing
-mod Renewing
-mod Staffing

@@ -1,5 +1,5 @@
 -- A rack that is served: its lines by its description, and how that ends.
-use Rattle.std.proofs.Common.{◌≡◌, ℕ, Bool, false, ◌&&◌, List, [], ◌∷◌, length, map, Option, Some, None, is_some, option_and_then, option_map, Err, All, Contains, IsPermutation, inl, inr, refl, sym, ap, subst, ◌∙◌}
+use Rattle.std.proofs.Common.{◌≡◌, ℕ, Bool, false, ◌&&◌, List, [], ◌∷◌, length, map, Option, Some, None, is_some, option_and_then, option_map, Result, Ok, Err, All, Contains, IsPermutation, inl, inr, refl, sym, ap, subst, ◌∙◌}
 use Rattle.std.specs.Borrow.{Bor}
 use Rattle.std.specs.List.{AllByRecursion, list_all}
 use Rattle.std.proofs.lemmas.List.{length-map}
@@ -10,6 +10,7 @@ use Rattle.dp_line.specs.declared.description.LineSpec.{LineSpec}
 use Rattle.rack_file.specs.Rack.{LineDescription, RackDescription, line_described}
 use Rattle.rack_file.specs.declared.fault.RackFault.TheVariants as racks
 use Rattle.rack_file.specs.declared.rack.RackLine.{RackLine}
+use Rattle.rack_server.specs.declared.serve.Served.{Served}
 use Rattle.rack_server.specs.declared.serve_fault.ServeFault.{ServeFault}
 use Rattle.rack_server.specs.declared.serve_fault.ServeFault.TheVariants as faults
 use Rattle.dp_script.specs.declared.run_fault.RunFault.{RunFault}
@@ -79,7 +80,7 @@ one_missing spec (Some listen) None rest others e later = refl
 one_missing spec None operator rest others e later = refl
 
 -- a line without a port
-pub some_port_is_missing : (lines : List RackLine) → all_served lines ≡ None → list_all has_ports (map line_described lines) ≡ false
+some_port_is_missing : (lines : List RackLine) → all_served lines ≡ None → list_all has_ports (map line_described lines) ≡ false
 some_port_is_missing [] e = absurd cc
 some_port_is_missing (x ∷ xs) e =
     one_missing x.spec x.listen x.operator (all_served xs) (list_all has_ports (map line_described xs)) e (some_port_is_missing xs)
@@ -100,11 +101,11 @@ number_of_rack rack lines are n among =
     (IsPermutation-sym _ _ (IsPermutation-map described_number rack.lines (map described lines) are.same))
     (subst (λ ns. Contains ns n) (sym (numbers_described lines)) among)
 
-pub file_of_rack : (folder : Option (Bor (List ℕ))) (rack : RackDescription) (lines : List ServedLine) (path : AuditPath) → AreLinesOf rack lines → IsFileIn folder (line_numbers lines) path
+file_of_rack : (folder : Option (Bor (List ℕ))) (rack : RackDescription) (lines : List ServedLine) (path : AuditPath) → AreLinesOf rack lines → IsFileIn folder (line_numbers lines) path
     → IsFileIn folder (rack_numbers rack) path
 file_of_rack folder rack lines path are = file_grows folder (line_numbers lines) (rack_numbers rack) (number_of_rack rack lines are) path
 
-pub path_of_rack : (folder : Option (Bor (List ℕ))) (rack : RackDescription) (lines : List ServedLine) (path : AuditPath) → AreLinesOf rack lines → IsFolderOrFileIn folder (line_numbers lines) path
+path_of_rack : (folder : Option (Bor (List ℕ))) (rack : RackDescription) (lines : List ServedLine) (path : AuditPath) → AreLinesOf rack lines → IsFolderOrFileIn folder (line_numbers lines) path
     → IsFolderOrFileIn folder (rack_numbers rack) path
 path_of_rack folder rack lines path are = path_grows folder (line_numbers lines) (rack_numbers rack) (number_of_rack rack lines are) path
 
@@ -134,7 +135,7 @@ refused_ports folder rack lines old (faults.CannotMake path cause) of_rack never
 refused_ports folder rack lines old (faults.CannotWrite path cause) of_rack never = absurd never
 
 -- lines that are served in part, or not recorded
-pub stopped : (folder : Option (Bor (List ℕ))) (rack : RackDescription) (lines : List ServedLine) (old new : Option (List ℕ)) (fault : ServeFault) → AreLinesOf rack lines → ServesLines folder lines old new (Err fault)
+stopped : (folder : Option (Bor (List ℕ))) (rack : RackDescription) (lines : List ServedLine) (old new : Option (List ℕ)) (fault : ServeFault) → AreLinesOf rack lines → ServesLines folder lines old new (Err fault)
     → ServesRack folder rack old new (Err fault)
 stopped folder rack lines old new (faults.CannotMake path cause) of_rack (at, same) = (path_of_rack folder rack lines path of_rack at, same)
 stopped folder rack lines old new (faults.CannotWrite path cause) of_rack (cut, served) = ((file_of_rack folder rack lines path of_rack cut.0, cut.1), (lines, of_rack, served))
@@ -143,3 +144,9 @@ stopped folder rack lines old new (faults.Run runs.WriteFault) of_rack part = in
 stopped folder rack lines old new (faults.Run (runs.Rack fault)) of_rack never = absurd never
 stopped folder rack lines old new (faults.Run (runs.Script line)) of_rack never = absurd never
 stopped folder rack lines old new (faults.CannotListen port cause) of_rack never = absurd never
+
+-- lines that are listened at
+pub rack_served : (folder : Option (Bor (List ℕ))) (rack : RackDescription) (lines : List ServedLine) (old new : Option (List ℕ)) (result : Result Served ServeFault) → AreLinesOf rack lines
+    → ServesLines folder lines old new result → ServesRack folder rack old new result
+rack_served folder rack lines old new (Ok served) of_rack all = (lines, of_rack, all)
+rack_served folder rack lines old new (Err fault) of_rack part = stopped folder rack lines old new fault of_rack part

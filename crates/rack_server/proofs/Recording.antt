@@ -6,7 +6,6 @@ use Rattle.std.proofs.lemmas.List.{map-append, take_more}
 use Rattle.std.proofs.lemmas.List.Elements.{Contains-append_left, Contains-append_right, Contains-push}
 use Rattle.std.proofs.lemmas.Slice.Zip.{all_zipped_more}
 use Rattle.dp_script.specs.declared.run_fault.RunFault.TheVariants as runs
-use Rattle.rack_server.specs.declared.house.FaultSlot.{FaultSlot}
 use Rattle.rack_server.specs.declared.recorder.Recorder.{Recorder}
 use Rattle.rack_server.specs.declared.serve_fault.AuditPath.{AuditPath}
 use Rattle.rack_server.specs.declared.serve_fault.AuditPath.TheVariants as paths
@@ -15,7 +14,6 @@ use Rattle.rack_server.specs.declared.serve_fault.ServeFault.TheVariants as faul
 use Rattle.rack_server.specs.declared.served_line.ServedLine.{ServedLine}
 use Rattle.rack_server.specs.AuditPaths.{AreRecordedIn, IsFileIn, IsFolderOrFileIn, IsRecordedIn}
 use Rattle.rack_server.specs.Recordings.{path_of, paths_of}
-use Rattle.rack_server.specs.Renewals.{AreSlotsOf}
 use Rattle.rack_server.specs.ServedLines.{line_numbers, number_of}
 use Rattle.rack_server.specs.ServeOutput.{IsRecordingFault}
 
@@ -34,29 +32,6 @@ number_at [] i line within is = let no : ⊥ = omega arith in absurd no
 number_at (x ∷ xs) zero line within is = (0, omega arith, ap number_of is)
 number_at (x ∷ xs) (suc i) line within is =
     Contains-append_right (x.spec.number ∷ []) (line_numbers xs) line.spec.number (number_at xs i line (omega arith) is)
-
--- so it is of the first of those that are left
-pub among_behind : {A : Type 0} (f : A → ℕ) (front : List A) (x : A) (later rest all : List A) → rest ≡ x ∷ later → front ++ rest ≡ all → Contains (map f all) (f x)
-among_behind f front x later rest all here whole =
-    subst (λ xs. Contains (map f xs) (f x)) whole (subst (λ r. Contains (map f (front ++ r)) (f x)) (sym here)
-    (subst (λ ns. Contains ns (f x)) (sym (map-append f front (x ∷ later)))
-    (Contains-append_right (map f front) (map f (x ∷ later)) (f x) (0, omega arith, refl))))
-
-same_heads : (m n : ℕ) (ms ns : List ℕ) → m ∷ ms ≡ n ∷ ns → m ≡ n
-same_heads m n ms ns e = ap (λ xs. slice_index_or xs 0 m) e
-
-same_tails : (m n : ℕ) (ms ns : List ℕ) → m ∷ ms ≡ n ∷ ns → ms ≡ ns
-same_tails m n ms ns e = ap (drop 1) e
-
--- the slot at the place of a line has its number
-pub slot_at : (lines : List ServedLine) (slots : List FaultSlot) (i : ℕ) (line : ServedLine) (slot : FaultSlot) → AreSlotsOf lines slots → i < length lines
-    → line ≡ slice_index_or lines i line → slot ≡ slice_index_or slots i slot → slot.line ≡ line.spec.number
-slot_at [] slots i line slot are within is-line is-slot = let no : ⊥ = omega arith in absurd no
-slot_at (x ∷ xs) [] i line slot are within is-line is-slot = let no = ap length are in absurd (omega (arith, no))
-slot_at (x ∷ xs) (s ∷ ss) zero line slot are within is-line is-slot =
-    ap (λ (one : FaultSlot). one.line) is-slot ∙ same_heads s.line x.spec.number (map (λ one. one.line) ss) (line_numbers xs) are ∙ sym (ap number_of is-line)
-slot_at (x ∷ xs) (s ∷ ss) (suc i) line slot are within is-line is-slot =
-    slot_at xs ss i line slot (same_tails s.line x.spec.number (map (λ one. one.line) ss) (line_numbers xs) are) (omega arith) is-line is-slot
 
 -- ---- more lines
 

@@ -5,7 +5,6 @@ use denote.Param.Send.{IsSend, IsSync, sendable}
 use Rattle.std.proofs.Crossing.{crosses}
 use Rattle.std.specs.contracts.fs.File as file
 use Rattle.std.specs.declared.io.traits.Write.{Ghosts}
-use Rattle.dp_trail.specs.declared.trail.Known.{Ghosts as Knowns}
 use Rattle.dp_shared.proofs.claims.Claims.TheSendSync as claims
 use Rattle.dp_shared.proofs.one_slot.OneSlot.TheSendSync as slot
 use Rattle.dp_shared.proofs.Sharing.{numbered_book_send}
@@ -13,7 +12,7 @@ use Rattle.dp_sessions.proofs.port.LineAndClaims.TheSendSync as port
 use Rattle.dp_trail.proofs.Crossings.{trail_sync}
 use Rattle.dp_trail.specs.contracts.trail.Trail as trail
 use Rattle.rack_server.proofs.recorder.Recorder.TheSendSync as crossing
-use Rattle.rack_server.specs.contracts.desk.Desk as desk
+use Rattle.rack_server.specs.contracts.operators.Desk as desk
 use Rattle.rack_server.specs.contracts.recorder.Recorder as recorder
 
 -- a line and its description, for an operator's sessions
@@ -24,8 +23,8 @@ pub file_send : IsSend file.the_row
 file_send = search (sendable, crosses) depth 20
 
 -- what records a line by a trail
-pub recorder_sync : (N W K : RattleType) (g : Ghosts W.Denot) (k : Knowns K.Denot) → IsSync N → IsSend W → (a l b : NamedLft)
-    → IsSync (recorder.the_row a l N (trail.the_row b W K g k))
-recorder_sync N W K g k shared sent a l b =
-    let t : IsSync (trail.the_row b W K g k) = trail_sync W K g k sent b in
+pub recorder_sync : (N W : RattleType) (g : Ghosts W.Denot) → IsSync N → IsSend W → (a l b : NamedLft)
+    → IsSync (recorder.the_row a l N (trail.the_row b W g))
+recorder_sync N W g shared sent a l b =
+    let t : IsSync (trail.the_row b W g) = trail_sync W g sent b in
     search (sendable, crosses, shared, t, crossing.the_sync) depth 40 fits 100000

@@ -1,6 +1,6 @@
 -- The files of what records lines (own).
 use Rattle.std.specs.Prelude.{List, map, Option, option_map}
-use Rattle.rack_server.specs.declared.audit_files.AuditFile.{AuditFile}
+use Rattle.rack_server.specs.declared.audit_file.AuditFile.{AuditFile}
 use Rattle.rack_server.specs.declared.recorder.Recorder.{Recorder}
 use Rattle.rack_server.specs.declared.serve_fault.AuditPath.{AuditPath}
 

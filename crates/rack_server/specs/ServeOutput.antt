@@ -47,11 +47,6 @@ IsRecordingFault folder numbers (faults.CannotMake path cause) = IsFolderOrFileI
 IsRecordingFault folder numbers (faults.Run runs.OutOfMemory) = Unit {0}
 IsRecordingFault folder numbers other = ⊥
 
--- no file before this number can't be had
-abbrev pub NamesFileFrom : ℕ → ServeFault → Type 0
-NamesFileFrom first (faults.CannotMake (paths.File folder line number) cause) = first ≤ number
-NamesFileFrom first other = Unit {0}
-
 -- the file of this path doesn't take its header whole, or memory is refused
 abbrev pub IsNotBegun : AuditPath → ServeFault → Type 0
 IsNotBegun path (faults.CannotMake told cause) = (told ≡ path) × (cause ≡ NotTaken)
@@ -197,3 +192,8 @@ abbrev pub RefusesToServe : RackFault → Option (List ℕ) → Option (List ℕ
 RefusesToServe fault old new (Err (faults.Run (runs.Rack told))) = (told ≡ fault) × Keeps old new
 RefusesToServe fault old new (Err (faults.Run runs.OutOfMemory)) = Keeps old new
 RefusesToServe fault old new other = ⊥
+
+-- the rack that a text describes, or doesn't
+abbrev pub Serves : Option (Bor (List ℕ)) → Result RackDescription RackFault → Option (List ℕ) → Option (List ℕ) → Result Served ServeFault → Type 0
+Serves folder (Ok rack) old new result = ServesRack folder rack old new result
+Serves folder (Err fault) old new result = RefusesToServe fault old new result

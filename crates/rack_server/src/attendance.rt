@@ -4,6 +4,9 @@ use crate::doors::Doors;
 use dp_notes::Notes;
 use std::sync::atomic::AtomicU32;
 
+/// The most reads of a session.
+pub(crate) const TURNS: u32 = u32::MAX;
+
 /// What all acceptors of a rack share.
 #[derive(Drop)]
 pub(crate) struct Attendance<'a, H> {

@@ -14,6 +14,7 @@ ghost use Rattle.rack_server.specs.ServeOutput.{AreOpened, AreServed, Attends, S
 use crate::acceptors::Acceptors;
 use crate::attendance::Attendance;
 use crate::doors::Doors;
+use crate::host::Host;
 use crate::listening::Listening;
 use crate::recorder::{Recorder, first_incomplete};
 use crate::serve::Served;
@@ -28,19 +29,14 @@ use dp_sessions::Port;
 use dp_shared::WorkerSeat;
 use dp_text::write_whole;
 use dp_trail::{CatchUp, Trail};
-use log::Log;
 use std::alloc::Global;
 use std::fs::File;
 use std::io::Write;
-use std::marker::Brand;
-use std::net::{Net, TcpListener, TcpStream};
-use std::sync::Wait;
+use std::net::TcpListener;
 use std::sync::atomic::AtomicU32;
-use std::thread::Threads;
-use std::time::Clock;
 
 /// How many sessions of masters wait for a worker at most; more connections wait to be accepted.
-pub(crate) const WAITING: usize = 64;
+const WAITING: usize = 64;
 
 /// What is written once every port is listened at.
 const READY: &[u8] = b"ready\n";
@@ -79,12 +75,7 @@ impl<'a> Attended<'a> {
 }
 
 /// Attends lines, each with what records it, and closes the records.
-pub(crate) fn attend_recorded<
-    'a,
-    's,
-    H: Net<Listener = TcpListener, Stream = TcpStream> + Threads + Wait + Clock + Log + Sync,
-    W: Write,
->(
+pub(crate) fn attend_recorded<'a, 's, H: Host + Sync, W: Write>(
     rt: &'s H,
     alloc: Global,
     doors: &'s Doors,
@@ -93,7 +84,7 @@ pub(crate) fn attend_recorded<
     listening: Vec<Listening<TcpListener>>,
     ports: &'s [Port],
     seats: Vec<Vec<WorkerSeat>>,
-    recorders: Vec<Recorder<'a, 's, H, Trail<'s, File, Brand>>>,
+    recorders: Vec<Recorder<'a, 's, H, Trail<'s, File>>>,
     sessions: u64,
     writer: &mut W,
 ) -> Result<Attended<'a>, RunFault>
@@ -141,7 +132,7 @@ pub(crate) fn attend_recorded<
 ///
 /// `OutOfMemory` where memory or threads for all sessions can't be had, and then nothing is written;
 /// `WriteFault`.
-fn attend<'a, H: Net + Threads + Wait + Clock + Log + Sync, C: CatchUp + Sync, W: Write>(
+fn attend<'a, H: Host + Sync, C: CatchUp + Sync, W: Write>(
     attendance: &'a Attendance<'a, H>,
     alloc: Global,
     lines: &'a [ServedLine],
@@ -182,7 +173,7 @@ fn attend<'a, H: Net + Threads + Wait + Clock + Log + Sync, C: CatchUp + Sync, W
 }
 
 /// Writes `ready`, and has it leave.
-pub(crate) fn write_ready<W: Write>(writer: &mut W) -> Result<(), RunFault>
+fn write_ready<W: Write>(writer: &mut W) -> Result<(), RunFault>
     ensures ok { OnOk result (Appends (W.contents writer.old) (W.contents writer.new) ready) }
     ensures err { OnErr result (WritesPrefix (W.contents writer.old) (W.contents writer.new) ready) }
     ensures fault { IfErr result (λ fault. fault ≡ RunFault.WriteFault) }

@@ -1,7 +1,6 @@
 //! Whether a rack takes connections, and has its sessions go on.
 
 use crate::listening::Listening;
-use crate::patient::Ends;
 use arrayvec::ArrayVec;
 use std::net::{Ipv4Addr, Net, TcpListener, TcpStream};
 use std::sync::{Mutex, MutexGuard, Wait};
@@ -72,16 +71,6 @@ impl Doors {
         for port in &self.ports {
             let _ = TcpStream::connect(net, (Ipv4Addr::LOCALHOST, *port));
         }
-    }
-}
-
-impl Ends for Doors {
-    fn have_ended(&self) -> bool {
-        false
-    }
-
-    fn have_ended_meanwhile<H: Wait>(&self, rt: &H) -> bool {
-        self.are_shut(rt)
     }
 }
 

@@ -1,35 +1,30 @@
 //! A rack that is served at sockets: its lines at their ports, and their audit texts in files while that lasts.
+//!
+//! A connection is accepted by the thread of its port (`accept`), and becomes a reader and a writer that wait in
+//! moments and are used behind what records the line (`connection`). That of a master goes by a queue to the first
+//! worker that is free (`masters`, `threads`), which reads its address and serves its session; that of an operator is
+//! served by the thread of its port (`operators`).
 #![tactic(auto)]
 
+mod accept;
 mod acceptors;
-mod archive;
 mod attendance;
 mod attending;
-mod audit_files;
+mod audit_file;
 mod audits;
-mod desk;
+mod connection;
 mod doors;
-mod feeder;
-mod house;
-mod keeper;
-mod line_start;
+mod host;
 mod listening;
-mod lobby;
+mod masters;
 mod opened_lines;
-mod patient;
-mod porter;
+mod operators;
 mod recorder;
-mod renewal;
 mod serve;
 mod serve_fault;
 mod served_line;
-mod start;
 mod threads;
-mod trail_end;
-mod watch;
-mod workers;
 
-pub use archive::Archive;
+pub use host::Host;
 pub use serve::{Served, serve_text};
 pub use serve_fault::{AuditPath, ServeFault};
-pub use trail_end::{Remains, complete, end_trail};

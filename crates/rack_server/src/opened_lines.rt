@@ -1,8 +1,7 @@
 //! The lines of a rack, opened for threads.
 
-ghost use Rattle.std.specs.Prelude.{◌≡◌, [], ◌∷◌, All, IfOk, None, length};
+ghost use Rattle.std.specs.Prelude.{◌≡◌, [], All, IfOk, None, length};
 ghost use Rattle.dp_sessions.specs.Pools.{HasSeats};
-ghost use Rattle.dp_shared.specs.Passes.{line_of};
 ghost use Rattle.dp_line.specs.World.{description_of, opening_fault};
 ghost use Rattle.rack_server.specs.ServeOutput.{AreOpened, IsOneMore};
 
@@ -37,34 +36,6 @@ pub(crate) fn open_lines(
         opened = opened.with_line(alloc, &line.spec, workers)?;
     }
     Ok(opened)
-}
-
-/// A line that threads share, and a seat at it for each worker.
-#[derive(Drop)]
-pub(crate) struct OpenedLine {
-    /// The line.
-    pub(crate) port: Port,
-    /// The seat of each worker.
-    pub(crate) seats: Vec<Vec<WorkerSeat>>,
-}
-
-/// A line at its start, for so many workers; or memory, or a table, was refused.
-pub(crate) fn open_line(
-    alloc: Global,
-    line: &LineSpec,
-    workers: u8,
-) -> Result<OpenedLine, AllocError>
-    requires { opening_fault (description_of line.now) ≡ None }
-    ensures line { IfOk result (λ opened. line_of opened.port.line ≡ line.now) }
-    ensures workers { IfOk result (λ opened. length opened.seats.items ≡ workers) }
-    ensures seats { IfOk result (λ opened. All (λ own. HasSeats (opened.port ∷ []) own.items) opened.seats.items) }
-{
-    let opened = OpenedLines::none(alloc, workers)?;
-    let OpenedLines { mut ports, seats } = opened.with_line(alloc, line, workers)?;
-    let Some(port) = ports.pop() else {
-        unreachable!()
-    };
-    Ok(OpenedLine { port, seats })
 }
 
 impl OpenedLines {

@@ -6,8 +6,7 @@ ghost use Rattle.rack_server.specs.Recordings.{path_of, paths_of};
 ghost use Rattle.rack_server.specs.ServedLines.{line_numbers};
 ghost use Rattle.rack_server.specs.ServeOutput.{AreOpened, IsRecordingFault};
 
-use crate::archive::Archive;
-use crate::audit_files::{AuditFile, complete, make_folder, open_file};
+use crate::audit_file::{AuditFile, complete, make_folder, open_file};
 use crate::doors::Doors;
 use crate::serve_fault::{AuditPath, ServeFault};
 use crate::served_line::ServedLine;
@@ -19,7 +18,6 @@ use dp_trail::{CatchUp, CaughtUp, NoTrail, Trail};
 use std::alloc::Global;
 use std::fs::{File, Files};
 use std::io::Write;
-use std::marker::Brand;
 use std::net::Net;
 use std::sync::Wait;
 
@@ -50,14 +48,14 @@ impl<N: Net, T: CatchUp> CatchUp for Recorder<'_, '_, N, T> {
 /// What records each of these lines: a new file in the folder, where one is named, which is made first.
 ///
 /// `CannotMake` with the path that can't be had, or `OutOfMemory`.
-pub(crate) fn record_lines<'a, 'l, H: Files<File = File> + Archive + Wait>(
+pub(crate) fn record_lines<'a, 'l, H: Files<File = File> + Wait>(
     rt: &'l H,
     alloc: Global,
     doors: &'l Doors,
     folder: Option<&'a str>,
     lines: &[ServedLine],
     ports: &'l [Port],
-) -> Result<Vec<Recorder<'a, 'l, H, Trail<'l, File, Brand>>>, ServeFault<'a>>
+) -> Result<Vec<Recorder<'a, 'l, H, Trail<'l, File>>>, ServeFault<'a>>
     requires opened { AreOpened lines.now ports.now }
     requires few { length lines.now ≤ 8 }
     ensures each { IfOk result (λ all. length all.items ≡ length lines.now) }
@@ -90,13 +88,13 @@ pub(crate) fn record_lines<'a, 'l, H: Files<File = File> + Archive + Wait>(
 }
 
 /// The file of the line of this number, where a folder is named.
-fn file_of<'a, 'l, H: Archive + Wait>(
+fn file_of<'a, 'l, H: Files<File = File> + Wait>(
     rt: &H,
     alloc: Global,
     folder: Option<&'a str>,
     line: &'l Line,
     number: u8,
-) -> Result<Option<AuditFile<'a, Trail<'l, File, Brand>>>, ServeFault<'a>>
+) -> Result<Option<AuditFile<'a, Trail<'l, File>>>, ServeFault<'a>>
     ensures path { IfOk result (λ file. IsRecordedIn folder.entry number (path_of file)) }
     ensures fault { IfErr result (IsRecordingFault folder.entry (number ∷ [])) }
 {
@@ -113,7 +111,7 @@ fn file_of<'a, 'l, H: Archive + Wait>(
 /// its rows.
 pub(crate) fn first_incomplete<'a, H: Wait, N, F: Write + Drop>(
     rt: &H,
-    recorders: Vec<Recorder<'a, '_, N, Trail<'_, F, Brand>>>,
+    recorders: Vec<Recorder<'a, '_, N, Trail<'_, F>>>,
 ) -> Option<AuditPath<'a>>
     ensures { IfSome result (λ path. Contains (paths_of recorders.entry.items) (Some path)) }
 {
@@ -127,7 +125,7 @@ pub(crate) fn first_incomplete<'a, H: Wait, N, F: Write + Drop>(
 /// Has the trail of a file catch up a last time: the path of the file, where it doesn't have all its rows.
 fn incomplete<'a, H: Wait, F: Write + Drop>(
     rt: &H,
-    file: Option<AuditFile<'a, Trail<'_, F, Brand>>>,
+    file: Option<AuditFile<'a, Trail<'_, F>>>,
 ) -> Option<AuditPath<'a>>
     ensures { IfSome result (λ path. path_of file.entry ≡ Some path) }
 {

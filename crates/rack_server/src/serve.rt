@@ -5,35 +5,28 @@ ghost use Rattle.dp_sessions.specs.Pools.{HasSeats};
 ghost use Rattle.dp_line.specs.World.{description_of, opening_fault};
 ghost use Rattle.rack_file.specs.Rack.{rack_described};
 ghost use Rattle.rack_file.specs.RackFile.{rack_in};
-ghost use Rattle.rack_server.specs.ServeOutput.{AreOpened, ServesLines};
-ghost use Rattle.rack_server.specs.Renewals.{Serves, ServesLinesAs, ServesRackAs};
+ghost use Rattle.rack_server.specs.ServeOutput.{AreOpened, Serves, ServesLines, ServesRack};
 
-use crate::archive::Archive;
 use crate::attending::attend_recorded;
 use crate::audits::write_audits;
 use crate::doors::Doors;
+use crate::host::Host;
 use crate::listening::{Listening, listen_at_lines, try_connections};
 use crate::opened_lines::{OpenedLines, open_lines};
 use crate::recorder::record_lines;
-use crate::renewal::{Renewal, serve_renewing};
 use crate::serve_fault::ServeFault;
 use crate::served_line::{ServedLine, lines_to_serve};
 use dp_notes::{LineNumbers, Notes};
 use dp_script::RunFault;
-use log::Log;
 use rack_file::laws::{
     accepted_lines_can_be_opened, accepted_racks_have_1_to_8_lines,
     accepted_racks_have_1_to_32_workers,
 };
 use rack_file::{Rack, RackFault, read_rack};
-use rackd_words::{Audit, Service};
+use rackd_words::Service;
 use std::alloc::Global;
-use std::fs::{File, Files};
 use std::io::Write;
-use std::net::{Net, TcpListener, TcpStream};
-use std::sync::Wait;
-use std::thread::Threads;
-use std::time::Clock;
+use std::net::TcpListener;
 
 /// How many sessions were served.
 #[derive(Clone, Copy)]
@@ -48,26 +41,13 @@ pub struct Served {
 /// each port, or without end. It writes `ready`, and when all sessions have ended the audit text of each line,
 /// in ascending order of their numbers.
 ///
-/// Where lines are started anew, it writes `ready` alone (`Renewed`).
-///
 /// `Rack` where the rack isn't accepted or a line has no port, `CannotListen` where a port can't be had, or descriptors
 /// for its connections, `CannotMake` where the folder or a file for an audit text can't be had, and then nothing is
 /// written; `WriteFault`; `OutOfMemory` also where a thread is refused. Where that is so only behind `ready`, the audit
 /// texts are written before the end all the same. `CannotWrite` where a file of an audit text took a row no more: what
 /// was being served ends then, and the audit texts are written. What can't be made is the folder that the words name, or
 /// a file of it for a line of the rack, and what can't be written is such a file.
-pub fn serve_text<
-    'a,
-    H: Net<Listener = TcpListener, Stream = TcpStream>
-        + Files<File = File>
-        + Archive
-        + Threads
-        + Wait
-        + Clock
-        + Log
-        + Sync,
-    W: Write,
->(
+pub fn serve_text<'a, H: Host + Sync, W: Write>(
     rt: &H,
     alloc: Global,
     rack: &str,
@@ -87,18 +67,7 @@ pub fn serve_text<
 }
 
 /// Serves a rack that is accepted.
-fn serve_rack<
-    'a,
-    H: Net<Listener = TcpListener, Stream = TcpStream>
-        + Files<File = File>
-        + Archive
-        + Threads
-        + Wait
-        + Clock
-        + Log
-        + Sync,
-    W: Write,
->(
+fn serve_rack<'a, H: Host + Sync, W: Write>(
     rt: &H,
     alloc: Global,
     rack: Rack,
@@ -108,7 +77,7 @@ fn serve_rack<
     requires few { length (rack_described rack).lines ≤ 8 }
     requires workers { (1 ≤ rack.workers) × (rack.workers ≤ 32) }
     requires fit { All (λ line. opening_fault line.line ≡ None) (rack_described rack).lines }
-    ensures { ServesRackAs service.entry.audit (rack_described rack) (W.contents writer.old) (W.contents writer.new) result }
+    ensures { ServesRack service.entry.audit (rack_described rack) (W.contents writer.old) (W.contents writer.new) result }
 {
     let Rack { workers, lines } = rack;
     let lines = match lines_to_serve(alloc, lines) {
@@ -123,22 +92,11 @@ fn serve_rack<
         Ok(()) => {}
         Err(fault) => return Err(fault),
     }
-    serve_as(rt, alloc, &lines, listening, workers, service, writer)
+    open_and_serve(rt, alloc, &lines, listening, workers, service, writer)
 }
 
-/// Serves lines that are listened at: each once, recorded in a file or not, or started anew whenever it is halted.
-fn serve_as<
-    'a,
-    H: Net<Listener = TcpListener, Stream = TcpStream>
-        + Files<File = File>
-        + Archive
-        + Threads
-        + Wait
-        + Clock
-        + Log
-        + Sync,
-    W: Write,
->(
+/// Opens lines that are listened at, and serves them.
+fn open_and_serve<'a, H: Host + Sync, W: Write>(
     rt: &H,
     alloc: Global,
     lines: &[ServedLine],
@@ -151,78 +109,12 @@ fn serve_as<
     requires each { length listening.items ≡ length lines.now }
     requires workers { (1 ≤ workers) × (workers ≤ 32) }
     requires fit { All (λ line. opening_fault (description_of line.spec) ≡ None) lines.now }
-    ensures { ServesLinesAs service.entry.audit lines.now (W.contents writer.old) (W.contents writer.new) result }
-{
-    match service.audit {
-        Audit::Renewed(folder) => {
-            let renewal = renewal_of(folder, service, workers);
-            serve_renewing(rt, alloc, lines, listening, renewal, writer)
-        }
-        Audit::Folder(folder) => {
-            serve_once(
-                rt,
-                alloc,
-                lines,
-                listening,
-                workers,
-                Some(folder),
-                service,
-                writer,
-            )
-        }
-        Audit::Nowhere => {
-            serve_once(rt, alloc, lines, listening, workers, None, service, writer)
-        }
-    }
-}
-
-/// Opens lines that are listened at, and serves them, each once.
-fn serve_once<
-    'a,
-    H: Net<Listener = TcpListener, Stream = TcpStream>
-        + Files<File = File>
-        + Archive
-        + Threads
-        + Wait
-        + Clock
-        + Log
-        + Sync,
-    W: Write,
->(
-    rt: &H,
-    alloc: Global,
-    lines: &[ServedLine],
-    listening: Vec<Listening<TcpListener>>,
-    workers: u8,
-    folder: Option<&'a str>,
-    service: Service<'a>,
-    writer: &mut W,
-) -> Result<Served, ServeFault<'a>>
-    requires few { length lines.now ≤ 8 }
-    requires each { length listening.items ≡ length lines.now }
-    requires workers { (1 ≤ workers) × (workers ≤ 32) }
-    requires fit { All (λ line. opening_fault (description_of line.spec) ≡ None) lines.now }
-    ensures { ServesLines folder.entry lines.now (W.contents writer.old) (W.contents writer.new) result }
+    ensures { ServesLines service.entry.audit lines.now (W.contents writer.old) (W.contents writer.new) result }
 {
     let Ok(opened) = open_lines(alloc, lines, workers) else {
         return Err(ServeFault::Run(RunFault::OutOfMemory));
     };
-    serve_lines(rt, alloc, lines, listening, opened, folder, service, writer)
-}
-
-/// How lines are served that are started anew, by the words and the rack.
-fn renewal_of<'a>(folder: &'a str, service: Service<'a>, workers: u8) -> Renewal<'a>
-    ensures folder { result.folder ≡ folder.entry }
-    ensures sessions { result.sessions ≡ unwrap_or service.entry.sessions (2 ^ 64 - 1) }
-    ensures telling { result.telling ≡ service.entry.telling }
-    ensures workers { result.workers ≡ workers }
-{
-    Renewal {
-        folder,
-        sessions: sessions_of(service),
-        telling: service.telling,
-        workers,
-    }
+    serve_lines(rt, alloc, lines, listening, opened, service, writer)
 }
 
 /// How many connections each port accepts; where there is no end of them, more than can come.
@@ -233,25 +125,12 @@ fn sessions_of(service: Service<'_>) -> u64
 }
 
 /// Serves the lines that are listened at, and records them.
-pub(crate) fn serve_lines<
-    'a,
-    's,
-    H: Net<Listener = TcpListener, Stream = TcpStream>
-        + Files<File = File>
-        + Archive
-        + Threads
-        + Wait
-        + Clock
-        + Log
-        + Sync,
-    W: Write,
->(
+fn serve_lines<'a, 's, H: Host + Sync, W: Write>(
     rt: &'s H,
     alloc: Global,
     lines: &'s [ServedLine],
     listening: Vec<Listening<TcpListener>>,
     opened: OpenedLines,
-    folder: Option<&'a str>,
     service: Service<'a>,
     writer: &mut W,
 ) -> Result<Served, ServeFault<'a>>
@@ -260,11 +139,11 @@ pub(crate) fn serve_lines<
     requires opened { AreOpened lines.now opened.ports.items }
     requires workers { (1 ≤ length opened.seats.items) × (length opened.seats.items ≤ 32) }
     requires seats { All (λ own. HasSeats opened.ports.items own.items) opened.seats.items }
-    ensures { ServesLines folder.entry lines.now (W.contents writer.old) (W.contents writer.new) result }
+    ensures { ServesLines service.entry.audit lines.now (W.contents writer.old) (W.contents writer.new) result }
 {
     let OpenedLines { ports, seats } = opened;
     let doors = Doors::unopened(&listening);
-    let recorders = match record_lines(rt, alloc, &doors, folder, lines, &ports) {
+    let recorders = match record_lines(rt, alloc, &doors, service.audit, lines, &ports) {
         Ok(recorders) => recorders,
         Err(fault) => return Err(fault),
     };
@@ -292,7 +171,7 @@ pub(crate) fn serve_lines<
 }
 
 /// The numbers of lines.
-pub(crate) fn numbers_of(lines: &[ServedLine]) -> LineNumbers {
+fn numbers_of(lines: &[ServedLine]) -> LineNumbers {
     let mut numbers = LineNumbers::new();
     for line in lines {
         let _ = numbers.try_push(line.spec.number);

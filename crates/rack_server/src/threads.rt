@@ -3,14 +3,16 @@
 ghost use Rattle.std.specs.Prelude.{◌≡◌, ◌≤◌, All, length};
 ghost use Rattle.dp_sessions.specs.Pools.{HasSeats};
 
-use crate::acceptors::{Accept, Acceptors, MasterJob, TURNS};
-use crate::attendance::Attendance;
+use crate::accept::Accept;
+use crate::acceptors::Acceptors;
+use crate::attendance::{Attendance, TURNS};
 use crate::doors::{Door, Doors};
+use crate::host::Host;
+use crate::masters::MasterJob;
 use crossbeam_channel::Receiver;
 use dp_sessions::{Gate, Job, PoolFault, Port, run_pool};
 use dp_shared::WorkerSeat;
 use dp_trail::CatchUp;
-use log::Log;
 use std::io::{Read, Write};
 use std::net::Net;
 use std::sync::{Mutex, Wait};
@@ -40,7 +42,7 @@ pub(crate) fn can_start<H: Threads + Wait + Sync>(rt: &H, count: usize) -> bool 
 ///
 /// Where the thread of an acceptor is refused no connection is accepted, and where that of a worker is, none
 /// any more.
-pub(crate) fn accept_and_serve<'a, H: Net + Threads + Wait + Clock + Log + Sync, C: CatchUp + Sync>(
+pub(crate) fn accept_and_serve<'a, H: Host + Sync, C: CatchUp + Sync>(
     attendance: &'a Attendance<'a, H>,
     acceptors: Acceptors<'a, H, C>,
     ports: &[Port],
@@ -128,7 +130,7 @@ fn serve_while_accepting<
 }
 
 /// Starts a thread for each acceptor; whether none was refused.
-pub(crate) fn start_acceptors<'s, E, A: Accept + Send + Drop + 's, H: Wait + Clock + Sync>(
+fn start_acceptors<'s, E, A: Accept + Send + Drop + 's, H: Wait + Clock + Sync>(
     scope: &Scope<'s, E>,
     rt: &'s H,
     doors: &'s Doors,

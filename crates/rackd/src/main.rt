@@ -19,15 +19,13 @@ use log::{Log, info};
 use operator_client::{Operation, operate};
 use rack_cause::rack_cause;
 pub use rack_file::{Rack, RackFault, RackLine, read_rack};
-use rack_server::{Archive, Served, serve_text};
+use rack_server::{Host, Served, serve_text};
 use rackd_words::{Entries, Invocation, Service, read_words, words_of};
 use std::fs::{self, File, Files};
 use std::io::{self, BufWriter, ErrorKind, Printer, Read, Write};
-use std::net::{Net, TcpListener, TcpStream};
+use std::net::{TcpListener, TcpStream};
 use std::process::ExitCode;
 use std::rt::Runtime;
-use std::sync::Wait;
-use std::thread::Threads;
 
 /// How every audit text begins.
 const HEADER: &str = "rack-audit ";
@@ -39,6 +37,8 @@ const NOTHING: &str = "/dev/null";
 const NO_HEADER: &str = "  row 1: no header; does the text begin with \"ready\"?";
 
 fn main(rt: HostRuntime) -> ExitCode {
+    // The check of this function wants the types named that `Host` fixes.
+    let _named: (Option<TcpListener>, Option<TcpStream>, Option<File>) = (None, None, None);
     match words_of(&rt) {
         Ok(words) => match obey(&rt, rt.stdin(), words.as_slice()) {
             Ok(code) => code,
@@ -81,18 +81,7 @@ fn reported<'a>(
 /// Does what the words ask for.
 fn obey<
     'a,
-    H: Runtime
-        + AllocGlobal
-        + Log
-        + Net<Listener = TcpListener, Stream = TcpStream>
-        + Files<File = File>
-        + Archive
-        + Threads
-        + Wait
-        + Sync
-        + Copy
-        + Send
-        + 'static,
+    H: Runtime + AllocGlobal + Host + Sync + Copy + Send + 'static,
     I: Read + Send + Drop + 'static,
 >(rt: &H, input: I, words: &'a [String]) -> Result<ExitCode, Fault<'a>> {
     match read_words(rt.alloc(), words)? {
@@ -173,18 +162,11 @@ fn explain_files<'a>(
 }
 
 /// Serves the rack of a file, and notes how many sessions were served.
-fn serve_file<
-    'a,
-    H: Runtime
-        + AllocGlobal
-        + Log
-        + Net<Listener = TcpListener, Stream = TcpStream>
-        + Files<File = File>
-        + Archive
-        + Threads
-        + Wait
-        + Sync,
->(rt: &H, rack: &'a str, service: Service<'a>) -> Result<ExitCode, Fault<'a>> {
+fn serve_file<'a, H: Runtime + AllocGlobal + Host + Sync>(
+    rt: &H,
+    rack: &'a str,
+    service: Service<'a>,
+) -> Result<ExitCode, Fault<'a>> {
     let rack = read_file(rt, rack)?;
     let mut output = buffered(rt)?;
     let served = serve_text(rt, rt.alloc(), rack.as_str(), service, &mut output);
@@ -206,16 +188,7 @@ fn note_served(rt: &impl Log, served: Served) -> ExitCode {
 /// Is an operator at hand of a line, by standard input and output.
 fn operate_line<
     'a,
-    H: Runtime
-        + AllocGlobal
-        + Log
-        + Net<Listener = TcpListener, Stream = TcpStream>
-        + Files<File = File>
-        + Threads
-        + Wait
-        + Copy
-        + Send
-        + 'static,
+    H: Runtime + AllocGlobal + Host + Copy + Send + 'static,
     I: Read + Send + Drop + 'static,
 >(rt: &H, operation: Operation, input: I) -> Result<ExitCode, Fault<'a>> {
     let _held = stand_ins(rt);

@@ -34,8 +34,6 @@ const MOST_SESSIONS: u64 = 1_000_000;
 
 pub(crate) const FOLDER: &str = "audit";
 
-pub(crate) const RENEW: &str = "renew";
-
 pub(crate) const LOG: &str = "log";
 
 /// The word and the options of `operate`, and the least milliseconds of each.
@@ -66,7 +64,7 @@ Usage: rackd < INPUT
        rackd run RACK SCRIPT
        rackd check RACK AUDIT
        rackd explain RACK AUDIT [--summary] [--from N] [--to N] [--slave A] [--master M] [--refused]
-       rackd serve RACK [--sessions N] [--audit FOLDER [--renew]] [--log [requests]]
+       rackd serve RACK [--sessions N] [--audit FOLDER] [--log [requests]]
        rackd operate PORT [--tick MS] [--step MS]
 
 Standard input is a rack file (TOML: lines with their masters and slaves), a line that is
@@ -96,9 +94,7 @@ sends no address for ten seconds is disconnected.
 
 With --audit FOLDER the audit text of each line is written to a new file line-N-K.audit of the folder
 while it is served: the row of an event is there before its answer is sent. 'check' wants such a text
-from its header on, without 'ready'. With --renew a line that is halted, since its journal is full or
-by its operator, is started anew: its sessions end, its file is complete, and the line begins again
-with a new file, so that a rack runs for days; standard output has 'ready' alone then.
+from its header on, without 'ready'.
 
 With --log, connections, ends of sessions and octets that are no telegram are told on standard error,
 with --log requests each request and its answer too. That a line is halted is always told.
@@ -234,7 +230,6 @@ pub(crate) fn serving<'a>(alloc: Global) -> Result<Command<'a>, AllocError> {
     words
         .arg(sessions(alloc))?
         .arg(folder(alloc))?
-        .arg(renew(alloc)?)?
         .arg(log(alloc))
 }
 
@@ -249,11 +244,6 @@ fn folder<'a>(alloc: Global) -> Arg<'a> {
         .long(FOLDER)
         .value_name("FOLDER")
         .value_parser(ValueParser::NonEmptyString)
-}
-
-/// The option `--renew`, which goes with `--audit`.
-fn renew<'a>(alloc: Global) -> Result<Arg<'a>, AllocError> {
-    flag(alloc, RENEW).requires_arg(FOLDER)
 }
 
 /// The option `--log`, behind which may stand what is told.

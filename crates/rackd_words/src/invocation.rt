@@ -11,24 +11,13 @@ pub enum Telling {
     Requests,
 }
 
-/// Where the audit texts of lines go while these are served.
-#[derive(Clone, Copy)]
-pub enum Audit<'a> {
-    /// Nowhere.
-    Nowhere,
-    /// To a file of this folder for each line.
-    Folder(&'a str),
-    /// To a file of this folder for each start of a line: one that is halted is started anew.
-    Renewed(&'a str),
-}
-
 /// How a rack is served.
 #[derive(Clone, Copy)]
 pub struct Service<'a> {
     /// How many connections each port accepts, 1 to 1,000,000; None where there's no end of them.
     pub sessions: Option<u32>,
-    /// Where the audit text of each line goes while it is served.
-    pub audit: Audit<'a>,
+    /// The folder in which each line has a file that gets its audit text while it is served; None where it has none.
+    pub audit: Option<&'a str>,
     /// How much is told on standard error.
     pub telling: Telling,
 }

@@ -1,10 +1,10 @@
 //! What the words of the command line ask for.
 
 use crate::commands::{
-    AUDIT, FOLDER, FROM, LOG, MASTER, PORT, RACK, REFUSED, RENEW, SCRIPT, SESSIONS, SLAVE, STEP,
-    SUMMARY, TICK, TO, explaining, known, operating, serving,
+    AUDIT, FOLDER, FROM, LOG, MASTER, PORT, RACK, REFUSED, SCRIPT, SESSIONS, SLAVE, STEP, SUMMARY,
+    TICK, TO, explaining, known, operating, serving,
 };
-use crate::invocation::{Audit, Entries, Invocation, Service, Telling, WordsFault};
+use crate::invocation::{Entries, Invocation, Service, Telling, WordsFault};
 use clap::ArgMatches;
 use clap::error::ErrorKind as Refused;
 use std::alloc::Global;
@@ -155,17 +155,8 @@ fn entries_of(words: &ArgMatches<'_>) -> Entries {
 fn service_of<'a>(words: &ArgMatches<'a>) -> Service<'a> {
     Service {
         sessions: words.get_one(SESSIONS),
-        audit: audit_of(words.get_str(FOLDER), words.get_flag(RENEW)),
+        audit: words.get_str(FOLDER),
         telling: telling_of(words.get_str(LOG)),
-    }
-}
-
-/// Where audit texts go: a folder, if one is named, and whether lines are started anew, for which `clap` wants one.
-fn audit_of(folder: Option<&str>, are_renewed: bool) -> Audit<'_> {
-    match folder {
-        None => Audit::Nowhere,
-        Some(folder) if are_renewed => Audit::Renewed(folder),
-        Some(folder) => Audit::Folder(folder),
     }
 }
 

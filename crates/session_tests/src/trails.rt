@@ -15,7 +15,6 @@ use shared_tests::line_specs::ample_line;
 use shared_tests::rows::{closed_with, hex_of, is_told, many_passes, octets_of};
 use std::alloc::Global;
 use std::io::{ErrorKind, Read, Result as IoResult, Write};
-use std::marker::Brand;
 use std::sync::{Mutex, Wait};
 use std::test::Fail;
 
@@ -150,7 +149,7 @@ fn log_of<T: Wait>(
     let log = empty_log(alloc, room.unwrap_or(0));
     let reads = reads_in(alloc, words)?;
     let end = if room.is_some() {
-        let trail = Trail::<_, Brand>::of(Tail::open(rt, &port.line, Rows { rt, log: &log })?);
+        let trail = Trail::of(Tail::open(rt, &port.line, Rows { rt, log: &log })?);
         let end = serve_between(rt, &trail, &port, &mut seat, &log, reads.as_slice());
         let mut other = port.line.open_pass(rt, 2)?;
         port.line

@@ -1,34 +1,33 @@
 use Rattle.std.proofs.Common.{rules, ◌≡◌, ◌≤◌, length, map, ap, subst, arith}
 use Rattle.rack_file.specs.Rack.{line_described}
-use Rattle.rack_server.specs.Renewals.{ServesLinesAs}
-use Rattle.rack_server.proofs.RacksServed.{as_many_lines, lines_of_rack, served_open}
-use Rattle.rack_server.proofs.Renewing.{refused_lines_as, refused_ports_as, served_as}
+use Rattle.rack_server.specs.ServeOutput.{ServesLines}
+use Rattle.rack_server.proofs.RacksServed.{as_many_lines, lines_of_rack, rack_served, refused_lines, refused_ports, served_open}
 use Rattle.rack_server.proofs.serve.serve_rack.Goals as goal
 
 pub returns-in-Err : goal.returns-in-Err
 returns-in-Err g c =
-    refused_lines_as c.args.service.audit c.args.rack.workers c.args.rack.lines.items (g.W.Write.contents c.args.writer.now) c.in-Err.fault c.in-Err.ensures
+    refused_lines c.args.service.audit c.args.rack.workers c.args.rack.lines.items (g.W.Write.contents c.args.writer.now) c.in-Err.fault c.in-Err.ensures
 
 pub returns-in-Err-listen_at_lines : goal.returns-in-Err-listen_at_lines
 returns-in-Err-listen_at_lines g c =
     let (all, is, order) = c.in-Ok.ensures in
-    refused_ports_as c.args.service.audit _ c.in-Ok.lines.items (g.W.Write.contents c.args.writer.now) c.in-Err-listen_at_lines.fault (lines_of_rack c.args.rack.workers c.args.rack.lines.items all c.in-Ok.lines.items is order)
+    refused_ports c.args.service.audit _ c.in-Ok.lines.items (g.W.Write.contents c.args.writer.now) c.in-Err-listen_at_lines.fault (lines_of_rack c.args.rack.workers c.args.rack.lines.items all c.in-Ok.lines.items is order)
     (search rules)
 
 pub returns-in-Err-try_connections : goal.returns-in-Err-try_connections
 returns-in-Err-try_connections g c =
     let (all, is, order) = c.in-Ok.ensures in
-    refused_ports_as c.args.service.audit _ c.in-Ok.lines.items (g.W.Write.contents c.args.writer.now) c.in-Err-try_connections.fault (lines_of_rack c.args.rack.workers c.args.rack.lines.items all c.in-Ok.lines.items is order)
+    refused_ports c.args.service.audit _ c.in-Ok.lines.items (g.W.Write.contents c.args.writer.now) c.in-Err-try_connections.fault (lines_of_rack c.args.rack.workers c.args.rack.lines.items all c.in-Ok.lines.items is order)
     (search rules)
 
-pub serve_as-requires-clause-fit : goal.serve_as-requires-clause-fit
-serve_as-requires-clause-fit g c κs within =
+pub open_and_serve-requires-clause-fit : goal.open_and_serve-requires-clause-fit
+open_and_serve-requires-clause-fit g c κs within =
     let (all, is, order) = c.in-Ok.ensures in
     let same : c.deref-4.result.now ≡ c.in-Ok.lines.items = c.deref-4.ensures.value in
     rw same (served_open c.args.rack.lines.items all c.in-Ok.lines.items is order c.requires.fit)
 
-pub serve_as-requires-clause-few : goal.serve_as-requires-clause-few
-serve_as-requires-clause-few g c =
+pub open_and_serve-requires-clause-few : goal.open_and_serve-requires-clause-few
+open_and_serve-requires-clause-few g c =
     let (all, is, order) = c.in-Ok.ensures in
     let long : length c.in-Ok.lines.items ≡ length (map line_described c.args.rack.lines.items) = as_many_lines _ c.in-Ok.lines.items
     (lines_of_rack c.args.rack.workers c.args.rack.lines.items all c.in-Ok.lines.items is order) in
@@ -39,6 +38,6 @@ serve_as-requires-clause-few g c =
 pub returns : goal.returns
 returns g c =
     let (all, is, order) = c.in-Ok.ensures in
-    served_as c.args.service.audit _ c.in-Ok.lines.items (g.W.Write.contents c.args.writer.now) (g.W.Write.contents c.serve_as.new.writer) c.serve_as.result
+    rack_served c.args.service.audit _ c.in-Ok.lines.items (g.W.Write.contents c.args.writer.now) (g.W.Write.contents c.open_and_serve.new.writer) c.open_and_serve.result
     (lines_of_rack c.args.rack.workers c.args.rack.lines.items all c.in-Ok.lines.items is order)
-    (subst (λ lines. ServesLinesAs c.args.service.audit lines (g.W.Write.contents c.args.writer.now) (g.W.Write.contents c.serve_as.new.writer) c.serve_as.result) c.deref-4.ensures.value c.serve_as.ensures)
+    (subst (λ lines. ServesLines c.args.service.audit lines (g.W.Write.contents c.args.writer.now) (g.W.Write.contents c.open_and_serve.new.writer) c.open_and_serve.result) c.deref-4.ensures.value c.open_and_serve.ensures)

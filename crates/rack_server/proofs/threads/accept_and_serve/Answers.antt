@@ -1,6 +1,6 @@
 use denote.Param.Send.{sendable}
 use Rattle.std.proofs.Crossing.{crosses}
-use Rattle.rack_server.proofs.acceptors.OperatorAcceptor.TheSendSync as acceptor
+use Rattle.rack_server.proofs.operators.OperatorAcceptor.TheSendSync as acceptor
 use Rattle.rack_server.proofs.Sharing.{desk_send}
 use Rattle.rack_server.proofs.threads.accept_and_serve.Goals as goal
 

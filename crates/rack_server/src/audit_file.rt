@@ -1,10 +1,9 @@
-//! The files that get the audit texts of lines while these are served.
+//! The file that gets the audit text of a line while this is served.
 
-ghost use Rattle.std.specs.Prelude.{◌≡◌, ◌≤◌, [], ◌∷◌, IfErr, IfOk, Some};
+ghost use Rattle.std.specs.Prelude.{◌≡◌, [], ◌∷◌, IfErr, IfOk, Some};
 ghost use Rattle.rack_server.specs.AuditPaths.{IsFileIn};
-ghost use Rattle.rack_server.specs.ServeOutput.{IsNotBegun, IsRecordingFault, NamesFileFrom};
+ghost use Rattle.rack_server.specs.ServeOutput.{IsNotBegun, IsRecordingFault};
 
-use crate::archive::Archive;
 use crate::serve_fault::{AuditPath, ServeFault};
 use dp_cause::Cause;
 use dp_script::RunFault;
@@ -13,7 +12,6 @@ use dp_trail::{Tail, Trail, TrailFault};
 use std::alloc::Global;
 use std::fs::{self, File, Files};
 use std::io::{self, ErrorKind, Write};
-use std::marker::Brand;
 use std::sync::Wait;
 
 /// The trail of a line in a file. It is generic, since the check finds that threads may share it by the facts of
@@ -38,69 +36,28 @@ pub(crate) fn make_folder<'a>(files: &impl Files, folder: &'a str) -> Result<(),
     }
 }
 
-/// A new file for an audit text.
-#[derive(Drop)]
-pub(crate) struct NewFile {
-    /// Its number among those of its line, from 1.
-    pub(crate) number: u32,
-    /// The file.
-    pub(crate) file: File,
-}
-
-/// A new file of a folder for the line of this number, with the header of the line's audit text.
+/// A new file of a folder for the line of this number, by the first number that is free for it, with the header of the
+/// line's audit text. Nothing that is there is changed.
 ///
 /// `CannotMake` with the path of the file that can't be had or doesn't take the header, or `OutOfMemory`.
-pub(crate) fn open_file<'a, 'l, H: Archive + Wait>(
+pub(crate) fn open_file<'a, 'l, H: Files<File = File> + Wait>(
     rt: &H,
     alloc: Global,
     folder: &'a str,
     line: &'l Line,
     number: u8,
-) -> Result<AuditFile<'a, Trail<'l, File, Brand>>, ServeFault<'a>>
+) -> Result<AuditFile<'a, Trail<'l, File>>, ServeFault<'a>>
     ensures path { IfOk result (λ file. IsFileIn (Some folder.entry) (number ∷ []) file.path) }
     ensures fault { IfErr result (IsRecordingFault (Some folder.entry) (number ∷ [])) }
 {
-    match next_file(rt, alloc, folder, number, 1) {
-        Ok(
-            NewFile {
-                number: of_file,
-                file,
-            },
-        ) => {
-            let path = AuditPath::File {
-                folder,
-                line: number,
-                number: of_file,
-            };
-            begin(rt, line, file, path)
-        }
-        Err(fault) => Err(fault),
-    }
-}
-
-/// A new file of a folder for the line of this number, by the first number from this one on that is free for it.
-/// Nothing that is there is changed.
-///
-/// `CannotMake` with the path of the file that can't be had, or `OutOfMemory`.
-pub(crate) fn next_file<'a, H: Archive>(
-    archive: &H,
-    alloc: Global,
-    folder: &'a str,
-    line: u8,
-    first: u32,
-) -> Result<NewFile, ServeFault<'a>>
-    ensures number { IfOk result (λ made. first ≤ made.number) }
-    ensures fault { IfErr result (IsRecordingFault (Some folder.entry) (line ∷ [])) }
-    ensures later { IfErr result (NamesFileFrom first) }
-{
-    for number in first..=u32::MAX {
+    for of_file in 1..=u32::MAX {
         let path = AuditPath::File {
             folder,
-            line,
-            number,
+            line: number,
+            number: of_file,
         };
-        match create(archive, alloc, path) {
-            Ok(file) => return Ok(NewFile { number, file }),
+        match create(rt, alloc, path) {
+            Ok(file) => return begin(rt, line, file, path),
             Err(error) => match error.kind() {
                 ErrorKind::AlreadyExists => {}
                 ErrorKind::OutOfMemory => return Err(ServeFault::Run(RunFault::OutOfMemory)),
@@ -112,11 +69,15 @@ pub(crate) fn next_file<'a, H: Archive>(
 }
 
 /// Creates a file where nothing has its path.
-fn create<H: Archive>(archive: &H, alloc: Global, path: AuditPath<'_>) -> io::Result<File> {
+fn create<F: Files<File = File>>(
+    files: &F,
+    alloc: Global,
+    path: AuditPath<'_>,
+) -> io::Result<File> {
     let Ok(path) = format!(in alloc; "{path}") else {
         return Err(io::Error::from(ErrorKind::OutOfMemory));
     };
-    archive.create(path.as_str())
+    File::create_new(files, path.as_str())
 }
 
 /// Begins the trail of a line in its file.
@@ -125,7 +86,7 @@ fn begin<'a, 'l, H: Wait, F: Write + Drop>(
     line: &'l Line,
     file: F,
     path: AuditPath<'a>,
-) -> Result<AuditFile<'a, Trail<'l, F, Brand>>, ServeFault<'a>>
+) -> Result<AuditFile<'a, Trail<'l, F>>, ServeFault<'a>>
     ensures path { IfOk result (λ file. file.path ≡ path.entry) }
     ensures fault { IfErr result (IsNotBegun path.entry) }
 {
@@ -140,7 +101,7 @@ fn begin<'a, 'l, H: Wait, F: Write + Drop>(
 }
 
 /// Has a trail catch up a last time, and gives its pass back; whether all its rows are written.
-pub(crate) fn complete<H: Wait, F: Write + Drop>(rt: &H, trail: Trail<'_, F, Brand>) -> bool {
+pub(crate) fn complete<H: Wait, F: Write + Drop>(rt: &H, trail: Trail<'_, F>) -> bool {
     let mut tail = trail.into_tail();
     let complete = tail.catch_up(rt).is_ok();
     let _ = tail.close(rt);

@@ -1,0 +1,69 @@
+//! The masters of a line: accepted, and handed to the workers.
+
+use crate::accept::Accept;
+use crate::attendance::Attendance;
+use crate::connection::{Client, Connection, connect};
+use crossbeam_channel::Sender;
+use dp_sessions::Job;
+use dp_trail::CatchUp;
+use log::Log;
+use std::io;
+use std::net::{TcpListener, TcpStream};
+use std::sync::Wait;
+use std::time::Clock;
+
+/// A session of a master, at a socket.
+pub(crate) type MasterJob<'a, H, C> = Job<Connection<'a, H, C>, Connection<'a, H, C>>;
+
+/// Accepts the masters of a line, and hands their sessions to the workers.
+#[derive(Drop)]
+pub(crate) struct MasterAcceptor<'a, H: Wait, C: CatchUp> {
+    /// Where the line listens for them.
+    pub(crate) listener: TcpListener,
+    /// The place of its port among those of the pool.
+    pub(crate) port: u8,
+    /// The number of the line.
+    pub(crate) line: u8,
+    /// The workers.
+    pub(crate) jobs: Sender<MasterJob<'a, H, C>>,
+    /// What records the line.
+    pub(crate) recorder: &'a C,
+    /// What all acceptors share.
+    pub(crate) attendance: &'a Attendance<'a, H>,
+}
+
+impl<'a, H: Wait, C: CatchUp> MasterAcceptor<'a, H, C> {
+    /// The session of a master at a connection.
+    fn job_of(&self, stream: TcpStream) -> io::Result<MasterJob<'a, H, C>> {
+        let (rt, doors) = (self.attendance.rt, self.attendance.doors);
+        let (reader, writer) = connect(rt, doors, self.recorder, stream, Client::Master)?;
+        Ok(Job {
+            port: self.port,
+            reader,
+            writer,
+        })
+    }
+}
+
+impl<L: Wait + Log + Clock, C: CatchUp> Accept for MasterAcceptor<'_, L, C> {
+    fn listener(&self) -> &TcpListener {
+        &self.listener
+    }
+
+    fn take<H: Wait>(&self, rt: &H, stream: TcpStream) -> bool {
+        match self.job_of(stream) {
+            Ok(job) => {
+                self.attendance.notes.waits(rt, self.port);
+                self.jobs.send(rt, job).is_ok()
+            }
+            Err(error) => {
+                self.tell(rt, error);
+                true
+            }
+        }
+    }
+
+    fn tell<H: Wait>(&self, rt: &H, error: io::Error) {
+        self.attendance.notes.cannot_accept(rt, self.line, error);
+    }
+}
