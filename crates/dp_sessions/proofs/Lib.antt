@@ -5,3 +5,5 @@ pub mod Feeding
 pub mod Asking
 pub mod Operating
 pub mod Listening
+pub mod Tying
+pub mod TyingOperators

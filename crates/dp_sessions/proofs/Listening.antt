@@ -5,7 +5,7 @@ use Rattle.dp_shared.specs.declared.line_view.PassView.{PassView}
 use Rattle.dp_devices.specs.declared.driven_slave.DrivenSlave.{DrivenSlave}
 use Rattle.dp_sessions.specs.declared.session_end.SessionEnd.{SessionEnd}
 use Rattle.dp_sessions.specs.declared.session_end.SessionEnd.TheVariants as ends
-use Rattle.dp_sessions.specs.Operators.{Operates}
+use Rattle.dp_sessions.specs.Operators.{HasOperatedBy, Operates}
 use Rattle.dp_sessions.specs.Operating.{AreServedTo, BreaksOff, GoesOn}
 use Rattle.dp_sessions.proofs.Exchanging.{consumed_none, consumes_kept, consumes_more, consumes_none}
 use Rattle.dp_sessions.proofs.Operating.{served_all, served_start}
@@ -64,3 +64,7 @@ goes_on_as driven same octets held next p q a b is = subst (λ d. GoesOn d octet
 
 pub breaks_off_as : (driven same : List DrivenSlave) (octets held : List ℕ) (p q : PassView) (a b : Option (List ℕ)) → same ≡ driven → BreaksOff same octets held p q a b → BreaksOff driven octets held p q a b
 breaks_off_as driven same octets held p q a b is = subst (λ d. BreaksOff d octets held p q a b) is
+
+pub operated_in : (end : SessionEnd) (driven : List DrivenSlave) (turns made : ℕ) (p q : PassView) (l now a b : Option (List ℕ)) → made ≤ turns → Listens end driven turns made p q l now a b
+    → HasOperatedBy driven turns (record { left = l; left_after = now; written = a; written_after = b }) p q end
+operated_in end driven turns made p q l now a b most listens = record { stream = listens.0; read = listens.1; made = made; most = most; operated = listens.2 }

@@ -5,20 +5,20 @@ use Rattle.dp_telegram.specs.Stream.{CutsInto, cuts_of, uncut}
 use Rattle.dp_shared.specs.declared.line_view.PassView.{PassView}
 use Rattle.dp_sessions.specs.declared.session_end.SessionEnd.{SessionEnd}
 use Rattle.dp_sessions.specs.declared.session_end.SessionEnd.TheVariants as ends
-use Rattle.dp_sessions.specs.Sessions.{Exchanges}
+use Rattle.dp_sessions.specs.Sessions.{Exchanges, HasExchanged}
 use Rattle.dp_sessions.specs.SessionProgress.{IsBrokenIn, IsServedTo}
 use Rattle.dp_sessions.proofs.Exchanging.{broken_off, broken_then, consumed_none, consumes_kept, consumes_more, consumes_none, served_more, served_none, served_then, served_whole}
 
--- so many reads gave the address and a stream, of which what is held is no piece
+-- so many reads gave a stream, of which what is held is no piece
 pub record IsUnderWay (master reads : ℕ) (held : List ℕ) (before after : PassView) (left left_now old new : Option (List ℕ)) : Type 0 where
   pub stream : List ℕ
   pub read : Consumes left left_now stream
   pub served : IsServedTo master stream held before after old new
   pub settled : cuts_of held ≡ uncut held
-  pub counted : reads ≤ length stream + 1
+  pub counted : reads ≤ length stream
 
-pub way_start : (master reads : ℕ) (held : List ℕ) (pass : PassView) (left old : Option (List ℕ)) → reads ≡ 1 → held ≡ [] → IsUnderWay master reads held pass pass left left old old
-way_start master reads held pass left old first empty =
+pub way_start : (master reads : ℕ) (held : List ℕ) (pass : PassView) (left old : Option (List ℕ)) → reads ≡ 0 → held ≡ [] → IsUnderWay master reads held pass pass left left old old
+way_start master reads held pass left old unread empty =
     subst (λ h. IsUnderWay master reads h pass pass left left old old) (sym empty)
     (record { stream = []; read = consumes_none left; served = served_none master [] pass old; settled = refl; counted = omega arith })
 
@@ -81,3 +81,7 @@ ends_of_write master same turns made reads held octets p q r l now then a b c la
           (served_more master way.stream held octets p q a b way.served)
           (subst (λ m. IsBrokenIn m (held ++ octets) q r b c) is broken)),
     )
+
+pub exchanged_in : (end : SessionEnd) (turns made : ℕ) (p q : PassView) (l now a b : Option (List ℕ)) → made ≤ turns → Runs end p.address turns made p q l now a b
+    → HasExchanged turns (record { left = l; left_after = now; written = a; written_after = b }) p q end
+exchanged_in end turns made p q l now a b most runs = record { stream = runs.0; read = runs.1; made = made; most = most; exchanged = runs.2 }

@@ -5,3 +5,5 @@ pub mod Sessions
 pub mod TurnedAway
 pub mod Operators
 pub mod Operating
+pub mod Tied
+pub mod TiedOperators

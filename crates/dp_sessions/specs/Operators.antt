@@ -1,5 +1,5 @@
 -- What a session of an operator reads, does and writes (own).
-use Rattle.std.specs.Prelude.{codes, ◌≡◌, ◌⊎◌, ℕ, ◌+◌, ◌≤◌, nat_lt, if◌then◌else◌, Bool, true, false, not, ◌==◌, List, [], ◌∷◌, ◌++◌, map, length, Option, Some, None, is_some, ok_or, Result, Ok, Err}
+use Rattle.std.specs.Prelude.{codes, ◌≡◌, ◌⊎◌, ℕ, ◌+◌, ◌≤◌, nat_lt, if◌then◌else◌, Bool, true, false, not, ◌==◌, List, [], ◌∷◌, ◌++◌, map, length, Option, Some, None, is_some, ok_or, IfNone, IfSome, Result, Ok, Err}
 use Rattle.std.specs.List.{AllByRecursion, concat, list_all}
 use Rattle.std.specs.Str.{is_utf8}
 use Rattle.std.specs.Io.KnownBytes.{Appends, Consumes, IsAtEnd, Keeps}
@@ -7,6 +7,8 @@ use Rattle.arrayvec.specs.ArrayVec.{ArrayVec}
 use Rattle.dp_slave.specs.declared.view.SlaveView.{SlaveView}
 use Rattle.dp_line.specs.declared.event.Event.{Event}
 use Rattle.dp_line.specs.declared.event.Event.TheVariants.{Operator}
+use Rattle.dp_line.specs.declared.event.Outcome.TheVariants.{Refused}
+use Rattle.dp_line.specs.declared.fault.OperatorFault.{OperatorFault}
 use Rattle.dp_audit.specs.declared.entry.Receipt.{Receipt}
 use Rattle.dp_shared.specs.declared.line_view.PassView.{PassView}
 use Rattle.dp_shared.specs.declared.line_view.Question.{Question}
@@ -72,10 +74,13 @@ fault_text fault = codes "fault " ++ line_fault_name fault ++ codes "\n"
 
 -- ---- what a line does
 
--- one event: its receipt is the pass's, and says the outcome
+-- one event: its receipt is the pass's, and says the outcome. Without a place it says why the event is refused, and with one it comes only to a
+-- pass that wasn't told before that the line is halted
 pub record IsTaken (event : Event) (before after : PassView) (receipt : Receipt) : Type 0 where
   pub event_is : receipt.event ≡ event
   pub gained : after ≡ with_receipt before receipt receipt.place
+  pub refused : IfNone receipt.place ((receipt.facts ≡ None) × (fault : OperatorFault) × (receipt.outcome ≡ Refused fault))
+  pub running : IfSome receipt.place (λ _. before.told ≡ false)
 
 -- one look, after so many entries
 abbrev pub IsLook : Question → Answer → PassView → PassView → Type 0
@@ -159,16 +164,20 @@ pub record HasNoPass (streams : Streams) (end : SessionEnd) : Type 0 where
   pub unread : Keeps streams.left streams.left_after
   pub unwritten : Keeps streams.written streams.written_after
 
--- a new pass of an operator answers the stream
-pub record HasOperated (driven : List DrivenSlave) (turns : ℕ) (streams : Streams) (end : SessionEnd) : Type 0 where
-  pub number : ℕ
-  pub pass : PassView
+-- by a pass that is lent, a stream was read and its lines were answered, in as many reads as this at most
+pub record HasOperatedBy (driven : List DrivenSlave) (turns : ℕ) (streams : Streams) (before after : PassView) (end : SessionEnd) : Type 0 where
   pub stream : List ℕ
   pub read : Consumes streams.left streams.left_after stream
   -- how many reads were made
   pub made : ℕ
   pub most : made ≤ turns
-  pub operated : Operates end driven turns made stream (new_pass number 127) pass streams.left_after streams.written streams.written_after
+  pub operated : Operates end driven turns made stream before after streams.left_after streams.written streams.written_after
+
+-- a new pass of an operator answers the stream
+pub record HasOperated (driven : List DrivenSlave) (turns : ℕ) (streams : Streams) (end : SessionEnd) : Type 0 where
+  pub number : ℕ
+  pub pass : PassView
+  pub operated : HasOperatedBy driven turns streams (new_pass number 127) pass end
 
 -- a session of an operator, of as many reads as this at most, with a line of which devices drive these slaves
 abbrev pub IsOperatorSession : List DrivenSlave → ℕ → Streams → SessionEnd → Type 0

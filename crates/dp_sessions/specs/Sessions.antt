@@ -1,5 +1,5 @@
 -- What a session of a master reads, exchanges and writes (own).
-use Rattle.std.specs.Prelude.{◌≡◌, ◌⊎◌, ℕ, ◌+◌, ◌≤◌, Bool, true, false, ◌&&◌, List, [], ◌∷◌, ◌++◌, map, length, Option}
+use Rattle.std.specs.Prelude.{◌≡◌, ◌⊎◌, ℕ, ◌+◌, ◌≤◌, Bool, true, false, ◌&&◌, List, [], ◌∷◌, ◌++◌, map, length, Option, None, IfNone, IfSome, ⊤}
 use Rattle.std.specs.List.{concat}
 use Rattle.std.specs.Io.KnownBytes.{Appends, Consumes, IsAtEnd, Keeps}
 use Rattle.dp_telegram.specs.Access.{is_station}
@@ -9,7 +9,8 @@ use Rattle.dp_telegram.specs.Stream.{CutsInto}
 use Rattle.dp_line.specs.declared.event.Event.{Event}
 use Rattle.dp_line.specs.declared.event.Event.TheVariants.{Request}
 use Rattle.dp_line.specs.declared.event.Outcome.{Outcome}
-use Rattle.dp_line.specs.declared.event.Outcome.TheVariants.{Reply}
+use Rattle.dp_responder.specs.declared.rule.Rule.TheVariants as rules
+use Rattle.dp_line.specs.declared.event.Outcome.TheVariants.{Reply, Silence}
 use Rattle.dp_text.specs.Writes.{WritesPrefix}
 use Rattle.dp_audit.specs.declared.entry.Receipt.{Receipt}
 use Rattle.dp_shared.specs.declared.claim_view.ClaimView.{ClaimView}
@@ -44,10 +45,21 @@ abbrev pub with_receipts : PassView → List Receipt → PassView
 with_receipts pass [] = pass
 with_receipts pass (receipt ∷ receipts) = with_receipts (with_receipt pass receipt receipt.place) receipts
 
--- a pass exchanged these pieces: one receipt for each frame, in the order of the stream, and its receipts are these
+-- what a receipt tells: without a place it says that the line is halted, and with one it comes only to a pass that wasn't told so before
+pub record IsTold (pass : PassView) (receipt : Receipt) : Type 0 where
+  pub halted : IfNone receipt.place ((receipt.facts ≡ None) × (receipt.outcome ≡ Silence rules.Halted))
+  pub running : IfSome receipt.place (λ _. pass.told ≡ false)
+
+-- receipts of a pass, one after another
+abbrev pub AreTold : PassView → List Receipt → Type 0
+AreTold pass [] = ⊤
+AreTold pass (receipt ∷ receipts) = IsTold pass receipt × AreTold (with_receipt pass receipt receipt.place) receipts
+
+-- a pass exchanged these pieces: one receipt for each frame, in the order of the stream, and those with a place are its next receipts
 pub record AreExchanged (master : ℕ) (cuts : List Cut) (receipts : List Receipt) (before after : PassView) : Type 0 where
   pub events : map (λ receipt. receipt.event) receipts ≡ requests_in master cuts
   pub gained : after ≡ with_receipts before receipts
+  pub told : AreTold before receipts
 
 -- ---- what an accepted session does
 
@@ -79,13 +91,13 @@ pub record IsBrokenOff (master : ℕ) (stream : List ℕ) (before after : PassVi
   pub exchanged : AreExchanged master first receipts before after
   pub written : IsCutOff old new (map reply_in receipts)
 
--- a stream was read, and its frames were exchanged: how the session ended says how far, how many reads it made of those that it may make,
--- the first one being that of the address, and what is left to read
+-- a stream was read, and its frames were exchanged: how the session ended says how far, how many reads of the stream it made of those that it
+-- may make, and what is left to read
 abbrev pub Exchanges : SessionEnd → ℕ → ℕ → ℕ → List ℕ → PassView → PassView → Option (List ℕ) → Option (List ℕ) → Option (List ℕ) → Type 0
 Exchanges ends.EndOfInput master turns made stream before after left old new = IsServed master stream before after old new × IsAtEnd left
 Exchanges ends.ReadFault master turns made stream before after left old new = IsServed master stream before after old new
 -- as many reads as it may make were made, and each gave an octet at least
-Exchanges ends.TurnLimit master turns made stream before after left old new = IsServed master stream before after old new × (made ≡ turns) × (made ≤ length stream + 1)
+Exchanges ends.TurnLimit master turns made stream before after left old new = IsServed master stream before after old new × (made ≡ turns) × (made ≤ length stream)
 Exchanges ends.WriteFault master turns made stream before after left old new = IsBrokenOff master stream before after old new
 Exchanges other master turns made stream before after left old new = ⊥
 
@@ -107,6 +119,14 @@ pub record Streams : Type 0 where
   pub left_after : Option (List ℕ)
   pub written : Option (List ℕ)
   pub written_after : Option (List ℕ)
+
+-- by a pass that is lent, a stream was read and its frames were exchanged, in as many reads as this at most
+pub record HasExchanged (turns : ℕ) (streams : Streams) (before after : PassView) (end : SessionEnd) : Type 0 where
+  pub stream : List ℕ
+  pub read : Consumes streams.left streams.left_after stream
+  pub made : ℕ
+  pub most : made ≤ turns
+  pub exchanged : Exchanges end before.address turns made stream before after streams.left_after streams.written streams.written_after
 
 -- no octet came: the reader ended at once, the read failed, or no read may be made
 abbrev pub EndsAtOnce : SessionEnd → ℕ → Option (List ℕ) → Type 0
@@ -142,12 +162,14 @@ pub record IsAccepted (masters : List ℕ) (turns : ℕ) (streams : Streams) (be
   pub read : Consumes streams.left streams.left_after (address ∷ stream)
   pub known : is_master_of masters address ≡ true
   pub freed : after ≡ released (claimed before address)
-  -- how many reads were made
+  -- how many reads it may make of the stream, and how many it made; the first one gave the address
+  pub behind : ℕ
+  pub first : turns ≡ behind + 1
   pub made : ℕ
-  pub most : made ≤ turns
+  pub most : made ≤ behind
   pub number : ℕ
   pub pass : PassView
-  pub accepted : Accepts end address turns made stream (new_pass number address) pass streams.left_after streams.written streams.written_after
+  pub accepted : Accepts end address behind made stream (new_pass number address) pass streams.left_after streams.written streams.written_after
 
 -- a session with a line of these masters, of as many reads as this at most: of the seat that claims the address, before and after
 abbrev pub IsSession : List ℕ → ℕ → Streams → ClaimView → ClaimView → SessionEnd → Type 0

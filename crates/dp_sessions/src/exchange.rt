@@ -1,16 +1,16 @@
-//! An accepted session.
+//! Exchanges of an accepted session, and sessions by a pass that is lent.
 
-ghost use Rattle.std.specs.Prelude.{◌≡◌, ◌≢◌, ◌≤◌, ℕ, List, [], ◌∷◌, ◌++◌, length, map, OnErr, OnOk};
+ghost use Rattle.std.specs.Prelude.{◌≡◌, ◌≢◌, ◌+◌, ◌≤◌, ℕ, true, List, [], ◌∷◌, ◌++◌, length, map, OnErr, OnOk};
 ghost use Rattle.std.specs.List.{concat};
 ghost use Rattle.std.specs.Io.KnownBytes.{Appends, Consumes};
 ghost use Rattle.dp_telegram.specs.Stream.{cut_length, cut_lent, cuts_of, uncut};
 ghost use Rattle.dp_audit.specs.declared.entry.Receipt.{Receipt as TheReceipt};
 ghost use Rattle.dp_shared.specs.Passes.{table_of};
-ghost use Rattle.dp_sessions.specs.Sessions.{Accepts, AreExchanged, Exchanges, IsCutOff, octets_of, reply_in};
+ghost use Rattle.dp_sessions.specs.Sessions.{Accepts, AreExchanged, HasExchanged, IsCutOff, octets_of, reply_in};
 ghost use Rattle.dp_sessions.specs.SessionProgress.{IsBrokenIn, IsServedTo};
 
 use crate::gate::Gate;
-use crate::reads::Reads;
+use crate::reads::{Reads, Uncounted};
 use crate::session_end::SessionEnd;
 use dp_audit::Receipt;
 use dp_line::Outcome;
@@ -24,131 +24,128 @@ use std::sync::Wait;
 /// Octets that are read at once.
 const CHUNK: usize = 255;
 
-/// An accepted session: the pass of its master, and the octets that can't be judged yet.
-#[derive(Drop)]
-pub(crate) struct Session {
-    pass: Pass,
-    cutter: Cutter,
+/// Serves a master by its pass, which is lent, in at most so many reads: the octets that are read are a stream of
+/// telegrams. Each frame of it is one exchange; its reply is written whole before the next frame is exchanged, and a
+/// silence writes nothing. A read that fails in any way ends the session. How it ended is the answer (own).
+///
+/// After it the pass has, for each frame in order, one exchange more, and what was written is the replies of these. It
+/// waits for the gate and for the line, and takes no memory.
+pub fn serve_pass<T: Wait, R: Read, W: Write, G: Gate>(
+    rt: &T,
+    reader: &mut R,
+    writer: &mut W,
+    line: &Line,
+    pass: &mut Pass,
+    gate: &G,
+    turns: u32,
+) -> SessionEnd
+    requires ours { pass.old.table ≡ table_of line.now }
+    requires master { pass.old.view.address ≢ 127 }
+    ensures ours { pass.new.table ≡ pass.old.table }
+    ensures exchanged { HasExchanged turns
+        (record { left = R.remaining reader.old; left_after = R.remaining reader.new; written = W.contents writer.old; written_after = W.contents writer.new })
+        pass.old.view pass.new.view result }
+{
+    serve_pass_by::<T, R, Uncounted, W, G>(rt, reader, writer, line, pass, gate, turns)
 }
 
-impl Session {
-    /// A session by this pass, before anything of its stream came.
-    pub(crate) fn open(pass: Pass) -> Session
-        ensures pass { result.pass ≡ pass }
-        ensures empty { result.cutter ≡ [] }
-    {
-        Session {
-            pass,
-            cutter: Cutter::new(),
-        }
-    }
-
-    /// The pass, once the session has ended.
-    pub(crate) fn close(self) -> Pass
-        ensures { result ≡ self.pass }
-    {
-        self.pass
-    }
-
-    /// Writes the acceptance, a short acknowledgement, and then reads until so many reads were made, and exchanges
-    /// each frame that comes. The first read gave the address.
-    pub(crate) fn accept<T: Wait, R: Read, W: Write, G: Gate>(
-        &mut self,
-        rt: &T,
-        reader: &mut Reads<'_, R>,
-        writer: &mut W,
-        line: &Line,
-        gate: &G,
-        turns: u32,
-    ) -> SessionEnd
-        requires ours { self.old.pass.table ≡ table_of line.now }
-        requires master { self.old.pass.view.address ≢ 127 }
-        requires empty { self.old.cutter ≡ [] }
-        requires first { reader.old.made ≡ 1 }
-        requires turns { 1 ≤ turns }
-        ensures ours { self.new.pass.table ≡ self.old.pass.table }
-        ensures same_reader { reader.new.reader.ghost_name ≡ reader.old.reader.ghost_name }
-        ensures most { reader.new.made ≤ turns }
-        ensures accepted { (stream : List ℕ) × Consumes (R.remaining reader.old.reader.now) (R.remaining reader.new.reader.now) stream
-            × Accepts result self.old.pass.view.address turns reader.new.made stream self.old.pass.view self.new.pass.view (R.remaining reader.new.reader.now) (W.contents writer.old) (W.contents writer.new) }
-    {
-        match write_whole(writer, &[SC]) {
-            Ok(()) => self.run(rt, reader, writer, line, gate, turns),
-            Err(_) => SessionEnd::WriteFault,
-        }
-    }
-
-    /// Reads until so many reads were made, and exchanges each frame that comes.
-    fn run<T: Wait, R: Read, W: Write, G: Gate>(
-        &mut self,
-        rt: &T,
-        reader: &mut Reads<'_, R>,
-        writer: &mut W,
-        line: &Line,
-        gate: &G,
-        turns: u32,
-    ) -> SessionEnd
-        requires ours { self.old.pass.table ≡ table_of line.now }
-        requires master { self.old.pass.view.address ≢ 127 }
-        requires empty { self.old.cutter ≡ [] }
-        requires first { reader.old.made ≡ 1 }
-        requires turns { 1 ≤ turns }
-        ensures ours { self.new.pass.table ≡ self.old.pass.table }
-        ensures same_reader { reader.new.reader.ghost_name ≡ reader.old.reader.ghost_name }
-        ensures most { reader.new.made ≤ turns }
-        ensures exchanged { (stream : List ℕ) × Consumes (R.remaining reader.old.reader.now) (R.remaining reader.new.reader.now) stream
-            × Exchanges result self.old.pass.view.address turns reader.new.made stream self.old.pass.view self.new.pass.view (R.remaining reader.new.reader.now) (W.contents writer.old) (W.contents writer.new) }
-    {
-        cut_and_computation_agree();
-        let mut chunk = [0; CHUNK];
-        while reader.made() < turns {
-            match reader.read(&mut chunk) {
-                Ok(0) => return SessionEnd::EndOfInput,
-                Ok(count) => {
-                    let Ok(()) = self.pass_octets(rt, writer, line, gate, &chunk[..count]) else {
-                        return SessionEnd::WriteFault;
-                    };
-                }
-                Err(_) => return SessionEnd::ReadFault,
+/// Like [`serve_pass`], of a reader that counts its reads.
+pub fn serve_pass_by<T: Wait, R: Read, C: Reads<R>, W: Write, G: Gate>(
+    rt: &T,
+    reader: &mut R,
+    writer: &mut W,
+    line: &Line,
+    pass: &mut Pass,
+    gate: &G,
+    turns: u32,
+) -> SessionEnd
+    requires ours { pass.old.table ≡ table_of line.now }
+    requires master { pass.old.view.address ≢ 127 }
+    ensures ours { pass.new.table ≡ pass.old.table }
+    ensures reads { C.reads reader.new ≤ C.reads reader.old + turns }
+    ensures failed { result ≡ SessionEnd.ReadFault → C.failed reader.new ≡ true }
+    ensures exchanged { HasExchanged turns
+        (record { left = R.remaining reader.old; left_after = R.remaining reader.new; written = W.contents writer.old; written_after = W.contents writer.new })
+        pass.old.view pass.new.view result }
+{
+    cut_and_computation_agree();
+    let mut cutter = Cutter::new();
+    let mut chunk = [0; CHUNK];
+    let mut made = 0;
+    while made < turns {
+        made += 1;
+        match C::read(reader, &mut chunk) {
+            Ok(0) => return SessionEnd::EndOfInput,
+            Ok(count) => {
+                let octets = &chunk[..count];
+                let Ok(()) = pass_octets(rt, writer, line, pass, gate, &mut cutter, octets) else {
+                    return SessionEnd::WriteFault;
+                };
             }
+            Err(_) => return SessionEnd::ReadFault,
         }
-        SessionEnd::TurnLimit
     }
+    SessionEnd::TurnLimit
+}
 
-    /// Octets come, and the frames that they complete are exchanged, each after the reply before it was
-    /// written.
-    fn pass_octets<T: Wait, W: Write, G: Gate>(
-        &mut self,
-        rt: &T,
-        writer: &mut W,
-        line: &Line,
-        gate: &G,
-        octets: &[u8],
-    ) -> Result<(), WriteFault>
-        requires ours { self.old.pass.table ≡ table_of line.now }
-        requires master { self.old.pass.view.address ≢ 127 }
-        requires most { length self.old.cutter ≤ 255 }
-        ensures ours { self.new.pass.table ≡ self.old.pass.table }
-        ensures address { self.new.pass.view.address ≡ self.old.pass.view.address }
-        ensures most { OnOk result (length self.new.cutter ≤ 255) }
-        ensures ok { OnOk result (IsServedTo self.old.pass.view.address (self.old.cutter ++ octets.now) self.new.cutter
-            self.old.pass.view self.new.pass.view (W.contents writer.old) (W.contents writer.new)) }
-        ensures rest { OnOk result (cuts_of self.new.cutter ≡ uncut self.new.cutter) }
-        ensures err { OnErr result (IsBrokenIn self.old.pass.view.address (self.old.cutter ++ octets.now)
-            self.old.pass.view self.new.pass.view (W.contents writer.old) (W.contents writer.new)) }
-    {
-        let mut left = octets;
-        loop {
-            if let Some(piece) = self.cutter.front() {
-                let count = piece.size();
-                answer(rt, writer, line, gate, &mut self.pass, piece)?;
-                self.cutter.pass(count);
-            } else if left.is_empty() {
-                return Ok(());
-            } else {
-                let taken = self.cutter.feed(left);
-                (_, left) = left.split_at(taken);
-            }
+/// Writes the acceptance, a short acknowledgement, and then serves the master by its pass, in at most so many reads.
+pub(crate) fn accept<T: Wait, R: Read, C: Reads<R>, W: Write, G: Gate>(
+    rt: &T,
+    reader: &mut R,
+    writer: &mut W,
+    line: &Line,
+    pass: &mut Pass,
+    gate: &G,
+    turns: u32,
+) -> SessionEnd
+    requires ours { pass.old.table ≡ table_of line.now }
+    requires master { pass.old.view.address ≢ 127 }
+    ensures ours { pass.new.table ≡ pass.old.table }
+    ensures reads { C.reads reader.new ≤ C.reads reader.old + turns }
+    ensures failed { result ≡ SessionEnd.ReadFault → C.failed reader.new ≡ true }
+    ensures accepted { (stream : List ℕ) × (made : ℕ) × Consumes (R.remaining reader.old) (R.remaining reader.new) stream × (made ≤ turns)
+        × Accepts result pass.old.view.address turns made stream pass.old.view pass.new.view (R.remaining reader.new) (W.contents writer.old) (W.contents writer.new) }
+{
+    match write_whole(writer, &[SC]) {
+        Ok(()) => serve_pass_by::<T, R, C, W, G>(rt, reader, writer, line, pass, gate, turns),
+        Err(_) => SessionEnd::WriteFault,
+    }
+}
+
+/// Octets come, and the frames that they complete are exchanged, each after the reply before it was
+/// written.
+fn pass_octets<T: Wait, W: Write, G: Gate>(
+    rt: &T,
+    writer: &mut W,
+    line: &Line,
+    pass: &mut Pass,
+    gate: &G,
+    cutter: &mut Cutter,
+    octets: &[u8],
+) -> Result<(), WriteFault>
+    requires ours { pass.old.table ≡ table_of line.now }
+    requires master { pass.old.view.address ≢ 127 }
+    requires most { length cutter.old ≤ 255 }
+    ensures ours { pass.new.table ≡ pass.old.table }
+    ensures address { pass.new.view.address ≡ pass.old.view.address }
+    ensures most { OnOk result (length cutter.new ≤ 255) }
+    ensures ok { OnOk result (IsServedTo pass.old.view.address (cutter.old ++ octets.now) cutter.new
+        pass.old.view pass.new.view (W.contents writer.old) (W.contents writer.new)) }
+    ensures rest { OnOk result (cuts_of cutter.new ≡ uncut cutter.new) }
+    ensures err { OnErr result (IsBrokenIn pass.old.view.address (cutter.old ++ octets.now)
+        pass.old.view pass.new.view (W.contents writer.old) (W.contents writer.new)) }
+{
+    let mut left = octets;
+    loop {
+        if let Some(piece) = cutter.front() {
+            let count = piece.size();
+            answer(rt, writer, line, gate, pass, piece)?;
+            cutter.pass(count);
+        } else if left.is_empty() {
+            return Ok(());
+        } else {
+            let taken = cutter.feed(left);
+            (_, left) = left.split_at(taken);
         }
     }
 }

@@ -6,6 +6,7 @@
 
 mod exchange;
 mod gate;
+pub mod laws;
 mod line_fault;
 mod operator;
 mod operator_line;
@@ -19,10 +20,14 @@ pub mod sharing;
 
 pub use dp_devices::next_inputs;
 pub use dp_text::{OpLine, TextFault, read_op};
+pub use exchange::{serve_pass, serve_pass_by};
 pub use gate::{Gate, OpenGate};
-pub use operator::{serve_operator, serve_operator_at};
+pub use operator::{
+    serve_operator, serve_operator_at, serve_operator_pass, serve_operator_pass_by,
+};
 pub use pool::{Job, run_pool};
 pub use pool_fault::PoolFault;
 pub use port::{LineAndClaims, Port};
-pub use serving::serve;
+pub use reads::{Reads, Uncounted};
+pub use serving::{serve, serve_by};
 pub use session_end::SessionEnd;

@@ -1,18 +1,18 @@
 //! Sessions of operators with a line.
 
-ghost use Rattle.std.specs.Prelude.{◌≡◌, ◌≤◌, ℕ, List, [], ◌∷◌, ◌++◌, OnErr, OnOk};
-ghost use Rattle.std.specs.Io.KnownBytes.{Appends, Consumes};
+ghost use Rattle.std.specs.Prelude.{◌≡◌, ◌+◌, ◌≤◌, true, [], ◌∷◌, ◌++◌, OnErr, OnOk};
+ghost use Rattle.std.specs.Io.KnownBytes.{Appends};
 ghost use Rattle.dp_text.specs.Writes.{WritesPrefix};
 ghost use Rattle.dp_shared.specs.Passes.{line_of, table_of};
 ghost use Rattle.dp_devices.specs.declared.driven_slave.TheConstants.{MOST_DRIVEN};
 ghost use Rattle.dp_devices.specs.DrivenSlaves.{driven_slaves as all_driven};
-ghost use Rattle.dp_sessions.specs.Operators.{IsAnswered, IsOperatorSession, Operates};
+ghost use Rattle.dp_sessions.specs.Operators.{HasOperatedBy, IsAnswered, IsOperatorSession};
 ghost use Rattle.dp_sessions.specs.Operating.{BreaksOff, GoesOn, kept};
 
 use crate::gate::{Gate, OpenGate};
 use crate::operator_line::{LONGEST_LINE, answer_line};
 use crate::port::Port;
-use crate::reads::Reads;
+use crate::reads::{Reads, Uncounted};
 use crate::session_end::SessionEnd;
 use arrayvec::ArrayVec;
 use dp_devices::{DrivenSlave, MOST_DRIVEN, driven_slaves};
@@ -79,71 +79,122 @@ pub fn serve_operator_at<T: Wait, R: Read, W: Write, G: Gate>(
         (record { left = R.remaining reader.old; left_after = R.remaining reader.new; written = W.contents writer.old; written_after = W.contents writer.new })
         result }
 {
-    let Ok(pass) = port.line.open_pass(rt, GLOBAL_ADDRESS) else {
+    let Ok(mut pass) = port.line.open_pass(rt, GLOBAL_ADDRESS) else {
         return SessionEnd::NoPass;
     };
-    let mut session = OperatorSession::open(pass, line);
-    let end = session.run(rt, &mut Reads::new(reader), writer, &port.line, gate, turns);
-    port.line.hand_back(rt, session.close());
+    let end = serve_operator_pass(rt, reader, writer, &port.line, line, &mut pass, gate, turns);
+    port.line.hand_back(rt, pass);
     end
 }
 
-/// A session under way: its pass, the slaves that devices drive, and the first octets of the line that
-/// hasn't ended.
+/// Serves an operator by its pass, which is lent, as [`serve_operator`] tells it, in at most so many reads. The
+/// description is that of the line. How the session ended is the answer (own).
+///
+/// After it the pass has what the lines that ended did, in their order. It waits for the line, and takes no memory.
+pub fn serve_operator_pass<T: Wait, R: Read, W: Write, G: Gate>(
+    rt: &T,
+    reader: &mut R,
+    writer: &mut W,
+    line: &Line,
+    description: &LineSpec,
+    pass: &mut Pass,
+    gate: &G,
+    turns: u32,
+) -> SessionEnd
+    requires described { line_of line.now ≡ description.now }
+    requires ours { pass.old.table ≡ table_of line.now }
+    requires operator { pass.old.view.address ≡ 127 }
+    ensures ours { pass.new.table ≡ pass.old.table }
+    ensures operated { HasOperatedBy (all_driven (line_of line.now).slaves.items) turns
+        (record { left = R.remaining reader.old; left_after = R.remaining reader.new; written = W.contents writer.old; written_after = W.contents writer.new })
+        pass.old.view pass.new.view result }
+{
+    serve_operator_pass_by::<T, R, Uncounted, W, G>(
+        rt,
+        reader,
+        writer,
+        line,
+        description,
+        pass,
+        gate,
+        turns,
+    )
+}
+
+/// Like [`serve_operator_pass`], of a reader that counts its reads.
+pub fn serve_operator_pass_by<T: Wait, R: Read, C: Reads<R>, W: Write, G: Gate>(
+    rt: &T,
+    reader: &mut R,
+    writer: &mut W,
+    line: &Line,
+    description: &LineSpec,
+    pass: &mut Pass,
+    gate: &G,
+    turns: u32,
+) -> SessionEnd
+    requires described { line_of line.now ≡ description.now }
+    requires ours { pass.old.table ≡ table_of line.now }
+    requires operator { pass.old.view.address ≡ 127 }
+    ensures ours { pass.new.table ≡ pass.old.table }
+    ensures reads { C.reads reader.new ≤ C.reads reader.old + turns }
+    ensures failed { result ≡ SessionEnd.ReadFault → C.failed reader.new ≡ true }
+    ensures operated { HasOperatedBy (all_driven (line_of line.now).slaves.items) turns
+        (record { left = R.remaining reader.old; left_after = R.remaining reader.new; written = W.contents writer.old; written_after = W.contents writer.new })
+        pass.old.view pass.new.view result }
+{
+    let mut session = OperatorSession::open(description);
+    session.run::<T, R, C, W, G>(rt, reader, writer, line, pass, gate, turns)
+}
+
+/// A session under way: the slaves that devices drive, and the first octets of the line that hasn't ended.
 #[derive(Drop)]
 struct OperatorSession {
-    pass: Pass,
     driven: ArrayVec<DrivenSlave, MOST_DRIVEN>,
     begun: ArrayVec<u8, KEPT>,
 }
 
 impl OperatorSession {
-    /// A session by this pass, before anything came.
-    fn open(pass: Pass, line: &LineSpec) -> OperatorSession
-        ensures pass { result.pass ≡ pass }
+    /// A session before anything came.
+    fn open(line: &LineSpec) -> OperatorSession
         ensures driven { result.driven.items ≡ all_driven line.now.slaves.items }
         ensures empty { result.begun.items ≡ [] }
     {
         OperatorSession {
-            pass,
             driven: driven_slaves(line),
             begun: ArrayVec::new(),
         }
     }
 
-    /// The pass, once the session has ended.
-    fn close(self) -> Pass
-        ensures { result ≡ self.pass }
-    {
-        self.pass
-    }
-
     /// Reads until so many reads were made, and answers each line that ends.
-    fn run<T: Wait, R: Read, W: Write, G: Gate>(
+    fn run<T: Wait, R: Read, C: Reads<R>, W: Write, G: Gate>(
         &mut self,
         rt: &T,
-        reader: &mut Reads<'_, R>,
+        reader: &mut R,
         writer: &mut W,
         line: &Line,
+        pass: &mut Pass,
         gate: &G,
         turns: u32,
     ) -> SessionEnd
-        requires ours { self.old.pass.table ≡ table_of line.now }
-        requires operator { self.old.pass.view.address ≡ 127 }
+        requires ours { pass.old.table ≡ table_of line.now }
+        requires operator { pass.old.view.address ≡ 127 }
         requires empty { self.old.begun.items ≡ [] }
-        requires unread { reader.old.made ≡ 0 }
-        ensures ours { self.new.pass.table ≡ self.old.pass.table }
-        ensures same_reader { reader.new.reader.ghost_name ≡ reader.old.reader.ghost_name }
-        ensures most { reader.new.made ≤ turns }
-        ensures operated { (stream : List ℕ) × Consumes (R.remaining reader.old.reader.now) (R.remaining reader.new.reader.now) stream
-            × Operates result self.old.driven.items turns reader.new.made stream self.old.pass.view self.new.pass.view (R.remaining reader.new.reader.now) (W.contents writer.old) (W.contents writer.new) }
+        ensures ours { pass.new.table ≡ pass.old.table }
+        ensures reads { C.reads reader.new ≤ C.reads reader.old + turns }
+        ensures failed { result ≡ SessionEnd.ReadFault → C.failed reader.new ≡ true }
+        ensures operated { HasOperatedBy self.old.driven.items turns
+            (record { left = R.remaining reader.old; left_after = R.remaining reader.new; written = W.contents writer.old; written_after = W.contents writer.new })
+            pass.old.view pass.new.view result }
     {
         let mut chunk = [0; CHUNK];
-        while reader.made() < turns {
-            match reader.read(&mut chunk) {
+        let mut made = 0;
+        while made < turns {
+            made += 1;
+            match C::read(reader, &mut chunk) {
                 Ok(0) => return SessionEnd::EndOfInput,
                 Ok(count) => {
-                    let Ok(()) = self.pass_octets(rt, writer, line, gate, &chunk[..count]) else {
+                    let octets = &chunk[..count];
+                    let Ok(()) = self.pass_octets(rt, writer, line, pass, gate, octets) else {
                         return SessionEnd::WriteFault;
                     };
                 }
@@ -159,23 +210,24 @@ impl OperatorSession {
         rt: &T,
         writer: &mut W,
         line: &Line,
+        pass: &mut Pass,
         gate: &G,
         octets: &[u8],
     ) -> Result<(), WriteFault>
-        requires ours { self.old.pass.table ≡ table_of line.now }
-        requires operator { self.old.pass.view.address ≡ 127 }
-        ensures ours { self.new.pass.table ≡ self.old.pass.table }
-        ensures address { self.new.pass.view.address ≡ self.old.pass.view.address }
+        requires ours { pass.old.table ≡ table_of line.now }
+        requires operator { pass.old.view.address ≡ 127 }
+        ensures ours { pass.new.table ≡ pass.old.table }
+        ensures address { pass.new.view.address ≡ pass.old.view.address }
         ensures driven { self.new.driven ≡ self.old.driven }
         ensures ok { OnOk result (GoesOn self.old.driven.items octets.now self.old.begun.items self.new.begun.items
-            self.old.pass.view self.new.pass.view (W.contents writer.old) (W.contents writer.new)) }
+            pass.old.view pass.new.view (W.contents writer.old) (W.contents writer.new)) }
         ensures err { OnErr result (BreaksOff self.old.driven.items octets.now self.old.begun.items
-            self.old.pass.view self.new.pass.view (W.contents writer.old) (W.contents writer.new)) }
+            pass.old.view pass.new.view (W.contents writer.old) (W.contents writer.new)) }
     {
         let mut text = Text::new();
         let mut left = octets;
         while let Some((octet, rest)) = left.split_first() {
-            self.take(rt, writer, line, gate, *octet, &mut text)?;
+            self.take(rt, writer, line, pass, gate, *octet, &mut text)?;
             left = rest;
         }
         Ok(())
@@ -187,22 +239,23 @@ impl OperatorSession {
         rt: &T,
         writer: &mut W,
         line: &Line,
+        pass: &mut Pass,
         gate: &G,
         octet: u8,
         text: &mut Text,
     ) -> Result<(), WriteFault>
-        requires ours { self.old.pass.table ≡ table_of line.now }
-        requires operator { self.old.pass.view.address ≡ 127 }
-        ensures ours { self.new.pass.table ≡ self.old.pass.table }
-        ensures address { self.new.pass.view.address ≡ self.old.pass.view.address }
+        requires ours { pass.old.table ≡ table_of line.now }
+        requires operator { pass.old.view.address ≡ 127 }
+        ensures ours { pass.new.table ≡ pass.old.table }
+        ensures address { pass.new.view.address ≡ pass.old.view.address }
         ensures driven { self.new.driven ≡ self.old.driven }
         ensures ok { OnOk result (GoesOn self.old.driven.items (octet ∷ []) self.old.begun.items self.new.begun.items
-            self.old.pass.view self.new.pass.view (W.contents writer.old) (W.contents writer.new)) }
+            pass.old.view pass.new.view (W.contents writer.old) (W.contents writer.new)) }
         ensures err { OnErr result (BreaksOff self.old.driven.items (octet ∷ []) self.old.begun.items
-            self.old.pass.view self.new.pass.view (W.contents writer.old) (W.contents writer.new)) }
+            pass.old.view pass.new.view (W.contents writer.old) (W.contents writer.new)) }
     {
         if octet == LF {
-            return self.end_line(rt, writer, line, gate, text);
+            return self.end_line(rt, writer, line, pass, gate, text);
         }
         self.keep(octet);
         Ok(())
@@ -210,7 +263,6 @@ impl OperatorSession {
 
     /// The line has one octet more.
     fn keep(&mut self, octet: u8)
-        ensures pass { self.new.pass ≡ self.old.pass }
         ensures driven { self.new.driven ≡ self.old.driven }
         ensures begun { self.new.begun.items ≡ kept (self.old.begun.items ++ octet ∷ []) }
     {
@@ -225,16 +277,17 @@ impl OperatorSession {
         rt: &T,
         writer: &mut W,
         line: &Line,
+        pass: &mut Pass,
         gate: &G,
         text: &mut Text,
     ) -> Result<(), WriteFault>
-        requires ours { self.old.pass.table ≡ table_of line.now }
-        requires operator { self.old.pass.view.address ≡ 127 }
-        ensures ours { self.new.pass.table ≡ self.old.pass.table }
-        ensures address { self.new.pass.view.address ≡ self.old.pass.view.address }
+        requires ours { pass.old.table ≡ table_of line.now }
+        requires operator { pass.old.view.address ≡ 127 }
+        ensures ours { pass.new.table ≡ pass.old.table }
+        ensures address { pass.new.view.address ≡ pass.old.view.address }
         ensures driven { self.new.driven ≡ self.old.driven }
         ensures begun { self.new.begun.items ≡ [] }
-        ensures answered { IsAnswered self.old.driven.items self.old.begun.items self.old.pass.view self.new.pass.view text.new }
+        ensures answered { IsAnswered self.old.driven.items self.old.begun.items pass.old.view pass.new.view text.new }
         ensures ok { OnOk result (Appends (W.contents writer.old) (W.contents writer.new) text.new) }
         ensures err { OnErr result (WritesPrefix (W.contents writer.old) (W.contents writer.new) text.new) }
     {
@@ -243,7 +296,7 @@ impl OperatorSession {
             line,
             gate,
             self.driven.as_slice(),
-            &mut self.pass,
+            pass,
             self.begun.as_slice(),
             text,
         );

@@ -8,6 +8,7 @@ ghost use Rattle.dp_sessions.specs.Pools.{HasSeats};
 use crate::gate::Gate;
 use crate::pool_fault::PoolFault;
 use crate::port::Port;
+use crate::reads::Uncounted;
 use crate::serving::serve_or_turn_away;
 use crate::session_end::{SessionEnd, TurnedAway};
 use crossbeam_channel::Receiver;
@@ -61,7 +62,7 @@ impl Serve for Port {
         gate: &G,
         turns: u32,
     ) -> Result<SessionEnd, TurnedAway> {
-        serve_or_turn_away(rt, reader, writer, self, seat, gate, turns)
+        serve_or_turn_away::<H, R, Uncounted, W, G>(rt, reader, writer, self, seat, gate, turns)
     }
 }
 

@@ -1,44 +1,37 @@
-//! The reads of a session, counted.
+//! How sessions read.
 
-ghost use Rattle.std.specs.Prelude.{◌≡◌, ◌+◌, ◌<◌, ◌^◌};
+ghost use Rattle.std.specs.Prelude.{◌≡◌, ◌+◌, ◌≤◌, ℕ, Bool, true, OnErr};
 ghost use Rattle.std.specs.Io.{ReadsAtMost};
 ghost use Rattle.std.specs.Io.KnownBytes.{ReadConsumes};
 
 use std::io::Read;
 
-/// The reader of a session, and how many reads of it were made.
-#[derive(Drop)]
-pub(crate) struct Reads<'a, R> {
-    reader: &'a mut R,
-    made: u32,
-}
+/// How a session reads its reader: by one call for each read, and in no other way. Whoever hands in a reader that counts
+/// its reads says by this what its count is, and has the bound on it.
+pub trait Reads<R: Read> {
+    /// The count of a reader.
+    ghost reads: { R → ℕ };
 
-impl<'a, R: Read> Reads<'a, R> {
-    /// The reader of a session, of which no read was made.
-    pub(crate) fn new(reader: &'a mut R) -> Reads<'a, R>
-        ensures same_reader { result.reader.ghost_name ≡ reader.entry.ghost_name }
-        ensures unread { result.reader.now ≡ reader.old }
-        ensures made { result.made ≡ 0 }
-    {
-        Reads { reader, made: 0 }
-    }
-
-    /// How many reads were made.
-    pub(crate) fn made(&self) -> u32
-        ensures { result ≡ self.now.made }
-    {
-        self.made
-    }
+    /// Whether a read of the reader may have failed.
+    ghost failed: { R → Bool };
 
     /// Makes one read.
-    pub(crate) fn read(&mut self, buf: &mut [u8]) -> std::io::Result<usize>
-        requires { self.old.made + 1 < 2 ^ 32 }
-        ensures same_reader { self.new.reader.ghost_name ≡ self.old.reader.ghost_name }
-        ensures made { self.new.made ≡ self.old.made + 1 }
+    fn read(reader: &mut R, buf: &mut [u8]) -> std::io::Result<usize>
         ensures bound { ReadsAtMost result buf.new }
-        ensures bytes { ReadConsumes (R.remaining self.old.reader.now) (R.remaining self.new.reader.now) result buf.new }
-    {
-        self.made += 1;
-        self.reader.read(buf)
+        ensures bytes { ReadConsumes (R.remaining reader.old) (R.remaining reader.new) result buf.new }
+        ensures counted { reads reader.new ≤ reads reader.old + 1 }
+        ensures failed { OnErr result (failed reader.new ≡ true) };
+}
+
+/// Reads that nobody counts.
+pub struct Uncounted;
+
+impl<R: Read> Reads<R> for Uncounted {
+    ghost reads = { λ _. 0 };
+
+    ghost failed = { λ _. true };
+
+    fn read(reader: &mut R, buf: &mut [u8]) -> std::io::Result<usize> {
+        reader.read(buf)
     }
 }

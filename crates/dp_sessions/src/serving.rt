@@ -1,16 +1,16 @@
 //! Sessions of masters with a line.
 
-ghost use Rattle.std.specs.Prelude.{◌≡◌, ℕ, true, None, [], ◌∷◌, IfErr, IfOk};
+ghost use Rattle.std.specs.Prelude.{◌≡◌, ◌≢◌, ◌+◌, ◌≤◌, ℕ, true, None, [], ◌∷◌, IfErr, IfOk};
 ghost use Rattle.std.specs.Io.KnownBytes.{Consumes, Keeps};
 ghost use Rattle.dp_shared.specs.Claims.{claimed};
 ghost use Rattle.dp_shared.specs.Passes.{new_pass, table_of};
 ghost use Rattle.dp_sessions.specs.Sessions.{EndsAtOnce, IsSession, Refuses, is_master_of};
 ghost use Rattle.dp_sessions.specs.TurnedAway.{end_of};
 
-use crate::exchange::Session;
+use crate::exchange::accept;
 use crate::gate::Gate;
 use crate::port::Port;
-use crate::reads::Reads;
+use crate::reads::{Reads, Uncounted};
 use crate::session_end::{SessionEnd, TurnedAway};
 use dp_shared::{ClaimFault, Claims, Pass, WorkerSeat};
 use dp_telegram::is_station;
@@ -45,14 +45,37 @@ pub fn serve<T: Wait, R: Read, W: Write, G: Gate>(
         (record { left = R.remaining reader.old; left_after = R.remaining reader.new; written = W.contents writer.old; written_after = W.contents writer.new })
         seat.old.view seat.new.view result }
 {
-    match serve_or_turn_away(rt, reader, writer, port, seat, gate, turns) {
+    serve_by::<T, R, Uncounted, W, G>(rt, reader, writer, port, seat, gate, turns)
+}
+
+/// Like [`serve`], of a reader that counts its reads.
+pub fn serve_by<T: Wait, R: Read, C: Reads<R>, W: Write, G: Gate>(
+    rt: &T,
+    reader: &mut R,
+    writer: &mut W,
+    port: &Port,
+    seat: &mut WorkerSeat,
+    gate: &G,
+    turns: u32,
+) -> SessionEnd
+    requires ours { seat.old.table ≡ port.now.claims.table }
+    requires free { seat.old.view.held ≡ None }
+    ensures ours { seat.new.table ≡ seat.old.table }
+    ensures free { seat.new.view.held ≡ None }
+    ensures reads { C.reads reader.new ≤ C.reads reader.old + turns }
+    ensures failed { result ≡ SessionEnd.ReadFault → C.failed reader.new ≡ true }
+    ensures session { IsSession port.now.claims.masters turns
+        (record { left = R.remaining reader.old; left_after = R.remaining reader.new; written = W.contents writer.old; written_after = W.contents writer.new })
+        seat.old.view seat.new.view result }
+{
+    match serve_or_turn_away::<T, R, C, W, G>(rt, reader, writer, port, seat, gate, turns) {
         Ok(end) => end,
         Err(away) => away.end,
     }
 }
 
 /// A session as [`serve`] tells it; or that it wasn't accepted.
-pub(crate) fn serve_or_turn_away<T: Wait, R: Read, W: Write, G: Gate>(
+pub(crate) fn serve_or_turn_away<T: Wait, R: Read, C: Reads<R>, W: Write, G: Gate>(
     rt: &T,
     reader: &mut R,
     writer: &mut W,
@@ -65,6 +88,8 @@ pub(crate) fn serve_or_turn_away<T: Wait, R: Read, W: Write, G: Gate>(
     requires free { seat.old.view.held ≡ None }
     ensures ours { seat.new.table ≡ seat.old.table }
     ensures free { seat.new.view.held ≡ None }
+    ensures reads { C.reads reader.new ≤ C.reads reader.old + turns }
+    ensures failed { end_of result ≡ SessionEnd.ReadFault → C.failed reader.new ≡ true }
     ensures session { IsSession port.now.claims.masters turns
         (record { left = R.remaining reader.old; left_after = R.remaining reader.new; written = W.contents writer.old; written_after = W.contents writer.new })
         seat.old.view seat.new.view (end_of result) }
@@ -75,12 +100,11 @@ pub(crate) fn serve_or_turn_away<T: Wait, R: Read, W: Write, G: Gate>(
             end: SessionEnd::TurnLimit,
         });
     }
-    let mut reads = Reads::new(reader);
-    let address = match first_octet(&mut reads) {
+    let address = match first_octet::<R, C>(reader) {
         Ok(address) => address,
         Err(end) => return Err(TurnedAway { address: None, end }),
     };
-    let pass = match admit(rt, port, seat, address) {
+    let mut pass = match admit(rt, port, seat, address) {
         Ok(pass) => pass,
         Err(end) => {
             return Err(TurnedAway {
@@ -91,24 +115,22 @@ pub(crate) fn serve_or_turn_away<T: Wait, R: Read, W: Write, G: Gate>(
     };
     let line = pass.line();
     gate.accepted(rt, line, address);
-    let mut session = Session::open(pass);
-    let end = session.accept(rt, &mut reads, writer, &port.line, gate, turns);
-    port.line.hand_back(rt, session.close());
+    let end = accept::<T, R, C, W, G>(rt, reader, writer, &port.line, &mut pass, gate, turns - 1);
+    port.line.hand_back(rt, pass);
     gate.ended(rt, line, address, end);
     port.claims.release(seat);
     Ok(end)
 }
 
 /// The first octet of a session, by one read; or how the session ends without one.
-fn first_octet<R: Read>(reader: &mut Reads<'_, R>) -> Result<u8, SessionEnd>
-    requires { reader.old.made ≡ 0 }
-    ensures same_reader { reader.new.reader.ghost_name ≡ reader.old.reader.ghost_name }
-    ensures made { reader.new.made ≡ 1 }
-    ensures ok { IfOk result (λ octet. Consumes (R.remaining reader.old.reader.now) (R.remaining reader.new.reader.now) (octet ∷ [])) }
-    ensures err { IfErr result (λ end. Keeps (R.remaining reader.old.reader.now) (R.remaining reader.new.reader.now) × ((turns : ℕ) → EndsAtOnce end turns (R.remaining reader.new.reader.now))) }
+fn first_octet<R: Read, C: Reads<R>>(reader: &mut R) -> Result<u8, SessionEnd>
+    ensures reads { C.reads reader.new ≤ C.reads reader.old + 1 }
+    ensures failed { IfErr result (λ end. end ≡ SessionEnd.ReadFault → C.failed reader.new ≡ true) }
+    ensures ok { IfOk result (λ octet. Consumes (R.remaining reader.old) (R.remaining reader.new) (octet ∷ [])) }
+    ensures err { IfErr result (λ end. Keeps (R.remaining reader.old) (R.remaining reader.new) × ((turns : ℕ) → EndsAtOnce end turns (R.remaining reader.new))) }
 {
     let mut first = [0; 1];
-    match reader.read(&mut first) {
+    match C::read(reader, &mut first) {
         Ok(0) => Err(SessionEnd::EndOfInput),
         Ok(_) => Ok(first[0]),
         Err(_) => Err(SessionEnd::ReadFault),
@@ -130,6 +152,7 @@ fn admit<T: Wait>(
     ensures claimed { IfOk result (λ _. seat.new.view ≡ claimed seat.old.view address) }
     ensures pass { IfOk result (λ pass. (pass.table ≡ table_of port.now.line) × (pass.view ≡ new_pass pass.view.number address)) }
     ensures free { IfErr result (λ _. seat.new.view.held ≡ None) }
+    ensures unread { IfErr result (λ end. end ≢ SessionEnd.ReadFault) }
     ensures refused { IfErr result (λ end. Refuses end port.now.claims.masters address seat.old.view seat.new.view) }
 {
     claim(&port.claims, seat, address)?;
@@ -150,6 +173,7 @@ fn claim(claims: &Claims, seat: &mut WorkerSeat, address: u8) -> Result<(), Sess
     ensures known { IfOk result (λ _. is_master_of claims.now.masters address ≡ true) }
     ensures claimed { IfOk result (λ _. seat.new.view ≡ claimed seat.old.view address) }
     ensures free { IfErr result (λ _. seat.new.view.held ≡ None) }
+    ensures unread { IfErr result (λ end. end ≢ SessionEnd.ReadFault) }
     ensures refused { IfErr result (λ end. Refuses end claims.now.masters address seat.old.view seat.new.view) }
 {
     if !is_station(address) {

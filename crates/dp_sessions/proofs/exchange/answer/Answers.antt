@@ -13,7 +13,8 @@ returns-in-Frame-clause-ok g c =
     let requested : requests_in master ((cut_lent c.args.piece) ∷ []) ≡ receipt.event ∷ [] =
     ap (λ (cut : Cut). requests_in master (cut ∷ [])) (ap cut_lent c.in-Frame.is) ∙ ap (λ (event : Event). event ∷ []) (sym (rw c.octets.ensures.octets at c.exchange_lent-receipt.ensures.event)) in
     one_written c.write_whole.result master (cut_lent c.args.piece) receipt c.args.pass.now.view c.exchange_lent-receipt.new.pass.view (g.W.Write.contents c.args.writer.now) (g.W.Write.contents c.write_whole.new.writer) c.octets_in.result.now
-    (one_exchanged master (cut_lent c.args.piece) receipt c.args.pass.now.view c.exchange_lent-receipt.new.pass.view requested c.exchange_lent-receipt.ensures.pass) c.octets_in.ensures c.write_whole.ensures.ok
+    (one_exchanged master (cut_lent c.args.piece) receipt c.args.pass.now.view c.exchange_lent-receipt.new.pass.view requested c.exchange_lent-receipt.ensures.pass
+    (record { halted = c.exchange_lent-receipt.ensures.halted; running = c.exchange_lent-receipt.ensures.running })) c.octets_in.ensures c.write_whole.ensures.ok
 
 pub returns-in-Frame-clause-err : goal.returns-in-Frame-clause-err
 returns-in-Frame-clause-err g c =
@@ -22,4 +23,5 @@ returns-in-Frame-clause-err g c =
     let requested : requests_in master ((cut_lent c.args.piece) ∷ []) ≡ receipt.event ∷ [] =
     ap (λ (cut : Cut). requests_in master (cut ∷ [])) (ap cut_lent c.in-Frame.is) ∙ ap (λ (event : Event). event ∷ []) (sym (rw c.octets.ensures.octets at c.exchange_lent-receipt.ensures.event)) in
     one_broken c.write_whole.result master (cut_lent c.args.piece) receipt c.args.pass.now.view c.exchange_lent-receipt.new.pass.view (g.W.Write.contents c.args.writer.now) (g.W.Write.contents c.write_whole.new.writer) c.octets_in.result.now
-    (one_exchanged master (cut_lent c.args.piece) receipt c.args.pass.now.view c.exchange_lent-receipt.new.pass.view requested c.exchange_lent-receipt.ensures.pass) c.octets_in.ensures c.write_whole.ensures.err
+    (one_exchanged master (cut_lent c.args.piece) receipt c.args.pass.now.view c.exchange_lent-receipt.new.pass.view requested c.exchange_lent-receipt.ensures.pass
+    (record { halted = c.exchange_lent-receipt.ensures.halted; running = c.exchange_lent-receipt.ensures.running })) c.octets_in.ensures c.write_whole.ensures.err

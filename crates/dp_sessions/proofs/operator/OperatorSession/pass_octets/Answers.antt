@@ -11,7 +11,7 @@ loop-octet-init g c = record {
   ours = refl;
   address = refl;
   driven = refl;
-  on = ([], refl, on_start c.args.self.now.driven.items c.args.self.now.begun.items c.args.self.now.pass.view (g.W.Write.contents c.args.writer.now));
+  on = ([], refl, on_start c.args.self.now.driven.items c.args.self.now.begun.items c.args.pass.now.view (g.W.Write.contents c.args.writer.now));
 }
 
 pub loop-octet-preserved : goal.loop-octet-preserved
@@ -25,10 +25,10 @@ loop-octet-preserved g c =
         way.0 ++ octet ∷ [],
         way.1 ∙ ap (λ os. way.0 ++ os) c.in-Some.ensures.cases.0 ∙ sym (append_assoc way.0 (octet ∷ []) c.in-Some.rest.now),
         on_more c.args.self.now.driven.items way.0 (octet ∷ []) c.args.self.now.begun.items c.loop-octet.self.begun.items c.take.new.self.begun.items
-            c.args.self.now.pass.view c.loop-octet.self.pass.view c.take.new.self.pass.view (g.W.Write.contents c.args.writer.now) (g.W.Write.contents c.loop-octet.writer) (g.W.Write.contents c.take.new.writer)
+            c.args.pass.now.view c.loop-octet.pass.view c.take.new.pass.view (g.W.Write.contents c.args.writer.now) (g.W.Write.contents c.loop-octet.writer) (g.W.Write.contents c.take.new.writer)
             way.2
             (goes_on_as c.args.self.now.driven.items c.loop-octet.self.driven.items (octet ∷ []) c.loop-octet.self.begun.items c.take.new.self.begun.items
-            c.loop-octet.self.pass.view c.take.new.self.pass.view (g.W.Write.contents c.loop-octet.writer) (g.W.Write.contents c.take.new.writer)
+            c.loop-octet.pass.view c.take.new.pass.view (g.W.Write.contents c.loop-octet.writer) (g.W.Write.contents c.take.new.writer)
             (ap (λ (d : ArrayVec DrivenSlave). d.items) c.loop-octet.invariant.driven) c.in_ok-take.ensures.ok),
       );
     }
@@ -39,15 +39,15 @@ returns-in_err-take-clause-err g c =
     let octet : ℕ = c.in-Some.octet.now in
     on_err c.from_residual.result
     (breaks_at c.args.self.now.driven.items c.args.octets.now way.0 c.loop-octet.left.now octet c.in-Some.rest.now c.args.self.now.begun.items c.loop-octet.self.begun.items
-    c.args.self.now.pass.view c.loop-octet.self.pass.view c.take.new.self.pass.view (g.W.Write.contents c.args.writer.now) (g.W.Write.contents c.loop-octet.writer) (g.W.Write.contents c.take.new.writer)
+    c.args.pass.now.view c.loop-octet.pass.view c.take.new.pass.view (g.W.Write.contents c.args.writer.now) (g.W.Write.contents c.loop-octet.writer) (g.W.Write.contents c.take.new.writer)
     way.1 c.in-Some.ensures.cases.0 way.2
     (breaks_off_as c.args.self.now.driven.items c.loop-octet.self.driven.items (octet ∷ []) c.loop-octet.self.begun.items
-    c.loop-octet.self.pass.view c.take.new.self.pass.view (g.W.Write.contents c.loop-octet.writer) (g.W.Write.contents c.take.new.writer)
+    c.loop-octet.pass.view c.take.new.pass.view (g.W.Write.contents c.loop-octet.writer) (g.W.Write.contents c.take.new.writer)
     (ap (λ (d : ArrayVec DrivenSlave). d.items) c.loop-octet.invariant.driven) c.in_err-take.ensures.err))
 
 pub returns-clause-ok : goal.returns-clause-ok
 returns-clause-ok g c =
     let way = c.loop-octet.invariant.on in
     goes_to c.args.self.now.driven.items c.args.octets.now way.0 c.loop-octet.left.now c.args.self.now.begun.items c.loop-octet.self.begun.items
-    c.args.self.now.pass.view c.loop-octet.self.pass.view (g.W.Write.contents c.args.writer.now) (g.W.Write.contents c.loop-octet.writer)
+    c.args.pass.now.view c.loop-octet.pass.view (g.W.Write.contents c.args.writer.now) (g.W.Write.contents c.loop-octet.writer)
     way.1 c.in_default.ensures.cases way.2

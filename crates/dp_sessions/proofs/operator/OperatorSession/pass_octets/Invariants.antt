@@ -4,11 +4,11 @@ use Rattle.dp_sessions.proofs.operator.OperatorSession.pass_octets.Given as goal
 
 abbrev pub invariant-loop-octet : goal.invariant-loop-octet
 invariant-loop-octet g l = record {
-  ours : l.self.pass.table ≡ l.fn.self.pass.table;
-  address : l.self.pass.view.address ≡ l.fn.self.pass.view.address;
+  ours : l.pass.table ≡ l.fn.pass.table;
+  address : l.pass.view.address ≡ l.fn.pass.view.address;
   driven : l.self.driven ≡ l.fn.self.driven;
   on : (done : List ℕ) × (l.octets ≡ done ++ l.left)
-      × GoesOn l.fn.self.driven.items done l.fn.self.begun.items l.self.begun.items l.fn.self.pass.view l.self.pass.view (g.W.Write.contents l.fn.writer) (g.W.Write.contents l.writer);
+      × GoesOn l.fn.self.driven.items done l.fn.self.begun.items l.self.begun.items l.fn.pass.view l.pass.view (g.W.Write.contents l.fn.writer) (g.W.Write.contents l.writer);
 }
 
 abbrev pub decreases-loop-octet : goal.decreases-loop-octet

@@ -1,23 +1,22 @@
-use Rattle.std.proofs.Common.{ap}
-use Rattle.dp_shared.specs.Passes.{PassIn}
+use Rattle.std.proofs.Common.{refl}
 use Rattle.dp_sessions.proofs.Operating.{line_served, line_broken, not_ended, on_ok, on_failed, served_octet}
 use Rattle.dp_sessions.proofs.operator.OperatorSession.take.Goals as goal
 
 pub returns-then-octet-eq-LF-clause-ok : goal.returns-then-octet-eq-LF-clause-ok
 returns-then-octet-eq-LF-clause-ok g c =
     on_ok c.end_line.result
-    (line_served c.args.self.now.driven.items c.args.self.now.begun.items c.end_line.new.self.begun.items c.args.octet c.args.self.now.pass.view c.end_line.new.self.pass.view
+    (line_served c.args.self.now.driven.items c.args.self.now.begun.items c.end_line.new.self.begun.items c.args.octet c.args.pass.now.view c.end_line.new.pass.view
     c.end_line.new.text (g.W.Write.contents c.args.writer.now) (g.W.Write.contents c.end_line.new.writer) c.if-octet-eq-LF.true c.end_line.ensures.begun c.end_line.ensures.answered)
     c.end_line.ensures.ok
 
 pub returns-then-octet-eq-LF-clause-err : goal.returns-then-octet-eq-LF-clause-err
 returns-then-octet-eq-LF-clause-err g c =
     on_failed c.end_line.result
-    (line_broken c.args.self.now.driven.items c.args.self.now.begun.items c.args.octet c.args.self.now.pass.view c.end_line.new.self.pass.view
+    (line_broken c.args.self.now.driven.items c.args.self.now.begun.items c.args.octet c.args.pass.now.view c.end_line.new.pass.view
     c.end_line.new.text (g.W.Write.contents c.args.writer.now) (g.W.Write.contents c.end_line.new.writer) c.if-octet-eq-LF.true c.end_line.ensures.answered)
     c.end_line.ensures.err
 
 pub returns-clause-ok : goal.returns-clause-ok
 returns-clause-ok g c =
-    served_octet c.args.self.now.driven.items c.args.self.now.begun.items c.keep.new.self.begun.items c.args.octet c.args.self.now.pass.view c.keep.new.self.pass.view (g.W.Write.contents c.args.writer.now)
-    (not_ended c.args.octet c.if-octet-eq-LF.false) (ap (λ (p : PassIn). p.view) c.keep.ensures.pass) c.keep.ensures.begun
+    served_octet c.args.self.now.driven.items c.args.self.now.begun.items c.keep.new.self.begun.items c.args.octet c.args.pass.now.view c.args.pass.now.view (g.W.Write.contents c.args.writer.now)
+    (not_ended c.args.octet c.if-octet-eq-LF.false) refl c.keep.ensures.begun

@@ -2,45 +2,45 @@ use Rattle.std.proofs.Common.{ℕ, List, ◌++◌, drop, refl, sym, ap, subst, �
 use Rattle.dp_telegram.specs.Stream.{cut_lent, cuts_of, left_of, with_cut}
 use Rattle.dp_sessions.specs.SessionProgress.{IsServedTo}
 use Rattle.dp_sessions.proofs.Exchanging.{none_left, on_err, piece_broken, piece_served, served_none}
-use Rattle.dp_sessions.proofs.exchange.Session.pass_octets.Goals as goal
+use Rattle.dp_sessions.proofs.exchange.pass_octets.Goals as goal
 
 pub loop-piece-init : goal.loop-piece-init
 loop-piece-init g c = record {
   ours = refl;
   address = refl;
   most = c.requires.most;
-  served = served_none c.args.self.now.pass.view.address (c.args.self.now.cutter ++ c.args.octets.now) c.args.self.now.pass.view (g.W.Write.contents c.args.writer.now);
+  served = served_none c.args.pass.now.view.address (c.args.cutter.now ++ c.args.octets.now) c.args.pass.now.view (g.W.Write.contents c.args.writer.now);
 }
 
 pub loop-piece-preserved-in-Some : goal.loop-piece-preserved-in-Some
 loop-piece-preserved-in-Some g c =
-    let master = c.args.self.now.pass.view.address in
-    let stream : List ℕ = c.args.self.now.cutter ++ c.args.octets.now in
+    let master = c.args.pass.now.view.address in
+    let stream : List ℕ = c.args.cutter.now ++ c.args.octets.now in
     let old = g.W.Write.contents c.args.writer.now in
     let new = g.W.Write.contents c.answer.new.writer in record {
       ours = c.answer.ensures.ours ∙ c.loop-piece.invariant.ours;
       address = c.answer.ensures.address ∙ c.loop-piece.invariant.address;
       most = c.pass.ensures.most;
       served =
-          piece_served master c.loop-piece.self.pass.view.address stream c.loop-piece.self.cutter c.loop-piece.left.now c.pass.new.self (cut_lent c.in-Some.piece)
-          c.args.self.now.pass.view c.loop-piece.self.pass.view c.answer.new.pass.view old (g.W.Write.contents c.loop-piece.writer) new
+          piece_served master c.loop-piece.pass.view.address stream c.loop-piece.cutter c.loop-piece.left.now c.pass.new.self (cut_lent c.in-Some.piece)
+          c.args.pass.now.view c.loop-piece.pass.view c.answer.new.pass.view old (g.W.Write.contents c.loop-piece.writer) new
           c.loop-piece.invariant.address c.loop-piece.invariant.served
           (λ more. c.in-Some.ensures.stream more ∙ ap (λ (behind : List ℕ). with_cut (cut_lent c.in-Some.piece) (cuts_of (behind ++ more)))
-          (c.in-Some.ensures.left ∙ ap (λ count. drop count c.loop-piece.self.cutter) (sym c.size-count.ensures) ∙ sym c.pass.ensures.held))
+          (c.in-Some.ensures.left ∙ ap (λ count. drop count c.loop-piece.cutter) (sym c.size-count.ensures) ∙ sym c.pass.ensures.held))
           c.in_ok-answer.ensures.ok;
     }
 
 pub returns-in_err-answer-clause-err : goal.returns-in_err-answer-clause-err
 returns-in_err-answer-clause-err g c =
     on_err c.from_residual.result
-    (piece_broken c.args.self.now.pass.view.address c.loop-piece.self.pass.view.address (c.args.self.now.cutter ++ c.args.octets.now) c.loop-piece.self.cutter c.loop-piece.left.now (left_of c.loop-piece.self.cutter) (cut_lent c.in-Some.piece)
-    c.args.self.now.pass.view c.loop-piece.self.pass.view c.answer.new.pass.view (g.W.Write.contents c.args.writer.now) (g.W.Write.contents c.loop-piece.writer) (g.W.Write.contents c.answer.new.writer)
+    (piece_broken c.args.pass.now.view.address c.loop-piece.pass.view.address (c.args.cutter.now ++ c.args.octets.now) c.loop-piece.cutter c.loop-piece.left.now (left_of c.loop-piece.cutter) (cut_lent c.in-Some.piece)
+    c.args.pass.now.view c.loop-piece.pass.view c.answer.new.pass.view (g.W.Write.contents c.args.writer.now) (g.W.Write.contents c.loop-piece.writer) (g.W.Write.contents c.answer.new.writer)
     c.loop-piece.invariant.address c.loop-piece.invariant.served c.in-Some.ensures.stream c.in_err-answer.ensures.err)
 
 pub returns-then-is_empty-clause-ok : goal.returns-then-is_empty-clause-ok
 returns-then-is_empty-clause-ok g c =
     subst
     (λ (ahead : List ℕ).
-    IsServedTo c.args.self.now.pass.view.address (c.args.self.now.cutter ++ c.args.octets.now) ahead c.args.self.now.pass.view c.loop-piece.self.pass.view (g.W.Write.contents c.args.writer.now) (g.W.Write.contents c.loop-piece.writer))
-    (none_left c.loop-piece.self.cutter c.loop-piece.left.now (sym c.if-is_empty.ensures))
+    IsServedTo c.args.pass.now.view.address (c.args.cutter.now ++ c.args.octets.now) ahead c.args.pass.now.view c.loop-piece.pass.view (g.W.Write.contents c.args.writer.now) (g.W.Write.contents c.loop-piece.writer))
+    (none_left c.loop-piece.cutter c.loop-piece.left.now (sym c.if-is_empty.ensures))
     c.loop-piece.invariant.served

@@ -1,0 +1,12 @@
+use Rattle.std.proofs.Common.{[], refl, inl, inr, arith}
+use Rattle.dp_sessions.proofs.Exchanging.{consumes_none}
+use Rattle.dp_sessions.proofs.exchange.accept.Goals as goal
+
+pub returns-in-Ok-clause-accepted : goal.returns-in-Ok-clause-accepted
+returns-in-Ok-clause-accepted g c =
+    let told = c.serve_pass_by.ensures.exchanged in
+    (told.stream, told.made, told.read, told.most, inr (g.W.Write.contents c.write_whole.new.writer, c.in-Ok.ensures.ok, told.exchanged))
+
+pub returns-in-Err-clause-accepted : goal.returns-in-Err-clause-accepted
+returns-in-Err-clause-accepted g c =
+    ([], 0, consumes_none (g.R.Read.remaining c.args.reader.now), omega arith, inl (refl, refl, refl, c.in-Err.ensures.err))

@@ -1,0 +1,15 @@
+use Rattle.std.proofs.Common.{◌≡◌, ◌+◌, ◌≤◌, ◌++◌, length}
+use Rattle.dp_sessions.specs.SessionProgress.{IsServedTo}
+use Rattle.dp_sessions.proofs.exchange.pass_octets.Given as goal
+
+-- what is held and left is ahead
+abbrev pub invariant-loop-piece : goal.invariant-loop-piece
+invariant-loop-piece g l = record {
+  ours : l.pass.table ≡ l.fn.pass.table;
+  address : l.pass.view.address ≡ l.fn.pass.view.address;
+  most : length l.cutter ≤ 255;
+  served : IsServedTo l.fn.pass.view.address (l.fn.cutter ++ l.octets) (l.cutter ++ l.left) l.fn.pass.view l.pass.view (g.W.Write.contents l.fn.writer) (g.W.Write.contents l.writer);
+}
+
+abbrev pub decreases-loop-piece : goal.decreases-loop-piece
+decreases-loop-piece g l = length l.cutter + (length l.left + length l.left)

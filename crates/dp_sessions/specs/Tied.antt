@@ -1,0 +1,61 @@
+-- What a session by a pass leaves, told by the entries of its line's journal (own).
+use Rattle.std.specs.Prelude.{◌≡◌, ◌⊎◌, ℕ, ◌≤◌, Bool, false, List, [], ◌++◌, map, drop, length, Option}
+use Rattle.std.specs.List.{concat}
+use Rattle.std.specs.Io.KnownBytes.{Appends, Consumes, IsAtEnd}
+use Rattle.dp_telegram.specs.declared.cutter.Cut.{Cut}
+use Rattle.dp_telegram.specs.Stream.{CutsInto}
+use Rattle.dp_line.specs.declared.event.Event.{Event}
+use Rattle.dp_audit.specs.declared.entry.Entry.{Entry}
+use Rattle.dp_shared.specs.Content.{Content}
+use Rattle.dp_shared.specs.Numbers.{under}
+use Rattle.dp_shared.specs.declared.line_view.PassView.{PassView}
+use Rattle.dp_sessions.specs.declared.session_end.SessionEnd.{SessionEnd}
+use Rattle.dp_sessions.specs.declared.session_end.SessionEnd.TheVariants as ends
+use Rattle.dp_sessions.specs.Sessions.{IsCutOff, Streams, octets_of, requests_in}
+
+-- the entries under the number of a pass, behind those that it had before
+abbrev pub entries_behind : Content → PassView → PassView → List Entry
+entries_behind content before after = drop (length before.receipts) (under after.number content.numbers content.book.entries)
+
+-- the octets that an entry's answer sends
+abbrev pub reply_of : Entry → List ℕ
+reply_of entry = octets_of entry.outcome
+
+-- entries of the frames of these pieces, in order: of the first ones, and of all where the pass wasn't told that the line is halted
+pub record AreOfFrames (master : ℕ) (cuts : List Cut) (told : Bool) (entries : List Entry) : Type 0 where
+  pub later : List Event
+  pub events : requests_in master cuts ≡ map (λ entry. entry.event) entries ++ later
+  pub all : told ≡ false → later ≡ []
+
+-- every frame of the stream was exchanged, and what is written is the replies of these entries
+pub record IsAnsweredBy (master : ℕ) (stream : List ℕ) (told : Bool) (entries : List Entry) (old new : Option (List ℕ)) : Type 0 where
+  pub cuts : List Cut
+  pub rest : List ℕ
+  pub cut : CutsInto stream cuts rest
+  pub frames : AreOfFrames master cuts told entries
+  pub written : Appends old new (concat (map reply_of entries))
+
+-- the first frames were exchanged, and a write failed in the reply of the last entry, or behind all replies
+pub record IsBrokenOffBy (master : ℕ) (stream : List ℕ) (told : Bool) (entries : List Entry) (old new : Option (List ℕ)) : Type 0 where
+  pub first : List Cut
+  pub later : List Cut
+  pub rest : List ℕ
+  pub cut : CutsInto stream (first ++ later) rest
+  pub frames : AreOfFrames master first told entries
+  pub written : IsCutOff old new (map reply_of entries) ⊎ Appends old new (concat (map reply_of entries))
+
+-- by how the session ended
+abbrev pub Answers : SessionEnd → ℕ → ℕ → ℕ → List ℕ → Bool → List Entry → Option (List ℕ) → Option (List ℕ) → Option (List ℕ) → Type 0
+Answers ends.EndOfInput master turns made stream told entries left old new = IsAnsweredBy master stream told entries old new × IsAtEnd left
+Answers ends.ReadFault master turns made stream told entries left old new = IsAnsweredBy master stream told entries old new
+Answers ends.TurnLimit master turns made stream told entries left old new = IsAnsweredBy master stream told entries old new × (made ≡ turns) × (made ≤ length stream)
+Answers ends.WriteFault master turns made stream told entries left old new = IsBrokenOffBy master stream told entries old new
+Answers other master turns made stream told entries left old new = ⊥
+
+-- a stream was read in as many reads as this at most, and these entries answer it
+pub record HasAnswered (turns : ℕ) (streams : Streams) (master : ℕ) (told : Bool) (entries : List Entry) (end : SessionEnd) : Type 0 where
+  pub stream : List ℕ
+  pub read : Consumes streams.left streams.left_after stream
+  pub made : ℕ
+  pub most : made ≤ turns
+  pub answers : Answers end master turns made stream told entries streams.left_after streams.written streams.written_after

@@ -1,0 +1,42 @@
+//! Laws of sessions: each is what an empty function ensures.
+
+ghost use Rattle.std.specs.Prelude.{ℕ, List};
+ghost use Rattle.dp_line.specs.declared.description.LineSpec.{LineSpec};
+ghost use Rattle.dp_shared.specs.Content.{Content};
+ghost use Rattle.dp_shared.specs.LineLock.{FitsPass, IsPassAt, LineRule, Slotted};
+ghost use Rattle.dp_shared.specs.declared.line_view.PassView.{PassView};
+ghost use Rattle.dp_sessions.specs.declared.session_end.SessionEnd.{SessionEnd};
+ghost use Rattle.dp_sessions.specs.Sessions.{HasExchanged, Streams};
+ghost use Rattle.dp_sessions.specs.Operators.{HasOperatedBy};
+ghost use Rattle.dp_sessions.specs.Tied.{HasAnswered, entries_behind};
+ghost use Rattle.dp_sessions.specs.TiedOperators.{HasAnsweredLines};
+ghost use Rattle.dp_devices.specs.declared.driven_slave.DrivenSlave.{DrivenSlave};
+
+use dp_shared::laws::a_pass_has_its_entries;
+
+/// What a session by a pass wrote is the replies of the journal's entries under the pass's number, in order, and these are
+/// of the first frames of the stream that it read; of all of them where the pass wasn't told that the line is halted. So it
+/// is of the journal of a closed line, which fits each of its passes, and at any time by the rule of the line's lock.
+pub fn a_session_is_told_by_its_entries()
+    ensures fits { (content : Content) (turns : ℕ) (streams : Streams) (before after : PassView) (end : SessionEnd)
+        → HasExchanged turns streams before after end → FitsPass content after
+        → HasAnswered turns streams before.address after.told (entries_behind content before after) end }
+    ensures rule { (line : LineSpec) (state : Slotted) (rule : LineRule line state) (i a turns : ℕ) (streams : Streams) (before after : PassView) (end : SessionEnd)
+        → HasExchanged turns streams before after end → IsPassAt state i a after
+        → HasAnswered turns streams before.address after.told (entries_behind rule.content before after) end }
+{
+    a_pass_has_its_entries();
+}
+
+/// What an operator's session by a pass wrote is told by the journal in the same way: each event of its lines left the next
+/// entry under the pass's number, or was refused, and each look was answered by what the entries before it left.
+pub fn an_operator_is_told_by_its_entries()
+    ensures fits { (content : Content) (driven : List DrivenSlave) (turns : ℕ) (streams : Streams) (before after : PassView) (end : SessionEnd)
+        → HasOperatedBy driven turns streams before after end → FitsPass content after
+        → HasAnsweredLines content driven turns streams (entries_behind content before after) end }
+    ensures rule { (line : LineSpec) (state : Slotted) (rule : LineRule line state) (i a : ℕ) (driven : List DrivenSlave) (turns : ℕ) (streams : Streams) (before after : PassView) (end : SessionEnd)
+        → HasOperatedBy driven turns streams before after end → IsPassAt state i a after
+        → HasAnsweredLines rule.content driven turns streams (entries_behind rule.content before after) end }
+{
+    a_pass_has_its_entries();
+}
