@@ -37,9 +37,9 @@ struct Asked {
 /// What was told or counted, and is needed again.
 #[derive(Drop)]
 struct Noted {
-    /// The lines that their operators are about to halt.
+    /// The lines whose operators have sent a halt that is not answered yet.
     halting: ArrayVec<u8, MOST_LINES>,
-    /// The lines of which it was told that they are halted.
+    /// The lines that were reported as halted.
     halted: ArrayVec<u8, MOST_LINES>,
     /// What the sessions under way have asked for.
     asked: ArrayVec<Asked, MOST_SESSIONS>,
@@ -120,8 +120,8 @@ impl<'a, L: Log + Clock> Notes<'a, L> {
         }
     }
 
-    /// Tells that a line is halted, once, and why. While its operator is about to halt it the answer to that alone says
-    /// why: who is answered meanwhile that the line is halted may have been behind it.
+    /// Reports once that a line is halted, with the cause. While a halt of its operator is not answered yet, only the answer
+    /// to that halt shows the cause: a master that is answered `Halted` meanwhile may have come after the operator's halt.
     fn tell_halt<W: Wait>(&self, rt: &W, line: u8, receipt: &Receipt) {
         let Some(cause) = cause_of_halt(receipt) else {
             return;

@@ -74,8 +74,8 @@ fault_text fault = codes "fault " ++ line_fault_name fault ++ codes "\n"
 
 -- ---- what a line does
 
--- one event: its receipt is the pass's, and says the outcome. Without a place it says why the event is refused, and with one it comes only to a
--- pass that wasn't told before that the line is halted
+-- one event: its receipt is the pass's, and has the outcome. Without a place it has the reason of the refusal; with one, the pass was not
+-- answered before that the line is halted
 pub record IsTaken (event : Event) (before after : PassView) (receipt : Receipt) : Type 0 where
   pub event_is : receipt.event ≡ event
   pub gained : after ≡ with_receipt before receipt receipt.place
@@ -164,7 +164,7 @@ pub record HasNoPass (streams : Streams) (end : SessionEnd) : Type 0 where
   pub unread : Keeps streams.left streams.left_after
   pub unwritten : Keeps streams.written streams.written_after
 
--- by a pass that is lent, a stream was read and its lines were answered, in as many reads as this at most
+-- by a lent pass, a stream was read in at most `turns` reads, and its lines were answered
 pub record HasOperatedBy (driven : List DrivenSlave) (turns : ℕ) (streams : Streams) (before after : PassView) (end : SessionEnd) : Type 0 where
   pub stream : List ℕ
   pub read : Consumes streams.left streams.left_after stream

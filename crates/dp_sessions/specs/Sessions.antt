@@ -45,12 +45,12 @@ abbrev pub with_receipts : PassView → List Receipt → PassView
 with_receipts pass [] = pass
 with_receipts pass (receipt ∷ receipts) = with_receipts (with_receipt pass receipt receipt.place) receipts
 
--- what a receipt tells: without a place it says that the line is halted, and with one it comes only to a pass that wasn't told so before
+-- what a receipt says of its pass: without a place, that the line is halted; with one, that the pass was not answered so before
 pub record IsTold (pass : PassView) (receipt : Receipt) : Type 0 where
   pub halted : IfNone receipt.place ((receipt.facts ≡ None) × (receipt.outcome ≡ Silence rules.Halted))
   pub running : IfSome receipt.place (λ _. pass.told ≡ false)
 
--- receipts of a pass, one after another
+-- .. of receipts, one after another
 abbrev pub AreTold : PassView → List Receipt → Type 0
 AreTold pass [] = ⊤
 AreTold pass (receipt ∷ receipts) = IsTold pass receipt × AreTold (with_receipt pass receipt receipt.place) receipts
@@ -91,12 +91,12 @@ pub record IsBrokenOff (master : ℕ) (stream : List ℕ) (before after : PassVi
   pub exchanged : AreExchanged master first receipts before after
   pub written : IsCutOff old new (map reply_in receipts)
 
--- a stream was read, and its frames were exchanged: how the session ended says how far, how many reads of the stream it made of those that it
--- may make, and what is left to read
+-- A stream was read, and its frames were exchanged. The end of the session says how far, how many reads it made of the `turns` that it may make,
+-- and what is left to read.
 abbrev pub Exchanges : SessionEnd → ℕ → ℕ → ℕ → List ℕ → PassView → PassView → Option (List ℕ) → Option (List ℕ) → Option (List ℕ) → Type 0
 Exchanges ends.EndOfInput master turns made stream before after left old new = IsServed master stream before after old new × IsAtEnd left
 Exchanges ends.ReadFault master turns made stream before after left old new = IsServed master stream before after old new
--- as many reads as it may make were made, and each gave an octet at least
+-- all reads that it may make were made, and each returned at least one octet
 Exchanges ends.TurnLimit master turns made stream before after left old new = IsServed master stream before after old new × (made ≡ turns) × (made ≤ length stream)
 Exchanges ends.WriteFault master turns made stream before after left old new = IsBrokenOff master stream before after old new
 Exchanges other master turns made stream before after left old new = ⊥
@@ -120,7 +120,7 @@ pub record Streams : Type 0 where
   pub written : Option (List ℕ)
   pub written_after : Option (List ℕ)
 
--- by a pass that is lent, a stream was read and its frames were exchanged, in as many reads as this at most
+-- by a lent pass, a stream was read in at most `turns` reads, and its frames were exchanged
 pub record HasExchanged (turns : ℕ) (streams : Streams) (before after : PassView) (end : SessionEnd) : Type 0 where
   pub stream : List ℕ
   pub read : Consumes streams.left streams.left_after stream
@@ -162,7 +162,7 @@ pub record IsAccepted (masters : List ℕ) (turns : ℕ) (streams : Streams) (be
   pub read : Consumes streams.left streams.left_after (address ∷ stream)
   pub known : is_master_of masters address ≡ true
   pub freed : after ≡ released (claimed before address)
-  -- how many reads it may make of the stream, and how many it made; the first one gave the address
+  -- the first read returned the address; of the stream it may make the `behind` others, and it made `made`
   pub behind : ℕ
   pub first : turns ≡ behind + 1
   pub made : ℕ
@@ -171,7 +171,7 @@ pub record IsAccepted (masters : List ℕ) (turns : ℕ) (streams : Streams) (be
   pub pass : PassView
   pub accepted : Accepts end address behind made stream (new_pass number address) pass streams.left_after streams.written streams.written_after
 
--- a session with a line of these masters, of as many reads as this at most: of the seat that claims the address, before and after
+-- a session with a line of these masters, of at most `turns` reads; the claim views are those of the seat that claims the address
 abbrev pub IsSession : List ℕ → ℕ → Streams → ClaimView → ClaimView → SessionEnd → Type 0
 IsSession masters turns streams before after end =
     CameNothing turns streams before after end ⊎ IsRefused masters streams before after end ⊎ IsAccepted masters turns streams before after end

@@ -1,4 +1,4 @@
--- What a session by a pass leaves, told by the entries of its line's journal (own).
+-- The result of a session by a pass, in terms of the entries of the line's journal (own).
 use Rattle.std.specs.Prelude.{◌≡◌, ◌⊎◌, ℕ, ◌≤◌, Bool, false, List, [], ◌++◌, map, drop, length, Option}
 use Rattle.std.specs.List.{concat}
 use Rattle.std.specs.Io.KnownBytes.{Appends, Consumes, IsAtEnd}
@@ -13,21 +13,21 @@ use Rattle.dp_sessions.specs.declared.session_end.SessionEnd.{SessionEnd}
 use Rattle.dp_sessions.specs.declared.session_end.SessionEnd.TheVariants as ends
 use Rattle.dp_sessions.specs.Sessions.{IsCutOff, Streams, octets_of, requests_in}
 
--- the entries under the number of a pass, behind those that it had before
+-- the entries under the number of a pass, without those of its receipts before the session
 abbrev pub entries_behind : Content → PassView → PassView → List Entry
 entries_behind content before after = drop (length before.receipts) (under after.number content.numbers content.book.entries)
 
--- the octets that an entry's answer sends
+-- the octets that the answer of an entry sends
 abbrev pub reply_of : Entry → List ℕ
 reply_of entry = octets_of entry.outcome
 
--- entries of the frames of these pieces, in order: of the first ones, and of all where the pass wasn't told that the line is halted
+-- the entries are those of the first frames of these pieces, in order; and of all, unless the pass was answered that the line is halted
 pub record AreOfFrames (master : ℕ) (cuts : List Cut) (told : Bool) (entries : List Entry) : Type 0 where
   pub later : List Event
   pub events : requests_in master cuts ≡ map (λ entry. entry.event) entries ++ later
   pub all : told ≡ false → later ≡ []
 
--- every frame of the stream was exchanged, and what is written is the replies of these entries
+-- every frame of the stream was exchanged, and the replies of these entries are written
 pub record IsAnsweredBy (master : ℕ) (stream : List ℕ) (told : Bool) (entries : List Entry) (old new : Option (List ℕ)) : Type 0 where
   pub cuts : List Cut
   pub rest : List ℕ
@@ -35,7 +35,7 @@ pub record IsAnsweredBy (master : ℕ) (stream : List ℕ) (told : Bool) (entrie
   pub frames : AreOfFrames master cuts told entries
   pub written : Appends old new (concat (map reply_of entries))
 
--- the first frames were exchanged, and a write failed in the reply of the last entry, or behind all replies
+-- the first frames were exchanged, and a write failed in the reply of the last entry, or after all replies
 pub record IsBrokenOffBy (master : ℕ) (stream : List ℕ) (told : Bool) (entries : List Entry) (old new : Option (List ℕ)) : Type 0 where
   pub first : List Cut
   pub later : List Cut
@@ -44,7 +44,7 @@ pub record IsBrokenOffBy (master : ℕ) (stream : List ℕ) (told : Bool) (entri
   pub frames : AreOfFrames master first told entries
   pub written : IsCutOff old new (map reply_of entries) ⊎ Appends old new (concat (map reply_of entries))
 
--- by how the session ended
+-- .. by the end of the session
 abbrev pub Answers : SessionEnd → ℕ → ℕ → ℕ → List ℕ → Bool → List Entry → Option (List ℕ) → Option (List ℕ) → Option (List ℕ) → Type 0
 Answers ends.EndOfInput master turns made stream told entries left old new = IsAnsweredBy master stream told entries old new × IsAtEnd left
 Answers ends.ReadFault master turns made stream told entries left old new = IsAnsweredBy master stream told entries old new
@@ -52,7 +52,7 @@ Answers ends.TurnLimit master turns made stream told entries left old new = IsAn
 Answers ends.WriteFault master turns made stream told entries left old new = IsBrokenOffBy master stream told entries old new
 Answers other master turns made stream told entries left old new = ⊥
 
--- a stream was read in as many reads as this at most, and these entries answer it
+-- a stream was read in at most `turns` reads, and these entries answer it
 pub record HasAnswered (turns : ℕ) (streams : Streams) (master : ℕ) (told : Bool) (entries : List Entry) (end : SessionEnd) : Type 0 where
   pub stream : List ℕ
   pub read : Consumes streams.left streams.left_after stream

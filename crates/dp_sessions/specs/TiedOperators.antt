@@ -1,4 +1,4 @@
--- What a session of an operator leaves, told by the entries of its line's journal (own).
+-- The result of an operator's session, in terms of the entries of the line's journal (own).
 use Rattle.std.specs.Prelude.{◌≡◌, ◌⊎◌, ℕ, ◌+◌, ◌≤◌, List, [], ◌∷◌, ◌++◌, length, Option, Some, None, Result, Ok, Err}
 use Rattle.std.specs.List.{concat}
 use Rattle.std.specs.Io.KnownBytes.{Appends, Consumes, IsAtEnd}
@@ -25,29 +25,32 @@ use Rattle.dp_sessions.specs.declared.session_end.SessionEnd.TheVariants as ends
 use Rattle.dp_sessions.specs.Sessions.{IsCutOff, Streams}
 use Rattle.dp_sessions.specs.Operators.{BeginsWith, FallsInto, command_in, fault_text}
 
--- the entries that an event left, one with its outcome, or none where it was refused
+-- the entries that an event left: one with its outcome, or none if it was refused
 abbrev pub IsTakenBy : Event → Outcome → List Entry → Type 0
 IsTakenBy event outcome entries =
     ((entry : Entry) × (entries ≡ entry ∷ []) × (entry.event ≡ event) × (outcome ≡ entry.outcome))
     ⊎ ((entries ≡ []) × (fault : OperatorFault) × (outcome ≡ Refused fault))
 
--- a look was answered by what the first entries of the journal, so many, left
+-- a look was answered by what some number of first entries of the journal left
 abbrev pub IsSeenIn : Content → Question → Answer → Type 0
 IsSeenIn content question answer = (count : ℕ) × (count ≤ length content.book.entries) × (answer ≡ answer_in content.book.room (world_after content count) (first_entries content count) question)
 
+-- the input of a driven slave, made from what a look saw of the slave, left these entries
 abbrev pub IsFedAsSeenBy : DrivenSlave → Option SlaveView → ℕ → List Entry → Type 0
 IsFedAsSeenBy driven None recorded entries = (entries ≡ []) × (recorded ≡ 0)
 IsFedAsSeenBy driven (Some slave) recorded entries = (outcome : Outcome) × IsTakenBy (Operator (next_input driven slave)) outcome entries × (recorded ≡ length entries)
 
+-- .. with that look
 abbrev pub IsFedBy : Content → DrivenSlave → ℕ → List Entry → Type 0
 IsFedBy content driven recorded entries = (seen : Option SlaveView) × IsSeenIn content (Question.View driven.address) (Answer.View seen) × IsFedAsSeenBy driven seen recorded entries
 
+-- .. of all driven slaves, in order
 abbrev pub AreFedBy : Content → List DrivenSlave → ℕ → List Entry → Type 0
 AreFedBy content [] recorded entries = (entries ≡ []) × (recorded ≡ 0)
 AreFedBy content (driven ∷ others) recorded entries =
     (first rest : List Entry) × (a b : ℕ) × (entries ≡ first ++ rest) × IsFedBy content driven a first × AreFedBy content others b rest × (recorded ≡ a + b)
 
--- what is asked for left these entries, and this is the answer
+-- a command left these entries, and this is its answer
 abbrev pub IsOperatedBy : Content → List DrivenSlave → OpLine → List ℕ → List Entry → Type 0
 IsOperatedBy content driven (asked.Event op) text entries = (outcome : Outcome) × IsTakenBy (Operator op) outcome entries × (text ≡ outcome_line outcome)
 IsOperatedBy content driven (asked.Owned master) text entries =
@@ -56,6 +59,7 @@ IsOperatedBy content driven (asked.Show address) text entries = (seen : Option S
 IsOperatedBy content driven asked.Step text entries = (recorded : ℕ) × AreFedBy content driven recorded entries × (text ≡ stepped_text recorded)
 IsOperatedBy content driven asked.Nothing text entries = (entries ≡ []) × (text ≡ [])
 
+-- .. of a line, which may be no command
 abbrev pub IsDoneBy : Content → List DrivenSlave → Result OpLine LineFault → List ℕ → List Entry → Type 0
 IsDoneBy content driven (Ok op_line) text entries = IsOperatedBy content driven op_line text entries
 IsDoneBy content driven (Err fault) text entries = (entries ≡ []) × (text ≡ fault_text fault)
@@ -85,6 +89,7 @@ pub record AreBrokenOffBy (content : Content) (driven : List DrivenSlave) (strea
   pub answered : AreAnsweredBy content driven lines texts entries
   pub written : IsCutOff old new texts
 
+-- .. by the end of the session
 abbrev pub AnswersLines : SessionEnd → Content → List DrivenSlave → ℕ → ℕ → List ℕ → List Entry → Option (List ℕ) → Option (List ℕ) → Option (List ℕ) → Type 0
 AnswersLines ends.EndOfInput content driven turns made stream entries left old new = AreServedBy content driven stream entries old new × IsAtEnd left
 AnswersLines ends.ReadFault content driven turns made stream entries left old new = AreServedBy content driven stream entries old new
@@ -92,7 +97,7 @@ AnswersLines ends.TurnLimit content driven turns made stream entries left old ne
 AnswersLines ends.WriteFault content driven turns made stream entries left old new = AreBrokenOffBy content driven stream entries old new
 AnswersLines other content driven turns made stream entries left old new = ⊥
 
--- a stream was read in as many reads as this at most, and its lines were answered by these entries, and by looks at the journal
+-- a stream was read in at most `turns` reads, and its lines were answered by these entries and by looks at the journal
 pub record HasAnsweredLines (content : Content) (driven : List DrivenSlave) (turns : ℕ) (streams : Streams) (entries : List Entry) (end : SessionEnd) : Type 0 where
   pub stream : List ℕ
   pub read : Consumes streams.left streams.left_after stream

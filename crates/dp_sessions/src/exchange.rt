@@ -1,4 +1,4 @@
-//! Exchanges of an accepted session, and sessions by a pass that is lent.
+//! Exchanges of an accepted session, and sessions by a lent pass.
 
 ghost use Rattle.std.specs.Prelude.{◌≡◌, ◌≢◌, ◌+◌, ◌≤◌, ℕ, true, List, [], ◌∷◌, ◌++◌, length, map, OnErr, OnOk};
 ghost use Rattle.std.specs.List.{concat};
@@ -24,12 +24,13 @@ use std::sync::Wait;
 /// Octets that are read at once.
 const CHUNK: usize = 255;
 
-/// Serves a master by its pass, which is lent, in at most so many reads: the octets that are read are a stream of
-/// telegrams. Each frame of it is one exchange; its reply is written whole before the next frame is exchanged, and a
-/// silence writes nothing. A read that fails in any way ends the session. How it ended is the answer (own).
+/// Serves a master by its pass, in at most `turns` reads, and returns how the session ended (own).
 ///
-/// After it the pass has, for each frame in order, one exchange more, and what was written is the replies of these. It
-/// waits for the gate and for the line, and takes no memory.
+/// The octets that are read are a stream of telegrams. Each frame of it is one exchange; its reply is written whole before
+/// the next frame is exchanged, and a silence writes nothing. A read that fails in any way ends the session.
+///
+/// Afterwards the pass has one receipt more for each frame, in order, and the replies in these receipts are what was
+/// written. It waits for the gate and for the line, and takes no memory.
 pub fn serve_pass<T: Wait, R: Read, W: Write, G: Gate>(
     rt: &T,
     reader: &mut R,
@@ -49,7 +50,7 @@ pub fn serve_pass<T: Wait, R: Read, W: Write, G: Gate>(
     serve_pass_by::<T, R, Uncounted, W, G>(rt, reader, writer, line, pass, gate, turns)
 }
 
-/// Like [`serve_pass`], of a reader that counts its reads.
+/// Serves as [`serve_pass`] does, with a bound on the reads of a reader that counts them: at most `turns`, at every end.
 pub fn serve_pass_by<T: Wait, R: Read, C: Reads<R>, W: Write, G: Gate>(
     rt: &T,
     reader: &mut R,
@@ -88,7 +89,7 @@ pub fn serve_pass_by<T: Wait, R: Read, C: Reads<R>, W: Write, G: Gate>(
     SessionEnd::TurnLimit
 }
 
-/// Writes the acceptance, a short acknowledgement, and then serves the master by its pass, in at most so many reads.
+/// Writes the acceptance, a short acknowledgement, and then serves the master by its pass, in at most `turns` reads.
 pub(crate) fn accept<T: Wait, R: Read, C: Reads<R>, W: Write, G: Gate>(
     rt: &T,
     reader: &mut R,

@@ -1,4 +1,4 @@
-//! Laws of sessions: each is what an empty function ensures.
+//! Laws of sessions: each is the contract of a function without work.
 
 ghost use Rattle.std.specs.Prelude.{ℕ, List};
 ghost use Rattle.dp_line.specs.declared.description.LineSpec.{LineSpec};
@@ -14,9 +14,10 @@ ghost use Rattle.dp_devices.specs.declared.driven_slave.DrivenSlave.{DrivenSlave
 
 use dp_shared::laws::a_pass_has_its_entries;
 
-/// What a session by a pass wrote is the replies of the journal's entries under the pass's number, in order, and these are
-/// of the first frames of the stream that it read; of all of them where the pass wasn't told that the line is halted. So it
-/// is of the journal of a closed line, which fits each of its passes, and at any time by the rule of the line's lock.
+/// A session by a pass wrote the replies of the journal's entries under the number of the pass, in order. These are the
+/// entries of the first frames of the stream that it read, and of all frames unless the pass was answered that the line is
+/// halted. `fits` is for the journal of a closed line, which fits each of its passes; `rule` is for any time, by the rule of
+/// the line's lock.
 pub fn a_session_is_told_by_its_entries()
     ensures fits { (content : Content) (turns : ℕ) (streams : Streams) (before after : PassView) (end : SessionEnd)
         → HasExchanged turns streams before after end → FitsPass content after
@@ -28,8 +29,8 @@ pub fn a_session_is_told_by_its_entries()
     a_pass_has_its_entries();
 }
 
-/// What an operator's session by a pass wrote is told by the journal in the same way: each event of its lines left the next
-/// entry under the pass's number, or was refused, and each look was answered by what the entries before it left.
+/// The same for an operator's session by a pass: each event of its lines left the next entry under the number of the pass,
+/// or was refused, and each look was answered by what the entries before it left.
 pub fn an_operator_is_told_by_its_entries()
     ensures fits { (content : Content) (driven : List DrivenSlave) (turns : ℕ) (streams : Streams) (before after : PassView) (end : SessionEnd)
         → HasOperatedBy driven turns streams before after end → FitsPass content after

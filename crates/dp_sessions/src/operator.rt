@@ -64,7 +64,7 @@ pub fn serve_operator<T: Wait, R: Read, W: Write>(
     serve_operator_at(rt, reader, writer, port, line, &OpenGate, turns)
 }
 
-/// A session as [`serve_operator`] tells it, whose events a gate is told of.
+/// Serves as [`serve_operator`] does, and calls the gate before and after each event.
 pub fn serve_operator_at<T: Wait, R: Read, W: Write, G: Gate>(
     rt: &T,
     reader: &mut R,
@@ -87,10 +87,11 @@ pub fn serve_operator_at<T: Wait, R: Read, W: Write, G: Gate>(
     end
 }
 
-/// Serves an operator by its pass, which is lent, as [`serve_operator`] tells it, in at most so many reads. The
-/// description is that of the line. How the session ended is the answer (own).
+/// Serves an operator by its pass, in at most `turns` reads, with the answers of [`serve_operator`], and returns how the
+/// session ended (own). The description is that of the line.
 ///
-/// After it the pass has what the lines that ended did, in their order. It waits for the line, and takes no memory.
+/// Afterwards the pass has the receipts and looks of the lines that ended, in their order. It waits for the line, and takes
+/// no memory.
 pub fn serve_operator_pass<T: Wait, R: Read, W: Write, G: Gate>(
     rt: &T,
     reader: &mut R,
@@ -121,7 +122,8 @@ pub fn serve_operator_pass<T: Wait, R: Read, W: Write, G: Gate>(
     )
 }
 
-/// Like [`serve_operator_pass`], of a reader that counts its reads.
+/// Serves as [`serve_operator_pass`] does, with a bound on the reads of a reader that counts them: at most `turns`, at
+/// every end.
 pub fn serve_operator_pass_by<T: Wait, R: Read, C: Reads<R>, W: Write, G: Gate>(
     rt: &T,
     reader: &mut R,

@@ -6,10 +6,12 @@ ghost use Rattle.std.specs.Io.KnownBytes.{ReadConsumes};
 
 use std::io::Read;
 
-/// How a session reads its reader: by one call for each read, and in no other way. Whoever hands in a reader that counts
-/// its reads says by this what its count is, and has the bound on it.
+/// How a session reads: by one call of [`Reads::read`] for each read, and in no other way.
+///
+/// A client whose reader counts its reads implements this for it. Then the bound on reads in the clauses of
+/// [`serve_by`](crate::serve_by) and of the other calls with a `C: Reads<R>` is a bound on that count.
 pub trait Reads<R: Read> {
-    /// The count of a reader.
+    /// How many reads a reader has counted.
     ghost reads: { R → ℕ };
 
     /// Whether a read of the reader may have failed.
@@ -23,7 +25,7 @@ pub trait Reads<R: Read> {
         ensures failed { OnErr result (failed reader.new ≡ true) };
 }
 
-/// Reads that nobody counts.
+/// Reads without a count: [`serve`](crate::serve) and the other calls without a `C: Reads<R>` use it.
 pub struct Uncounted;
 
 impl<R: Read> Reads<R> for Uncounted {

@@ -48,7 +48,7 @@ pub fn serve<T: Wait, R: Read, W: Write, G: Gate>(
     serve_by::<T, R, Uncounted, W, G>(rt, reader, writer, port, seat, gate, turns)
 }
 
-/// Like [`serve`], of a reader that counts its reads.
+/// Serves as [`serve`] does, with a bound on the reads of a reader that counts them: at most `turns`, at every end.
 pub fn serve_by<T: Wait, R: Read, C: Reads<R>, W: Write, G: Gate>(
     rt: &T,
     reader: &mut R,
@@ -74,7 +74,7 @@ pub fn serve_by<T: Wait, R: Read, C: Reads<R>, W: Write, G: Gate>(
     }
 }
 
-/// A session as [`serve`] tells it; or that it wasn't accepted.
+/// Serves as [`serve`] does; a session that is not accepted is an `Err`.
 pub(crate) fn serve_or_turn_away<T: Wait, R: Read, C: Reads<R>, W: Write, G: Gate>(
     rt: &T,
     reader: &mut R,

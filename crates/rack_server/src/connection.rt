@@ -54,8 +54,8 @@ fn prepare(stream: &TcpStream) -> Result<()> {
     stream.set_write_timeout(moment)
 }
 
-/// A stream whose reads and writes wait for a moment at most. They are tried again until they are done, or until
-/// the doors are shut for good: then they fail with `TimedOut`. One that a signal interrupts is tried again at once.
+/// A stream whose reads and writes time out every 100 ms, to check the doors, and are then tried again. They fail with
+/// `TimedOut` once the doors are shut for good. A call that a signal interrupted is tried again at once.
 #[derive(Drop)]
 pub(crate) struct Patient<'a, H: Wait, S: Drop> {
     rt: &'a H,
@@ -96,7 +96,7 @@ impl<'a, H: Wait, S: Drop> Patient<'a, H, S> {
         !self.doors.are_shut(self.rt)
     }
 
-    /// A read or a write failed that is tried again; or it is not, and fails with this.
+    /// Returns Ok if a failed read or write is to be tried again, else the error that it fails with.
     fn try_again(&mut self, error: Error) -> Result<()> {
         match error.kind() {
             ErrorKind::Interrupted => Ok(()),

@@ -1,4 +1,4 @@
-//! What a rack needs of the machine that it is served on.
+//! What a rack requires of its host.
 
 use log::Log;
 use std::fs::{File, Files};
@@ -7,8 +7,9 @@ use std::sync::Wait;
 use std::thread::Threads;
 use std::time::Clock;
 
-/// Sockets, files, threads, locks, a clock, and what is told on standard error. Whoever hands it on to threads has it
-/// `Sync` too.
+/// Sockets, files, threads, locks, a clock, and a log on standard error: all bounds of the runtime in one trait.
+///
+/// A function that shares the host with threads requires `Sync` as well.
 pub trait Host: Net<Listener = TcpListener, Stream = TcpStream>
     + Files<File = File>
     + Threads

@@ -21,8 +21,8 @@ use std::io::Write;
 use std::net::Net;
 use std::sync::Wait;
 
-/// What records a line before its answers leave: the trail in its file, where it has one. Where a row can't be
-/// written, the doors of the rack are shut.
+/// Records a line before its answers leave: the trail in its file, if it has one. If a row can't be written, the doors of
+/// the rack are shut.
 #[derive(Drop)]
 pub(crate) struct Recorder<'a, 'l, N, T> {
     pub(crate) net: &'l N,
