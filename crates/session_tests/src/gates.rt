@@ -1,0 +1,189 @@
+//! When sessions call their gate.
+
+ghost use Rattle.dp_sessions.specs.Pools.{IsSeatAt};
+
+use crate::place::{Place, fresh_place};
+use dp_audit::Receipt;
+use dp_line::{Device, Op};
+use dp_sessions::{Gate, OpenGate, Port, SessionEnd, serve, serve_operator_at};
+use dp_shared::WorkerSeat;
+use dp_telegram::FrameFault;
+use shared_tests::line_specs::ample_line;
+use shared_tests::rows::{is_told, many_passes};
+use std::alloc::Global;
+use std::io::Write;
+use std::sync::atomic::AtomicU64;
+use std::sync::atomic::Ordering::SeqCst;
+use std::sync::{Mutex, Wait};
+use std::test::Fail;
+
+/// What came, in order, as decimal digits: 1 `accepted`, 2 a write, 3 `enter`, 4 `answered`, 5 `ended`, 6 `dropped`,
+/// 7 `turned_away`, 8 `operates`, 9 `operated`.
+#[derive(Drop)]
+struct Calls {
+    digits: AtomicU64,
+}
+
+impl Calls {
+    fn add(&self, digit: u64) {
+        let before = self.digits.load(SeqCst);
+        self.digits
+            .store(before.wrapping_mul(10).wrapping_add(digit), SeqCst);
+    }
+}
+
+/// Counts each write as a call.
+#[derive(Drop)]
+struct CountedWrites<'a> {
+    calls: &'a Calls,
+}
+
+impl Write for CountedWrites<'_> {
+    fn write(&mut self, buf: &[u8]) -> std::io::Result<usize> {
+        self.calls.add(2);
+        Ok(buf.len())
+    }
+
+    fn flush(&mut self) -> std::io::Result<()> {
+        Ok(())
+    }
+}
+
+/// Another worker's seat at a port.
+#[derive(Drop)]
+struct OtherSeat<'a> {
+    port: &'a Port,
+    seat: WorkerSeat,
+    ghost ours: { IsSeatAt port.now.claims seat },
+}
+
+impl OtherSeat<'_> {
+    /// Serves a master that sends its address alone; how that ends.
+    fn serve<T: Wait>(&mut self, rt: &T, address: u8, calls: &Calls) -> SessionEnd {
+        let address = [address];
+        let mut asks: &[u8] = &address;
+        let mut writer = CountedWrites { calls };
+        serve(
+            rt,
+            &mut asks,
+            &mut writer,
+            self.port,
+            &mut self.seat,
+            &OpenGate,
+            2,
+        )
+    }
+}
+
+/// A gate that notes each call. At `ended` it serves masters 1 and 2 by another seat, and notes how these sessions end.
+#[derive(Drop)]
+struct Noting<'a> {
+    calls: &'a Calls,
+    other: Mutex<OtherSeat<'a>>,
+}
+
+impl Gate for Noting<'_> {
+    fn enter<W: Wait>(&self, _rt: &W, _line: u8, _master: u8) {
+        self.calls.add(3);
+    }
+
+    fn accepted<W: Wait>(&self, _rt: &W, _line: u8, _master: u8) {
+        self.calls.add(1);
+    }
+
+    fn answered<W: Wait>(&self, _rt: &W, _line: u8, _receipt: &Receipt) {
+        self.calls.add(4);
+    }
+
+    fn dropped<W: Wait>(&self, _rt: &W, _line: u8, _master: u8, _fault: FrameFault, _count: u8) {
+        self.calls.add(6);
+    }
+
+    fn ended<W: Wait>(&self, rt: &W, _line: u8, _master: u8, _end: SessionEnd) {
+        self.calls.add(5);
+        let mut other = self.other.lock(rt);
+        let first = other.serve(rt, 1, self.calls);
+        self.calls.add(u64::from(first.code()));
+        let second = other.serve(rt, 2, self.calls);
+        self.calls.add(u64::from(second.code()));
+    }
+
+    fn turned_away<W: Wait>(&self, _rt: &W, _port: u8, _address: Option<u8>, _end: SessionEnd) {
+        self.calls.add(7);
+    }
+
+    fn operates<W: Wait>(&self, _rt: &W, _line: u8, _op: &Op) {
+        self.calls.add(8);
+    }
+
+    fn operated<W: Wait>(&self, _rt: &W, _line: u8, _receipt: &Receipt) {
+        self.calls.add(9);
+    }
+}
+
+/// Checks the calls of a session of master 1 that sends these octets, while 63 passes of master 2 are out.
+fn master_calls<T: Wait>(rt: &T, alloc: Global, octets: &[u8], expected: &str) -> Result<(), Fail> {
+    let spec = ample_line(alloc, 1, Device::Still)?;
+    let Place {
+        port,
+        first,
+        second,
+        ..
+    } = fresh_place(alloc, &spec)?;
+    let _passes = many_passes(rt, alloc, &port.line, 2, 63)?;
+    let calls = Calls {
+        digits: AtomicU64::new(0),
+    };
+    let gate = Noting {
+        calls: &calls,
+        other: Mutex::new(OtherSeat {
+            port: &port,
+            seat: second,
+        }),
+    };
+    let mut seat = first;
+    let mut asks = octets;
+    let mut writer = CountedWrites { calls: &calls };
+    serve(rt, &mut asks, &mut writer, &port, &mut seat, &gate, 9);
+    is_told(
+        format!(in alloc; "{}", calls.digits.load(SeqCst))?,
+        expected,
+    )
+}
+
+/// Checks the calls of a session of an operator that sends these lines, at a line with one counter.
+fn operator_calls<T: Wait>(rt: &T, alloc: Global, lines: &str, expected: &str) -> Result<(), Fail> {
+    let spec = ample_line(alloc, 1, Device::Counter)?;
+    let Place { port, first, .. } = fresh_place(alloc, &spec)?;
+    let calls = Calls {
+        digits: AtomicU64::new(0),
+    };
+    let gate = Noting {
+        calls: &calls,
+        other: Mutex::new(OtherSeat {
+            port: &port,
+            seat: first,
+        }),
+    };
+    let mut asks = lines.as_bytes();
+    let mut writer = CountedWrites { calls: &calls };
+    serve_operator_at(rt, &mut asks, &mut writer, &port, &spec, &gate, 9);
+    is_told(
+        format!(in alloc; "{}", calls.digits.load(SeqCst))?,
+        expected,
+    )
+}
+
+// The address, an octet that begins no frame, and a request for the FDL status of slave 5. At `ended` (5) the address 1 is
+// held (AddressHeld is 4); the pass is back, so that master 2 is accepted (2) and its input ends (EndOfInput is 1).
+#[test]
+fn master_session_calls_its_gate(rt: HostRuntime) -> Result<(), Fail> {
+    let octets = [0x01, 0x33, 0x10, 0x05, 0x01, 0x49, 0x4F, 0x16];
+    master_calls(&rt, rt.alloc(), &octets, "1263425421")
+}
+
+// Each event of the operator is between the calls of its gate, also the input of a step, and before its answer.
+#[test]
+fn operator_session_calls_its_gate(rt: HostRuntime) -> Result<(), Fail> {
+    operator_calls(&rt, rt.alloc(), "tick 1\nstep\nshow 5\n", "8928922")
+}
