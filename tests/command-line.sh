@@ -148,6 +148,10 @@ run "$rack" --help $'\xff'; expect 'help and a word that is not UTF-8' 2 '' 'rac
 "$rackd" explain "$top/examples/day-of-a-line-rack.toml" "$top/examples/day-of-a-line.audit" >"$work/out" 2>"$work/err"
 status=$?
 expect 'the example day-of-a-line, explained' 0 "$(cat "$top/examples/day-of-a-line.explained")" ''
+"$rackd" explain "$top/examples/day-of-a-line-rack.toml" "$top/examples/day-of-a-line.audit" --from 65536 --to 65536 \
+  >"$work/out" 2>"$work/err"
+status=$?
+hold 'explain from the last place that a line can have' eval '[ "$status" = 0 ] && [ ! -s "$work/err" ]'
 
 # ---- run, check and explain
 

@@ -40,6 +40,8 @@ PATIENCE, HOLD, ENDING = 5, 0.02, 5
 MOMENTS, SLOW_MOMENTS, SLOW, REPLIES, EARLIEST, LATEST = 50, 10, 0.001, 100, 0.005, 0.080
 # The octets that a file may have on a full disk: some dozens of rows, or less than a header.
 FULL, FULL_AT_ONCE = 4000, 5
+# The status of a case that cannot run on this machine.
+CANNOT_RUN = 77
 # Seconds after which a connection that says nothing is closed.
 MUTE_FROM, MUTE_TO = 9, 13
 
@@ -1012,7 +1014,8 @@ def main(words):
     try:
         note = cases[case](Trial(os.path.abspath(program), os.path.abspath(folder)), *map(int, seed))
     except NotHere:
-        note = "writes can't be watched here, so only a part was tried"
+        print("writes cannot be watched on this machine")
+        return CANNOT_RUN
     except (Wrong, OSError, ValueError) as wrong:
         print(wrong or repr(wrong))
         return 1
