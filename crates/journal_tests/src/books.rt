@@ -107,7 +107,7 @@ fn entry_of(alloc: Global, entry: Option<Entry>) -> Result<String, Fail> {
 }
 
 /// The hex digits of a record, or `none`.
-fn record_of(alloc: Global, record: Option<&[u8]>) -> Result<String, AllocError> {
+pub(crate) fn record_of(alloc: Global, record: Option<&[u8]>) -> Result<String, AllocError> {
     match record {
         None => format!(in alloc; "none"),
         Some(octets) => hex::encode(alloc, octets),
@@ -115,7 +115,7 @@ fn record_of(alloc: Global, record: Option<&[u8]>) -> Result<String, AllocError>
 }
 
 /// The entry at a place, and the record of it.
-fn place_of(alloc: Global, book: &Book, place: u32) -> Result<String, Fail> {
+pub(crate) fn place_of(alloc: Global, book: &Book, place: u32) -> Result<String, Fail> {
     let entry = entry_of(alloc, book.entry(place))?;
     let record = record_of(alloc, book.packed(place))?;
     Ok(format!(in alloc; "at {place}: {entry} = {record}\n")?)

@@ -11,4 +11,6 @@ mod described;
 #[cfg(test)]
 mod texts;
 #[cfg(test)]
+mod windows;
+#[cfg(test)]
 mod writers;

@@ -5,9 +5,15 @@
 #![tactic(auto)]
 
 #[cfg(test)]
+mod counting;
+#[cfg(test)]
+mod endless;
+#[cfg(test)]
 mod faults;
 #[cfg(test)]
 mod gates;
+#[cfg(test)]
+mod lent;
 #[cfg(test)]
 mod limits;
 #[cfg(test)]
@@ -20,5 +26,7 @@ mod place;
 mod pools;
 #[cfg(test)]
 mod sessions;
+#[cfg(test)]
+mod tied;
 #[cfg(test)]
 mod trails;

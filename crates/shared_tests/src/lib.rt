@@ -12,6 +12,8 @@ mod claims;
 #[cfg(test)]
 mod devices;
 #[cfg(test)]
+mod endless;
+#[cfg(test)]
 mod faults;
 pub mod line_specs;
 #[cfg(test)]

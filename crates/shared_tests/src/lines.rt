@@ -6,8 +6,8 @@ ghost use Rattle.dp_shared.specs.Passes.{table_of};
 use crate::line_specs::line_spec;
 use crate::rows::{ARROW, audit_of, is_told};
 use dp_audit::Receipt;
-use dp_line::{Device, Event};
-use dp_shared::{Closed, Line, Pass};
+use dp_line::{Device, Event, Op};
+use dp_shared::{Closed, Line, Pass, Seen};
 use dp_text::{Text, event_in};
 use std::alloc::{AllocError, Global};
 use std::sync::Wait;
@@ -28,7 +28,17 @@ pub(crate) struct Desk {
 /// A fresh line of so many places, 2 or more.
 pub(crate) fn fresh_desk<R: Wait>(rt: &R, alloc: Global, places: u16) -> Result<Desk, Fail> {
     let spec = line_spec(alloc, 1, u32::from(places.max(2)), Device::Still)?;
-    let line = Line::open(alloc, &spec)?;
+    desk_at(rt, alloc, Line::open(alloc, &spec)?)
+}
+
+/// A new endless line whose description has two places: it keeps two entries at most.
+pub(crate) fn endless_desk<R: Wait>(rt: &R, alloc: Global) -> Result<Desk, Fail> {
+    let spec = line_spec(alloc, 1, 2, Device::Still)?;
+    desk_at(rt, alloc, Line::open_endless(alloc, spec)?)
+}
+
+/// Opens the passes of a line.
+fn desk_at<R: Wait>(rt: &R, alloc: Global, line: Line) -> Result<Desk, Fail> {
     let first = line.open_pass(rt, 1)?;
     let second = line.open_pass(rt, 2)?;
     let operator = line.open_pass(rt, 127)?;
@@ -98,11 +108,54 @@ impl Desk {
         seen_of(alloc, seen.count, &text)
     }
 
-    /// `show A`, `owned M` or an event, and what came of it.
+    /// The operator looks at a place: how many entries there were, and the entry.
+    fn entry<R: Wait>(&mut self, rt: &R, alloc: Global, place: u32) -> Result<String, Fail> {
+        let Seen { count, value } = self.line.entry(rt, &mut self.operator, place);
+        let Some(entry) = value else {
+            return Ok(format!(in alloc; "after {count}: none")?);
+        };
+        let receipt = Receipt {
+            place: Some(entry.place),
+            event: entry.event,
+            facts: entry.facts,
+            outcome: entry.outcome,
+        };
+        Ok(format!(in alloc; "after {count}: {}", receipt_of(alloc, &receipt)?)?)
+    }
+
+    /// How many entries there are.
+    fn count<R: Wait>(&mut self, rt: &R) -> u32 {
+        self.line.owned(rt, &mut self.operator, 1).count
+    }
+
+    /// The operator reports one tick: the place of its receipt, which is not stored.
+    fn tick<R: Wait>(&mut self, rt: &R) -> Option<u32> {
+        self.line.operate(rt, &mut self.operator, Op::Tick(1)).place
+    }
+
+    /// The operator reports one tick `ticks` times: the first and the last place of the receipts, or the first receipt
+    /// that does not have the next place.
+    fn ticks<R: Wait>(&mut self, rt: &R, alloc: Global, ticks: u32) -> Result<String, Fail> {
+        let before = self.count(rt);
+        let mut last = before;
+        for _ in 0..ticks {
+            let place = self.tick(rt);
+            if place != Some(last.wrapping_add(1)) {
+                return Ok(format!(in alloc; "place {place:?} after {last}")?);
+            }
+            last = last.wrapping_add(1);
+        }
+        let first = before.wrapping_add(1);
+        Ok(format!(in alloc; "places {first} to {last}")?)
+    }
+
+    /// `show A`, `owned M`, `entry P`, `ticks N` or an event, and what came of it.
     fn play<R: Wait>(&mut self, rt: &R, alloc: Global, row: &str) -> Result<String, Fail> {
         match row.split_once(' ') {
             Some(("show", address)) => self.show(rt, alloc, address.parse::<u8>()?),
             Some(("owned", master)) => self.owned(rt, alloc, master.parse::<u8>()?),
+            Some(("entry", place)) => self.entry(rt, alloc, place.parse::<u32>()?),
+            Some(("ticks", ticks)) => self.ticks(rt, alloc, ticks.parse::<u32>()?),
             _ => self.take(rt, alloc, row),
         }
     }

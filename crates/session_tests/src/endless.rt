@@ -1,0 +1,114 @@
+//! Trails of an endless line that keeps two entries at most.
+
+ghost use Rattle.std.specs.Prelude.{◌≡◌};
+ghost use Rattle.dp_shared.specs.Passes.{table_of};
+
+use dp_line::{Device, Op};
+use dp_shared::{Line, Pass};
+use dp_trail::Tail;
+use shared_tests::line_specs::line_spec;
+use shared_tests::rows::{ARROW, is_told};
+use std::alloc::Global;
+use std::sync::Wait;
+use std::test::Fail;
+
+/// A line, its trail, and a pass of its operator.
+#[derive(Drop)]
+struct Desk<'l> {
+    line: &'l Line,
+    operator: Pass,
+    tail: Tail<'l, Vec<u8>>,
+    ghost ours: { operator.table ≡ table_of line.now },
+    ghost address: { operator.view.address ≡ 127 },
+}
+
+impl Desk<'_> {
+    /// The operator reports one tick.
+    fn tick<R: Wait>(&mut self, rt: &R) {
+        self.line.operate(rt, &mut self.operator, Op::Tick(1));
+    }
+
+    /// The operator reports one tick `ticks` times, and then the trail catches up: whether it could, and whether it is
+    /// broken.
+    fn play<R: Wait>(&mut self, rt: &R, alloc: Global, ticks: u32) -> Result<String, Fail> {
+        for _ in 0..ticks {
+            self.tick(rt);
+        }
+        let end = match self.tail.catch_up(rt) {
+            Ok(_) => "caught up",
+            Err(_) => "not caught up",
+        };
+        let broken = self.tail.is_broken();
+        Ok(format!(in alloc; "{end}, broken {broken}")?)
+    }
+
+    /// Plays each line of a transcript that has an arrow, and returns it with its result.
+    fn play_rows<R: Wait>(&mut self, rt: &R, alloc: Global, rows: &str) -> Result<String, Fail> {
+        let mut played = String::new(alloc);
+        for row in rows.lines() {
+            if let Some((ticks, _)) = row.split_once(ARROW) {
+                let result = self.play(rt, alloc, ticks.parse::<u32>()?)?;
+                played.push_str(&format!(in alloc; "{ticks}{ARROW}{result}\n")?)?;
+            }
+        }
+        Ok(played)
+    }
+}
+
+/// Plays the transcript of a new line and its trail: in each line with an arrow the number of ticks before the trail
+/// catches up, and the result; then the text that the trail wrote.
+fn check_trail<R: Wait>(rt: &R, alloc: Global, transcript: &str) -> Result<(), Fail> {
+    let line = Line::open_endless(alloc, line_spec(alloc, 1, 2, Device::Still)?)?;
+    let operator = line.open_pass(rt, 127)?;
+    let tail = Tail::open(rt, &line, Vec::new(alloc))?;
+    let mut desk = Desk {
+        line: &line,
+        operator,
+        tail,
+    };
+    let mut played = desk.play_rows(rt, alloc, transcript)?;
+    let Desk { tail, .. } = desk;
+    played.push_str(&String::from_utf8(tail.close(rt))?)?;
+    is_told(played, transcript)
+}
+
+/// After three ticks the entry of the trail's next place is forgotten. A broken trail stays broken, and writes nothing.
+#[test]
+fn three_ticks_break_a_trail(rt: HostRuntime) -> Result<(), Fail> {
+    check_trail(
+        &rt,
+        rt.alloc(),
+        "\
+1 -> caught up, broken false
+3 -> not caught up, broken true
+0 -> not caught up, broken true
+1 -> not caught up, broken true
+rack-audit 2 line 1
+1 tick 1 | none | released
+",
+    )
+}
+
+/// After one or two ticks the entry of the trail's next place is still there.
+#[test]
+fn a_trail_follows_an_endless_line(rt: HostRuntime) -> Result<(), Fail> {
+    check_trail(
+        &rt,
+        rt.alloc(),
+        "\
+1 -> caught up, broken false
+1 -> caught up, broken false
+1 -> caught up, broken false
+2 -> caught up, broken false
+2 -> caught up, broken false
+rack-audit 2 line 1
+1 tick 1 | none | released
+2 tick 1 | none | released
+3 tick 1 | none | released
+4 tick 1 | none | released
+5 tick 1 | none | released
+6 tick 1 | none | released
+7 tick 1 | none | released
+",
+    )
+}
