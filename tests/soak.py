@@ -32,7 +32,7 @@ PATIENCE, FREE_WITHIN, ENDING = 20, 20, 120
 # The memory that may be resident beside what was resident at first and the records of the journals, in KiB.
 SLACK = 6 * 1024
 # The most octets of one entry of a journal, with what finds it.
-ENTRY = 528
+ENTRY = 524
 
 
 def telegram(*octets):
