@@ -1,6 +1,6 @@
 //! A client that serves a session and then reads from the closed line which entries the session was answered with.
 
-ghost use Rattle.std.specs.Prelude.{◌≡◌, ◌≢◌, ◌+◌, ◌≤◌, ℕ, Some, None, IfOk};
+ghost use Rattle.std.specs.Prelude.{◌≡◌, ◌≢◌, ◌+◌, ◌≤◌, ℕ, [], ◌∷◌, Some, None, IfOk};
 ghost use Rattle.dp_line.specs.World.{description_of, opening_fault};
 ghost use Rattle.dp_shared.specs.Passes.{new_pass, table_of};
 ghost use Rattle.dp_shared.specs.declared.line_view.PassView.{PassView};
@@ -47,7 +47,7 @@ fn serve_and_close<T: Wait, R: Read, C: Reads<R>, W: Write, G: Gate>(
     requires master { pass.view.address ≢ 127 }
     ensures reads { C.reads reader.new ≤ C.reads reader.old + turns }
     ensures answered { IfOk result (λ closed. (after : PassView) × (end : End)
-        × (end ≡ SessionEnd.ReadFault → C.failed reader.new ≡ true)
+        × (end ≡ End.ReadFault → C.failed reader.new ≡ true)
         × HasAnswered turns
         (record { left = R.remaining reader.old; left_after = R.remaining reader.new; written = W.contents writer.old; written_after = W.contents writer.new })
         pass.view.address after.told (entries_behind closed pass.view after) end) }
@@ -78,7 +78,7 @@ fn claim_and_serve<T: Wait>(
     requires { opening_fault (description_of spec.now) ≡ None }
     ensures reads { reader.new.made ≤ reader.old.made + turns }
     ensures answered { IfOk result (λ closed. (number : ℕ) × (after : PassView) × (end : End)
-        × (end ≢ SessionEnd.ReadFault)
+        × (end ≢ End.ReadFault)
         × HasAnswered turns
         (record { left = Some reader.old.left.now; left_after = Some reader.new.left.now; written = Some writer.old.items; written_after = Some writer.new.items })
         address after.told (entries_behind closed (new_pass number address) after) end) }
