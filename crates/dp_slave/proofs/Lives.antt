@@ -24,6 +24,15 @@ pub halt_releases : (slave : SlaveRecord) → acted slave halts ≡ released sla
 unfolding acted released
 halt_releases slave = refl
 
+-- the diagnosis of another than the holder, and reading
+pub told_stranger : (slave : SlaveRecord) (sender : ℕ) → is_held_by sender slave ≡ false → acted slave (tells_diagnosis sender) ≡ slave
+unfolding acted
+told_stranger slave sender apart = rw apart refl
+
+pub only_read : (slave : SlaveRecord) → acted slave is_read ≡ slave
+unfolding acted
+only_read slave = refl
+
 -- data wait in sync mode
 pub data_wait : (slave : SlaveRecord) (octets : List ℕ) → slave.sync_mode ≡ true → (acted slave (exchanges octets)).outputs ≡ slave.outputs
 unfolding acted

@@ -3,8 +3,8 @@
 ghost use Rattle.std.specs.Prelude.{◌≡◌, ◌≢◌, ◌+◌, ℕ, List, not, true, false};
 ghost use Rattle.dp_prm.specs.Requests.{AsksUnsupported, IsLocking};
 ghost use Rattle.dp_slave.specs.declared.description.SlaveSpec.{SlaveSpec};
-ghost use Rattle.dp_slave.specs.SlaveRecord.{SlaveRecord, limits_of, output_length, released, starting_slave, zeros};
-ghost use Rattle.dp_slave.specs.Acts.{Act, Control, configures, exchanges, halts, is_controlled, releases, ticks};
+ghost use Rattle.dp_slave.specs.SlaveRecord.{SlaveRecord, is_held_by, limits_of, output_length, released, starting_slave, zeros};
+ghost use Rattle.dp_slave.specs.Acts.{Act, Control, configures, exchanges, halts, is_controlled, is_read, releases, tells_diagnosis, ticks};
 ghost use Rattle.dp_slave.specs.Fields.{acted};
 ghost use Rattle.dp_slave.specs.Services.{set_prm_act};
 ghost use Rattle.dp_slave.specs.Soundness.{acts_after, all_fit, ends_clearing, fits, IsSound};
@@ -51,6 +51,15 @@ pub fn sync_waits_for_unsync()
         → control.unsync ≡ true
         → control.clear_data ≡ false
         → (acted (acted slave (exchanges octets)) (is_controlled control)).outputs ≡ octets }
+{}
+
+/// A master that does not hold the slave changes nothing of it by Slave_Diag, and no master does by
+/// reading inputs, outputs or the configuration.
+pub fn a_stranger_changes_nothing()
+    ensures diagnosis { (slave : SlaveRecord) (sender : ℕ)
+        → is_held_by sender slave ≡ false
+        → acted slave (tells_diagnosis sender) ≡ slave }
+    ensures read { (slave : SlaveRecord) → acted slave is_read ≡ slave }
 {}
 
 /// Nothing but a good Chk_Cfg changes the shape in force, and then it is that of the configuration that
