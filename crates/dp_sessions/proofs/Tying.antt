@@ -1,5 +1,5 @@
 -- The receipts of a session, told by the entries of the journal.
-use Rattle.std.proofs.Common.{◌≡◌, ℕ, Bool, true, false, List, [], ◌∷◌, ◌++◌, map, length, drop, Option, Some, None, inl, inr, refl, sym, ap, subst, ◌∙◌, append_assoc}
+use Rattle.std.proofs.Common.{◌≡◌, ℕ, Bool, true, false, List, [], ◌∷◌, ◌++◌, map, length, drop, Option, Some, None, inl, inr, ⊎_elim, refl, sym, ap, subst, ◌∙◌, append_assoc}
 use Rattle.std.specs.Prelude.{◌⊎◌, ◌||◌, IfNone, IfSome}
 use Rattle.std.specs.List.{AllByRecursion, concat}
 use Rattle.std.specs.Io.KnownBytes.{Appends}
@@ -14,12 +14,13 @@ use Rattle.dp_audit.specs.declared.entry.Receipt.{Receipt}
 use Rattle.dp_shared.specs.Content.{Content}
 use Rattle.dp_shared.specs.Numbers.{under}
 use Rattle.dp_shared.specs.LineLock.{FitsPass, receipt_for, says_halted}
-use Rattle.dp_shared.specs.Passes.{with_receipt}
+use Rattle.dp_shared.specs.Passes.{new_pass, with_receipt}
+use Rattle.dp_shared.specs.declared.claim_view.ClaimView.{ClaimView}
 use Rattle.dp_shared.specs.declared.line_view.PassView.{PassView}
 use Rattle.dp_sessions.specs.declared.session_end.SessionEnd.{SessionEnd}
 use Rattle.dp_sessions.specs.declared.session_end.SessionEnd.TheVariants as ends
-use Rattle.dp_sessions.specs.Sessions.{AreExchanged, AreTold, Exchanges, HasExchanged, IsBrokenOff, IsCutOff, IsServed, Streams, octets_of, reply_in, with_receipts}
-use Rattle.dp_sessions.specs.Tied.{Answers, AreOfFrames, HasAnswered, IsAnsweredBy, IsBrokenOffBy, entries_behind, reply_of}
+use Rattle.dp_sessions.specs.Sessions.{Accepts, AreExchanged, AreTold, Exchanges, HasExchanged, IsAccepted, IsBrokenOff, IsCutOff, IsServed, Streams, octets_of, reply_in, with_receipts}
+use Rattle.dp_sessions.specs.Tied.{Answers, AreOfFrames, HasAnswered, HasAnsweredMaster, IsAnsweredBy, IsBrokenOffBy, entries_behind, reply_of}
 use Rattle.dp_sessions.proofs.Exchanging.{appends_more, concat_append}
 
 -- ---- receipts with a place come first
@@ -222,7 +223,7 @@ module _ (content : Content) (before after : PassView) (fits : FitsPass content 
         written = broken_by old new s.receipts p.placed p.silent its p.parts p.silence (placed_are p.placed p.gained) s.written;
       }
 
-  by_end : (end : SessionEnd) (master turns made : ℕ) (stream : List ℕ) (left old new : Option (List ℕ))
+  pub by_end : (end : SessionEnd) (master turns made : ℕ) (stream : List ℕ) (left old new : Option (List ℕ))
       → Exchanges end master turns made stream before after left old new → Answers end master turns made stream after.told its left old new
   by_end ends.EndOfInput master turns made stream left old new x = (answered master stream old new x.0, x.1)
   by_end ends.ReadFault master turns made stream left old new x = answered master stream old new x
@@ -240,4 +241,27 @@ tied content turns streams before after end x fits = record {
   made = x.made;
   most = x.most;
   answers = by_end content before after fits end before.address turns x.made x.stream streams.left_after streams.written streams.written_after x.exchanged;
+}
+
+-- ---- a session of a master, with its address and acceptance
+
+no_entries : (es : List Entry) → map receipt_for es ≡ [] → es ≡ []
+no_entries [] is = refl
+no_entries (e ∷ es) is = absurd (let f : true ≡ false = ap begins is in cc)
+
+pub tied_master : (content : Content) (masters : List ℕ) (turns : ℕ) (streams : Streams) (before after : ClaimView) (pass : PassView) (end : SessionEnd)
+    → IsAccepted masters turns streams before after pass end → FitsPass content pass
+    → HasAnsweredMaster turns streams pass.told (under pass.number content.numbers content.book.entries) end
+tied_master content masters turns streams before after pass end x fits = record {
+  address = x.address;
+  stream = x.stream;
+  read = x.read;
+  behind = x.behind;
+  first = x.first;
+  made = x.made;
+  most = x.most;
+  accepted = ⊎_elim
+      (λ a. inl (a.0, a.1, no_entries (under pass.number content.numbers content.book.entries) (sym fits.receipts ∙ ap (λ (p : PassView). p.receipts) a.2), a.3))
+      (λ a. inr (a.0, a.1, by_end content (new_pass x.number x.address) pass fits end x.address x.behind x.made x.stream streams.left_after a.0 streams.written_after a.2))
+      x.accepted;
 }

@@ -2,7 +2,7 @@ pub mod Codes
 pub mod Pools
 pub mod SessionProgress
 pub mod Sessions
-pub mod TurnedAway
+pub mod Ended
 pub mod Operators
 pub mod Operating
 pub mod Tied

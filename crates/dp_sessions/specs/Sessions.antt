@@ -148,15 +148,15 @@ Refuses ends.AddressHeld masters address before after = (is_master_of masters ad
 Refuses ends.NoPass masters address before after = (is_master_of masters address ≡ true) × (after ≡ released (claimed before address))
 Refuses other masters address before after = ⊥
 
--- the first octet is an address that is refused, and nothing is written
-pub record IsRefused (masters : List ℕ) (streams : Streams) (before after : ClaimView) (end : SessionEnd) : Type 0 where
-  pub address : ℕ
+-- the first octet is this address, which is refused, and nothing is written
+pub record IsRefused (masters : List ℕ) (streams : Streams) (before after : ClaimView) (address : ℕ) (end : SessionEnd) : Type 0 where
   pub read : Consumes streams.left streams.left_after (address ∷ [])
   pub refused : Refuses end masters address before after
   pub unwritten : Keeps streams.written streams.written_after
 
--- the first octet is the address of a master, which is claimed until the session ends; what follows is the stream that it exchanges, by a new pass
-pub record IsAccepted (masters : List ℕ) (turns : ℕ) (streams : Streams) (before after : ClaimView) (end : SessionEnd) : Type 0 where
+-- the first octet is the address of a master, which is claimed until the session ends; what follows is the stream that it exchanges, by a new
+-- pass, which is this one at the end
+pub record IsAccepted (masters : List ℕ) (turns : ℕ) (streams : Streams) (before after : ClaimView) (pass : PassView) (end : SessionEnd) : Type 0 where
   pub address : ℕ
   pub stream : List ℕ
   pub read : Consumes streams.left streams.left_after (address ∷ stream)
@@ -168,10 +168,11 @@ pub record IsAccepted (masters : List ℕ) (turns : ℕ) (streams : Streams) (be
   pub made : ℕ
   pub most : made ≤ behind
   pub number : ℕ
-  pub pass : PassView
   pub accepted : Accepts end address behind made stream (new_pass number address) pass streams.left_after streams.written streams.written_after
 
 -- a session with a line of these masters, of at most `turns` reads; the claim views are those of the seat that claims the address
 abbrev pub IsSession : List ℕ → ℕ → Streams → ClaimView → ClaimView → SessionEnd → Type 0
 IsSession masters turns streams before after end =
-    CameNothing turns streams before after end ⊎ IsRefused masters streams before after end ⊎ IsAccepted masters turns streams before after end
+    CameNothing turns streams before after end
+    ⊎ ((address : ℕ) × IsRefused masters streams before after address end)
+    ⊎ ((pass : PassView) × IsAccepted masters turns streams before after pass end)

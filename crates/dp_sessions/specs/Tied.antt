@@ -1,17 +1,18 @@
 -- The result of a session by a pass, in terms of the entries of the line's journal (own).
-use Rattle.std.specs.Prelude.{◌≡◌, ◌⊎◌, ℕ, ◌≤◌, Bool, false, List, [], ◌++◌, map, drop, length, Option}
+use Rattle.std.specs.Prelude.{◌≡◌, ◌⊎◌, ℕ, ◌+◌, ◌≤◌, Bool, false, List, [], ◌∷◌, ◌++◌, map, drop, length, Option}
 use Rattle.std.specs.List.{concat}
 use Rattle.std.specs.Io.KnownBytes.{Appends, Consumes, IsAtEnd}
 use Rattle.dp_telegram.specs.declared.cutter.Cut.{Cut}
 use Rattle.dp_telegram.specs.Stream.{CutsInto}
 use Rattle.dp_line.specs.declared.event.Event.{Event}
+use Rattle.dp_text.specs.Writes.{WritesPrefix}
 use Rattle.dp_audit.specs.declared.entry.Entry.{Entry}
 use Rattle.dp_shared.specs.Content.{Content}
 use Rattle.dp_shared.specs.Numbers.{under}
 use Rattle.dp_shared.specs.declared.line_view.PassView.{PassView}
 use Rattle.dp_sessions.specs.declared.session_end.SessionEnd.{SessionEnd}
 use Rattle.dp_sessions.specs.declared.session_end.SessionEnd.TheVariants as ends
-use Rattle.dp_sessions.specs.Sessions.{IsCutOff, Streams, octets_of, requests_in}
+use Rattle.dp_sessions.specs.Sessions.{IsCutOff, Streams, acceptance, octets_of, requests_in}
 
 -- the entries under the number of a pass, without those of its receipts before the session
 abbrev pub entries_behind : Content → PassView → PassView → List Entry
@@ -59,3 +60,16 @@ pub record HasAnswered (turns : ℕ) (streams : Streams) (master : ℕ) (told : 
   pub made : ℕ
   pub most : made ≤ turns
   pub answers : Answers end master turns made stream told entries streams.left_after streams.written streams.written_after
+
+-- A session of a master read its address, and then a stream in the reads that were left. The acceptance could not be written, and it has no
+-- entries; or it was written, and these entries answer the stream.
+pub record HasAnsweredMaster (turns : ℕ) (streams : Streams) (told : Bool) (entries : List Entry) (end : SessionEnd) : Type 0 where
+  pub address : ℕ
+  pub stream : List ℕ
+  pub read : Consumes streams.left streams.left_after (address ∷ stream)
+  pub behind : ℕ
+  pub first : turns ≡ behind + 1
+  pub made : ℕ
+  pub most : made ≤ behind
+  pub accepted : ((end ≡ ends.WriteFault) × (stream ≡ []) × (entries ≡ []) × WritesPrefix streams.written streams.written_after acceptance)
+      ⊎ ((between : Option (List ℕ)) × Appends streams.written between acceptance × Answers end address behind made stream told entries streams.left_after between streams.written_after)

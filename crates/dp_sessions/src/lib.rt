@@ -15,6 +15,7 @@ mod pool_fault;
 mod port;
 mod reads;
 mod serving;
+mod session;
 mod session_end;
 pub mod sharing;
 
@@ -24,10 +25,12 @@ pub use exchange::{serve_pass, serve_pass_by};
 pub use gate::{Gate, OpenGate};
 pub use operator::{
     serve_operator, serve_operator_at, serve_operator_pass, serve_operator_pass_by,
+    serve_operator_session,
 };
 pub use pool::{Job, run_pool};
 pub use pool_fault::PoolFault;
 pub use port::{LineAndClaims, Port};
 pub use reads::{Reads, Uncounted};
-pub use serving::{serve, serve_by};
+pub use serving::{serve, serve_by, serve_session};
+pub use session::Session;
 pub use session_end::SessionEnd;

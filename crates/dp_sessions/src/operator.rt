@@ -8,11 +8,13 @@ ghost use Rattle.dp_devices.specs.declared.driven_slave.TheConstants.{MOST_DRIVE
 ghost use Rattle.dp_devices.specs.DrivenSlaves.{driven_slaves as all_driven};
 ghost use Rattle.dp_sessions.specs.Operators.{HasOperatedBy, IsAnswered, IsOperatorSession};
 ghost use Rattle.dp_sessions.specs.Operating.{BreaksOff, GoesOn, kept};
+ghost use Rattle.dp_sessions.specs.Ended.{IsOperatorSessionOf, end_of};
 
 use crate::gate::{Gate, OpenGate};
 use crate::operator_line::{LONGEST_LINE, answer_line};
 use crate::port::Port;
 use crate::reads::{Reads, Uncounted};
+use crate::session::Session;
 use crate::session_end::SessionEnd;
 use arrayvec::ArrayVec;
 use dp_devices::{DrivenSlave, MOST_DRIVEN, driven_slaves};
@@ -79,12 +81,41 @@ pub fn serve_operator_at<T: Wait, R: Read, W: Write, G: Gate>(
         (record { left = R.remaining reader.old; left_after = R.remaining reader.new; written = W.contents writer.old; written_after = W.contents writer.new })
         result }
 {
+    let session = serve_operator_session::<T, R, Uncounted, W, G>(
+        rt, reader, writer, port, line, gate, turns,
+    );
+    session.end()
+}
+
+/// Serves as [`serve_operator_at`] does, with a bound on the reads of a reader that counts them (at most `turns`, at every
+/// end), and returns the pass that served the session with its end.
+pub fn serve_operator_session<T: Wait, R: Read, C: Reads<R>, W: Write, G: Gate>(
+    rt: &T,
+    reader: &mut R,
+    writer: &mut W,
+    port: &Port,
+    line: &LineSpec,
+    gate: &G,
+    turns: u32,
+) -> Session
+    requires described { line_of port.now.line ≡ line.now }
+    ensures reads { C.reads reader.new ≤ C.reads reader.old + turns }
+    ensures failed { end_of result ≡ SessionEnd.ReadFault → C.failed reader.new ≡ true }
+    ensures session { IsOperatorSessionOf (table_of port.now.line) (all_driven (line_of port.now.line).slaves.items) turns
+        (record { left = R.remaining reader.old; left_after = R.remaining reader.new; written = W.contents writer.old; written_after = W.contents writer.new })
+        result }
+{
     let Ok(mut pass) = port.line.open_pass(rt, GLOBAL_ADDRESS) else {
-        return SessionEnd::NoPass;
+        return Session::TurnedAway {
+            address: None,
+            end: SessionEnd::NoPass,
+        };
     };
-    let end = serve_operator_pass(rt, reader, writer, &port.line, line, &mut pass, gate, turns);
-    port.line.hand_back(rt, pass);
-    end
+    let end = serve_operator_pass_by::<T, R, C, W, G>(
+        rt, reader, writer, &port.line, line, &mut pass, gate, turns,
+    );
+    let spent = port.line.hand_back(rt, pass);
+    Session::Accepted { end, spent }
 }
 
 /// Serves an operator by its pass, in at most `turns` reads, with the answers of [`serve_operator`], and returns how the

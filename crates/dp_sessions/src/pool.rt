@@ -9,8 +9,8 @@ use crate::gate::Gate;
 use crate::pool_fault::PoolFault;
 use crate::port::Port;
 use crate::reads::Uncounted;
-use crate::serving::serve_or_turn_away;
-use crate::session_end::{SessionEnd, TurnedAway};
+use crate::serving::serve_session;
+use crate::session::Session;
 use crossbeam_channel::Receiver;
 use dp_shared::WorkerSeat;
 use std::io::{Read, Write};
@@ -43,7 +43,7 @@ trait Serve {
         writer: &mut W,
         gate: &G,
         turns: u32,
-    ) -> Result<SessionEnd, TurnedAway>
+    ) -> Session
         requires { Self.ours self.now seat.old }
         ensures { Self.ours self.now seat.new };
 }
@@ -61,8 +61,8 @@ impl Serve for Port {
         writer: &mut W,
         gate: &G,
         turns: u32,
-    ) -> Result<SessionEnd, TurnedAway> {
-        serve_or_turn_away::<H, R, Uncounted, W, G>(rt, reader, writer, self, seat, gate, turns)
+    ) -> Session {
+        serve_session::<H, R, Uncounted, W, G>(rt, reader, writer, self, seat, gate, turns)
     }
 }
 
@@ -183,9 +183,9 @@ fn serve_job<P: Serve, H: Wait, R: Read + Drop, W: Write + Drop, G: Gate>(
     let Some(here) = ports.get(index) else {
         return false;
     };
-    let served = here.serve(rt, &mut seats[index], &mut reader, &mut writer, gate, turns);
-    if let Err(away) = served {
-        gate.turned_away(rt, port, away.address, away.end);
+    let session = here.serve(rt, &mut seats[index], &mut reader, &mut writer, gate, turns);
+    if let Session::TurnedAway { address, end } = session {
+        gate.turned_away(rt, port, address, end);
     }
     true
 }

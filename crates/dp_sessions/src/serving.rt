@@ -5,13 +5,14 @@ ghost use Rattle.std.specs.Io.KnownBytes.{Consumes, Keeps};
 ghost use Rattle.dp_shared.specs.Claims.{claimed};
 ghost use Rattle.dp_shared.specs.Passes.{new_pass, table_of};
 ghost use Rattle.dp_sessions.specs.Sessions.{EndsAtOnce, IsSession, Refuses, is_master_of};
-ghost use Rattle.dp_sessions.specs.TurnedAway.{end_of};
+ghost use Rattle.dp_sessions.specs.Ended.{IsSessionOf, end_of};
 
 use crate::exchange::accept;
 use crate::gate::Gate;
 use crate::port::Port;
 use crate::reads::{Reads, Uncounted};
-use crate::session_end::{SessionEnd, TurnedAway};
+use crate::session::Session;
+use crate::session_end::SessionEnd;
 use dp_shared::{ClaimFault, Claims, Pass, WorkerSeat};
 use dp_telegram::is_station;
 use std::io::{Read, Write};
@@ -68,14 +69,15 @@ pub fn serve_by<T: Wait, R: Read, C: Reads<R>, W: Write, G: Gate>(
         (record { left = R.remaining reader.old; left_after = R.remaining reader.new; written = W.contents writer.old; written_after = W.contents writer.new })
         seat.old.view seat.new.view result }
 {
-    match serve_or_turn_away::<T, R, C, W, G>(rt, reader, writer, port, seat, gate, turns) {
-        Ok(end) => end,
-        Err(away) => away.end,
-    }
+    let session = serve_session::<T, R, C, W, G>(rt, reader, writer, port, seat, gate, turns);
+    session.end()
 }
 
-/// Serves as [`serve`] does; a session that is not accepted is an `Err`.
-pub(crate) fn serve_or_turn_away<T: Wait, R: Read, C: Reads<R>, W: Write, G: Gate>(
+/// Serves as [`serve_by`] does, and returns the pass that served the session with its end. Once the line is closed,
+/// [`Line::close_with`](dp_shared::Line::close_with) and the law
+/// [`a_master_is_told_by_its_entries`](crate::laws::a_master_is_told_by_its_entries) say of that pass which entries of the
+/// journal the session wrote.
+pub fn serve_session<T: Wait, R: Read, C: Reads<R>, W: Write, G: Gate>(
     rt: &T,
     reader: &mut R,
     writer: &mut W,
@@ -83,43 +85,43 @@ pub(crate) fn serve_or_turn_away<T: Wait, R: Read, C: Reads<R>, W: Write, G: Gat
     seat: &mut WorkerSeat,
     gate: &G,
     turns: u32,
-) -> Result<SessionEnd, TurnedAway>
+) -> Session
     requires ours { seat.old.table ≡ port.now.claims.table }
     requires free { seat.old.view.held ≡ None }
     ensures ours { seat.new.table ≡ seat.old.table }
     ensures free { seat.new.view.held ≡ None }
     ensures reads { C.reads reader.new ≤ C.reads reader.old + turns }
     ensures failed { end_of result ≡ SessionEnd.ReadFault → C.failed reader.new ≡ true }
-    ensures session { IsSession port.now.claims.masters turns
+    ensures session { IsSessionOf (table_of port.now.line) port.now.claims.masters turns
         (record { left = R.remaining reader.old; left_after = R.remaining reader.new; written = W.contents writer.old; written_after = W.contents writer.new })
-        seat.old.view seat.new.view (end_of result) }
+        seat.old.view seat.new.view result }
 {
     if turns == 0 {
-        return Err(TurnedAway {
+        return Session::TurnedAway {
             address: None,
             end: SessionEnd::TurnLimit,
-        });
+        };
     }
     let address = match first_octet::<R, C>(reader) {
         Ok(address) => address,
-        Err(end) => return Err(TurnedAway { address: None, end }),
+        Err(end) => return Session::TurnedAway { address: None, end },
     };
     let mut pass = match admit(rt, port, seat, address) {
         Ok(pass) => pass,
         Err(end) => {
-            return Err(TurnedAway {
+            return Session::TurnedAway {
                 address: Some(address),
                 end,
-            });
+            };
         }
     };
     let line = pass.line();
     gate.accepted(rt, line, address);
     let end = accept::<T, R, C, W, G>(rt, reader, writer, &port.line, &mut pass, gate, turns - 1);
-    port.line.hand_back(rt, pass);
+    let spent = port.line.hand_back(rt, pass);
     gate.ended(rt, line, address, end);
     port.claims.release(seat);
-    Ok(end)
+    Session::Accepted { end, spent }
 }
 
 /// The first octet of a session, by one read; or how the session ends without one.

@@ -22,15 +22,6 @@ pub enum SessionEnd {
     NoPass,
 }
 
-/// A session that was not accepted.
-#[derive(Clone, Copy, Debug, PartialEq, Eq)]
-pub(crate) struct TurnedAway {
-    /// The address that it gave, if it gave one.
-    pub(crate) address: Option<u8>,
-    /// How it ended.
-    pub(crate) end: SessionEnd,
-}
-
 impl SessionEnd {
     /// The number of the end, 1 to 7 (own).
     pub const fn code(self) -> u8

@@ -7,12 +7,12 @@ pub bounds-seats-index : goal.bounds-seats-index
 bounds-seats-index g c =
     omega (arith, AllZip-long g.P.Serve.ours c.args.ports.now c.args.seats.now c.requires.ours, c.in-Some.ensures.lookup.3.0)
 
-pub serve-served-requires : goal.serve-served-requires
-serve-served-requires g c =
+pub serve-session-requires : goal.serve-session-requires
+serve-session-requires g c =
     paired_at g.P.Serve.ours c.args.ports.now c.args.seats.now c.from-index.result c.in-Some.here.now c.index-seats-index.result c.requires.ours c.in-Some.ensures.lookup.3.0 c.in-Some.ensures.lookup.1
 
 pub returns : goal.returns
 returns g c = record {
-  ours = paired_again g.P.Serve.ours c.args.ports.now c.args.seats.now c.from-index.result c.in-Some.here.now c.serve-served.new.seat c.requires.ours c.in-Some.ensures.lookup.3.0 c.in-Some.ensures.lookup.1 c.serve-served.ensures;
+  ours = paired_again g.P.Serve.ours c.args.ports.now c.args.seats.now c.from-index.result c.in-Some.here.now c.serve-session.new.seat c.requires.ours c.in-Some.ensures.lookup.3.0 c.in-Some.ensures.lookup.1 c.serve-session.ensures;
   served = search rules;
 }
