@@ -1,19 +1,27 @@
 //! Clients of a line: what a program that takes events and asks concludes from the contracts of a line
 //! and its laws alone. The prover reads them, and nothing runs them.
 
-ghost use Rattle.std.specs.Prelude.{◌≡◌, ◌≢◌, ℕ, List, true, false, None, Some, IfOk, option_map};
+ghost use Rattle.std.specs.Prelude.{◌≡◌, ◌≢◌, ◌+◌, ℕ, List, [], ◌∷◌, length, true, false, None, Some, IfOk, option_map};
 ghost use Rattle.std.specs.List.{AllByRecursion};
 ghost use Rattle.arrayvec.specs.ArrayVec.{ArrayVec as Vectors};
 ghost use Rattle.dp_telegram.specs.declared.frame.Frame.{Frame as Frames};
 ghost use Rattle.dp_telegram.specs.declared.frame.Telegram.{Telegram as Telegrams};
 ghost use Rattle.dp_telegram.specs.FrameText.{Spells};
-ghost use Rattle.dp_telegram.specs.Access.{address_of, global_address};
+ghost use Rattle.dp_telegram.specs.declared.access.Parts.{Parts};
+ghost use Rattle.dp_telegram.specs.Access.{address_of, global_address, parts_of};
 ghost use Rattle.dp_telegram.specs.FunctionCode.{asks_srd, frame_count_is_valid, function_of};
 ghost use Rattle.dp_responder.specs.declared.rule.Rule.{Rule as Rules};
+ghost use Rattle.dp_sap.specs.AccessTable.{chk_cfg, may_lock};
+ghost use Rattle.dp_cfg.specs.Choosing.{chosen};
+ghost use Rattle.dp_slave.specs.declared.description.SlaveSpec.{SlaveSpec as Specs};
+ghost use Rattle.dp_slave.specs.SlaveRecord.{SlaveRecord, configurations, inputs_of};
+ghost use Rattle.dp_slave.specs.Fields.{acted};
+ghost use Rattle.dp_slave.specs.Services.{service_act};
 ghost use Rattle.dp_slave.specs.View.{view_of};
 ghost use Rattle.dp_line.specs.declared.event.Event.{Event as Events};
 ghost use Rattle.dp_line.specs.declared.event.Outcome.{Outcome as Answered};
-ghost use Rattle.dp_line.specs.World.{description_of, slave_at, start_of, takes_no_more};
+ghost use Rattle.dp_line.specs.declared.event.Op.{Op as Ops};
+ghost use Rattle.dp_line.specs.World.{described_at, description_of, slave_at, start_of, takes_no_more};
 ghost use Rattle.dp_line.specs.Events.{is_request_of};
 ghost use Rattle.dp_line.specs.Effects.{slave_after};
 ghost use Rattle.dp_line.specs.Steps.{run, step};
@@ -21,7 +29,7 @@ ghost use Rattle.dp_line.specs.Refusals.{IsRefusal};
 ghost use Rattle.dp_line.specs.Isolation.{Agrees, MeetsNoLastPlace, only_requests_of, watched};
 
 use dp_line::laws::take_each;
-use dp_line::{Event, LineSpec, LineState, OpenFault, SlaveView, Step};
+use dp_line::{Event, LineSpec, LineState, Op, OpenFault, SlaveView, Step};
 use std::alloc::Global;
 
 /// What was shown of a slave before an event, the answer, and what is shown of it then.
@@ -47,10 +55,19 @@ pub fn look_around(line: &mut LineState, event: &Event, address: u8) -> Looks
         → result.answer.halted ≡ None
         → result.after ≡ result.before }
     ensures refused { IsRefusal result.answer.outcome → result.answer.halted ≡ None → result.after ≡ result.before }
+    ensures done { (master : ℕ) (octets reply : Vectors ℕ) (telegram : Telegrams) (parts : Parts) (slave : SlaveRecord)
+        → event.now ≡ Events.Request master octets
+        → Spells octets.items (Frames.Telegram telegram)
+        → parts_of telegram ≡ Some parts
+        → address ≡ address_of telegram.da
+        → slave_at line.old.world address ≡ Some slave
+        → result.answer.outcome ≡ Answered.Reply reply Rules.Done
+        → result.after ≡ Some (view_of (acted slave (service_act slave master (line.old.world.count + 1) parts.dsap parts.payload.items))) }
 {
     dp_line::laws::each_slave_before_and_after();
     dp_line::laws::only_the_slave_asked_changes();
     dp_line::laws::a_refusal_changes_nothing();
+    dp_line::laws::a_request_does_its_service();
     let before = line.view(address);
     let answer = line.take(event);
     Looks {
@@ -84,6 +101,72 @@ pub fn ask_again(
     let first = line.take(request);
     take_each(&mut line, between);
     Ok((first, line.take(request)))
+}
+
+/// Asks again after time has passed, in which a watchdog may have released the slave: the same octets come.
+pub fn ask_again_after_time(
+    alloc: Global,
+    spec: &LineSpec,
+    before: &[Event],
+    request: &Event,
+    time: u32,
+) -> Result<(Step, Step), OpenFault>
+    ensures { IfOk result (λ answers. (master : ℕ) (octets reply : Vectors ℕ) (rule : Rules) (telegram : Telegrams)
+        → request.now ≡ Events.Request master octets
+        → Spells octets.items (Frames.Telegram telegram)
+        → asks_srd (function_of telegram.fc) ≡ true
+        → frame_count_is_valid telegram.fc ≡ true
+        → answers.0.outcome ≡ Answered.Reply reply rule
+        → takes_no_more (run (step (run (start_of (description_of spec.now)) before.now).world request.now).world (Events.Operator (Ops.Tick time) ∷ [])).world ≡ false
+        → answers.1.outcome ≡ Answered.Reply reply Rules.Repeat) }
+{
+    let between = [Event::Operator(Op::Tick(time))];
+    let answers = ask_again(alloc, spec, before, request, &between)?;
+    Ok(answers)
+}
+
+/// Opens a line and lets it take events: no master that its description does not name as a locker holds the slave.
+pub fn open_and_take(
+    alloc: Global,
+    spec: &LineSpec,
+    events: &[Event],
+) -> Result<LineState, OpenFault>
+    ensures { IfOk result (λ line. (address holder : ℕ) (slave : SlaveRecord) (description : Specs)
+        → slave_at line.world address ≡ Some slave
+        → slave.holder ≡ Some holder
+        → described_at (description_of spec.now).slaves address ≡ Some description
+        → may_lock description.lists holder ≡ true) }
+{
+    dp_line::bus_laws::lockers_alone_hold();
+    let mut line = LineState::open(alloc, spec)?;
+    take_each(&mut line, events);
+    Ok(line)
+}
+
+/// Opens a line, and lets it take events and then a request: if this is a Chk_Cfg with the octets of a slave's second
+/// configuration, and it is done, the slave has as many inputs as that configuration.
+pub fn configure(
+    alloc: Global,
+    spec: &LineSpec,
+    before: &[Event],
+    request: &Event,
+) -> Result<(LineState, Step), OpenFault>
+    ensures { IfOk result (λ configured. (master : ℕ) (octets reply : Vectors ℕ) (telegram : Telegrams) (parts : Parts) (slave after : SlaveRecord)
+        → request.now ≡ Events.Request master octets
+        → Spells octets.items (Frames.Telegram telegram)
+        → parts_of telegram ≡ Some parts
+        → parts.dsap ≡ chk_cfg
+        → slave_at (run (start_of (description_of spec.now)) before.now).world (address_of telegram.da) ≡ Some slave
+        → chosen (configurations slave.description) parts.payload.items ≡ Some 1
+        → configured.1.outcome ≡ Answered.Reply reply Rules.Done
+        → slave_at configured.0.world (address_of telegram.da) ≡ Some after
+        → length after.inputs ≡ inputs_of after.description 1) }
+{
+    dp_line::bus_laws::a_good_chk_cfg_puts_its_shape_in_force();
+    let mut line = LineState::open(alloc, spec)?;
+    take_each(&mut line, before);
+    let answer = line.take(request);
+    Ok((line, answer))
 }
 
 /// Opens two lines, and lets each take events of its own.

@@ -51,15 +51,23 @@ fn slaves(
     Ok(slaves)
 }
 
-/// A line with masters 1 and 2, as `CAPACITY CONFIGURATION ADDRESS ..` says: so many places, and slaves
-/// at these addresses, all with this configuration, `-` for none.
+/// Describes a line with masters 1 and 2, as [`described_with`] does.
 pub(crate) fn described(alloc: Global, text: &str) -> Result<LineSpec, Fail> {
+    described_with(alloc, &[1, 2], text)
+}
+
+/// Describes a line with these masters, by the words `CAPACITY CONFIGURATION ADDRESS ..`: the number of
+/// places, and slaves at these addresses, all with this configuration, `-` for none.
+pub(crate) fn described_with(
+    alloc: Global,
+    addresses: &[u8],
+    text: &str,
+) -> Result<LineSpec, Fail> {
     let mut words = Words::of(text.as_bytes());
     let capacity = words.next().ok_or("a capacity")?;
     let configuration = octets_of(words.next().ok_or("a configuration")?)?;
     let mut masters = ArrayVec::new();
-    masters.push(1);
-    masters.push(2);
+    masters.try_extend_from_slice(addresses)?;
     Ok(LineSpec {
         number: 1,
         capacity: number_in(capacity, u32::MAX).ok_or("a capacity")?,

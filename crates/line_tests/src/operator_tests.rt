@@ -1,9 +1,13 @@
-//! What the operator of a line does. Both slaves have two octets of inputs and two of outputs.
+//! What the operator of a line does. Each slave has two octets of inputs and two of outputs.
 //!
 //! In these rows `8802050b80a101` are parameters that lock, with a watchdog of 100 ms, and 60 is the point
 //! of Slave_Diag.
 
-use crate::rows::plays;
+use crate::commands::event_of;
+use crate::lines::described_with;
+use crate::rows::{play, plays};
+use dp_line::LineState;
+use std::alloc::Global;
 use std::test::Fail;
 
 #[test]
@@ -93,4 +97,53 @@ halt => - | none | refused Halted | released 5
 count => 2 halted
 ",
     )
+}
+
+/// The addresses of 64 slaves.
+const ADDRESSES: &str = "20 21 22 23 24 25 26 27 28 29 30 31 32 33 34 35 \
+    36 37 38 39 40 41 42 43 44 45 46 47 48 49 50 51 \
+    52 53 54 55 56 57 58 59 60 61 62 63 64 65 66 67 \
+    68 69 70 71 72 73 74 75 76 77 78 79 80 81 82 83";
+
+/// Each of 16 masters locks a slave, with a watchdog of 100 ms: master M the one at 20 + 4 M + `nth`.
+fn lock_each(alloc: Global, state: &mut LineState, nth: u8) -> Result<(), Fail>
+    requires { nth < 4 }
+{
+    for master in 0..16u8 {
+        let address = 20 + 4 * master + nth;
+        let event = format!(in alloc; "ask {master} {address} 6d 61 8802050b80a101")?;
+        state.take(&event_of(event.as_bytes())?);
+    }
+    Ok(())
+}
+
+/// 16 masters hold four slaves each, and one tick releases all 64. Then each list is empty forwards, as
+/// `owned` shows. It is empty backwards too: a list that kept its end would not show the next lock.
+#[test]
+fn mass_release(rt: HostRuntime) -> Result<(), Fail> {
+    let alloc = rt.alloc();
+    let text = format!(in alloc; "1000 2111 {ADDRESSES}")?;
+    let masters = [0, 1, 2, 3, 4, 5, 6, 7, 8, 9, 10, 11, 12, 13, 14, 15];
+    let mut state = LineState::open(alloc, &described_with(alloc, &masters, &text)?)?;
+    for nth in 0..4 {
+        lock_each(alloc, &mut state, nth)?;
+    }
+    let rows = format!(in alloc;
+        "\
+owned 0 => owned 20 21 22 23
+owned 15 => owned 80 81 82 83
+tick 10 => 65 | none | released {ADDRESSES}
+"
+    )?;
+    play(alloc, &mut state, &rows)?;
+    for master in 0..16 {
+        let row = format!(in alloc; "owned {master} => owned")?;
+        play(alloc, &mut state, &row)?;
+    }
+    lock_each(alloc, &mut state, 3)?;
+    for master in 0..16 {
+        let row = format!(in alloc; "owned {master} => owned {}", 23 + 4 * master)?;
+        play(alloc, &mut state, &row)?;
+    }
+    Ok(())
 }

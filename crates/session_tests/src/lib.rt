@@ -5,15 +5,11 @@
 #![tactic(auto)]
 
 #[cfg(test)]
-mod counting;
-#[cfg(test)]
 mod endless;
 #[cfg(test)]
 mod faults;
 #[cfg(test)]
 mod gates;
-#[cfg(test)]
-mod lent;
 #[cfg(test)]
 mod limits;
 #[cfg(test)]
@@ -26,7 +22,5 @@ mod place;
 mod pools;
 #[cfg(test)]
 mod sessions;
-#[cfg(test)]
-mod tied;
 #[cfg(test)]
 mod trails;

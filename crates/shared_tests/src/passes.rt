@@ -41,10 +41,10 @@ impl Desk {
 
     /// Hands the last pass back; how many are left.
     fn hand_back<R: Wait>(&mut self, rt: &R, alloc: Global) -> Result<String, Fail> {
-        match self.passes.pop() {
-            Some(pass) => self.line.hand_back(rt, pass),
-            None => return Err(Fail::new("no pass")),
-        }
+        let Some(pass) = self.passes.pop() else {
+            return Err(Fail::new("no pass"));
+        };
+        self.line.hand_back(rt, pass);
         Ok(format!(in alloc; "{} left", self.passes.len())?)
     }
 

@@ -237,19 +237,31 @@ fn senders_tell<R: Threads + Wait + Sync>(
     }
 }
 
-/// What masters 1 and 2 tell that each ask slave 5 10,000 times, and the operator of one tick.
-fn two_and_a_tick_tell<R: Threads + Wait + Sync>(rt: &R, alloc: Global) -> Result<String, Fail> {
+/// What masters 1 and 2 report after `times` requests each to slave 5, and the operator after one tick.
+fn two_and_a_tick_tell<R: Threads + Wait + Sync>(
+    rt: &R,
+    alloc: Global,
+    times: u32,
+) -> Result<String, Fail> {
     let line = Line::open(alloc, &line_spec(alloc, 1, 20_002, Device::Still)?)?;
-    let mut senders = two_senders(rt, alloc, &line, 10_000)?;
+    let mut senders = two_senders(rt, alloc, &line, times)?;
     senders.push(sender_of(rt, alloc, &line, 127, Octets::new(), 1)?)?;
     senders_tell(rt, alloc, line, senders)
 }
 
-/// Each master asks so often that some take of the lock is lost, and is tried again.
 #[test]
 fn two_masters(rt: HostRuntime) -> Result<(), Fail> {
     is_told(
-        two_and_a_tick_tell(&rt, rt.alloc())?,
+        two_and_a_tick_tell(&rt, rt.alloc(), 10)?,
+        "21 entries, made 21, 20 replies, 3 agree",
+    )
+}
+
+/// Each master sends so often that some take of the lock is lost, and is tried again.
+#[test]
+fn contended_lock(rt: HostRuntime) -> Result<(), Fail> {
+    is_told(
+        two_and_a_tick_tell(&rt, rt.alloc(), 10_000)?,
         "20001 entries, made 20001, 20000 replies, 3 agree",
     )
 }

@@ -1,6 +1,6 @@
 //! A client that serves a session and then reads from the closed line which entries the session was answered with.
 
-ghost use Rattle.std.specs.Prelude.{◌≡◌, ◌≢◌, ◌+◌, ◌≤◌, ℕ, [], ◌∷◌, Some, None, IfOk};
+ghost use Rattle.std.specs.Prelude.{◌≡◌, ◌≢◌, ◌+◌, ◌≤◌, ℕ, [], ◌∷◌, true, Some, None, IfOk};
 ghost use Rattle.dp_line.specs.World.{description_of, opening_fault};
 ghost use Rattle.dp_shared.specs.Passes.{new_pass, table_of};
 ghost use Rattle.dp_shared.specs.declared.line_view.PassView.{PassView};
@@ -8,11 +8,12 @@ ghost use Rattle.dp_sessions.specs.declared.session_end.SessionEnd.{SessionEnd a
 ghost use Rattle.dp_sessions.specs.Tied.{HasAnswered, entries_behind};
 
 use crate::counting::{ByCount, Counting};
+use crate::seats::one_seat;
 use dp_audit::Book;
 use dp_line::{Device, LineSpec, Outcome};
 use dp_sessions::laws::a_session_is_told_by_its_entries;
 use dp_sessions::{Gate, OpenGate, Reads, serve_pass_by};
-use dp_shared::{Claims, Closed, Line, Pass};
+use dp_shared::{Closed, Line, Pass};
 use dp_telegram::GLOBAL_ADDRESS;
 use shared_tests::line_specs::ample_line;
 use shared_tests::rows::{audit_of, hex_of, is_told, octets_of};
@@ -86,9 +87,8 @@ fn claim_and_serve<T: Wait>(
     if address == GLOBAL_ADDRESS {
         return Err(Fail::new("no master"));
     }
-    let (claims, mut seats) = Claims::open(alloc, spec, 1)?;
+    let (claims, mut seat) = one_seat(alloc, spec)?;
     let line = Line::open(alloc, spec)?;
-    let mut seat = seats.pop().unwrap();
     claims.claim(&mut seat, address)?;
     let pass = line.open_pass(rt, address)?;
     let closed = serve_and_close::<T, Counting, ByCount, Vec<u8>, OpenGate>(

@@ -1,0 +1,13 @@
+//! Tests of sessions by passes that are lent or handed back (`dp_sessions`, `dp_shared`), and nothing else.
+#![tactic(auto)]
+
+#[cfg(test)]
+mod counting;
+#[cfg(test)]
+mod lent;
+#[cfg(test)]
+mod seats;
+#[cfg(test)]
+mod spent;
+#[cfg(test)]
+mod tied;
