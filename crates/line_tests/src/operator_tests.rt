@@ -3,6 +3,8 @@
 //! In these rows `8802050b80a101` are parameters that lock, with a watchdog of 100 ms, and 60 is the point
 //! of Slave_Diag.
 
+ghost use Rattle.std.specs.Prelude.{◌<◌};
+
 use crate::commands::event_of;
 use crate::lines::described_with;
 use crate::rows::{play, plays};
@@ -136,12 +138,12 @@ tick 10 => 65 | none | released {ADDRESSES}
 "
     )?;
     play(alloc, &mut state, &rows)?;
-    for master in 0..16 {
+    for master in 0..16u8 {
         let row = format!(in alloc; "owned {master} => owned")?;
         play(alloc, &mut state, &row)?;
     }
     lock_each(alloc, &mut state, 3)?;
-    for master in 0..16 {
+    for master in 0..16u8 {
         let row = format!(in alloc; "owned {master} => owned {}", 23 + 4 * master)?;
         play(alloc, &mut state, &row)?;
     }
