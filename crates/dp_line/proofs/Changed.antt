@@ -13,19 +13,19 @@ module _ (masters : List ℕ) (change : SlaveRecord → SlaveRecord) (leaves : S
   -- none so far
   pub none_changed : (owners : Owners) (slaves : List SlaveParts) (let_go : List ℕ) → AreThreaded masters owners slaves → let_go ≡ []
       → AreChanged masters change leaves 0 (slaves_of slaves) owners slaves let_go
-  none_changed owners slaves let_go threaded none = record { threaded = threaded; slaves_are = refl; told = none; few = omega (arith, ap length none) }
+  none_changed owners slaves let_go threaded none = record { threaded = threaded; slaves_are = refl; listed = none; few = omega (arith, ap length none) }
 
   -- one more, which leaves its list
-  pub one_leaves : (n : ℕ) (before : List SlaveRecord) (owners later : Owners) (slaves after : List SlaveParts) (let_go told : List ℕ) (address : ℕ) (x : SlaveParts)
+  pub one_leaves : (n : ℕ) (before : List SlaveRecord) (owners later : Owners) (slaves after : List SlaveParts) (let_go let_go_after : List ℕ) (address : ℕ) (x : SlaveParts)
       → ((slave : SlaveRecord) → address_of_slave (change slave) ≡ address_of_slave slave)
       → Some true ≡ option_map leaves (slice_get (slaves_of slaves) n) → AreThreaded masters later after → slaves_of after ≡ at_index n change (slaves_of slaves)
-      → n < length after → x ≡ get_or after n x → address ≡ address_of_slave (get_or after n x).slave → told ≡ let_go ++ address ∷ []
-      → AreChanged masters change leaves n before owners slaves let_go → AreChanged masters change leaves (n + 1) before later after told
-  one_leaves n before owners later slaves after let_go told address x kept goes threaded done within read is pushed so =
+      → n < length after → x ≡ get_or after n x → address ≡ address_of_slave (get_or after n x).slave → let_go_after ≡ let_go ++ address ∷ []
+      → AreChanged masters change leaves n before owners slaves let_go → AreChanged masters change leaves (n + 1) before later after let_go_after
+  one_leaves n before owners later slaves after let_go let_go_after address x kept goes threaded done within read is pushed so =
       let next = is_next leaves change before (slaves_of slaves) n true so.slaves_are goes in record {
         threaded = threaded;
         slaves_are = done ∙ ap (λ l. at_index n change l) so.slaves_are ∙ changed_more n change before;
-        told = let_go_more leaves before n address next.slave let_go told pushed so.told
+        listed = let_go_more leaves before n address next.slave let_go let_go_after pushed so.listed
             (address_read change before (slaves_of slaves) after n address next.slave x kept so.slaves_are done next.here within read is)
             next.here next.is;
         few = omega (arith, ap length pushed, so.few, length-append let_go (address ∷ []));
@@ -39,7 +39,7 @@ module _ (masters : List ℕ) (change : SlaveRecord → SlaveRecord) (leaves : S
       let next = is_next leaves change before (slaves_of slaves) n false so.slaves_are stays in record {
         threaded = threaded;
         slaves_are = done ∙ ap (λ l. at_index n change l) so.slaves_are ∙ changed_more n change before;
-        told = so.told ∙ sym (addresses_without leaves before n next.slave next.here next.is);
+        listed = so.listed ∙ sym (addresses_without leaves before n next.slave next.here next.is);
         few = omega (arith, so.few);
       }
 
@@ -49,5 +49,5 @@ module _ (masters : List ℕ) (change : SlaveRecord → SlaveRecord) (leaves : S
   each_changed n before slaves owners let_go all so =
       let ends : n ≡ length (slaves_of before) = omega (arith, all, length-map before (λ (p : SlaveParts). p.slave)) in (
         so.slaves_are ∙ changed_all n change (slaves_of before) ends,
-        so.told ∙ ap (λ (l : List SlaveRecord). map address_of_slave (filter leaves l)) (take_all n (slaves_of before) (omega (arith, ends))),
+        so.listed ∙ ap (λ (l : List SlaveRecord). map address_of_slave (filter leaves l)) (take_all n (slaves_of before) (omega (arith, ends))),
       )
