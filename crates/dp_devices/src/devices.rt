@@ -1,6 +1,6 @@
 //! The inputs that a device feeds next.
 
-ghost use Rattle.std.specs.Prelude.{◌≡◌, ◌≤◌, length};
+ghost use Rattle.std.specs.Prelude.{◌≡◌, ◌≤◌, ◌<◌, length, take};
 ghost use Rattle.dp_sap.specs.AccessTable.{most_data};
 ghost use Rattle.dp_devices.specs.Devices.{AreOctets, next_inputs as inputs_next, counted};
 ghost use Rattle.dp_slave.specs.SlaveRecord.{cut_or_filled};
@@ -9,11 +9,24 @@ use arrayvec::ArrayVec;
 use dp_line::Device;
 use dp_sap::MOST_DATA;
 
-/// The inputs that a device feeds next, as many octets as it has now, at most 244 (own).
+/// Returns the next inputs of a slave with this device: as many octets as it has inputs now (own). A slave has at most 244
+/// octets of inputs; of more the first 244 are its inputs.
 ///
 /// A still device leaves them. A counter adds 1 to them as one number, high octet first; all ones become
-/// zero. A mirror feeds the outputs, cut to the inputs' length or filled with zeros.
+/// zero. A mirror returns the outputs, cut to the inputs' length or filled with zeros.
 pub fn next_inputs(device: Device, inputs: &[u8], outputs: &[u8]) -> ArrayVec<u8, MOST_DATA>
+    ensures all { length inputs.now ≤ most_data → result.items ≡ inputs_next device inputs.now outputs.now }
+    ensures first { most_data < length inputs.now → result.items ≡ inputs_next device (take most_data inputs.now) outputs.now }
+{
+    if inputs.len() > MOST_DATA {
+        next_of(device, &inputs[..MOST_DATA], outputs)
+    } else {
+        next_of(device, inputs, outputs)
+    }
+}
+
+/// Returns the next inputs of a slave that has these inputs.
+fn next_of(device: Device, inputs: &[u8], outputs: &[u8]) -> ArrayVec<u8, MOST_DATA>
     requires { length inputs.now ≤ most_data }
     ensures { result.items ≡ inputs_next device inputs.now outputs.now }
 {

@@ -4,7 +4,6 @@ use crate::rows::{hex_of, is_told, octets_of};
 use arrayvec::ArrayVec;
 use dp_devices::{driven_slaves, next_inputs};
 use dp_line::{Device, LineSpec, Lists, SlaveSpec};
-use dp_sap::MOST_DATA;
 use std::alloc::{AllocError, Global};
 use std::test::Fail;
 
@@ -18,9 +17,6 @@ fn feeds(
 ) -> Result<(), Fail> {
     let inputs = octets_of(inputs)?;
     let outputs = octets_of(outputs)?;
-    if inputs.len() > MOST_DATA {
-        return Err(Fail::new("too many inputs"));
-    }
     let next = next_inputs(device, inputs.as_slice(), outputs.as_slice());
     is_told(hex_of(alloc, next.as_slice())?, expected)
 }
@@ -33,6 +29,21 @@ fn still_leaves_the_inputs(rt: HostRuntime) -> Result<(), Fail> {
 #[test]
 fn counter_carries(rt: HostRuntime) -> Result<(), Fail> {
     feeds(rt.alloc(), Device::Counter, "00ff", "-", "0100")
+}
+
+#[test]
+fn the_first_244_inputs_count(rt: HostRuntime) -> Result<(), Fail> {
+    let inputs = [0xAA; 245];
+    let next = next_inputs(Device::Counter, &inputs, &[]);
+    let alloc = rt.alloc();
+    is_told(
+        format!(in alloc;
+            "{} {}",
+            next.len(),
+            hex_of(alloc, &next.as_slice()[242..])?
+        )?,
+        "244 aaab",
+    )
 }
 
 #[test]
