@@ -12,7 +12,7 @@ use Rattle.dp_text.specs.Writes.{WritesPrefix}
 use Rattle.dp_audit.specs.declared.entry.Receipt.{Receipt}
 use Rattle.dp_shared.specs.declared.line_view.PassView.{PassView}
 use Rattle.dp_shared.specs.Passes.{with_receipt}
-use Rattle.dp_sessions.specs.Sessions.{AreExchanged, AreTold, IsBrokenOff, IsCutOff, IsServed, IsTold, reply_in, requests_in, with_receipts}
+use Rattle.dp_sessions.specs.Sessions.{AreExchanged, AreReceivedBy, IsBrokenOff, IsCutOff, IsServed, IsReceivedBy, reply_in, requests_in, with_receipts}
 use Rattle.dp_sessions.specs.SessionProgress.{IsBrokenIn, IsCutTo, IsServedTo, with_cuts}
 
 -- ---- known octets
@@ -67,9 +67,9 @@ receipts_append : (pass : PassView) (first later : List Receipt) → with_receip
 receipts_append pass [] later = refl
 receipts_append pass (receipt ∷ receipts) later = receipts_append (with_receipt pass receipt receipt.place) receipts later
 
-told_then : (pass : PassView) (receipts others : List Receipt) → AreTold pass receipts → AreTold (with_receipts pass receipts) others → AreTold pass (receipts ++ others)
-told_then pass [] others first second = second
-told_then pass (receipt ∷ receipts) others first second = (first.0, told_then (with_receipt pass receipt receipt.place) receipts others first.1 second)
+seen_then : (pass : PassView) (receipts others : List Receipt) → AreReceivedBy pass receipts → AreReceivedBy (with_receipts pass receipts) others → AreReceivedBy pass (receipts ++ others)
+seen_then pass [] others first second = second
+seen_then pass (receipt ∷ receipts) others first second = (first.0, seen_then (with_receipt pass receipt receipt.place) receipts others first.1 second)
 
 exchanged_then : (master : ℕ) (cuts more : List Cut) (receipts others : List Receipt) (p q r : PassView)
     → AreExchanged master cuts receipts p q → AreExchanged master more others q r → AreExchanged master (cuts ++ more) (receipts ++ others) p r
@@ -80,7 +80,7 @@ exchanged_then master cuts more receipts others p q r first second = record {
       ∙ ap (λ es. requests_in master cuts ++ es) second.events
       ∙ sym (requests_append master cuts more);
   gained = second.gained ∙ ap (λ w. with_receipts w others) first.gained ∙ sym (receipts_append p receipts others);
-  told = told_then p receipts others first.told (subst (λ w. AreTold w others) first.gained second.told);
+  received = seen_then p receipts others first.received (subst (λ w. AreReceivedBy w others) first.gained second.received);
 }
 
 replies_then : (a b c : Option (List ℕ)) (receipts others : List Receipt) → Appends a b (concat (map reply_in receipts)) → Appends b c (concat (map reply_in others))
@@ -128,7 +128,7 @@ served_none master stream pass old = record {
   cuts = [];
   cut = cut_none stream;
   receipts = [];
-  exchanged = record { events = refl; gained = refl; told = tt };
+  exchanged = record { events = refl; gained = refl; received = tt };
   written = appends_none old;
 }
 
@@ -177,8 +177,8 @@ OneBroken master cut p q a b = (receipts : List Receipt) × AreExchanged master 
 
 -- a frame's receipt
 pub one_exchanged : (master : ℕ) (cut : Cut) (receipt : Receipt) (p q : PassView)
-    → requests_in master (cut ∷ []) ≡ receipt.event ∷ [] → q ≡ with_receipt p receipt receipt.place → IsTold p receipt → AreExchanged master (cut ∷ []) (receipt ∷ []) p q
-one_exchanged master cut receipt p q requested gained told = record { events = sym requested; gained = gained; told = (told, tt) }
+    → requests_in master (cut ∷ []) ≡ receipt.event ∷ [] → q ≡ with_receipt p receipt receipt.place → IsReceivedBy p receipt → AreExchanged master (cut ∷ []) (receipt ∷ []) p q
+one_exchanged master cut receipt p q requested gained received = record { events = sym requested; gained = gained; received = (received, tt) }
 
 pub one_written : {E : Type 0} (r : Result (Unit {0}) E) (master : ℕ) (cut : Cut) (receipt : Receipt) (p q : PassView) (a b : Option (List ℕ)) (text : List ℕ)
     → AreExchanged master (cut ∷ []) (receipt ∷ []) p q → text ≡ reply_in receipt → OnOk r (Appends a b text) → OnOk r (OnePiece master cut p q a b)

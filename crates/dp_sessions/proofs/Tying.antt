@@ -1,4 +1,4 @@
--- The receipts of a session, told by the entries of the journal.
+-- The receipts of a session, from the entries of the journal.
 use Rattle.std.proofs.Common.{◌≡◌, ℕ, Bool, true, false, List, [], ◌∷◌, ◌++◌, map, length, drop, Option, Some, None, inl, inr, ⊎_elim, refl, sym, ap, subst, ◌∙◌, append_assoc}
 use Rattle.std.specs.Prelude.{◌⊎◌, ◌||◌, IfNone, IfSome}
 use Rattle.std.specs.List.{AllByRecursion, concat}
@@ -19,7 +19,7 @@ use Rattle.dp_shared.specs.declared.claim_view.ClaimView.{ClaimView}
 use Rattle.dp_shared.specs.declared.line_view.PassView.{PassView}
 use Rattle.dp_sessions.specs.declared.session_end.SessionEnd.{SessionEnd}
 use Rattle.dp_sessions.specs.declared.session_end.SessionEnd.TheVariants as ends
-use Rattle.dp_sessions.specs.Sessions.{Accepts, AreExchanged, AreTold, Exchanges, HasExchanged, IsAccepted, IsBrokenOff, IsCutOff, IsServed, Streams, octets_of, reply_in, with_receipts}
+use Rattle.dp_sessions.specs.Sessions.{AreExchanged, AreReceivedBy, Exchanges, HasExchanged, IsAccepted, IsBrokenOff, IsCutOff, IsServed, Streams, octets_of, reply_in, with_receipts}
 use Rattle.dp_sessions.specs.Tied.{Answers, AreOfFrames, HasAnswered, HasAnsweredMaster, IsAnsweredBy, IsBrokenOffBy, entries_behind, reply_of}
 use Rattle.dp_sessions.proofs.Exchanging.{appends_more, concat_append}
 
@@ -38,28 +38,28 @@ or_true : (b : Bool) → (b || true) ≡ true
 or_true true = refl
 or_true false = refl
 
-told_by : (t : Bool) (outcome : Outcome) → outcome ≡ Silence rules.Halted → (t || says_halted outcome) ≡ true
-told_by t outcome is = ap (λ o. t || says_halted o) is ∙ or_true t
+seen_by : (t : Bool) (outcome : Outcome) → outcome ≡ Silence rules.Halted → (t || says_halted outcome) ≡ true
+seen_by t outcome is = ap (λ o. t || says_halted o) is ∙ or_true t
 
 -- all of them are silent, and none is kept
 record AreSilent (pass : PassView) (receipts : List Receipt) : Type 0 where
   silence : AllByRecursion IsSilent receipts
   same : (with_receipts pass receipts).receipts ≡ pass.receipts
-  still : (with_receipts pass receipts).told ≡ true
+  still : (with_receipts pass receipts).saw_halt ≡ true
 
-silent_at : (pass : PassView) (r : Receipt) (rs : List Receipt) (place : Option ℕ) → pass.told ≡ true
-    → IfNone place ((r.facts ≡ None) × (r.outcome ≡ Silence rules.Halted)) → IfSome place (λ _. pass.told ≡ false) → AreTold (with_receipt pass r place) rs
-    → ((q : PassView) → q.told ≡ true → AreTold q rs → AreSilent q rs)
-    → AllByRecursion IsSilent (r ∷ rs) × ((with_receipts (with_receipt pass r place) rs).receipts ≡ pass.receipts) × ((with_receipts (with_receipt pass r place) rs).told ≡ true)
-silent_at pass r rs (Some k) is halted running told next = absurd (let f : true ≡ false = sym is ∙ running in cc)
-silent_at pass r rs None is halted running told next =
-    let n = next (with_receipt pass r None) (told_by pass.told r.outcome halted.1) told in
+silent_at : (pass : PassView) (r : Receipt) (rs : List Receipt) (place : Option ℕ) → pass.saw_halt ≡ true
+    → IfNone place ((r.facts ≡ None) × (r.outcome ≡ Silence rules.Halted)) → IfSome place (λ _. pass.saw_halt ≡ false) → AreReceivedBy (with_receipt pass r place) rs
+    → ((q : PassView) → q.saw_halt ≡ true → AreReceivedBy q rs → AreSilent q rs)
+    → AllByRecursion IsSilent (r ∷ rs) × ((with_receipts (with_receipt pass r place) rs).receipts ≡ pass.receipts) × ((with_receipts (with_receipt pass r place) rs).saw_halt ≡ true)
+silent_at pass r rs (Some k) is halted running received next = absurd (let f : true ≡ false = sym is ∙ running in cc)
+silent_at pass r rs None is halted running received next =
+    let n = next (with_receipt pass r None) (seen_by pass.saw_halt r.outcome halted.1) received in
     ((silent_one r halted.1, n.silence), n.same, n.still)
 
-all_silent : (receipts : List Receipt) (pass : PassView) → pass.told ≡ true → AreTold pass receipts → AreSilent pass receipts
-all_silent [] pass is told = record { silence = tt; same = refl; still = is }
-all_silent (r ∷ rs) pass is told =
-    let n = silent_at pass r rs r.place is told.0.halted told.0.running told.1 (λ q. all_silent rs q) in
+all_silent : (receipts : List Receipt) (pass : PassView) → pass.saw_halt ≡ true → AreReceivedBy pass receipts → AreSilent pass receipts
+all_silent [] pass is received = record { silence = tt; same = refl; still = is }
+all_silent (r ∷ rs) pass is received =
+    let n = silent_at pass r rs r.place is received.0.halted received.0.running received.1 (λ q. all_silent rs q) in
     record { silence = n.0; same = n.1; still = n.2 }
 
 record IsParted (before after : PassView) (receipts : List Receipt) : Type 0 where
@@ -68,14 +68,14 @@ record IsParted (before after : PassView) (receipts : List Receipt) : Type 0 whe
   parts : receipts ≡ placed ++ silent
   gained : after.receipts ≡ before.receipts ++ placed
   silence : AllByRecursion IsSilent silent
-  none : after.told ≡ false → silent ≡ []
+  none : after.saw_halt ≡ false → silent ≡ []
 
 parted_at : (pass : PassView) (r : Receipt) (rs : List Receipt) (place : Option ℕ)
-    → IfNone place ((r.facts ≡ None) × (r.outcome ≡ Silence rules.Halted)) → AreTold (with_receipt pass r place) rs
-    → ((q : PassView) → AreTold q rs → IsParted q (with_receipts q rs) rs)
+    → IfNone place ((r.facts ≡ None) × (r.outcome ≡ Silence rules.Halted)) → AreReceivedBy (with_receipt pass r place) rs
+    → ((q : PassView) → AreReceivedBy q rs → IsParted q (with_receipts q rs) rs)
     → IsParted pass (with_receipts (with_receipt pass r place) rs) (r ∷ rs)
-parted_at pass r rs (Some k) halted told next =
-    let n = next (with_receipt pass r (Some k)) told in record {
+parted_at pass r rs (Some k) halted received next =
+    let n = next (with_receipt pass r (Some k)) received in record {
       placed = r ∷ n.placed;
       silent = n.silent;
       parts = ap (λ l. r ∷ l) n.parts;
@@ -83,8 +83,8 @@ parted_at pass r rs (Some k) halted told next =
       silence = n.silence;
       none = n.none;
     }
-parted_at pass r rs None halted told next =
-    let s = all_silent rs (with_receipt pass r None) (told_by pass.told r.outcome halted.1) told in record {
+parted_at pass r rs None halted received next =
+    let s = all_silent rs (with_receipt pass r None) (seen_by pass.saw_halt r.outcome halted.1) received in record {
       placed = [];
       silent = r ∷ rs;
       parts = refl;
@@ -93,9 +93,9 @@ parted_at pass r rs None halted told next =
       none = λ is. absurd (let f : true ≡ false = sym s.still ∙ is in cc);
     }
 
-parted : (receipts : List Receipt) (pass : PassView) → AreTold pass receipts → IsParted pass (with_receipts pass receipts) receipts
-parted [] pass told = record { placed = []; silent = []; parts = refl; gained = sym (append-nil pass.receipts); silence = tt; none = λ _. refl }
-parted (r ∷ rs) pass told = parted_at pass r rs r.place told.0.halted told.1 (λ q. parted rs q)
+parted : (receipts : List Receipt) (pass : PassView) → AreReceivedBy pass receipts → IsParted pass (with_receipts pass receipts) receipts
+parted [] pass received = record { placed = []; silent = []; parts = refl; gained = sym (append-nil pass.receipts); silence = tt; none = λ _. refl }
+parted (r ∷ rs) pass received = parted_at pass r rs r.place received.0.halted received.1 (λ q. parted rs q)
 
 -- ---- entries for receipts
 
@@ -184,13 +184,13 @@ module _ (content : Content) (before after : PassView) (fits : FitsPass content 
   abbrev its : List Entry
   its = entries_behind content before after
 
-  parted_in : (receipts : List Receipt) → after ≡ with_receipts before receipts → AreTold before receipts → IsParted before after receipts
-  parted_in receipts gained told = subst (λ w. IsParted before w receipts) (sym gained) (parted receipts before told)
+  parted_in : (receipts : List Receipt) → after ≡ with_receipts before receipts → AreReceivedBy before receipts → IsParted before after receipts
+  parted_in receipts gained received = subst (λ w. IsParted before w receipts) (sym gained) (parted receipts before received)
 
   placed_are : (placed : List Receipt) → after.receipts ≡ before.receipts ++ placed → map receipt_for its ≡ placed
   placed_are placed gained = behind before.receipts placed (under after.number content.numbers content.book.entries) (sym fits.receipts ∙ gained)
 
-  of_frames : (master : ℕ) (cuts : List Cut) (receipts : List Receipt) → AreExchanged master cuts receipts before after → IsParted before after receipts → AreOfFrames master cuts after.told its
+  of_frames : (master : ℕ) (cuts : List Cut) (receipts : List Receipt) → AreExchanged master cuts receipts before after → IsParted before after receipts → AreOfFrames master cuts after.saw_halt its
   of_frames master cuts receipts exchanged p = record {
     later = map event_of p.silent;
     events =
@@ -202,9 +202,9 @@ module _ (content : Content) (before after : PassView) (fits : FitsPass content 
     all = λ is. ap (map event_of) (p.none is);
   }
 
-  answered : (master : ℕ) (stream : List ℕ) (old new : Option (List ℕ)) → IsServed master stream before after old new → IsAnsweredBy master stream after.told its old new
+  answered : (master : ℕ) (stream : List ℕ) (old new : Option (List ℕ)) → IsServed master stream before after old new → IsAnsweredBy master stream after.saw_halt its old new
   answered master stream old new s =
-      let p = parted_in s.receipts s.exchanged.gained s.exchanged.told in record {
+      let p = parted_in s.receipts s.exchanged.gained s.exchanged.received in record {
         cuts = s.cuts;
         rest = s.rest;
         cut = s.cut;
@@ -212,9 +212,9 @@ module _ (content : Content) (before after : PassView) (fits : FitsPass content 
         written = subst (Appends old new) (same_replies s.receipts p.placed p.silent its p.parts p.silence (placed_are p.placed p.gained)) s.written;
       }
 
-  broken : (master : ℕ) (stream : List ℕ) (old new : Option (List ℕ)) → IsBrokenOff master stream before after old new → IsBrokenOffBy master stream after.told its old new
+  broken : (master : ℕ) (stream : List ℕ) (old new : Option (List ℕ)) → IsBrokenOff master stream before after old new → IsBrokenOffBy master stream after.saw_halt its old new
   broken master stream old new s =
-      let p = parted_in s.receipts s.exchanged.gained s.exchanged.told in record {
+      let p = parted_in s.receipts s.exchanged.gained s.exchanged.received in record {
         first = s.first;
         later = s.later;
         rest = s.rest;
@@ -224,7 +224,7 @@ module _ (content : Content) (before after : PassView) (fits : FitsPass content 
       }
 
   pub by_end : (end : SessionEnd) (master turns made : ℕ) (stream : List ℕ) (left old new : Option (List ℕ))
-      → Exchanges end master turns made stream before after left old new → Answers end master turns made stream after.told its left old new
+      → Exchanges end master turns made stream before after left old new → Answers end master turns made stream after.saw_halt its left old new
   by_end ends.EndOfInput master turns made stream left old new x = (answered master stream old new x.0, x.1)
   by_end ends.ReadFault master turns made stream left old new x = answered master stream old new x
   by_end ends.WriteFault master turns made stream left old new x = broken master stream old new x
@@ -234,7 +234,7 @@ module _ (content : Content) (before after : PassView) (fits : FitsPass content 
   by_end ends.NoPass master turns made stream left old new x = absurd x
 
 pub tied : (content : Content) (turns : ℕ) (streams : Streams) (before after : PassView) (end : SessionEnd)
-    → HasExchanged turns streams before after end → FitsPass content after → HasAnswered turns streams before.address after.told (entries_behind content before after) end
+    → HasExchanged turns streams before after end → FitsPass content after → HasAnswered turns streams before.address after.saw_halt (entries_behind content before after) end
 tied content turns streams before after end x fits = record {
   stream = x.stream;
   read = x.read;
@@ -251,7 +251,7 @@ no_entries (e ∷ es) is = absurd (let f : true ≡ false = ap begins is in cc)
 
 pub tied_master : (content : Content) (masters : List ℕ) (turns : ℕ) (streams : Streams) (before after : ClaimView) (pass : PassView) (end : SessionEnd)
     → IsAccepted masters turns streams before after pass end → FitsPass content pass
-    → HasAnsweredMaster turns streams pass.told (under pass.number content.numbers content.book.entries) end
+    → HasAnsweredMaster turns streams pass.saw_halt (under pass.number content.numbers content.book.entries) end
 tied_master content masters turns streams before after pass end x fits = record {
   address = x.address;
   stream = x.stream;

@@ -1,4 +1,4 @@
--- What lines of an operator did, told by the entries of the journal.
+-- What lines of an operator did, from the entries of the journal.
 use Rattle.std.proofs.Common.{◌≡◌, ℕ, true, false, List, [], ◌∷◌, ◌++◌, map, length, take, drop, Option, Some, None, Result, Ok, Err, if◌then◌else◌, inl, inr, refl, sym, ap, subst, ◌∙◌, append_assoc}
 use Rattle.std.specs.Prelude.{IfNone, is_some}
 use Rattle.std.specs.List.{AllByRecursion}
@@ -66,7 +66,7 @@ module _ (content : Content) where
     looks : List Look
     gained : after.receipts ≡ before.receipts ++ receipts
     looked : after.looks ≡ before.looks ++ looks
-    told : AllByRecursion (FitsLook content) looks → (es : List Entry) → map receipt_for es ≡ receipts → P es
+    holds : AllByRecursion (FitsLook content) looks → (es : List Entry) → map receipt_for es ≡ receipts → P es
 
   stays : (P : List Entry → Type 0) (p q : PassView) → q ≡ p → P [] → Goes P p q
   stays P p q same none = record {
@@ -74,7 +74,7 @@ module _ (content : Content) where
     looks = [];
     gained = ap (λ (w : PassView). w.receipts) same ∙ sym (append-nil p.receipts);
     looked = ap (λ (w : PassView). w.looks) same ∙ sym (append-nil p.looks);
-    told = λ fits es is. subst P (sym (no_entry es is)) none;
+    holds = λ fits es is. subst P (sym (no_entry es is)) none;
   }
 
   then_goes : (P Q R : List Entry → Type 0) (p q r : PassView) → ((first rest : List Entry) → P first → Q rest → R (first ++ rest)) → Goes P p q → Goes Q q r → Goes R p r
@@ -83,15 +83,15 @@ module _ (content : Content) where
     looks = a.looks ++ b.looks;
     gained = b.gained ∙ ap (λ l. l ++ b.receipts) a.gained ∙ append_assoc p.receipts a.receipts b.receipts;
     looked = b.looked ∙ ap (λ l. l ++ b.looks) a.looked ∙ append_assoc p.looks a.looks b.looks;
-    told = λ fits es is.
+    holds = λ fits es is.
         subst R (take-append-drop (length a.receipts) es)
         (join (take (length a.receipts) es) (drop (length a.receipts) es)
-        (a.told (all_front (FitsLook content) a.looks b.looks fits) (take (length a.receipts) es) (front a.receipts b.receipts es is))
-        (b.told (all_back (FitsLook content) a.looks b.looks fits) (drop (length a.receipts) es) (behind a.receipts b.receipts es is)));
+        (a.holds (all_front (FitsLook content) a.looks b.looks fits) (take (length a.receipts) es) (front a.receipts b.receipts es is))
+        (b.holds (all_back (FitsLook content) a.looks b.looks fits) (drop (length a.receipts) es) (behind a.receipts b.receipts es is)));
   }
 
   weaker : (P Q : List Entry → Type 0) (p q : PassView) → ((es : List Entry) → P es → Q es) → Goes P p q → Goes Q p q
-  weaker P Q p q f a = record { receipts = a.receipts; looks = a.looks; gained = a.gained; looked = a.looked; told = λ fits es is. f es (a.told fits es is) }
+  weaker P Q p q f a = record { receipts = a.receipts; looks = a.looks; gained = a.gained; looked = a.looked; holds = λ fits es is. f es (a.holds fits es is) }
 
   -- ---- one event, one look
 
@@ -105,7 +105,7 @@ module _ (content : Content) where
     looks = [];
     gained = refl;
     looked = sym (append-nil p.looks);
-    told = λ fits es its. (let one = one_entry es receipt its in
+    holds = λ fits es its. (let one = one_entry es receipt its in
         (inl (one.0, one.1, ap (λ (r : Receipt). r.event) one.2 ∙ is, sym (ap (λ (r : Receipt). r.outcome) one.2)), ap length (sym one.1)));
   }
   taken_at event p receipt None is refused = record {
@@ -113,7 +113,7 @@ module _ (content : Content) where
     looks = [];
     gained = sym (append-nil p.receipts);
     looked = sym (append-nil p.looks);
-    told = λ fits es its. (let none = no_entry es its in (inr (none, refused.1, refused.2), ap length (sym none)));
+    holds = λ fits es its. (let none = no_entry es its in (inr (none, refused.1, refused.2), ap length (sym none)));
   }
 
   taken_goes : (event : Event) (p q : PassView) (receipt : Receipt) → IsTaken event p q receipt → Goes (Taken event receipt receipt.place) p q
@@ -128,7 +128,7 @@ module _ (content : Content) where
     looks = look_by p question look.0 answer ∷ [];
     gained = ap (λ (w : PassView). w.receipts) look.1 ∙ sym (append-nil p.receipts);
     looked = ap (λ (w : PassView). w.looks) look.1;
-    told = λ fits es is. (no_entry es is, (look.0, fits.0.there, fits.0.value));
+    holds = λ fits es is. (no_entry es is, (look.0, fits.0.there, fits.0.value));
   }
 
   -- ---- devices
@@ -190,7 +190,7 @@ module _ (content : Content) where
 
     of_its : (P : List Entry → Type 0) → Goes P before after → P its
     of_its P g =
-        g.told
+        g.holds
         (all_back (FitsLook content) before.looks g.looks (subst (AllByRecursion (FitsLook content)) g.looked fits.looks))
         its
         (behind before.receipts g.receipts (under after.number content.numbers content.book.entries) (sym fits.receipts ∙ g.gained))

@@ -1,5 +1,5 @@
 -- A session that has ended, with the pass that served it (own).
-use Rattle.std.specs.Prelude.{◌≡◌, ℕ, List, Option, Some, None}
+use Rattle.std.specs.Prelude.{◌≡◌, ℕ, List, Some, None}
 use Rattle.atomic_table.specs.Seated.{TableId}
 use Rattle.dp_devices.specs.declared.driven_slave.DrivenSlave.{DrivenSlave}
 use Rattle.dp_shared.specs.declared.claim_view.ClaimView.{ClaimView}

@@ -80,7 +80,7 @@ pub record IsTaken (event : Event) (before after : PassView) (receipt : Receipt)
   pub event_is : receipt.event ≡ event
   pub gained : after ≡ with_receipt before receipt receipt.place
   pub refused : IfNone receipt.place ((receipt.facts ≡ None) × (fault : OperatorFault) × (receipt.outcome ≡ Refused fault))
-  pub running : IfSome receipt.place (λ _. before.told ≡ false)
+  pub running : IfSome receipt.place (λ _. before.saw_halt ≡ false)
 
 -- one look, after so many entries
 abbrev pub IsLook : Question → Answer → PassView → PassView → Type 0
@@ -113,7 +113,7 @@ IsOperated driven (asked.Show address) before after text = (seen : Option SlaveV
 IsOperated driven asked.Step before after text = (recorded : ℕ) × AreFed driven before after recorded × (text ≡ stepped_text recorded)
 IsOperated driven asked.Nothing before after text = (after ≡ before) × (text ≡ [])
 
--- a line that can't be done is told why
+-- the answer to a line that can't be done
 abbrev pub IsDone : List DrivenSlave → Result OpLine LineFault → PassView → PassView → List ℕ → Type 0
 IsDone driven (Ok op_line) before after text = IsOperated driven op_line before after text
 IsDone driven (Err fault) before after text = (after ≡ before) × (text ≡ fault_text fault)

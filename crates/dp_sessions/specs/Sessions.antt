@@ -46,20 +46,20 @@ with_receipts pass [] = pass
 with_receipts pass (receipt ∷ receipts) = with_receipts (with_receipt pass receipt receipt.place) receipts
 
 -- what a receipt says of its pass: without a place, that the line is halted; with one, that the pass was not answered so before
-pub record IsTold (pass : PassView) (receipt : Receipt) : Type 0 where
+pub record IsReceivedBy (pass : PassView) (receipt : Receipt) : Type 0 where
   pub halted : IfNone receipt.place ((receipt.facts ≡ None) × (receipt.outcome ≡ Silence rules.Halted))
-  pub running : IfSome receipt.place (λ _. pass.told ≡ false)
+  pub running : IfSome receipt.place (λ _. pass.saw_halt ≡ false)
 
 -- .. of receipts, one after another
-abbrev pub AreTold : PassView → List Receipt → Type 0
-AreTold pass [] = ⊤
-AreTold pass (receipt ∷ receipts) = IsTold pass receipt × AreTold (with_receipt pass receipt receipt.place) receipts
+abbrev pub AreReceivedBy : PassView → List Receipt → Type 0
+AreReceivedBy pass [] = ⊤
+AreReceivedBy pass (receipt ∷ receipts) = IsReceivedBy pass receipt × AreReceivedBy (with_receipt pass receipt receipt.place) receipts
 
 -- a pass exchanged these pieces: one receipt for each frame, in the order of the stream, and those with a place are its next receipts
 pub record AreExchanged (master : ℕ) (cuts : List Cut) (receipts : List Receipt) (before after : PassView) : Type 0 where
   pub events : map (λ receipt. receipt.event) receipts ≡ requests_in master cuts
   pub gained : after ≡ with_receipts before receipts
-  pub told : AreTold before receipts
+  pub received : AreReceivedBy before receipts
 
 -- ---- what an accepted session does
 

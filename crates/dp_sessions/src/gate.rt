@@ -6,7 +6,7 @@ use dp_line::Op;
 use dp_telegram::FrameFault;
 use std::sync::Wait;
 
-/// What stands before each exchange of a session, and is told what comes of sessions. It may hold the session up,
+/// What stands before each exchange of a session, and gets the results of sessions. It may hold the session up,
 /// and no other. Every call is outside every lock, by the number of the line and the address of the master; where
 /// a call isn't written out, nothing is done.
 pub trait Gate {

@@ -20,20 +20,20 @@ use dp_shared::laws::a_pass_has_its_entries;
 /// entries of the first frames of the stream that it read, and of all frames unless the pass was answered that the line is
 /// halted. `fits` is for the journal of a closed line, which fits each of its passes; `rule` is for any time, by the rule of
 /// the line's lock.
-pub fn a_session_is_told_by_its_entries()
+pub fn a_session_has_its_entries()
     ensures fits { (content : Content) (turns : ℕ) (streams : Streams) (before after : PassView) (end : SessionEnd)
         → HasExchanged turns streams before after end → FitsPass content after
-        → HasAnswered turns streams before.address after.told (entries_behind content before after) end }
+        → HasAnswered turns streams before.address after.saw_halt (entries_behind content before after) end }
     ensures rule { (line : LineSpec) (state : Slotted) (rule : LineRule line state) (i a turns : ℕ) (streams : Streams) (before after : PassView) (end : SessionEnd)
         → HasExchanged turns streams before after end → IsPassAt state i a after
-        → HasAnswered turns streams before.address after.told (entries_behind rule.content before after) end }
+        → HasAnswered turns streams before.address after.saw_halt (entries_behind rule.content before after) end }
 {
     a_pass_has_its_entries();
 }
 
 /// The same for an operator's session by a pass: each event of its lines left the next entry under the number of the pass,
 /// or was refused, and each look was answered by what the entries before it left.
-pub fn an_operator_is_told_by_its_entries()
+pub fn an_operator_has_its_entries()
     ensures fits { (content : Content) (driven : List DrivenSlave) (turns : ℕ) (streams : Streams) (before after : PassView) (end : SessionEnd)
         → HasOperatedBy driven turns streams before after end → FitsPass content after
         → HasAnsweredLines content driven turns streams (entries_behind content before after) end }
@@ -49,14 +49,14 @@ pub fn an_operator_is_told_by_its_entries()
 /// of all frames unless the pass was answered that the line is halted. `fits` is for the journal of a closed line, which fits
 /// each pass that [`close_with`](dp_shared::Line::close_with) was given; `rule` is for any time, by the rule of the line's
 /// lock.
-pub fn a_master_is_told_by_its_entries()
+pub fn a_master_has_its_entries()
     ensures fits { (content : Content) (masters : List ℕ) (turns : ℕ) (streams : Streams) (before after : ClaimView) (pass : PassView) (end : SessionEnd)
         → IsAccepted masters turns streams before after pass end → FitsPass content pass
-        → HasAnsweredMaster turns streams pass.told (under pass.number content.numbers content.book.entries) end }
+        → HasAnsweredMaster turns streams pass.saw_halt (under pass.number content.numbers content.book.entries) end }
     ensures rule { (line : LineSpec) (state : Slotted) (rule : LineRule line state) (i a : ℕ) (masters : List ℕ) (turns : ℕ) (streams : Streams) (before after : ClaimView)
         (pass : PassView) (end : SessionEnd)
         → IsAccepted masters turns streams before after pass end → IsPassAt state i a pass
-        → HasAnsweredMaster turns streams pass.told (under pass.number rule.content.numbers rule.content.book.entries) end }
+        → HasAnsweredMaster turns streams pass.saw_halt (under pass.number rule.content.numbers rule.content.book.entries) end }
 {
     a_pass_has_its_entries();
 }

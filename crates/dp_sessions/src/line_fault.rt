@@ -3,7 +3,7 @@
 ghost use Rattle.std.specs.Prelude.{◌≡◌};
 ghost use Rattle.dp_sessions.specs.Operators.{line_fault_name};
 
-/// Why a line of an operator isn't done (own). The first that applies is told.
+/// Why a line of an operator isn't done (own). The first that applies is the answer.
 #[derive(Clone, Copy, Debug, PartialEq, Eq)]
 pub(crate) enum LineFault {
     /// It has more than 1,024 octets.

@@ -28,8 +28,7 @@ use std::sync::Wait;
 /// Octets that are read at once.
 const CHUNK: usize = 256;
 
-/// Octets that are kept of a line: one more than a command may have, by which it is told that a line is
-/// too long.
+/// Octets that are stored of a line: one more than a command may have, so that a line that is too long is noticed.
 const KEPT: usize = LONGEST_LINE + 1;
 
 /// What ends a line.

@@ -75,7 +75,7 @@ pub fn serve_by<T: Wait, R: Read, C: Reads<R>, W: Write, G: Gate>(
 
 /// Serves as [`serve_by`] does, and returns the pass that served the session with its end. Once the line is closed,
 /// [`Line::close_with`](dp_shared::Line::close_with) and the law
-/// [`a_master_is_told_by_its_entries`](crate::laws::a_master_is_told_by_its_entries) say of that pass which entries of the
+/// [`a_master_has_its_entries`](crate::laws::a_master_has_its_entries) say of that pass which entries of the
 /// journal the session wrote.
 pub fn serve_session<T: Wait, R: Read, C: Reads<R>, W: Write, G: Gate>(
     rt: &T,

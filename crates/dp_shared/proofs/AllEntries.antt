@@ -1,8 +1,8 @@
 -- Passes of which there are as many as were opened have all entries.
-use Rattle.std.proofs.Common.{◌≡◌, ◌≢◌, ◌⊎◌, inl, inr, ℕ, zero, suc, ◌+◌, ◌<◌, ◌≤◌, Bool, true, false, cond, List, [], ◌∷◌, map, length, sym, refl, ap, ◌∙◌, subst, arith, eq-eqb, ne_eqb}
+use Rattle.std.proofs.Common.{◌≡◌, ◌≢◌, ◌⊎◌, inl, inr, ℕ, zero, suc, ◌+◌, ◌<◌, ◌≤◌, Bool, true, false, cond, List, [], ◌∷◌, map, length, sym, refl, ap, ◌∙◌, arith, eq-eqb, ne_eqb}
 use Rattle.std.specs.Prelude.{◌==◌, sum_by}
 use Rattle.std.specs.List.{AllByRecursion}
-use Rattle.std.proofs.lemmas.Bool.{cases_eq, cases_lt}
+use Rattle.std.proofs.lemmas.Bool.{cases_eq}
 use Rattle.std.proofs.lemmas.List.{length-map}
 use Rattle.std.proofs.lemmas.List.Sums.{sum_by-cons}
 use mathlib.Core.Option.{some}
@@ -10,7 +10,7 @@ use lib.ListN.{get_elem?}
 use Rattle.dp_audit.specs.declared.entry.Entry.{Entry}
 use Rattle.dp_shared.specs.Numbers.{AllDiffer, times, under}
 use Rattle.dp_shared.specs.Content.{Content, IsHistory}
-use Rattle.dp_shared.specs.LineLock.{FitsPass, IsNumbered, IsPassOf, receipt_for}
+use Rattle.dp_shared.specs.LineLock.{IsNumbered, IsPassOf, receipt_for}
 use Rattle.dp_shared.specs.declared.line_view.PassView.{PassView}
 
 -- ---- one number more

@@ -81,18 +81,21 @@ fn check_both<T: Wait>(
     let line = Line::open(alloc, &spec)?;
     let port = Port { line, claims };
     let octets = octets_of(octets)?;
-    let (mut asks, mut tells) = (Counting::of(&octets), Counting::of(lines));
+    let (mut master_reader, mut operator_reader) = (Counting::of(&octets), Counting::of(lines));
     let mut written: Vec<u8> = Vec::new(alloc);
-    let master = master_session(rt, &port, &mut seat, &mut asks, &mut written, 9)?;
-    let operator = operator_session(rt, &port, &spec, &mut tells, &mut written, 9)?;
+    let master = master_session(rt, &port, &mut seat, &mut master_reader, &mut written, 9)?;
+    let operator = operator_session(rt, &port, &spec, &mut operator_reader, &mut written, 9)?;
     let mut spent = both(alloc, master, operator)?;
     let Ok(closed) = port.line.close_with(Vec::new(alloc), &mut spent) else {
         return Err(Fail::new("a pass is out"));
     };
-    let (made, told, opened, left) = (asks.made, tells.made, closed.opened(), spent.len());
+    let (by_master, by_operator) = (master_reader.made, operator_reader.made);
+    let (opened, left) = (closed.opened(), spent.len());
     let journal = audit_of(alloc, closed.book())?;
     is_told(
-        format!(in alloc; "reads {made} and {told}, {opened} passes, {left} left\n{journal}")?,
+        format!(in alloc;
+            "reads {by_master} and {by_operator}, {opened} passes, {left} left\n{journal}"
+        )?,
         expected,
     )
 }

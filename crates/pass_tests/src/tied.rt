@@ -11,7 +11,7 @@ use crate::counting::{ByCount, Counting};
 use crate::seats::one_seat;
 use dp_audit::Book;
 use dp_line::{Device, LineSpec, Outcome};
-use dp_sessions::laws::a_session_is_told_by_its_entries;
+use dp_sessions::laws::a_session_has_its_entries;
 use dp_sessions::{Gate, OpenGate, Reads, serve_pass_by};
 use dp_shared::{Closed, Line, Pass};
 use dp_telegram::GLOBAL_ADDRESS;
@@ -51,9 +51,9 @@ fn serve_and_close<T: Wait, R: Read, C: Reads<R>, W: Write, G: Gate>(
         × (end ≡ End.ReadFault → C.failed reader.new ≡ true)
         × HasAnswered turns
         (record { left = R.remaining reader.old; left_after = R.remaining reader.new; written = W.contents writer.old; written_after = W.contents writer.new })
-        pass.view.address after.told (entries_behind closed pass.view after) end) }
+        pass.view.address after.saw_halt (entries_behind closed pass.view after) end) }
 {
-    a_session_is_told_by_its_entries();
+    a_session_has_its_entries();
     let mut pass = pass;
     serve_pass_by::<T, R, C, W, G>(rt, reader, writer, &line, &mut pass, gate, turns);
     match line.close(listed(alloc, pass)?) {
@@ -82,7 +82,7 @@ fn claim_and_serve<T: Wait>(
         × (end ≢ End.ReadFault)
         × HasAnswered turns
         (record { left = Some reader.old.left.now; left_after = Some reader.new.left.now; written = Some writer.old.items; written_after = Some writer.new.items })
-        address after.told (entries_behind closed (new_pass number address) after) end) }
+        address after.saw_halt (entries_behind closed (new_pass number address) after) end) }
 {
     if address == GLOBAL_ADDRESS {
         return Err(Fail::new("no master"));

@@ -4,8 +4,8 @@ use Rattle.dp_sessions.proofs.exchange.accept.Goals as goal
 
 pub returns-in-Ok-clause-accepted : goal.returns-in-Ok-clause-accepted
 returns-in-Ok-clause-accepted g c =
-    let told = c.serve_pass_by.ensures.exchanged in
-    (told.stream, told.made, told.read, told.most, inr (g.W.Write.contents c.write_whole.new.writer, c.in-Ok.ensures.ok, told.exchanged))
+    let exchanged = c.serve_pass_by.ensures.exchanged in
+    (exchanged.stream, exchanged.made, exchanged.read, exchanged.most, inr (g.W.Write.contents c.write_whole.new.writer, c.in-Ok.ensures.ok, exchanged.exchanged))
 
 pub returns-in-Err-clause-accepted : goal.returns-in-Err-clause-accepted
 returns-in-Err-clause-accepted g c =

@@ -16,13 +16,13 @@ loop-made-init g c = record {
 pub returns-in-Ok-eq0-clause-exchanged : goal.returns-in-Ok-eq0-clause-exchanged
 returns-in-Ok-eq0-clause-exchanged g c =
     let none : c.in-Ok-eq0.field-0 ≡ 0 = first_of (cc, omega (arith, c.in-Ok-eq0.field-0-is), omega (arith, c.in-Ok-eq0.field-0-test), search rules) in
-    let told = rw none at c.in-Ok-eq0.ensures.bytes in
+    let bytes_read = rw none at c.in-Ok-eq0.ensures.bytes in
     let room : 0 < length c.read.new.buf = omega arith in
     exchanged_in ends.EndOfInput c.args.turns (c.loop-made.made + 1) c.args.pass.now.view c.loop-made.pass.view
     (g.R.Read.remaining c.args.reader.now) (g.R.Read.remaining c.read.new.reader) (g.W.Write.contents c.args.writer.now) (g.W.Write.contents c.loop-made.writer) (omega arith)
     (ends_of_input c.args.pass.now.view.address c.args.turns (c.loop-made.made + 1) c.loop-made.made c.loop-made.cutter c.args.pass.now.view c.loop-made.pass.view
     (g.R.Read.remaining c.args.reader.now) (g.R.Read.remaining c.loop-made.reader) (g.R.Read.remaining c.read.new.reader) (g.W.Write.contents c.args.writer.now) (g.W.Write.contents c.loop-made.writer)
-    c.cut_and_computation_agree.ensures.whole c.loop-made.invariant.way told.0 (told.1 refl room))
+    c.cut_and_computation_agree.ensures.whole c.loop-made.invariant.way bytes_read.0 (bytes_read.1 refl room))
 
 pub loop-made-preserved : goal.loop-made-preserved
 loop-made-preserved g c =

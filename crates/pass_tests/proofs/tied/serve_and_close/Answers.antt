@@ -10,7 +10,7 @@ returns-in-Ok-clause-answered g c =
       c.serve_pass_by.new.pass.view,
       c.serve_pass_by.result,
       c.serve_pass_by.ensures.failed,
-      c.a_session_is_told_by_its_entries.ensures.fits c.in-Ok.closed c.args.turns
+      c.a_session_has_its_entries.ensures.fits c.in-Ok.closed c.args.turns
           (record {
             left = g.R.Read.remaining c.args.reader.now;
             left_after = g.R.Read.remaining c.serve_pass_by.new.reader;

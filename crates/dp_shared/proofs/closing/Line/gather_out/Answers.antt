@@ -1,4 +1,4 @@
-use Rattle.std.proofs.Common.{◌≡◌, ℕ, [], map, ap, ◌∙◌, refl, arith}
+use Rattle.std.proofs.Common.{◌≡◌, [], map, ap, ◌∙◌, refl, arith}
 use Rattle.dp_shared.specs.Numbers.{times}
 use Rattle.dp_shared.proofs.closing.Line.gather_out.Goals as goal
 

@@ -1,5 +1,5 @@
 use Rattle.dp_sessions.proofs.TyingOperators.{tied_operator}
-use Rattle.dp_sessions.proofs.laws.an_operator_is_told_by_its_entries.Goals as goal
+use Rattle.dp_sessions.proofs.laws.an_operator_has_its_entries.Goals as goal
 
 pub returns-clause-fits : goal.returns-clause-fits
 returns-clause-fits c = tied_operator

@@ -1,5 +1,5 @@
 use Rattle.dp_sessions.proofs.Tying.{tied_master}
-use Rattle.dp_sessions.proofs.laws.a_master_is_told_by_its_entries.Goals as goal
+use Rattle.dp_sessions.proofs.laws.a_master_has_its_entries.Goals as goal
 
 pub returns-clause-fits : goal.returns-clause-fits
 returns-clause-fits c = tied_master
