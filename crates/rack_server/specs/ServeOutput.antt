@@ -1,5 +1,5 @@
 -- A rack that is served (own).
-use Rattle.std.specs.Prelude.{◌≡◌, ◌≤◌, ◌⊎◌, codes, ℕ, Bool, ◌&&◌, false, List, [], ◌∷◌, ◌++◌, map, Option, Some, None, is_some, Result, Ok, Err, Contains, IsPermutation}
+use Rattle.std.specs.Prelude.{◌≡◌, ◌⊎◌, codes, ℕ, Bool, ◌&&◌, false, List, [], ◌∷◌, ◌++◌, map, Option, Some, None, is_some, Result, Ok, Err, Contains, IsPermutation}
 use Rattle.std.specs.Borrow.{Bor}
 use Rattle.std.specs.List.{AllZip, flat_map, list_all}
 use Rattle.std.specs.List.Sorted.{IsNonDecreasingBy}
@@ -19,7 +19,6 @@ use Rattle.rack_file.specs.Rack.{LineDescription, RackDescription}
 use Rattle.rack_file.specs.declared.fault.RackFault.{RackFault}
 use Rattle.rack_file.specs.declared.fault.RackFault.TheVariants as racks
 use Rattle.rack_server.specs.declared.serve_fault.AuditPath.{AuditPath}
-use Rattle.rack_server.specs.declared.serve_fault.AuditPath.TheVariants as paths
 use Rattle.rack_server.specs.declared.serve_fault.ServeFault.{ServeFault}
 use Rattle.rack_server.specs.declared.serve_fault.ServeFault.TheVariants as faults
 use Rattle.dp_script.specs.declared.run_fault.RunFault.{RunFault}

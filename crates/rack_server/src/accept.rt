@@ -18,13 +18,13 @@ pub(crate) trait Accept: Sized + Drop {
     /// Takes a connection; whether it takes further ones.
     fn take<H: Wait>(&self, rt: &H, stream: TcpStream) -> bool;
 
-    /// Tells why a connection can't be accepted.
-    fn tell<H: Wait>(&self, rt: &H, error: io::Error);
+    /// Reports why a connection was not accepted.
+    fn report<H: Wait>(&self, rt: &H, error: io::Error);
 
-    /// Accepts so many connections, while the doors are open. Of failed accepts in a row the first one is told.
+    /// Accepts `sessions` connections, while the doors are open. Reports the first one of failed accepts in a row.
     fn accept_all<H: Wait + Clock>(self, rt: &H, doors: &Doors, sessions: u64) {
         let mut left = sessions;
-        let mut told = false;
+        let mut reported = false;
         for _ in rt.forever() {
             if left == 0 || !doors.are_open(rt) {
                 return;
@@ -35,12 +35,12 @@ pub(crate) trait Accept: Sized + Drop {
                         return;
                     }
                     left -= 1;
-                    told = false;
+                    reported = false;
                 }
                 Err(error) => {
-                    if !told {
-                        self.tell(rt, error);
-                        told = true;
+                    if !reported {
+                        self.report(rt, error);
+                        reported = true;
                     }
                 }
             }

@@ -14,7 +14,7 @@ pub(crate) struct Attendance<'a, H> {
     pub(crate) rt: &'a H,
     /// The doors of the rack.
     pub(crate) doors: &'a Doors,
-    /// What is told of the rack.
+    /// What is reported of the rack.
     pub(crate) notes: &'a Notes<'a, H>,
     /// How many sessions of operators were served, over all lines.
     pub(crate) operators: AtomicU32,

@@ -57,13 +57,13 @@ impl<L: Wait + Log + Clock, C: CatchUp> Accept for MasterAcceptor<'_, L, C> {
                 self.jobs.send(rt, job).is_ok()
             }
             Err(error) => {
-                self.tell(rt, error);
+                self.report(rt, error);
                 true
             }
         }
     }
 
-    fn tell<H: Wait>(&self, rt: &H, error: io::Error) {
+    fn report<H: Wait>(&self, rt: &H, error: io::Error) {
         self.attendance.notes.cannot_accept(rt, self.line, error);
     }
 }

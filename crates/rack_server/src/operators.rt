@@ -69,12 +69,12 @@ impl<L: Wait + Log + Clock, C: CatchUp> Accept for OperatorAcceptor<'_, Desk<'_>
 
     fn take<H: Wait>(&self, rt: &H, stream: TcpStream) -> bool {
         if let Err(error) = self.serve(stream) {
-            self.tell(rt, error);
+            self.report(rt, error);
         }
         true
     }
 
-    fn tell<H: Wait>(&self, rt: &H, error: io::Error) {
+    fn report<H: Wait>(&self, rt: &H, error: io::Error) {
         self.attendance
             .notes
             .cannot_accept(rt, self.desk.line.number, error);
