@@ -1,11 +1,10 @@
-//! Tests of sessions with a line (`dp_sessions`), of trails (`dp_trail`) and of the log (`dp_notes`), and nothing else.
+//! Tests of sessions with a line (`dp_sessions`), and what these tests and those of trails stand on: a port with seats
+//! ([`place`]).
 //!
-//! Most tests are a transcript: rows, each with what it has to tell behind an arrow, and what is left at the
-//! end. A helper, proved once, plays the rows and tells the transcript anew.
+//! Most tests are a transcript: rows, each with its result behind an arrow, and what is left at the end. A helper, proved
+//! once, plays the rows and writes the transcript that is compared.
 #![tactic(auto)]
 
-#[cfg(test)]
-mod endless;
 #[cfg(test)]
 mod faults;
 #[cfg(test)]
@@ -13,14 +12,9 @@ mod gates;
 #[cfg(test)]
 mod limits;
 #[cfg(test)]
-mod notes;
-#[cfg(test)]
 mod operators;
-#[cfg(test)]
-mod place;
+pub mod place;
 #[cfg(test)]
 mod pools;
 #[cfg(test)]
 mod sessions;
-#[cfg(test)]
-mod trails;

@@ -13,18 +13,18 @@ use std::test::Fail;
 
 /// A port of a [`line_spec`], and the seats of three workers at it.
 #[derive(Drop)]
-pub(crate) struct Place {
-    pub(crate) port: Port,
-    pub(crate) first: WorkerSeat,
-    pub(crate) second: WorkerSeat,
-    pub(crate) third: WorkerSeat,
+pub struct Place {
+    pub port: Port,
+    pub first: WorkerSeat,
+    pub second: WorkerSeat,
+    pub third: WorkerSeat,
     ghost first_is_ours: { IsSeatAt port.claims first },
     ghost second_is_ours: { IsSeatAt port.claims second },
     ghost third_is_ours: { IsSeatAt port.claims third },
 }
 
 /// A fresh place at the line of this description.
-pub(crate) fn fresh_place(alloc: Global, spec: &LineSpec) -> Result<Place, Fail>
+pub fn fresh_place(alloc: Global, spec: &LineSpec) -> Result<Place, Fail>
     requires { opening_fault (description_of spec.now) ≡ None }
     ensures { IfOk result (λ place. line_of place.port.line ≡ spec.now) }
 {

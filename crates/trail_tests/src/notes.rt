@@ -2,7 +2,6 @@
 
 ghost use Rattle.std.specs.Prelude.{◌≡◌, ◌≤◌};
 
-use crate::place::{Place, fresh_place};
 use arrayvec::{ArrayString, ArrayVec};
 use dp_audit::Receipt;
 use dp_line::{Device, Event, Op, Outcome, Rule};
@@ -12,6 +11,7 @@ use log::kv::Source;
 use log::span::Spans;
 use log::{Log, Metadata, Record};
 use rackd_words::Telling;
+use session_tests::place::{Place, fresh_place};
 use shared_tests::line_specs::line_spec;
 use std::alloc::Global;
 use std::fmt::{Display, Write};

@@ -5,12 +5,12 @@
 
 ghost use Rattle.std.specs.Prelude.{◌≡◌, None};
 
-use crate::place::{Place, fresh_place};
 use dp_line::Device;
 use dp_sessions::{OpenGate, Port, SessionEnd, serve};
 use dp_shared::WorkerSeat;
 use dp_telegram::Octets;
 use dp_trail::{CatchUp, NoTrail, Tail, Trail, Trailed};
+use session_tests::place::{Place, fresh_place};
 use shared_tests::line_specs::ample_line;
 use shared_tests::rows::{closed_with, hex_of, is_told, many_passes, octets_of};
 use std::alloc::Global;
