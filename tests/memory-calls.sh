@@ -1,14 +1,14 @@
 #!/usr/bin/env bash
-# Refuses memory to each call that takes some: each of its allocations fails in turn, and no other, until the call
-# succeeds at once; and to the pool each start of a worker. The program of crates/memory_calls makes the call that its
-# word names, where it was refused once more, and tells by its status what came of it; `rt ci`, or `rt run` in its folder,
-# builds it. MEMORY_CALLS names another program. The last line is 'N passed, M failed'.
+# Makes each call that takes memory: with ample memory it succeeds; then each of its allocations fails in turn, and no
+# other, until the call succeeds at once; and each start of a worker of the pool is refused. The program of
+# crates/memory_calls makes the call that its word names, once more if it was refused, and its status is the result;
+# `rt ci`, or `rt run` in its folder, builds it. MEMORY_CALLS names another program. The last line is 'N passed, M failed'.
 set -u
 top=$(cd "$(dirname "$0")/.." && pwd)
 program=${MEMORY_CALLS:-$top/crates/memory_calls/out/memory_calls}
 fail_one=$top/tests/fail_allocation.py
 refuse=$top/tests/refuse_threads.py
-calls=(line book check-text shared-line claims pool rack script check)
+calls=(line book endless-book check-text shared-line endless-line claims pool rack script check)
 # Seconds that a run may take.
 limit=20
 passed=0
@@ -29,8 +29,8 @@ run() {
   status=$?
 }
 
-# told: what the status of the last run says
-told() {
+# meaning: what the status of the last run means
+meaning() {
   case $status in
     0) echo 'it succeeded at once' ;;
     2) echo 'there is no such call' ;;
@@ -45,13 +45,13 @@ told() {
   esac
 }
 
-# succeeds WORD: the call succeeds at once where nothing is refused
-succeeds() {
+# ample_memory WORD: the call succeeds at once when nothing is refused
+ample_memory() {
   run "$program" "$1"
   if [ "$status" = 0 ]; then
-    pass "$1: it succeeds where nothing is refused"
+    pass "ample_memory: $1 succeeds"
   else
-    fail "$1: nothing is refused, and the status is $status: $(told)"
+    fail "ample_memory: $1 has the status $status: $(meaning)"
   fi
 }
 
@@ -68,7 +68,7 @@ in_turn() {
     number=$((number + 1))
   done
   if [ "$status" != 96 ]; then
-    fail "$1: allocation $number fails alone, and the status is $status: $(told)"
+    fail "$1: allocation $number fails alone, and the status is $status: $(meaning)"
   elif [ "$refused" = 0 ]; then
     fail "$1: $((number - 1)) allocations failed in turn, and the call was never refused"
   else
@@ -82,11 +82,11 @@ start() {
   if [ "$status" = 3 ]; then
     pass "pool: behind $1 workers a start is refused; it was refused, and succeeded when it was made again"
   else
-    fail "pool: behind $1 workers a start is refused, and the status is $status: $(told)"
+    fail "pool: behind $1 workers a start is refused, and the status is $status: $(meaning)"
   fi
 }
 
-for word in "${calls[@]}"; do succeeds "$word"; done
+for word in "${calls[@]}"; do ample_memory "$word"; done
 
 # 98: no program may be followed here
 python3 "$fail_one" 1 "$program" line >/dev/null 2>&1

@@ -11,6 +11,8 @@ pub(crate) enum Answer {
     NoBeginning,
     /// It answered something else.
     Other,
+    /// What it takes could not be prepared, and it was not made.
+    Unprepared,
     /// There is no such call.
     NoCall,
 }

@@ -4,7 +4,7 @@ ghost use Rattle.std.specs.Prelude.{◌≡◌, None};
 ghost use Rattle.dp_line.specs.World.{description_of, opening_fault};
 
 use crate::answer::Answer;
-use crate::described::{ANSWERS, AUDIT, RACK, SCRIPT, VERDICT};
+use crate::described::{ANSWERS, AUDIT, RACK, SCRIPT, VERDICT, described};
 use crate::expecting::{Expecting, Written};
 use dp_audit::{AuditFault, Book, check_text};
 use dp_line::{LineSpec, LineState, OpenFault};
@@ -20,7 +20,9 @@ pub(crate) fn made(alloc: Global, line: &LineSpec, word: &str) -> Answer
     match word {
         "line" => opened(LineState::open(alloc, line)),
         "book" => opened(Book::open(alloc, line)),
+        "endless-book" => opened(Book::open_endless(alloc, line)),
         "shared-line" => opened(Line::open(alloc, line)),
+        "endless-line" => endless_opened(alloc),
         "claims" => claims(alloc, line),
         "check-text" => text_checked(alloc, line),
         "rack" => rack_read(alloc),
@@ -36,6 +38,14 @@ fn opened<T: Drop>(ended: Result<T, OpenFault>) -> Answer {
         Ok(_) => Answer::Whole,
         Err(OpenFault::OutOfMemory) => Answer::Refused,
         Err(_) => Answer::Other,
+    }
+}
+
+/// Opens the line as an endless one, which takes its description.
+fn endless_opened(alloc: Global) -> Answer {
+    match described(alloc) {
+        Ok(line) => opened(Line::open_endless(alloc, line)),
+        Err(_) => Answer::Unprepared,
     }
 }
 

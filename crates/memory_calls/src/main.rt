@@ -69,6 +69,7 @@ fn status_at_once(answer: Answer) -> u8 {
         Answer::Whole => 0,
         Answer::Refused => REFUSED_ONCE,
         Answer::NoBeginning => NO_BEGINNING,
+        Answer::Unprepared => UNPREPARED,
         Answer::NoCall => NO_CALL,
         Answer::Other => OTHER,
     }
@@ -78,6 +79,10 @@ fn status_at_once(answer: Answer) -> u8 {
 fn status_behind(again: Answer) -> u8 {
     match again {
         Answer::Whole => REFUSED_ONCE,
-        _ => REFUSED_AGAIN,
+        Answer::Refused
+        | Answer::NoBeginning
+        | Answer::Other
+        | Answer::Unprepared
+        | Answer::NoCall => REFUSED_AGAIN,
     }
 }
