@@ -22,25 +22,25 @@ if [ ! -x "$program" ]; then
   exit 1
 fi
 
-# try CASE: runs a case, in place of the shell; what it says is left in $work/CASE.told
+# try CASE: runs a case, in place of the shell; what it says is left in $work/CASE.output
 try() {
   mkdir "$work/$1"
-  exec timeout "$limit" "$client" "$1" "$program" "$work/$1" >"$work/$1.told" 2>&1
+  exec timeout "$limit" "$client" "$1" "$program" "$work/$1" >"$work/$1.output" 2>&1
 }
 
 # judge CASE STATUS: counts a case by its status; one that cannot run here is not counted as passed
 judge() {
-  local told
-  told=$(cat "$work/$1.told")
+  local message
+  message=$(cat "$work/$1.output")
   if [ "$2" = 0 ]; then
     passed=$((passed + 1))
-    echo "ok $1${told:+: $told}"
+    echo "ok $1${message:+: $message}"
   elif [ "$2" = "$cannot_run" ]; then
-    echo "LEFT OUT $1: $told"
+    echo "LEFT OUT $1: $message"
   else
     failed=$((failed + 1))
-    [ "$2" != 124 ] || told="it takes more than $limit seconds"
-    echo "FAILED $1: $(tail -n 8 <<<"$told")"
+    [ "$2" != 124 ] || message="it takes more than $limit seconds"
+    echo "FAILED $1: $(tail -n 8 <<<"$message")"
   fi
 }
 

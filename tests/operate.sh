@@ -11,7 +11,7 @@ client=$top/tests/operate_client.py
 
 try_beside halt_by_hand what_tells_something port_ends_behind_the_input order_by_the_clock \
   steps_are_not_made_up_for input_ends clock_outlasts_input port_ends_with_input_open port_ends_before_an_answer \
-  time_is_told_once second_operator streams_are_closed
+  port_ends_before_a_line_is_sent time_is_told_once second_operator streams_are_closed
 try_all script_of_a_file typed_at_a_terminal last_line_at_a_terminal input_in_pieces very_many_lines \
   one_line_at_a_time watchdog_by_the_clock devices_by_the_clock clock_ends_with_serve serve_ends_with_input_open \
   port_ends_while_lines_come port_ends_right_behind_an_answer nobody_listens input_is_a_folder output_is_full \

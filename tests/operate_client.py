@@ -899,6 +899,20 @@ def port_ends_before_an_answer(trial):
                 operate.ends(2, ended(port.number), output=None)
 
 
+def port_ends_before_a_line_is_sent(trial):
+    """A line that was read while a tick or a step waits for its answer is lost if the port ends then: the status is 2,
+    also when the input has ended."""
+    for words in ("--tick", TICK), ("--step", STEP):
+        for text in b"owned 1\n", b"owned 1":
+            with Port() as port, Operate(trial, port.number, *words) as operate:
+                port.accept()
+                hold("the first line is not by the clock", is_by_clock(port.line()))
+                operate.type_all(text)
+                time.sleep(PIECE)
+                port.end()
+                operate.ends(2, ended(port.number))
+
+
 def nobody_listens(trial):
     """A port at which nobody listens has two rows and status 2."""
     with socket.socket() as nobody:
@@ -1042,9 +1056,8 @@ CASES = (script_of_a_file, typed_at_a_terminal, last_line_at_a_terminal, input_i
          one_line_at_a_time, watchdog_by_the_clock, devices_by_the_clock, halt_by_hand, time_is_told_once,
          steps_are_not_made_up_for, order_by_the_clock, what_tells_something, clock_outlasts_input,
          clock_ends_with_serve, port_ends_behind_the_input, input_ends, port_ends_right_behind_an_answer,
-         port_ends_with_input_open,
-         serve_ends_with_input_open, port_ends_while_lines_come, port_ends_before_an_answer, nobody_listens,
-         input_is_a_folder, output_is_full, streams_are_closed, second_operator, ended_by_a_signal)
+         port_ends_with_input_open, serve_ends_with_input_open, port_ends_while_lines_come,
+         port_ends_before_an_answer, port_ends_before_a_line_is_sent, nobody_listens, input_is_a_folder, output_is_full, streams_are_closed, second_operator, ended_by_a_signal)
 
 
 def main(words):
