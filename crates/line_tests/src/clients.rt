@@ -14,19 +14,20 @@ ghost use Rattle.dp_responder.specs.declared.rule.Rule.{Rule as Rules};
 ghost use Rattle.dp_sap.specs.AccessTable.{chk_cfg, may_lock};
 ghost use Rattle.dp_cfg.specs.Choosing.{chosen};
 ghost use Rattle.dp_slave.specs.declared.description.SlaveSpec.{SlaveSpec as Specs};
-ghost use Rattle.dp_slave.specs.SlaveRecord.{SlaveRecord, configurations, inputs_of};
+ghost use Rattle.dp_slave.specs.SlaveRecord.{SlaveRecord, configurations, inputs_of, output_length, zeros};
+ghost use Rattle.dp_slave.specs.Soundness.{IsSound};
 ghost use Rattle.dp_slave.specs.Fields.{acted};
 ghost use Rattle.dp_slave.specs.Services.{service_act};
 ghost use Rattle.dp_slave.specs.View.{view_of};
 ghost use Rattle.dp_line.specs.declared.event.Event.{Event as Events};
 ghost use Rattle.dp_line.specs.declared.event.Outcome.{Outcome as Answered};
 ghost use Rattle.dp_line.specs.declared.event.Op.{Op as Ops};
-ghost use Rattle.dp_line.specs.World.{described_at, description_of, slave_at, start_of, takes_no_more};
+ghost use Rattle.dp_line.specs.World.{Description, described_at, description_of, slave_at, start_of, takes_no_more};
 ghost use Rattle.dp_line.specs.Events.{is_request_of};
 ghost use Rattle.dp_line.specs.Effects.{slave_after};
 ghost use Rattle.dp_line.specs.Steps.{run, step};
 ghost use Rattle.dp_line.specs.Refusals.{IsRefusal};
-ghost use Rattle.dp_line.specs.Isolation.{Agrees, MeetsNoLastPlace, only_requests_of, watched};
+ghost use Rattle.dp_line.specs.Isolation.{Agrees, MeetsNoLastPlace, only_requests_of, seen_by, watched};
 
 use dp_line::laws::take_each;
 use dp_line::{Event, LineSpec, LineState, Op, OpenFault, SlaveView, Step};
@@ -169,6 +170,34 @@ pub fn configure(
     Ok((line, answer))
 }
 
+/// States that the slave of an address is sound, whatever events came to its line in two lists since the opening. Does
+/// nothing at run time.
+pub fn a_slave_is_sound_after_further_events()
+    ensures { (line : Description) (events further : List Events) (address : ℕ) (slave : SlaveRecord)
+        → slave_at (run (run (start_of line) events).world further).world address ≡ Some slave
+        → IsSound slave }
+{
+    dp_line::bus_laws::each_slave_stays_sound();
+}
+
+/// Opens a line and takes events. After them, and after any further events, the outputs of a cleared slave are
+/// zero, as many as its shape has. So they stay zero until the slave is no longer cleared.
+pub fn outputs_while_cleared(
+    alloc: Global,
+    spec: &LineSpec,
+    events: &[Event],
+) -> Result<LineState, OpenFault>
+    ensures { IfOk result (λ line. (further : List Events) (address : ℕ) (slave : SlaveRecord)
+        → slave_at (run line.world further).world address ≡ Some slave
+        → slave.cleared ≡ true
+        → slave.outputs ≡ zeros (output_length slave)) }
+{
+    a_slave_is_sound_after_further_events();
+    let mut line = LineState::open(alloc, spec)?;
+    take_each(&mut line, events);
+    Ok(line)
+}
+
 /// Opens two lines, and lets each take events of its own.
 pub fn open_both(
     alloc: Global,
@@ -189,6 +218,70 @@ pub fn open_both(
     take_each(&mut line, before);
     take_each(&mut another, before_there);
     Ok((line, another))
+}
+
+/// States that a line that is not halted agrees with itself on each slave that a master holds, and on this
+/// master. Does nothing at run time.
+pub fn agrees_with_itself(line: &LineState)
+    ensures { (master address : ℕ) (slave : SlaveRecord)
+        → slave_at line.now.world address ≡ Some slave
+        → slave.holder ≡ Some master
+        → line.now.world.halted ≡ false
+        → Agrees master address line.now.world line.now.world }
+{
+    dp_line::laws::facts_tell_masters();
+    line.holders_are_masters();
+}
+
+/// A line and its answer to the last request.
+#[derive(Drop)]
+pub struct Asked {
+    /// The line after the request.
+    pub line: LineState,
+    /// The answer.
+    pub answer: Step,
+}
+
+/// Opens two lines of one description. Both take a first request, after which its master holds a slave. Only the
+/// first line then takes a request of another master. Finally both take the same request of the holder.
+///
+/// The other master's request makes no difference to the holder: by the last request it sees the same of the
+/// slave on both lines (`seen_by`), if the lines are not halted and do not meet their last places.
+pub fn ask_beside_another(
+    alloc: Global,
+    spec: &LineSpec,
+    first: &Event,
+    other: &Event,
+    last: &Event,
+) -> Result<(Asked, Asked), OpenFault>
+    ensures { IfOk result (λ both. (master stranger address : ℕ) (sent asked : Vectors ℕ) (slave : SlaveRecord)
+        → let held = (step (start_of (description_of spec.now)) first.now).world in
+        slave_at held address ≡ Some slave
+        → slave.holder ≡ Some master
+        → held.halted ≡ false
+        → other.now ≡ Events.Request stranger sent
+        → stranger ≢ master
+        → last.now ≡ Events.Request master asked
+        → MeetsNoLastPlace held (other.now ∷ last.now ∷ [])
+        → MeetsNoLastPlace held (last.now ∷ [])
+        → seen_by address last.now both.0.line.world both.0.answer ≡ seen_by address last.now both.1.line.world both.1.answer) }
+{
+    dp_line::laws::isolation_since_the_opening();
+    let mut line = LineState::open(alloc, spec)?;
+    let mut another = LineState::open(alloc, spec)?;
+    line.take(first);
+    another.take(first);
+    agrees_with_itself(&line);
+    line.take(other);
+    let answer = line.take(last);
+    let alone = another.take(last);
+    Ok((
+        Asked { line, answer },
+        Asked {
+            line: another,
+            answer: alone,
+        },
+    ))
 }
 
 /// Asks for the list of an address that is no master's.
