@@ -99,7 +99,7 @@ fn header_is_wrong(rt: HostRuntime) -> Result<(), Fail> {
             "",
             "rack-audit 2 line 1",
             "rack-audit 2 line 2\n",
-            "rack-audit 3 line 1\n",
+            "rack-audit 4 line 1\n",
             "rack-audit 2 line 01\n",
         ],
         "bad line 1, fault 2",
@@ -175,6 +175,17 @@ fn halt_at_last_place(rt: HostRuntime) -> Result<(), Fail> {
     )
 }
 
+/// A text of version 3 is judged on the endless line, which has places behind the last one of the description.
+#[test]
+fn endless_line_goes_on_behind_the_last_place(rt: HostRuntime) -> Result<(), Fail> {
+    checks(
+        rt.alloc(),
+        2,
+        "rack-audit 3 line 1\n1 tick 1 | none | released\n2 tick 1 | none | released\n3 halt | none | released\n",
+        "legal 3",
+    )
+}
+
 /// Also that the text of a full book is accepted.
 #[test]
 fn halt_releases(rt: HostRuntime) -> Result<(), Fail> {
@@ -211,5 +222,6 @@ fn heads(alloc: Global, row: &str, expected: &str) -> Result<(), Fail> {
 fn headers(rt: HostRuntime) -> Result<(), Fail> {
     heads(rt.alloc(), "rack-audit 2 line 1", "true false")?;
     heads(rt.alloc(), "rack-audit 1 line 2", "false true")?;
-    heads(rt.alloc(), "rack-audit 3 line 1", "false false")
+    heads(rt.alloc(), "rack-audit 3 line 1", "true false")?;
+    heads(rt.alloc(), "rack-audit 4 line 1", "false false")
 }

@@ -151,7 +151,16 @@ fn write(alloc: Global, count: usize, endless: &str, ordinary: &str) -> Result<(
     is_told(written(alloc, &books.ordinary)?, ordinary)
 }
 
-/// The audit text of the first four entries.
+/// The audit text of the first four entries of an endless book.
+const FOUR_ENDLESS: &str = "\
+rack-audit 3 line 1
+1 tick 1 | none | released
+2 in 5 0002 | WaitPrm none | done
+3 req 1 100501494f16 | WaitPrm none | reply 100105000616 Status
+4 tick 4 | none | released
+written";
+
+/// That of an ordinary book.
 const FOUR: &str = "\
 rack-audit 2 line 1
 1 tick 1 | none | released
@@ -160,10 +169,10 @@ rack-audit 2 line 1
 4 tick 4 | none | released
 written";
 
-/// An endless book that forgot no entry writes the text of an ordinary book.
+/// An endless book that forgot no entry writes the text of an ordinary book, but its header names version 3.
 #[test]
 fn text_of_all_entries(rt: HostRuntime) -> Result<(), Fail> {
-    write(rt.alloc(), 4, FOUR, FOUR)
+    write(rt.alloc(), 4, FOUR_ENDLESS, FOUR)
 }
 
 /// An endless book that forgot an entry writes nothing.
