@@ -237,8 +237,8 @@ all_empty : (masters : List ℕ) (descriptions : List SlaveSpec) → AllByRecurs
 all_empty masters [] = tt
 all_empty masters (description ∷ descriptions) = (refl, all_empty masters descriptions)
 
-kept_first : (line : Description) → IsKept line [] (first_known line)
-kept_first line = record {
+kept_first : (line : Description) (places : ℕ) → IsKept line [] (first_known line places)
+kept_first line places = record {
   described = refl;
   masters = refl;
   stations = start_described line;
@@ -310,39 +310,39 @@ some_parts : {A : Type 0} (a b : A) → Some a ≡ Some b → a ≡ b
 some_parts a b is = cc
 
 -- what is known where an entry is told, and what its request has met
-record IsTold (line : Description) (before : List Entry) (entry : Entry) (master : ℕ) (octets reply : ArrayVec ℕ) (telegram : Telegram) : Type 0 where
-  kept : IsKept line before (known_behind_entries (first_known line) before)
-  met_there : IsMet (known_behind_entries (first_known line) before).scene.world master octets reply rules.Repeat telegram
+record IsTold (line : Description) (places : ℕ) (before : List Entry) (entry : Entry) (master : ℕ) (octets reply : ArrayVec ℕ) (telegram : Telegram) : Type 0 where
+  kept : IsKept line before (known_behind_entries (first_known line places) before)
+  met_there : IsMet (known_behind_entries (first_known line places) before).scene.world master octets reply rules.Repeat telegram
 
-told_there : (line : Description) (before : List Entry) (entry : Entry) (master : ℕ) (octets reply : ArrayVec ℕ) (telegram : Telegram) → IsLegal (start_of line) (before ++ entry ∷ [])
-    → entry.event ≡ Request master octets → telegram_spelt octets.items ≡ Some telegram → entry.outcome ≡ Reply reply rules.Repeat → IsTold line before entry master octets reply telegram
-told_there line before entry master octets reply telegram legal request spelt told =
-    let last = last_of (start_of line) before entry legal in
-    let world = (known_behind_entries (first_known line) before).scene.world in
-    let same = sym (world_known (first_known line) before) in
+told_there : (line : Description) (places : ℕ) (before : List Entry) (entry : Entry) (master : ℕ) (octets reply : ArrayVec ℕ) (telegram : Telegram) → IsLegal (start_of (record line { capacity = places })) (before ++ entry ∷ [])
+    → entry.event ≡ Request master octets → telegram_spelt octets.items ≡ Some telegram → entry.outcome ≡ Reply reply rules.Repeat → IsTold line places before entry master octets reply telegram
+told_there line places before entry master octets reply telegram legal request spelt told =
+    let last = last_of (start_of (record line { capacity = places })) before entry legal in
+    let world = (known_behind_entries (first_known line places) before).scene.world in
+    let same = sym (world_known (first_known line places) before) in
     let follows = subst (λ (w : World). Follows w entry) same last.follows in
     record {
-      kept = kept_entries line [] (first_known line) before (kept_first line) last.legal;
+      kept = kept_entries line [] (first_known line places) before (kept_first line places) last.legal;
       met_there = met world master octets reply rules.Repeat telegram spelt (ap (outcome_of world) (sym request) ∙ sym follows.outcome ∙ told);
     }
 
 -- what is replied to is a telegram
-pub replied_telegram : (line : Description) (before : List Entry) (entry : Entry) (master : ℕ) (octets reply : ArrayVec ℕ) (rule : Rule) → IsLegal (start_of line) (before ++ entry ∷ [])
+pub replied_telegram : (line : Description) (places : ℕ) (before : List Entry) (entry : Entry) (master : ℕ) (octets reply : ArrayVec ℕ) (rule : Rule) → IsLegal (start_of (record line { capacity = places })) (before ++ entry ∷ [])
     → entry.event ≡ Request master octets → entry.outcome ≡ Reply reply rule → is_some (telegram_spelt octets.items) ≡ true
-replied_telegram line before entry master octets reply rule legal request told =
-    let last = last_of (start_of line) before entry legal in
-    let world = after_entries (start_of line) before in
+replied_telegram line places before entry master octets reply rule legal request told =
+    let last = last_of (start_of (record line { capacity = places })) before entry legal in
+    let world = after_entries (start_of (record line { capacity = places })) before in
     let outcome = sym (outcome_is world master octets) ∙ ap (outcome_of world) (sym request) ∙ sym last.follows.outcome ∙ told in
     ap is_some (sym (spelt_is world master octets.items))
     ∙ has_telegram (heard world master octets.items) (replied_concerns (heard world master octets.items) reply rule outcome)
 
-pub repeats : (line : Description) (before : List Entry) (entry : Entry) (master : ℕ) (octets reply : ArrayVec ℕ) (telegram : Telegram) → IsLegal (start_of line) (before ++ entry ∷ [])
+pub repeats : (line : Description) (places : ℕ) (before : List Entry) (entry : Entry) (master : ℕ) (octets reply : ArrayVec ℕ) (telegram : Telegram) → IsLegal (start_of (record line { capacity = places })) (before ++ entry ∷ [])
     → entry.event ≡ Request master octets → telegram_spelt octets.items ≡ Some telegram → entry.outcome ≡ Reply reply rules.Repeat
-    → IsLastReplied before (address_of telegram.da) master (place_noted (known_behind_entries (first_known line) before).scene.notes (address_of telegram.da) master)
+    → IsLastReplied before (address_of telegram.da) master (place_noted (known_behind_entries (first_known line places) before).scene.notes (address_of telegram.da) master)
     (frame_count_bit telegram.fc) reply.items
-repeats line before entry master octets reply telegram legal request spelt told =
-    let there = told_there line before entry master octets reply telegram legal request spelt told in
-    let known = known_behind_entries (first_known line) before in
+repeats line places before entry master octets reply telegram legal request spelt told =
+    let there = told_there line places before entry master octets reply telegram legal request spelt told in
+    let known = known_behind_entries (first_known line places) before in
     let m = there.met_there in
     let again = again_by (remembered_of m.slave.memory master) telegram.fc (repeat_row master telegram m.parts m.slave m.ruled) in
     let text : again.last.reply ≡ reply.items =
@@ -372,13 +372,13 @@ row_by scene master octets reply telegram parts description slave spelt read des
     ∙ ap (λ (s : Option SlaveView). result_row (told_where_known (record { master = master; telegram = telegram; parts = parts }) (place_noted scene.notes (address_of telegram.da) master) false rules.Repeat
     (Some description) s)) shown
 
-pub repeat_told : (line : Description) (before : List Entry) (entry : Entry) (master : ℕ) (octets reply : ArrayVec ℕ) (telegram : Telegram) → IsLegal (start_of line) (before ++ entry ∷ [])
+pub repeat_told : (line : Description) (places : ℕ) (before : List Entry) (entry : Entry) (master : ℕ) (octets reply : ArrayVec ℕ) (telegram : Telegram) → IsLegal (start_of (record line { capacity = places })) (before ++ entry ∷ [])
     → entry.event ≡ Request master octets → telegram_spelt octets.items ≡ Some telegram → entry.outcome ≡ Reply reply rules.Repeat
-    → result_rows (known_behind_entries (first_known line) before).scene entry.event entry.outcome
-    ≡ result_row (codes "repeat: " ++ repeat_text (place_noted (known_behind_entries (first_known line) before).scene.notes (address_of telegram.da) master))
-repeat_told line before entry master octets reply telegram legal request spelt told =
-    let there = told_there line before entry master octets reply telegram legal request spelt told in
-    let scene = (known_behind_entries (first_known line) before).scene in
+    → result_rows (known_behind_entries (first_known line places) before).scene entry.event entry.outcome
+    ≡ result_row (codes "repeat: " ++ repeat_text (place_noted (known_behind_entries (first_known line places) before).scene.notes (address_of telegram.da) master))
+repeat_told line places before entry master octets reply telegram legal request spelt told =
+    let there = told_there line places before entry master octets reply telegram legal request spelt told in
+    let scene = (known_behind_entries (first_known line places) before).scene in
     let m = there.met_there in
     let found = described_there (described_at line.slaves (address_of telegram.da)) (there.kept.stations (address_of telegram.da) m.slave m.here) in
     let described = ap (λ (d : Description). described_at d.slaves (address_of telegram.da)) there.kept.described ∙ found.is in

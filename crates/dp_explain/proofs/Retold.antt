@@ -17,10 +17,10 @@ use Rattle.dp_audit.specs.declared.fault.AuditFault.{AuditFault}
 use Rattle.dp_audit.specs.EventWays.{Way, meets_halt, is_refused, brings_halt, is_recorded}
 use Rattle.dp_audit.specs.Legal.{Follows, IsLegal, after_entry}
 use Rattle.dp_audit.specs.AuditText.{entry_text}
-use Rattle.dp_audit.specs.Check.{IsAuditOf, checked}
+use Rattle.dp_audit.specs.Check.{IsAuditOf, checked, places_of_header}
 use Rattle.dp_audit.proofs.Judged.{entry_judged}
 use Rattle.dp_audit.proofs.Parts.{NumbersAreRead, EventsAreRead}
-use Rattle.dp_audit.proofs.Texts.{HasRoom, room_at_start, room_kept, small_place}
+use Rattle.dp_audit.proofs.Texts.{HasRoom, room_at_header, room_kept, small_place}
 use Rattle.dp_sentences.specs.Scenes.{SceneView}
 use Rattle.dp_sentences.specs.Results.{shown_at}
 use Rattle.dp_explain.specs.declared.part.Part.{Part}
@@ -28,9 +28,9 @@ use Rattle.dp_explain.specs.declared.part.Part.TheVariants as parts
 use Rattle.dp_explain.specs.Holds.{hold_lasts}
 use Rattle.dp_explain.specs.Tallies.{tally_text}
 use Rattle.dp_explain.specs.Known.{KnownView, first_known, known_after, known_with, outcome_told, outcome_with, slave_addresses}
-use Rattle.dp_explain.specs.Explained.{event_of_row, explained_by, holds_of, known_behind, last_known, moment_text, told_event, told_row, told_rows, told_text, verdict_text}
+use Rattle.dp_explain.specs.Explained.{event_of_row, explained_by, holds_of, known_behind, last_known, moment_text, right_rows, told_event, told_row, told_rows, told_text, verdict_text}
 use Rattle.dp_explain.specs.JournalTold.{IsToldByItsEntries, holds_of_entries, known_behind_entries, known_behind_entry, told_entries}
-use Rattle.dp_explain.proofs.Rows.{row_is_read, rows_are}
+use Rattle.dp_explain.proofs.Rows.{places_are, row_is_read, rows_are}
 
 -- ---- an event that is recorded is taken as its entry says
 
@@ -133,15 +133,17 @@ whole_same a b c d x y z w first second third fourth = rw (first, second, third,
 
 pub told_by_entries : Ways → NumbersAreRead → EventsAreRead → ((line : Description) (text : List ℕ) (count : ℕ) → opening_fault line ≡ None → IsAuditOf line text count → checked line text ≡ Ok count) → IsToldByItsEntries
 told_by_entries ways numbers events accepted line text count choice opens audit =
-    let start = first_known line in
+    let places = places_of_header line audit.header in
+    let start = first_known line places in
     let entries = audit.entries in
-    let room = room_at_start line opens in
+    let room = room_at_header line audit.header opens in
     let told : (part : Part) → told_rows part start (map entry_text entries) ≡ told_entries part start entries = λ part. entries_told ways numbers events part start entries audit.legal audit.limits room in
     let known : last_known start (map entry_text entries) ≡ known_behind_entries start entries = entries_known ways numbers events start entries audit.legal audit.limits room in
-    let holds : (address : ℕ) → holds_of line (map entry_text entries) address ≡ holds_of_entries line entries address = λ address.
+    let holds : (address : ℕ) → holds_of line places (map entry_text entries) address ≡ holds_of_entries line places entries address = λ address.
     ap (λ (front : List ℕ). front ++ hold_lasts address (shown_at (last_known start (map entry_text entries)).scene.world address)) (told (parts.HoldsOf address))
     ∙ ap (λ (k : KnownView). told_entries (parts.HoldsOf address) start entries ++ hold_lasts address (shown_at k.scene.world address)) known in
     ap (λ (verdict : Result ℕ AuditFault). explained_by verdict line text choice) (accepted line text count opens audit)
-    ∙ ap (λ (rows : List (List ℕ)). told_text line rows choice ++ verdict_text (Ok count)) (rows_are line text count audit)
+    ∙ ap (λ (n : ℕ). told_text line n (right_rows (Ok count) text) choice ++ verdict_text (Ok count)) (places_are line text count audit)
+    ∙ ap (λ (rows : List (List ℕ)). told_text line places rows choice ++ verdict_text (Ok count)) (rows_are line text count audit)
     ∙ whole_same _ _ _ _ _ _ _ _ (told (parts.Entries choice)) (same_texts _ _ holds (slave_addresses line))
     (ap (λ (k : KnownView). tally_text k.tally) known) (ap (λ (n : ℕ). verdict_text (Ok n)) (sym audit.counted))

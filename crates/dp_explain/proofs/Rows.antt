@@ -6,7 +6,7 @@ use Rattle.dp_line.specs.World.{Description, World}
 use Rattle.dp_text.specs.Words.{lines_of}
 use Rattle.dp_audit.specs.declared.entry.Entry.{Entry}
 use Rattle.dp_audit.specs.AuditText.{entry_text}
-use Rattle.dp_audit.specs.Check.{IsAuditOf, LineParts, Placed, not_the_policy, right, last_parts, parted, placed_of, judged_placed, judged_parts, judged_line}
+use Rattle.dp_audit.specs.Check.{IsAuditOf, places_of_header, places_of_lines, LineParts, Placed, not_the_policy, right, last_parts, parted, placed_of, judged_placed, judged_parts, judged_line}
 use Rattle.dp_audit.proofs.Headers.{accepted_has_no_lf}
 use Rattle.dp_audit.proofs.Texts.{audit_lines, entry_lines}
 use Rattle.dp_explain.specs.Explained.{event_of_row}
@@ -56,3 +56,7 @@ rows_are line text count audit =
     ap (λ (lines : List (List ℕ)). take count (drop 1 lines)) (ap lines_of audit.written ∙ audit_lines audit.header audit.entries (accepted_has_no_lf line audit.header audit.headed))
     ∙ ap (λ (n : ℕ). take n (entry_lines audit.entries)) (sym audit.counted)
     ∙ entry_rows audit.entries
+
+-- the line on which the text is judged has the places that its header is for
+pub places_are : (line : Description) (text : List ℕ) (count : ℕ) (audit : IsAuditOf line text count) → places_of_lines line (lines_of text) ≡ places_of_header line audit.header
+places_are line text count audit = ap (places_of_lines line) (ap lines_of audit.written ∙ audit_lines audit.header audit.entries (accepted_has_no_lf line audit.header audit.headed))

@@ -76,25 +76,25 @@ holds_cut holds all old new newer address addresses s cut =
 -- ---- a pass, and what comes behind it
 
 -- the rows are told in a pass, and then what is known behind them
-pub pass_then : (part : Part) (line : Description) (count : ℕ) (lines rows : List (List ℕ)) (known last : KnownView) (behind : KnownView → List ℕ) (old new newer : Option (List ℕ)) (result : Result (Unit {0}) ExplainFault)
-    → known ≡ first_known line → rows ≡ drop 1 lines → Appends old new (told_rows part known (take count rows)) → last ≡ last_known known (take count rows) → Leaves (behind last) new newer result
-    → Leaves (told_rows part (first_known line) (take count (drop 1 lines)) ++ behind (last_known (first_known line) (take count (drop 1 lines)))) old newer result
-pass_then part line count lines rows known last behind old new newer result first behind_header written end others =
-    let text : told_rows part known (take count rows) ≡ told_rows part (first_known line) (take count (drop 1 lines)) =
-    ap (λ (s : KnownView). told_rows part s (take count rows)) first ∙ ap (λ (r : List (List ℕ)). told_rows part (first_known line) (take count r)) behind_header in
-    let behind_last : last ≡ last_known (first_known line) (take count (drop 1 lines)) =
-    end ∙ ap (λ (s : KnownView). last_known s (take count rows)) first ∙ ap (λ (r : List (List ℕ)). last_known (first_known line) (take count r)) behind_header in
-    then_leaves old new newer (told_rows part (first_known line) (take count (drop 1 lines))) (behind (last_known (first_known line) (take count (drop 1 lines)))) result
+pub pass_then : (part : Part) (line : Description) (places count : ℕ) (lines rows : List (List ℕ)) (known last : KnownView) (behind : KnownView → List ℕ) (old new newer : Option (List ℕ)) (result : Result (Unit {0}) ExplainFault)
+    → known ≡ first_known line places → rows ≡ drop 1 lines → Appends old new (told_rows part known (take count rows)) → last ≡ last_known known (take count rows) → Leaves (behind last) new newer result
+    → Leaves (told_rows part (first_known line places) (take count (drop 1 lines)) ++ behind (last_known (first_known line places) (take count (drop 1 lines)))) old newer result
+pass_then part line places count lines rows known last behind old new newer result first behind_header written end others =
+    let text : told_rows part known (take count rows) ≡ told_rows part (first_known line places) (take count (drop 1 lines)) =
+    ap (λ (s : KnownView). told_rows part s (take count rows)) first ∙ ap (λ (r : List (List ℕ)). told_rows part (first_known line places) (take count r)) behind_header in
+    let behind_last : last ≡ last_known (first_known line places) (take count (drop 1 lines)) =
+    end ∙ ap (λ (s : KnownView). last_known s (take count rows)) first ∙ ap (λ (r : List (List ℕ)). last_known (first_known line places) (take count r)) behind_header in
+    then_leaves old new newer (told_rows part (first_known line places) (take count (drop 1 lines))) (behind (last_known (first_known line places) (take count (drop 1 lines)))) result
     (subst (Appends old new) text written) (subst (λ (s : KnownView). Leaves (behind s) new newer result) behind_last others)
 
 -- the pass was cut short
-pub pass_cut : (part : Part) (line : Description) (count : ℕ) (lines rows : List (List ℕ)) (known : KnownView) (behind : List ℕ) (old new : Option (List ℕ))
-    → known ≡ first_known line → rows ≡ drop 1 lines → WritesPrefix old new (told_rows part known (take count rows))
-    → WritesPrefix old new (told_rows part (first_known line) (take count (drop 1 lines)) ++ behind)
-pass_cut part line count lines rows known behind old new first behind_header cut =
-    let text : told_rows part known (take count rows) ≡ told_rows part (first_known line) (take count (drop 1 lines)) =
-    ap (λ (s : KnownView). told_rows part s (take count rows)) first ∙ ap (λ (r : List (List ℕ)). told_rows part (first_known line) (take count r)) behind_header in
-    front_cut old new (told_rows part (first_known line) (take count (drop 1 lines))) behind (subst (WritesPrefix old new) text cut)
+pub pass_cut : (part : Part) (line : Description) (places count : ℕ) (lines rows : List (List ℕ)) (known : KnownView) (behind : List ℕ) (old new : Option (List ℕ))
+    → known ≡ first_known line places → rows ≡ drop 1 lines → WritesPrefix old new (told_rows part known (take count rows))
+    → WritesPrefix old new (told_rows part (first_known line places) (take count (drop 1 lines)) ++ behind)
+pass_cut part line places count lines rows known behind old new first behind_header cut =
+    let text : told_rows part known (take count rows) ≡ told_rows part (first_known line places) (take count (drop 1 lines)) =
+    ap (λ (s : KnownView). told_rows part s (take count rows)) first ∙ ap (λ (r : List (List ℕ)). told_rows part (first_known line places) (take count r)) behind_header in
+    front_cut old new (told_rows part (first_known line places) (take count (drop 1 lines))) behind (subst (WritesPrefix old new) text cut)
 
 -- the next of the rows that are left
 pub take_next : (count index : ℕ) (row : List ℕ) (rows : List (List ℕ)) → index < count → take (count - index) (row ∷ rows) ≡ row ∷ take (count - (index + 1)) rows

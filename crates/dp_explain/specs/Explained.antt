@@ -11,7 +11,7 @@ use Rattle.dp_text.specs.Words.{lines_of}
 use Rattle.dp_text.specs.Writes.{WritesPrefix}
 use Rattle.dp_audit.specs.declared.fault.AuditFault.{AuditFault}
 use Rattle.dp_audit.specs.declared.fault.AuditFault.TheVariants as faults
-use Rattle.dp_audit.specs.Check.{checked, parted, placed_of}
+use Rattle.dp_audit.specs.Check.{checked, parted, placed_of, places_of_lines}
 use Rattle.dp_explain.specs.declared.choice.Choice.{Choice}
 use Rattle.dp_explain.specs.declared.part.Part.{Part}
 use Rattle.dp_explain.specs.declared.part.Part.TheVariants as parts
@@ -84,26 +84,26 @@ verdict_status (Err fault) = 1
 abbrev pub right_rows : Result ℕ AuditFault → List ℕ → List (List ℕ)
 right_rows verdict text = take (right_entries verdict) (drop 1 (lines_of text))
 
--- the holds of a slave in the order in which they began, the last of which may last to the end
-abbrev pub holds_of : Description → List (List ℕ) → ℕ → List ℕ
-holds_of line rows address =
-    told_rows (parts.HoldsOf address) (first_known line) rows
-    ++ hold_lasts address (shown_at (last_known (first_known line) rows).scene.world address)
+-- the holds of a slave of a line with this number of places, in the order in which they began, the last of which may last to the end
+abbrev pub holds_of : Description → ℕ → List (List ℕ) → ℕ → List ℕ
+holds_of line places rows address =
+    told_rows (parts.HoldsOf address) (first_known line places) rows
+    ++ hold_lasts address (shown_at (last_known (first_known line places) rows).scene.world address)
 
 -- the holds of each slave in the order of the rack, and how many requests were answered by each rule
-abbrev pub holds_text : Description → List (List ℕ) → List ℕ
-holds_text line rows = codes "holds\n" ++ flat_map (holds_of line rows) (slave_addresses line)
+abbrev pub holds_text : Description → ℕ → List (List ℕ) → List ℕ
+holds_text line places rows = codes "holds\n" ++ flat_map (holds_of line places rows) (slave_addresses line)
 
-abbrev pub summary_text : Description → List (List ℕ) → List ℕ
-summary_text line rows = holds_text line rows ++ tally_text (last_known (first_known line) rows).tally
+abbrev pub summary_text : Description → ℕ → List (List ℕ) → List ℕ
+summary_text line places rows = holds_text line places rows ++ tally_text (last_known (first_known line places) rows).tally
 
 -- the entries and the summary
-abbrev pub told_text : Description → List (List ℕ) → Choice → List ℕ
-told_text line rows choice = told_rows (parts.Entries choice) (first_known line) rows ++ summary_text line rows
+abbrev pub told_text : Description → ℕ → List (List ℕ) → Choice → List ℕ
+told_text line places rows choice = told_rows (parts.Entries choice) (first_known line places) rows ++ summary_text line places rows
 
 -- and what the text is found to be
 abbrev pub explained_by : Result ℕ AuditFault → Description → List ℕ → Choice → List ℕ
-explained_by verdict line text choice = told_text line (right_rows verdict text) choice ++ verdict_text verdict
+explained_by verdict line text choice = told_text line (places_of_lines line (lines_of text)) (right_rows verdict text) choice ++ verdict_text verdict
 
 -- an audit text of a line, explained
 abbrev pub explained : Description → List ℕ → Choice → List ℕ

@@ -4,7 +4,7 @@ use Rattle.std.specs.List.{flat_map}
 use Rattle.dp_line.specs.World.{Description, opening_fault}
 use Rattle.dp_audit.specs.declared.entry.Entry.{Entry}
 use Rattle.dp_audit.specs.Legal.{after_entry}
-use Rattle.dp_audit.specs.Check.{IsAuditOf}
+use Rattle.dp_audit.specs.Check.{IsAuditOf, places_of_header}
 use Rattle.dp_sentences.specs.Results.{shown_at}
 use Rattle.dp_explain.specs.declared.choice.Choice.{Choice}
 use Rattle.dp_explain.specs.declared.part.Part.{Part}
@@ -29,24 +29,24 @@ abbrev pub known_behind_entries : KnownView → List Entry → KnownView
 known_behind_entries known [] = known
 known_behind_entries known (entry ∷ entries) = known_behind_entries (known_behind_entry known entry) entries
 
-abbrev pub holds_of_entries : Description → List Entry → ℕ → List ℕ
-holds_of_entries line entries address =
-    told_entries (parts.HoldsOf address) (first_known line) entries
-    ++ hold_lasts address (shown_at (known_behind_entries (first_known line) entries).scene.world address)
+abbrev pub holds_of_entries : Description → ℕ → List Entry → ℕ → List ℕ
+holds_of_entries line places entries address =
+    told_entries (parts.HoldsOf address) (first_known line places) entries
+    ++ hold_lasts address (shown_at (known_behind_entries (first_known line places) entries).scene.world address)
 
-abbrev pub summary_of_entries : Description → List Entry → List ℕ
-summary_of_entries line entries =
-    (codes "holds\n" ++ flat_map (holds_of_entries line entries) (slave_addresses line))
-    ++ tally_text (known_behind_entries (first_known line) entries).tally
+abbrev pub summary_of_entries : Description → ℕ → List Entry → List ℕ
+summary_of_entries line places entries =
+    (codes "holds\n" ++ flat_map (holds_of_entries line places entries) (slave_addresses line))
+    ++ tally_text (known_behind_entries (first_known line places) entries).tally
 
--- the entries that are chosen, the summary, and that the text is legal
-abbrev pub journal_told : Description → List Entry → Choice → List ℕ
-journal_told line entries choice =
-    (told_entries (parts.Entries choice) (first_known line) entries ++ summary_of_entries line entries)
+-- of a line with this number of places: the entries that are chosen, the summary, and that the text is legal
+abbrev pub journal_told : Description → ℕ → List Entry → Choice → List ℕ
+journal_told line places entries choice =
+    (told_entries (parts.Entries choice) (first_known line places) entries ++ summary_of_entries line places entries)
     ++ verdict_text (Ok (length entries))
 
 -- the explanation of a legal text of a line that can be opened is that of its entries
 abbrev pub IsToldByItsEntries : Type 0
 IsToldByItsEntries =
     (line : Description) (text : List ℕ) (count : ℕ) (choice : Choice) → opening_fault line ≡ None → (audit : IsAuditOf line text count)
-    → explained line text choice ≡ journal_told line audit.entries choice
+    → explained line text choice ≡ journal_told line (places_of_header line audit.header) audit.entries choice

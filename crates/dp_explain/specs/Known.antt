@@ -18,10 +18,10 @@ pub record KnownView : Type 0 where
 abbrev pub slave_addresses : Description → List ℕ
 slave_addresses line = map (λ slave. slave.address) line.slaves
 
--- before the first entry
-abbrev pub first_known : Description → KnownView
-first_known line = record {
-  scene = record { description = line; world = start_of line; notes = first_notes (slave_addresses line) line.masters };
+-- before the first entry of a line with this number of places
+abbrev pub first_known : Description → ℕ → KnownView
+first_known line places = record {
+  scene = record { description = line; world = start_of (record line { capacity = places }); notes = first_notes (slave_addresses line) line.masters };
   tally = first_tally line.masters;
 }
 

@@ -4,7 +4,7 @@ ghost use Rattle.std.specs.Prelude.{◌≡◌, ◌++◌, None, take, drop};
 ghost use Rattle.std.specs.List.{flat_map};
 ghost use Rattle.dp_text.specs.Words.{lines_of};
 ghost use Rattle.dp_line.specs.World.{description_of, opening_fault};
-ghost use Rattle.dp_audit.specs.Check.{checked};
+ghost use Rattle.dp_audit.specs.Check.{checked, places_of_lines};
 ghost use Rattle.dp_explain.specs.Tallies.{tally_text};
 ghost use Rattle.dp_explain.specs.Known.{slave_addresses};
 ghost use Rattle.dp_explain.specs.Explained.{right_entries, verdict_text, verdict_status, holds_of, holds_text, told_text, explained, explained_by, Leaves, Explains};
@@ -92,10 +92,10 @@ fn tell_text<W: Write>(
     writer: &mut W,
 ) -> Result<(), ExplainFault>
     requires { opening_fault (description_of line.now) ≡ None }
-    ensures { Leaves (told_text (description_of line.now) (take count (drop 1 (lines_of text.now))) choice.now)
+    ensures { Leaves (told_text (description_of line.now) (places_of_lines (description_of line.now) (lines_of text.now)) (take count (drop 1 (lines_of text.now))) choice.now)
         (W.contents writer.old) (W.contents writer.new) result }
 {
-    let mut telling = match Telling::open(alloc, line) {
+    let mut telling = match Telling::open(alloc, line, text) {
         Ok(telling) => telling,
         Err(fault) => return Err(fault),
     };
@@ -115,7 +115,7 @@ fn tell_summary<W: Write>(
     writer: &mut W,
 ) -> Result<(), ExplainFault>
     requires { opening_fault (description_of line.now) ≡ None }
-    ensures { Leaves (holds_text (description_of line.now) (take count (drop 1 (lines_of text.now))) ++ tally_text telling.old.tally)
+    ensures { Leaves (holds_text (description_of line.now) (places_of_lines (description_of line.now) (lines_of text.now)) (take count (drop 1 (lines_of text.now))) ++ tally_text telling.old.tally)
         (W.contents writer.old) (W.contents writer.new) result }
 {
     match tell_all_holds(alloc, line, text, count, writer) {
@@ -133,7 +133,7 @@ fn tell_all_holds<W: Write>(
     writer: &mut W,
 ) -> Result<(), ExplainFault>
     requires { opening_fault (description_of line.now) ≡ None }
-    ensures { Leaves (holds_text (description_of line.now) (take count (drop 1 (lines_of text.now))))
+    ensures { Leaves (holds_text (description_of line.now) (places_of_lines (description_of line.now) (lines_of text.now)) (take count (drop 1 (lines_of text.now))))
         (W.contents writer.old) (W.contents writer.new) result }
 {
     match write_whole(writer, b"holds\n") {
@@ -151,7 +151,7 @@ fn tell_holds<W: Write>(
     writer: &mut W,
 ) -> Result<(), ExplainFault>
     requires { opening_fault (description_of line.now) ≡ None }
-    ensures { Leaves (flat_map (holds_of (description_of line.now) (take count (drop 1 (lines_of text.now)))) (slave_addresses (description_of line.now)))
+    ensures { Leaves (flat_map (holds_of (description_of line.now) (places_of_lines (description_of line.now) (lines_of text.now)) (take count (drop 1 (lines_of text.now)))) (slave_addresses (description_of line.now)))
         (W.contents writer.old) (W.contents writer.new) result }
 {
     for slave in line.slaves.as_slice() {
@@ -173,10 +173,10 @@ fn tell_holds_of<W: Write>(
     writer: &mut W,
 ) -> Result<(), ExplainFault>
     requires { opening_fault (description_of line.now) ≡ None }
-    ensures { Leaves (holds_of (description_of line.now) (take count (drop 1 (lines_of text.now))) address)
+    ensures { Leaves (holds_of (description_of line.now) (places_of_lines (description_of line.now) (lines_of text.now)) (take count (drop 1 (lines_of text.now))) address)
         (W.contents writer.old) (W.contents writer.new) result }
 {
-    let mut telling = match Telling::open(alloc, line) {
+    let mut telling = match Telling::open(alloc, line, text) {
         Ok(telling) => telling,
         Err(fault) => return Err(fault),
     };

@@ -58,26 +58,27 @@ pub fn a_slave_without_a_row_is_as_it_was()
 /// The place that is told of a repeat is that of the request whose reply is given again, at each entry of a legal
 /// journal since the line was opened: of the entries before it the last SRD of the same master to the same slave that the
 /// slave judged anew and replied to has this place, the FCB of the repeat, and the very reply; and the row of the repeat
-/// names this place. What is replied to, as a repeat is, always is a telegram.
+/// names this place. What is replied to, as a repeat is, always is a telegram. The line may have any number of places, as an
+/// endless line has.
 pub fn a_repeat_is_told_by_the_place_of_its_request()
-    ensures telegram { (line : Description) (before : List Entry) (entry : Entry) (master : ℕ) (octets reply : ArrayVec ℕ) (rule : Rule)
-        → IsLegal (start_of line) (before ++ entry ∷ [])
+    ensures telegram { (line : Description) (places : ℕ) (before : List Entry) (entry : Entry) (master : ℕ) (octets reply : ArrayVec ℕ) (rule : Rule)
+        → IsLegal (start_of (record line { capacity = places })) (before ++ entry ∷ [])
         → entry.event ≡ Event.Request master octets
         → entry.outcome ≡ Outcome.Reply reply rule
         → is_some (telegram_spelt octets.items) ≡ true }
-    ensures request { (line : Description) (before : List Entry) (entry : Entry) (master : ℕ) (octets reply : ArrayVec ℕ) (telegram : Telegram)
-        → IsLegal (start_of line) (before ++ entry ∷ [])
+    ensures request { (line : Description) (places : ℕ) (before : List Entry) (entry : Entry) (master : ℕ) (octets reply : ArrayVec ℕ) (telegram : Telegram)
+        → IsLegal (start_of (record line { capacity = places })) (before ++ entry ∷ [])
         → entry.event ≡ Event.Request master octets
         → telegram_spelt octets.items ≡ Some telegram
         → entry.outcome ≡ Outcome.Reply reply Rule.Repeat
         → IsLastReplied before (address_of telegram.da) master
-        (place_noted (known_behind_entries (first_known line) before).scene.notes (address_of telegram.da) master)
+        (place_noted (known_behind_entries (first_known line places) before).scene.notes (address_of telegram.da) master)
         (frame_count_bit telegram.fc) reply.items }
-    ensures row { (line : Description) (before : List Entry) (entry : Entry) (master : ℕ) (octets reply : ArrayVec ℕ) (telegram : Telegram)
-        → IsLegal (start_of line) (before ++ entry ∷ [])
+    ensures row { (line : Description) (places : ℕ) (before : List Entry) (entry : Entry) (master : ℕ) (octets reply : ArrayVec ℕ) (telegram : Telegram)
+        → IsLegal (start_of (record line { capacity = places })) (before ++ entry ∷ [])
         → entry.event ≡ Event.Request master octets
         → telegram_spelt octets.items ≡ Some telegram
         → entry.outcome ≡ Outcome.Reply reply Rule.Repeat
-        → result_rows (known_behind_entries (first_known line) before).scene entry.event entry.outcome
-        ≡ result_row (codes "repeat: " ++ repeat_text (place_noted (known_behind_entries (first_known line) before).scene.notes (address_of telegram.da) master)) }
+        → result_rows (known_behind_entries (first_known line places) before).scene entry.event entry.outcome
+        ≡ result_row (codes "repeat: " ++ repeat_text (place_noted (known_behind_entries (first_known line places) before).scene.notes (address_of telegram.da) master)) }
 {}

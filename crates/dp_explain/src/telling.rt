@@ -1,7 +1,9 @@
 //! The entries of an audit text, told one after another.
 
 ghost use Rattle.std.specs.Prelude.{◌≡◌, ◌+◌, if◌then◌else◌, [], take, None, Some, IfSome, OnOk, MatchResult};
+ghost use Rattle.dp_text.specs.Words.{lines_of};
 ghost use Rattle.dp_line.specs.World.{description_of, opening_fault};
+ghost use Rattle.dp_audit.specs.Check.{places_of_lines};
 ghost use Rattle.dp_line.specs.Steps.{step};
 ghost use Rattle.dp_sentences.specs.Results.{shown_at};
 ghost use Rattle.dp_sentences.specs.Blocks.{block_text};
@@ -18,6 +20,7 @@ use crate::part::Part;
 use crate::row::event_of_row;
 use crate::tally::{Counted, TallyRows, count_event, first_tally};
 use arrayvec::ArrayVec;
+use dp_audit::open_line;
 use dp_line::{Event, LineSpec, LineState, MOST_SLAVES, Outcome};
 use dp_sentences::{Block, Noted, Scene, first_notes, note_event};
 use dp_text::{Lines, write_whole};
@@ -55,15 +58,20 @@ impl<'a> Model for Telling<'a> {
 }
 
 impl<'a> Telling<'a> {
-    /// The line before its first entry. It takes the memory of two lines.
-    pub(crate) fn open(alloc: Global, line: &'a LineSpec) -> Result<Telling<'a>, ExplainFault>
+    /// Opens the line on which this text is judged, before its first entry. It takes the memory of two lines.
+    pub(crate) fn open(
+        alloc: Global,
+        line: &'a LineSpec,
+        text: &str,
+    ) -> Result<Telling<'a>, ExplainFault>
         requires { opening_fault (description_of line.now) ≡ None }
-        ensures { MatchResult result (λ telling. telling ≡ first_known (description_of line.now)) (λ fault. fault ≡ ExplainFault.OutOfMemory) }
+        ensures { MatchResult result (λ telling. telling ≡ first_known (description_of line.now) (places_of_lines (description_of line.now) (lines_of text.now)))
+            (λ fault. fault ≡ ExplainFault.OutOfMemory) }
     {
-        let Ok(before) = LineState::open(alloc, line) else {
+        let Ok(before) = open_line(alloc, line, text) else {
             return Err(ExplainFault::OutOfMemory);
         };
-        let Ok(after) = LineState::open(alloc, line) else {
+        let Ok(after) = open_line(alloc, line, text) else {
             return Err(ExplainFault::OutOfMemory);
         };
         let Ok(notes) = first_notes(alloc, line) else {

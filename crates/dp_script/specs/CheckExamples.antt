@@ -1,5 +1,5 @@
 -- Audit texts on a rack of one line, and what is told of them.
-use Rattle.std.specs.Prelude.{◌≡◌, ⊤, [], ◌∷◌, codes, Some, None, Ok, Err, refl}
+use Rattle.std.specs.Prelude.{◌≡◌, ⊤, ℕ, [], ◌∷◌, codes, Some, None, Ok, Err, refl}
 use Rattle.std.specs.Fmt.{digits}
 use Rattle.hex.proofs.OnLiterals.{hex_on_literals}
 use Rattle.dp_slave.specs.declared.description.SlaveSpec.{SlaveSpec}
@@ -28,16 +28,19 @@ unfoldable check_on_entries : ⊤
 unfolding check_on_literals hex_on_literals ascending effect slave_after facts_of outcome_of served heard verdict_of rule_at reply_text acted released
 check_on_entries = tt
 
--- line 1 with masters 1 and 2 and one slave
-abbrev rack_of : SlaveSpec → RackDescription
-rack_of slave = record {
+-- line 1 with this number of places, masters 1 and 2 and one slave
+abbrev rack_with : ℕ → SlaveSpec → RackDescription
+rack_with capacity slave = record {
   workers = 4;
   lines = record {
-    line = record { number = 1; capacity = 1000; masters = 1 ∷ 2 ∷ []; slaves = slave ∷ [] };
+    line = record { number = 1; capacity = capacity; masters = 1 ∷ 2 ∷ []; slaves = slave ∷ [] };
     listen = None;
     operator = None;
   } ∷ [];
 }
+
+abbrev rack_of : SlaveSpec → RackDescription
+rack_of slave = rack_with 1000 slave
 
 -- slave 5, and the same where master 1 alone may lock it
 abbrev rack_1 : RackDescription
@@ -100,6 +103,15 @@ capital_letter = refl
 pub another_holder : checked_on rack_1 (codes "rack-audit 2 line 1\n1 in 5 aa55 | WaitPrm 1 | done\n") ≡ Err (NotThePolicy 2)
 unfolding check_on_entries
 another_holder = refl
+
+-- at the last place of a line of two places there is the halt, but the endless line has places behind it
+pub a_tick_at_the_last_place : checked_on (rack_with 2 slave_5) (codes "rack-audit 2 line 1\n1 tick 1 | none | released\n2 tick 1 | none | released\n") ≡ Err (NotThePolicy 3)
+unfolding check_on_entries
+a_tick_at_the_last_place = refl
+
+pub a_tick_of_the_endless_line : checked_on (rack_with 2 slave_5) (codes "rack-audit 3 line 1\n1 tick 1 | none | released\n2 tick 1 | none | released\n") ≡ Ok 2
+unfolding check_on_entries
+a_tick_of_the_endless_line = refl
 
 pub legal_told : verdict_text (Ok 5) ≡ codes "legal 5\n"
 unfolding check_on_literals

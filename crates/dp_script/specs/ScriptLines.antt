@@ -12,7 +12,7 @@ use Rattle.dp_line.specs.World.{Description, slave_at}
 use Rattle.dp_line.specs.Owned.{owned}
 use Rattle.dp_line.specs.Steps.{step}
 use Rattle.dp_audit.specs.Journal.{Journal, opened, taken}
-use Rattle.dp_audit.specs.AuditText.{audit_text}
+use Rattle.dp_audit.specs.AuditText.{audit_text, version_of}
 use Rattle.dp_text.specs.declared.op_line.OpLine.{OpLine}
 use Rattle.dp_text.specs.declared.op_line.OpLine.TheVariants.{Event, Owned, Show, Step, Nothing}
 use Rattle.dp_text.specs.Texts.{outcome_line, answer_text, dropped_text, owned_text, show_text, stepped_text}
@@ -141,4 +141,4 @@ operated script_line Nothing = told script_line []
 
 -- the audit text of its journal
 abbrev pub journal_text : ScriptLine → List ℕ
-journal_text script_line = audit_text script_line.journal.number script_line.journal.entries
+journal_text script_line = audit_text (version_of script_line.journal.opening.capacity) script_line.journal.number script_line.journal.entries

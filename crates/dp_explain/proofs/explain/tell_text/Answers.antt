@@ -1,6 +1,8 @@
 use Rattle.std.proofs.Common.{drop, take, ◌++◌}
 use Rattle.dp_line.specs.World.{description_of}
 use Rattle.dp_text.specs.Words.{lines_of}
+use Rattle.dp_audit.specs.Check.{places_of_lines}
+use Rattle.dp_audit.proofs.Written.{none_written}
 use Rattle.dp_explain.specs.declared.part.Part.TheVariants as parts
 use Rattle.dp_explain.specs.Known.{KnownView, first_known}
 use Rattle.dp_explain.specs.Tallies.{tally_text}
@@ -13,8 +15,8 @@ returns-in-Ok-tell_rows g c =
     let a = c.args in
     let line = description_of a.line.now in
     let rows = take a.count (drop 1 (lines_of a.text.now)) in
-    pass_then (parts.Entries a.choice.now) line a.count (lines_of a.text.now) c.rows_of.result c.in-Ok.telling c.tell_rows.new.self
-    (λ (k : KnownView). holds_text line rows ++ tally_text k.tally) (g.W.Write.contents a.writer.now) (g.W.Write.contents c.tell_rows.new.writer) (g.W.Write.contents c.tell_summary.new.writer) c.tell_summary.result
+    pass_then (parts.Entries a.choice.now) line (places_of_lines line (lines_of a.text.now)) a.count (lines_of a.text.now) c.rows_of.result c.in-Ok.telling c.tell_rows.new.self
+    (λ (k : KnownView). holds_text line (places_of_lines line (lines_of a.text.now)) rows ++ tally_text k.tally) (g.W.Write.contents a.writer.now) (g.W.Write.contents c.tell_rows.new.writer) (g.W.Write.contents c.tell_summary.new.writer) c.tell_summary.result
     c.in-Ok.ensures c.rows_of.ensures c.in-Ok-tell_rows.ensures.told c.in-Ok-tell_rows.ensures.known c.tell_summary.ensures
 
 pub returns : goal.returns
@@ -22,6 +24,9 @@ returns g c =
     let a = c.args in
     let line = description_of a.line.now in
     let rows = take a.count (drop 1 (lines_of a.text.now)) in
-    pass_cut (parts.Entries a.choice.now) line a.count (lines_of a.text.now) c.rows_of.result c.in-Ok.telling
-    (holds_text line rows ++ tally_text (last_known (first_known line) rows).tally) (g.W.Write.contents a.writer.now) (g.W.Write.contents c.tell_rows.new.writer)
+    pass_cut (parts.Entries a.choice.now) line (places_of_lines line (lines_of a.text.now)) a.count (lines_of a.text.now) c.rows_of.result c.in-Ok.telling
+    (holds_text line (places_of_lines line (lines_of a.text.now)) rows ++ tally_text (last_known (first_known line (places_of_lines line (lines_of a.text.now))) rows).tally) (g.W.Write.contents a.writer.now) (g.W.Write.contents c.tell_rows.new.writer)
     c.in-Ok.ensures c.rows_of.ensures c.in-Err-tell_rows.ensures.told
+
+pub returns-in-Err : goal.returns-in-Err
+returns-in-Err g c = none_written (g.W.Write.contents c.args.writer.now) _
