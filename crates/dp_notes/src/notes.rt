@@ -3,9 +3,9 @@
 use crate::time_of_day::TimeOfDay;
 use arrayvec::ArrayVec;
 use dp_audit::Receipt;
-use dp_line::{Event, Op, OperatorFault, Outcome, Rule};
+use dp_line::{Event, Op, OperatorFault, Outcome, Rule, Step};
 use dp_sessions::{Gate, SessionEnd};
-use dp_telegram::FrameFault;
+use dp_telegram::{FrameFault, WholeFrame};
 use dp_text::Text;
 use log::{Log, info, warn};
 use rackd_words::Telling;
@@ -122,12 +122,12 @@ impl<'a, L: Log + Clock> Notes<'a, L> {
 
     /// Reports once that a line is halted, with the cause. While a halt of its operator is not answered yet, only the answer
     /// to that halt shows the cause: a master that is answered `Halted` meanwhile may have come after the operator's halt.
-    fn tell_halt<W: Wait>(&self, rt: &W, line: u8, receipt: &Receipt) {
-        let Some(cause) = cause_of_halt(receipt) else {
+    fn tell_halt<W: Wait>(&self, rt: &W, line: u8, is_halt: bool, outcome: &Outcome) {
+        let Some(cause) = cause_of_halt(is_halt, outcome) else {
             return;
         };
         let mut noted = self.noted.lock(rt);
-        if is_halt(&receipt.event) {
+        if is_halt {
             noted.halting.retain(|halting| *halting != line);
         }
         if !noted.halting.contains(&line) && !noted.halted.contains(&line) {
@@ -137,27 +137,24 @@ impl<'a, L: Log + Clock> Notes<'a, L> {
         }
     }
 
-    /// Tells an event and its answer.
-    fn tell_receipt<W: Wait>(&self, rt: &W, line: u8, receipt: &Receipt) {
+    /// Reports an event and its answer.
+    fn tell_answer<W: Wait>(&self, rt: &W, line: u8, event: &Event, outcome: &Outcome) {
         let mut text = Text::new();
-        text.push_event(&receipt.event);
+        text.push_event(event);
         text.push_str(" -> ");
-        text.push_outcome(&receipt.outcome);
+        text.push_outcome(outcome);
         if let Ok(row) = std::str::from_utf8(text.as_bytes()) {
             self.tell(rt, format_args!("line {line}: {row}"));
         }
     }
 
     /// Counts a request of a session.
-    fn count<W: Wait>(&self, rt: &W, line: u8, receipt: &Receipt) {
-        let Event::Request { master, .. } = &receipt.event else {
-            return;
-        };
+    fn count<W: Wait>(&self, rt: &W, line: u8, master: u8, outcome: &Outcome) {
         let mut noted = self.noted.lock(rt);
         for asked in &mut noted.asked {
-            if asked.line == line && asked.master == *master {
+            if asked.line == line && asked.master == master {
                 asked.requests = asked.requests.saturating_add(1);
-                if is_refused(&receipt.outcome) {
+                if is_refused(outcome) {
                     asked.refused = asked.refused.saturating_add(1);
                 }
             }
@@ -198,13 +195,23 @@ impl<L: Log + Clock> Gate for Notes<'_, L> {
         }
     }
 
-    fn answered<W: Wait>(&self, rt: &W, line: u8, receipt: &Receipt) {
-        self.tell_halt(rt, line, receipt);
+    fn answered<W: Wait>(
+        &self,
+        rt: &W,
+        line: u8,
+        master: u8,
+        frame: &WholeFrame<'_>,
+        answer: &Step,
+    ) {
+        self.tell_halt(rt, line, false, &answer.outcome);
         if self.telling != Telling::Little {
-            self.count(rt, line, receipt);
+            self.count(rt, line, master, &answer.outcome);
         }
-        if self.telling == Telling::Requests {
-            self.tell_receipt(rt, line, receipt);
+        if self.telling == Telling::Requests
+            && let Ok(octets) = ArrayVec::try_from(frame.octets())
+        {
+            let event = Event::Request { master, octets };
+            self.tell_answer(rt, line, &event, &answer.outcome);
         }
     }
 
@@ -252,9 +259,9 @@ impl<L: Log + Clock> Gate for Notes<'_, L> {
     }
 
     fn operated<W: Wait>(&self, rt: &W, line: u8, receipt: &Receipt) {
-        self.tell_halt(rt, line, receipt);
+        self.tell_halt(rt, line, is_halt(&receipt.event), &receipt.outcome);
         if self.telling == Telling::Requests {
-            self.tell_receipt(rt, line, receipt);
+            self.tell_answer(rt, line, &receipt.event, &receipt.outcome);
         }
     }
 }
@@ -264,13 +271,20 @@ fn is_halt(event: &Event) -> bool {
     matches!(event, Event::Operator(Op::Halt))
 }
 
-/// Why a line is halted, as far as an event shows it: its operator halted it, or it answers so.
-fn cause_of_halt(receipt: &Receipt) -> Option<&'static str> {
-    match (&receipt.event, &receipt.outcome) {
-        (Event::Operator(Op::Halt), Outcome::Released(_)) => Some("by its operator"),
-        (_, Outcome::Silence(Rule::Halted)) => Some("its journal is full"),
-        (_, Outcome::Refused(OperatorFault::Halted)) => Some("its journal is full"),
-        _ => None,
+/// Why a line is halted, as far as an answer shows it, to the operator's halt or to another event: its operator halted it,
+/// or it answers so.
+fn cause_of_halt(is_halt: bool, outcome: &Outcome) -> Option<&'static str> {
+    match outcome {
+        Outcome::Released(_) if is_halt => Some("by its operator"),
+        Outcome::Silence(Rule::Halted) | Outcome::Refused(OperatorFault::Halted) => {
+            Some("its journal is full")
+        }
+        Outcome::Reply { .. }
+        | Outcome::Silence(_)
+        | Outcome::Spread(_)
+        | Outcome::Released(_)
+        | Outcome::Done
+        | Outcome::Refused(_) => None,
     }
 }
 

@@ -12,8 +12,7 @@ ghost use Rattle.dp_sessions.specs.SessionProgress.{IsBrokenIn, IsServedTo};
 use crate::gate::Gate;
 use crate::reads::{Reads, Uncounted};
 use crate::session_end::SessionEnd;
-use dp_audit::Receipt;
-use dp_line::Outcome;
+use dp_line::{Outcome, Step};
 use dp_shared::{Line, Pass};
 use dp_telegram::stream_laws::cut_and_computation_agree;
 use dp_telegram::{Cutter, Piece, SC};
@@ -71,6 +70,7 @@ pub fn serve_pass_by<T: Wait, R: Read, C: Reads<R>, W: Write, G: Gate>(
 {
     cut_and_computation_agree();
     let mut cutter = Cutter::new();
+    let mut step = Step::blank();
     let mut chunk = [0; CHUNK];
     let mut made = 0;
     while made < turns {
@@ -79,7 +79,16 @@ pub fn serve_pass_by<T: Wait, R: Read, C: Reads<R>, W: Write, G: Gate>(
             Ok(0) => return SessionEnd::EndOfInput,
             Ok(count) => {
                 let octets = &chunk[..count];
-                let Ok(()) = pass_octets(rt, writer, line, pass, gate, &mut cutter, octets) else {
+                let Ok(()) = pass_octets(
+                    rt,
+                    writer,
+                    line,
+                    pass,
+                    gate,
+                    &mut cutter,
+                    &mut step,
+                    octets,
+                ) else {
                     return SessionEnd::WriteFault;
                 };
             }
@@ -122,6 +131,7 @@ fn pass_octets<T: Wait, W: Write, G: Gate>(
     pass: &mut Pass,
     gate: &G,
     cutter: &mut Cutter,
+    step: &mut Step,
     octets: &[u8],
 ) -> Result<(), WriteFault>
     requires ours { pass.old.table ≡ table_of line.now }
@@ -140,7 +150,7 @@ fn pass_octets<T: Wait, W: Write, G: Gate>(
     loop {
         if let Some(piece) = cutter.front() {
             let count = piece.size();
-            answer(rt, writer, line, gate, pass, piece)?;
+            answer(rt, writer, line, gate, pass, piece, step)?;
             cutter.pass(count);
         } else if left.is_empty() {
             return Ok(());
@@ -152,7 +162,7 @@ fn pass_octets<T: Wait, W: Write, G: Gate>(
 }
 
 /// Exchanges a frame, once the gate lets it through, and writes its reply, if there is one; nothing comes of
-/// dropped octets.
+/// dropped octets. `step` is room for the answer of the line.
 fn answer<T: Wait, W: Write, G: Gate>(
     rt: &T,
     writer: &mut W,
@@ -160,6 +170,7 @@ fn answer<T: Wait, W: Write, G: Gate>(
     gate: &G,
     pass: &mut Pass,
     piece: Piece<'_>,
+    step: &mut Step,
 ) -> Result<(), WriteFault>
     requires ours { pass.old.table ≡ table_of line.now }
     requires master { pass.old.view.address ≢ 127 }
@@ -174,9 +185,9 @@ fn answer<T: Wait, W: Write, G: Gate>(
     match piece {
         Piece::Frame(frame) => {
             gate.enter(rt, pass.line(), pass.address());
-            let receipt = line.exchange_lent(rt, pass, frame.octets());
-            gate.answered(rt, pass.line(), &receipt);
-            write_whole(writer, octets_in(&receipt.outcome))
+            line.exchange_frame(rt, pass, &frame, step);
+            gate.answered(rt, pass.line(), pass.address(), &frame, step);
+            write_whole(writer, octets_in(&step.outcome))
         }
         Piece::Dropped { fault, count } => {
             gate.dropped(rt, pass.line(), pass.address(), fault, count);

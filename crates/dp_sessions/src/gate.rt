@@ -2,8 +2,8 @@
 
 use crate::session_end::SessionEnd;
 use dp_audit::Receipt;
-use dp_line::Op;
-use dp_telegram::FrameFault;
+use dp_line::{Op, Step};
+use dp_telegram::{FrameFault, WholeFrame};
 use std::sync::Wait;
 
 /// What stands before each exchange of a session, and gets the results of sessions. It may hold the session up,
@@ -17,7 +17,14 @@ pub trait Gate {
     fn accepted<W: Wait>(&self, _rt: &W, _line: u8, _master: u8) {}
 
     /// Called behind each exchange of a master, before its reply is written.
-    fn answered<W: Wait>(&self, _rt: &W, _line: u8, _receipt: &Receipt) {}
+    fn answered<W: Wait>(
+        &self,
+        _rt: &W,
+        _line: u8,
+        _master: u8,
+        _frame: &WholeFrame<'_>,
+        _answer: &Step,
+    ) {}
 
     /// Called where octets of a master are no frame and are dropped: why, and how many, 1 to 255.
     fn dropped<W: Wait>(&self, _rt: &W, _line: u8, _master: u8, _fault: FrameFault, _count: u8) {}

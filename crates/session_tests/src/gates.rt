@@ -4,10 +4,10 @@ ghost use Rattle.dp_sessions.specs.Pools.{IsSeatAt};
 
 use crate::place::{Place, fresh_place};
 use dp_audit::Receipt;
-use dp_line::{Device, Op};
+use dp_line::{Device, Op, Step};
 use dp_sessions::{Gate, OpenGate, Port, SessionEnd, serve, serve_operator_at};
 use dp_shared::WorkerSeat;
-use dp_telegram::FrameFault;
+use dp_telegram::{FrameFault, WholeFrame};
 use shared_tests::line_specs::ample_line;
 use shared_tests::rows::{is_told, many_passes};
 use std::alloc::Global;
@@ -91,7 +91,14 @@ impl Gate for Noting<'_> {
         self.calls.add(1);
     }
 
-    fn answered<W: Wait>(&self, _rt: &W, _line: u8, _receipt: &Receipt) {
+    fn answered<W: Wait>(
+        &self,
+        _rt: &W,
+        _line: u8,
+        _master: u8,
+        _frame: &WholeFrame<'_>,
+        _answer: &Step,
+    ) {
         self.calls.add(4);
     }
 

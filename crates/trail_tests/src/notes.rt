@@ -2,11 +2,12 @@
 
 ghost use Rattle.std.specs.Prelude.{◌≡◌, ◌≤◌};
 
-use arrayvec::{ArrayString, ArrayVec};
+use arrayvec::ArrayString;
 use dp_audit::Receipt;
-use dp_line::{Device, Event, Op, Outcome, Rule};
+use dp_line::{Device, Op, Outcome, Rule, Step};
 use dp_notes::{LineNumbers, Notes};
 use dp_sessions::{Gate, Port, SessionEnd, serve_operator_at, serve_pass};
+use dp_telegram::WholeFrame;
 use log::kv::Source;
 use log::span::Spans;
 use log::{Log, Metadata, Record};
@@ -156,17 +157,19 @@ fn reports<T: Wait>(
     log.is_met(alloc)
 }
 
-/// The receipt of a request of master 1 that was answered so.
-fn answered(outcome: Outcome) -> Receipt {
-    Receipt {
-        place: Some(1),
-        event: Event::Request {
-            master: 1,
-            octets: ArrayVec::new(),
-        },
-        facts: None,
-        outcome,
-    }
+/// A token was answered so on line 3.
+fn answer_token<W: Wait, L: Log + Clock>(
+    rt: &W,
+    notes: &Notes<'_, L>,
+    outcome: Outcome,
+) -> Result<(), Fail> {
+    let Some(frame) = WholeFrame::read(&[0xDC, 1, 1]) else {
+        return Err(Fail::new("no frame"));
+    };
+    let mut answer = Step::blank();
+    answer.outcome = outcome;
+    notes.answered(rt, 3, 1, &frame, &answer);
+    Ok(())
 }
 
 #[test]
@@ -193,8 +196,8 @@ fn sessions_are_counted_by_line_and_master(rt: HostRuntime) -> Result<(), Fail> 
     let notes = Notes::new(&log, Telling::Sessions, two_lines(), 2);
     notes.accepted(&rt, 3, 1);
     notes.accepted(&rt, 7, 1);
-    notes.answered(&rt, 3, &answered(Outcome::Silence(Rule::Token)));
-    notes.answered(&rt, 3, &answered(Outcome::Silence(Rule::NoStation)));
+    answer_token(&rt, &notes, Outcome::Silence(Rule::Token))?;
+    answer_token(&rt, &notes, Outcome::Silence(Rule::NoStation))?;
     notes.ended(&rt, 7, 1, SessionEnd::EndOfInput);
     notes.ended(&rt, 3, 1, SessionEnd::ReadFault);
     log.is_met(rt.alloc())
