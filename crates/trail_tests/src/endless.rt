@@ -83,7 +83,7 @@ fn three_ticks_break_a_trail(rt: HostRuntime) -> Result<(), Fail> {
 3 -> not caught up, broken true
 0 -> not caught up, broken true
 1 -> not caught up, broken true
-rack-audit 2 line 1
+rack-audit 3 line 1
 1 tick 1 | none | released
 ",
     )
@@ -101,7 +101,7 @@ fn a_trail_follows_an_endless_line(rt: HostRuntime) -> Result<(), Fail> {
 1 -> caught up, broken false
 2 -> caught up, broken false
 2 -> caught up, broken false
-rack-audit 2 line 1
+rack-audit 3 line 1
 1 tick 1 | none | released
 2 tick 1 | none | released
 3 tick 1 | none | released
