@@ -7,7 +7,7 @@ use Rattle.std.specs.Io.KnownBytes.{Appends, Keeps}
 use Rattle.dp_cause.specs.declared.cause.Cause.{Cause}
 use Rattle.dp_cause.specs.declared.cause.Cause.TheVariants.{NotTaken}
 use Rattle.dp_text.specs.Writes.{WritesPrefix}
-use Rattle.dp_audit.specs.AuditText.{audit_text}
+use Rattle.dp_audit.specs.AuditText.{audit_text, version_of}
 use Rattle.dp_line.specs.World.{description_of}
 use Rattle.dp_line.specs.declared.description.LineSpec.{LineSpec}
 use Rattle.dp_sessions.specs.declared.port.LineAndClaims.{LineAndClaims}
@@ -70,7 +70,7 @@ pub record IsLeftBy (line : LineSpec) (content : Content) : Type 0 where
   pub history : IsHistory content
 
 abbrev pub text_of : Content → List ℕ
-text_of content = audit_text content.book.number content.book.entries
+text_of content = audit_text (version_of content.book.opening.capacity) content.book.number content.book.entries
 
 -- the audit text of what a line leaves is written, or a prefix of it
 abbrev pub WritesAudit : LineSpec → Option (List ℕ) → Option (List ℕ) → Result (Unit {0}) RunFault → Type 0
