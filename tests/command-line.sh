@@ -117,7 +117,7 @@ run "${rack%'\n'}"; expect 'a rack without its last LF' 0 '' ''
 # ---- words
 
 run '' --help
-hold 'help' eval '[ "$status" = 0 ] && [ ! -s "$work/err" ] && [[ $(cat "$work/out") == *"rackd run RACK SCRIPT"*"rackd check RACK AUDIT"*"rackd explain RACK AUDIT [--summary]"*"rackd serve RACK [--sessions N]"*"rackd operate PORT [--tick MS] [--step MS]"*"exactly %%"*"'journal'"*"Exit statuses"*"  1  a check that is not legal"* ]]'
+hold 'help' eval '[ "$status" = 0 ] && [ ! -s "$work/err" ] && [[ $(cat "$work/out") == *"rackd run RACK SCRIPT"*"rackd check RACK AUDIT.."*"rackd explain RACK AUDIT.. [--summary]"*"rackd serve RACK [--sessions N]"*"rackd operate PORT [--tick MS] [--step MS]"*"exactly %%"*"'journal'"*"Exit statuses"*"  1  a check that is not legal"* ]]'
 cp "$work/out" "$work/help"
 help=$(cat "$work/help")
 hold 'no row of the help has more than 102 characters' eval '[ "$status" = 0 ] && ! grep -n ".\{103\}" "$work/help"'
@@ -127,9 +127,9 @@ status=$?
 hold 'the example of the help' eval '[ "$status" = 0 ] && [ -s "$work/out" ] && says "$help" "$(cat "$work/out")"'
 run '' --version; expect 'version' 0 'rackd 0.1.0' ''
 for words in word -h -V --hel --help=1 --version=1 '' '--line 1' help 'play rack script' run 'run rack' 'run rack script word' \
-  'run --help' 'run --line rack script' check 'check rack' 'check rack audit word' 'check rack audit --version' \
-  explain 'explain rack' 'explain rack audit word' 'explain rack audit --from' 'explain rack audit --from 0' \
-  'explain rack audit --to 65537' 'explain rack audit --slave 256' 'explain rack audit --slave 05' \
+  'run --help' 'run --line rack script' check 'check rack' 'check rack audit --version' 'check rack --audit audit' \
+  explain 'explain rack' 'explain rack audit --from' 'explain rack audit --from 0' \
+  'explain rack audit --to 4294967296' 'explain rack audit --from 4294967296' 'explain rack audit --slave 256' 'explain rack audit --slave 05' \
   'explain rack audit --master +1' 'explain rack audit --refused 1' 'explain rack audit --summary --summary' \
   'explain rack audit --why' 'check rack audit --summary' \
   serve 'serve rack word' 'serve --help' 'serve --sessions 1' 'serve rack --sessions' 'serve rack --sessions 0' \
@@ -152,6 +152,10 @@ expect 'the example day-of-a-line, explained' 0 "$(cat "$top/examples/day-of-a-l
   >"$work/out" 2>"$work/err"
 status=$?
 hold 'explain from the last place that a line can have' eval '[ "$status" = 0 ] && [ ! -s "$work/err" ]'
+"$rackd" explain "$top/examples/day-of-a-line-rack.toml" "$top/examples/day-of-a-line.audit" --from 4294967295 --to 4294967295 \
+  >"$work/out" 2>"$work/err"
+status=$?
+hold 'explain from the last place that an endless line has' eval '[ "$status" = 0 ] && [ ! -s "$work/err" ]'
 
 # ---- run, check and explain
 
@@ -198,13 +202,35 @@ for word in run check explain; do
   run '' "$word" "$work/rack" "$work/none"; expect "$word: no second file" 2 '' "rackd: cannot read $work/none"$'\n  nothing is there'
   run '' "$word" "$work/nothing" "$work/none"; expect "$word: the rack file comes first" 2 '' "rackd: cannot read $work/nothing"$'\n  nothing is there'
   run '' "$word" "$work/script" "$work/none"; expect "$word: files come before what they hold" 2 '' "rackd: cannot read $work/none"$'\n  nothing is there'
-  run '' "$word" "$work/none" "$work/none" word
+  run '' "$word" "$work/none" "$work/none" --word
   hold "$word: words come before files" eval '[ "$status" = 2 ] && ! grep -q "cannot read" "$work/err"'
   run '' "$word" "$work/latin" "$work/audit"; expect "$word: a rack that is not UTF-8" 2 '' "rackd: cannot read $work/latin"$'\n  not UTF-8'
   run '' "$word" "$work/rack" "$work/latin"; expect "$word: a second file that is not UTF-8" 2 '' "rackd: cannot read $work/latin"$'\n  not UTF-8'
   run '' "$word" "$work" "$work/audit"; expect "$word: a folder" 2 '' "rackd: cannot read $work"$'\n  a folder'
   run "$rack" "$word" - "$work/audit"; expect "$word: a word - is no standard input" 2 '' $'rackd: cannot read -\n  nothing is there'
 done
+
+# an audit text in three files
+day=$top/examples/day-of-a-line
+rows=$(wc -l <"$day.audit")
+head -n 1 "$day.audit" >"$work/part-1"
+head -n $((rows - 3)) "$day.audit" | tail -n +2 >"$work/part-2"
+tail -n 3 "$day.audit" >"$work/part-3"
+parts=("$work/part-1" "$work/part-2" "$work/part-3")
+run '' check "$day-rack.toml" "${parts[@]}"; expect 'check: an audit text in three files' 0 "legal $((rows - 1))" ''
+run '' explain "$day-rack.toml" "${parts[@]}"; expect 'explain: an audit text in three files' 0 "$(cat "$day.explained")" ''
+run '' explain "$day-rack.toml" "${parts[@]}" --summary
+hold 'explain: an option behind three files' eval '[ "$status" = 0 ] && [ "$(cat "$work/out")" = "$(sed -n "/^holds$/,\$p" "$day.explained")" ]'
+run '' check "$day-rack.toml" "$work/part-1" "$work/part-3"; expect 'check: the second of three files is missing' 1 'not the policy 2' ''
+run '' check "$day-rack.toml" "$work/part-2" "$work/part-1" "$work/part-3"
+hold 'check: the files in another order' eval '[ "$status" = 1 ] && [ "$(cat "$work/out")" = "bad line 1" ]'
+run '' check "$day-rack.toml" "$work/part-1" "$work/none"; expect 'check: no third file' 2 '' "rackd: cannot read $work/none"$'\n  nothing is there'
+run '' check "$day-rack.toml" "$work/part-1" "$work/latin"; expect 'check: a third file that is not UTF-8' 2 '' "rackd: cannot read $work/latin"$'\n  not UTF-8'
+printf 'rack-audit 3 line 1\n%s\n' "$entry" >"$work/endless"
+for word in check explain; do
+  run '' "$word" "$work/rack" "$work/endless"; expect "$word: no word serves an endless line yet" 1 'bad line 1' ''
+done
+
 printf "$rack" >"$work/-"
 cd "$work" || exit 1
 run '' run - script; expect 'a file whose name is -' 0 "$reply" ''

@@ -30,6 +30,9 @@ use std::rt::Runtime;
 /// How every audit text begins.
 const HEADER: &str = "rack-audit ";
 
+/// How the audit text of an endless line begins. No word serves an endless line yet, so the program refuses such a text.
+const ENDLESS_HEADER: &str = "rack-audit 3 ";
+
 /// A file that has no octets.
 const NOTHING: &str = "/dev/null";
 
@@ -87,12 +90,12 @@ fn obey<
     match read_words(rt.alloc(), words)? {
         Invocation::Input => run_input(rt),
         Invocation::Run { rack, script } => run_files(rt, rack, script),
-        Invocation::Check { rack, audit } => check_files(rt, rack, audit),
+        Invocation::Check { rack, audit } => check_files(rt, rack, audit.as_slice()),
         Invocation::Explain {
             rack,
             audit,
             entries,
-        } => explain_files(rt, rack, audit, entries),
+        } => explain_files(rt, rack, audit.as_slice(), entries),
         Invocation::Serve { rack, service } => serve_file(rt, rack, service),
         Invocation::Operate { port, tick, step } => {
             operate_line(rt, Operation { port, tick, step }, input)
@@ -136,27 +139,27 @@ fn run_files<'a>(
     reported(rt, rack.as_str(), ran)
 }
 
-/// Checks the audit text of a file on the rack of another.
+/// Checks the audit text of these files on the rack of another.
 fn check_files<'a>(
     rt: &(impl Runtime + AllocGlobal),
     rack: &'a str,
-    audit: &'a str,
+    audit: &[&'a str],
 ) -> Result<ExitCode, Fault<'a>> {
     let rack = read_file(rt, rack)?;
-    let audit = read_file(rt, audit)?;
+    let audit = read_files(rt, audit)?;
     let checked = check_out(rt, rack.as_str(), audit.as_str());
     reported(rt, rack.as_str(), checked)
 }
 
-/// Explains the audit text of a file on the rack of another.
+/// Explains the audit text of these files on the rack of another.
 fn explain_files<'a>(
     rt: &(impl Runtime + AllocGlobal),
     rack: &'a str,
-    audit: &'a str,
+    audit: &[&'a str],
     entries: Entries,
 ) -> Result<ExitCode, Fault<'a>> {
     let rack = read_file(rt, rack)?;
-    let audit = read_file(rt, audit)?;
+    let audit = read_files(rt, audit)?;
     let explained = explain_out(rt, rack.as_str(), audit.as_str(), entries);
     reported(rt, rack.as_str(), explained)
 }
@@ -214,6 +217,24 @@ fn read_file<'a>(rt: &(impl Runtime + AllocGlobal), path: &'a str) -> Result<Str
     fs::read_to_string(rt, path).map_err(|error| read_fault(error, path))
 }
 
+/// The text of these files, one after another.
+fn read_files<'a>(
+    rt: &(impl Runtime + AllocGlobal),
+    paths: &[&'a str],
+) -> Result<String, Fault<'a>> {
+    let Some((first, others)) = paths.split_first() else {
+        return Ok(String::new(rt.alloc()));
+    };
+    let mut text = read_file(rt, first)?;
+    for path in others {
+        let part = read_file(rt, path)?;
+        if text.push_str(part.as_str()).is_err() {
+            return Err(Fault::Run(RunFault::OutOfMemory));
+        }
+    }
+    Ok(text)
+}
+
 /// The fault of a file that can't be read, for this reason.
 fn read_fault(error: io::Error, path: &str) -> Fault<'_> {
     match error.kind() {
@@ -242,7 +263,7 @@ fn check_out<'a>(
     audit: &str,
 ) -> Result<ExitCode, Fault<'a>> {
     let mut output = buffered(rt)?;
-    let checked = run_check(rt.alloc(), rack, audit, &mut output);
+    let checked = run_check(rt.alloc(), rack, judged(audit), &mut output);
     flushed(output)?;
     Ok(noted_header(rt, audit, checked?))
 }
@@ -256,9 +277,18 @@ fn explain_out<'a>(
 ) -> Result<ExitCode, Fault<'a>> {
     let choice = choice_of(entries);
     let mut output = buffered(rt)?;
-    let explained = run_explain(rt.alloc(), rack, audit, &choice, &mut output);
+    let explained = run_explain(rt.alloc(), rack, judged(audit), &choice, &mut output);
     flushed(output)?;
     Ok(noted_header(rt, audit, explained?))
+}
+
+/// The audit text that is judged. That of an endless line has no header that the program accepts, as an empty text.
+fn judged(audit: &str) -> &str {
+    if audit.starts_with(ENDLESS_HEADER) {
+        ""
+    } else {
+        audit
+    }
 }
 
 /// The entries that the words choose.

@@ -24,8 +24,8 @@ pub(crate) const REFUSED: &str = "refused";
 
 pub(crate) const SUMMARY: &str = "summary";
 
-/// The most entries of an audit text.
-const MOST_ENTRIES: u64 = 65_536;
+/// The most entries of an audit text, that of an endless line.
+const MOST_ENTRIES: u64 = 4_294_967_295;
 
 /// The options of `serve`, and the most sessions that it may name.
 pub(crate) const SESSIONS: &str = "sessions";
@@ -62,8 +62,8 @@ rackd simulates a rack of PROFIBUS DP slaves.
 
 Usage: rackd < INPUT
        rackd run RACK SCRIPT
-       rackd check RACK AUDIT
-       rackd explain RACK AUDIT [--summary] [--from N] [--to N] [--slave A] [--master M] [--refused]
+       rackd check RACK AUDIT..
+       rackd explain RACK AUDIT.. [--summary] [--from N] [--to N] [--slave A] [--master M] [--refused]
        rackd serve RACK [--sessions N] [--audit FOLDER] [--log [requests]]
        rackd operate PORT [--tick MS] [--step MS]
 
@@ -77,7 +77,8 @@ and one for what the operator does.
 
 'run' does the same with a rack file and a script in two files. 'check' reads a rack file and an
 audit text, and tells whether its line would have answered so: 'legal N' with the number of
-entries, or the first line of the text that is wrong, 'bad line N' or 'not the policy N'.
+entries, or the first line of the text that is wrong, 'bad line N' or 'not the policy N'. A text
+may lie in several files, which are read one after another.
 
 'explain' tells an audit text to a person: each entry with what was sent, in the names of the
 standard, what came of it and why, and what it changed; then who held which slave, and how often
@@ -160,8 +161,9 @@ fn with_answers<'a>(alloc: Global, words: Command<'a>) -> Result<Command<'a>, Al
 
 /// With the words that take a rack and another file.
 fn with_racks<'a>(alloc: Global, words: Command<'a>) -> Result<Command<'a>, AllocError> {
-    let run = with_files(alloc, "run", SCRIPT)?;
-    let check = with_files(alloc, "check", AUDIT)?;
+    let script = Arg::new(alloc, SCRIPT).required(true);
+    let run = with_rack(alloc, "run")?.arg(script)?;
+    let check = with_rack(alloc, "check")?.arg(audit(alloc))?;
     let explain = explaining(alloc)?;
     words
         .subcommand(run)?
@@ -183,16 +185,20 @@ fn plain<'a>(alloc: Global, name: &'a str) -> Command<'a> {
         .disable_version_flag(true)
 }
 
-/// A word behind which two files stand, a rack and another.
-fn with_files<'a>(alloc: Global, name: &'a str, other: &'a str) -> Result<Command<'a>, AllocError> {
+/// A word behind which the file of a rack stands.
+fn with_rack<'a>(alloc: Global, name: &'a str) -> Result<Command<'a>, AllocError> {
     let rack = Arg::new(alloc, RACK).required(true);
-    let other = Arg::new(alloc, other).required(true);
-    plain(alloc, name).arg(rack)?.arg(other)
+    plain(alloc, name).arg(rack)
 }
 
-/// The word `explain`: a rack, an audit text, and which entries are told.
+/// The files of an audit text, one or more.
+fn audit<'a>(alloc: Global) -> Arg<'a> {
+    Arg::new(alloc, AUDIT).required(true).num_args(1..)
+}
+
+/// The word `explain`: a rack, an audit text, and which entries are explained.
 pub(crate) fn explaining<'a>(alloc: Global) -> Result<Command<'a>, AllocError> {
-    let words = with_files(alloc, "explain", AUDIT)?;
+    let words = with_rack(alloc, "explain")?.arg(audit(alloc))?;
     with_choice(alloc, with_places(alloc, words)?)
 }
 
@@ -225,8 +231,7 @@ fn number<'a>(alloc: Global, name: &'a str, least: u64, most: u64) -> Arg<'a> {
 
 /// The word `serve`: a rack, how many sessions each port may have, where its audit texts go, and what is told.
 pub(crate) fn serving<'a>(alloc: Global) -> Result<Command<'a>, AllocError> {
-    let rack = Arg::new(alloc, RACK).required(true);
-    let words = plain(alloc, "serve").arg(rack)?;
+    let words = with_rack(alloc, "serve")?;
     words
         .arg(sessions(alloc))?
         .arg(folder(alloc))?

@@ -25,9 +25,9 @@ pub struct Service<'a> {
 /// Which entries of an audit text are explained: all that meet each thing that is named.
 #[derive(Clone, Copy)]
 pub struct Entries {
-    /// Those from this place on, 1 to 65,536.
+    /// Those from this place on, 1 to 4,294,967,295.
     pub from: Option<u32>,
-    /// Those up to this place, 1 to 65,536.
+    /// Those up to this place, 1 to 4,294,967,295.
     pub to: Option<u32>,
     /// Those that concern the slave at this address.
     pub slave: Option<u8>,
@@ -51,19 +51,19 @@ pub enum Invocation<'a> {
         /// The path of the script.
         script: &'a str,
     },
-    /// `check RACK AUDIT`: the audit text of a file is checked on the rack of another.
+    /// `check RACK AUDIT..`: the audit text of one or more files is checked on the rack of another.
     Check {
         /// The path of the rack.
         rack: &'a str,
-        /// The path of the audit text.
-        audit: &'a str,
+        /// The paths of the files that have the audit text, one after another.
+        audit: Vec<&'a str>,
     },
-    /// `explain RACK AUDIT`: the audit text of a file is told to a person, on the rack of another.
+    /// `explain RACK AUDIT..`: the audit text of one or more files is explained, on the rack of another.
     Explain {
         /// The path of the rack.
         rack: &'a str,
-        /// The path of the audit text.
-        audit: &'a str,
+        /// The paths of the files that have the audit text, one after another.
+        audit: Vec<&'a str>,
         /// Which entries are told.
         entries: Entries,
     },

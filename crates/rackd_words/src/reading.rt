@@ -56,7 +56,7 @@ pub fn read_words<'a>(alloc: Global, words: &'a [String]) -> Result<Invocation<'
     match command.try_get_matches_from(words) {
         Ok(matches) => match odd_number(&matches) {
             Some(odd) => refuse_number(alloc, odd),
-            None => Ok(invocation_of(&matches)),
+            None => invocation_of(alloc, &matches),
         },
         Err(error) => Ok(Invocation::Answer(error)),
     }
@@ -111,32 +111,55 @@ fn refuse_number<'a>(alloc: Global, odd: OddNumber<'_>) -> Result<Invocation<'a>
 }
 
 /// What words that are accepted ask for.
-fn invocation_of<'a>(matches: &ArgMatches<'a>) -> Invocation<'a> {
-    match matches.subcommand() {
-        Some(("run", files)) => Invocation::Run {
-            rack: path_in(files, RACK),
-            script: path_in(files, SCRIPT),
-        },
-        Some(("check", files)) => Invocation::Check {
-            rack: path_in(files, RACK),
-            audit: path_in(files, AUDIT),
-        },
-        Some(("explain", words)) => Invocation::Explain {
+fn invocation_of<'a>(
+    alloc: Global,
+    matches: &ArgMatches<'a>,
+) -> Result<Invocation<'a>, WordsFault> {
+    let Some((command, words)) = matches.subcommand() else {
+        return Ok(Invocation::Input);
+    };
+    match command {
+        "run" => Ok(Invocation::Run {
             rack: path_in(words, RACK),
-            audit: path_in(words, AUDIT),
+            script: path_in(words, SCRIPT),
+        }),
+        "check" => Ok(Invocation::Check {
+            rack: path_in(words, RACK),
+            audit: paths_in(alloc, words, AUDIT)?,
+        }),
+        "explain" => Ok(Invocation::Explain {
+            rack: path_in(words, RACK),
+            audit: paths_in(alloc, words, AUDIT)?,
             entries: entries_of(words),
-        },
-        Some(("operate", words)) => Invocation::Operate {
+        }),
+        "operate" => Ok(Invocation::Operate {
             port: words.get_one(PORT).unwrap_or(0),
             tick: words.get_one(TICK),
             step: words.get_one(STEP),
-        },
-        Some((_, words)) => Invocation::Serve {
+        }),
+        _ => Ok(Invocation::Serve {
             rack: path_in(words, RACK),
             service: service_of(words),
-        },
-        None => Invocation::Input,
+        }),
     }
+}
+
+/// The paths of this name, in their order. Returns `OutOfMemory` if memory is refused.
+fn paths_in<'a>(
+    alloc: Global,
+    words: &ArgMatches<'a>,
+    name: &str,
+) -> Result<Vec<&'a str>, WordsFault> {
+    let mut paths = Vec::new(alloc);
+    let Some(named) = words.get_strs(name) else {
+        return Ok(paths);
+    };
+    for path in named {
+        if paths.push(*path).is_err() {
+            return Err(WordsFault::OutOfMemory);
+        }
+    }
+    Ok(paths)
 }
 
 /// Which entries are explained, by the options of `explain`.
