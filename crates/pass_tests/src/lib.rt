@@ -4,10 +4,14 @@
 #[cfg(test)]
 mod counting;
 #[cfg(test)]
+mod hand_backs;
+#[cfg(test)]
 mod lent;
 #[cfg(test)]
 mod seats;
 #[cfg(test)]
 mod spent;
+#[cfg(test)]
+mod threads;
 #[cfg(test)]
 mod tied;

@@ -23,7 +23,7 @@ use std::sync::Wait;
 use std::test::Fail;
 
 /// A list of this pass.
-fn listed(alloc: Global, pass: Pass) -> Result<Vec<Pass>, AllocError>
+pub(crate) fn listed<P: Drop>(alloc: Global, pass: P) -> Result<Vec<P>, AllocError>
     ensures { IfOk result (λ v. v.items ≡ pass ∷ []) }
 {
     let mut passes = Vec::with_capacity(alloc, 1)?;

@@ -1,0 +1,3 @@
+pub mod FreePlaces
+pub mod Journals
+pub mod Pairing
