@@ -41,10 +41,10 @@ fn opened<T: Drop>(ended: Result<T, OpenFault>) -> Answer {
     }
 }
 
-/// Opens the line as an endless one, which takes its description.
+/// Opens the line as an endless one, which changes its description.
 fn endless_opened(alloc: Global) -> Answer {
     match described(alloc) {
-        Ok(line) => opened(Line::open_endless(alloc, line)),
+        Ok(mut line) => opened(Line::open_endless(alloc, &mut line)),
         Err(_) => Answer::Unprepared,
     }
 }

@@ -33,8 +33,8 @@ pub(crate) fn fresh_desk<R: Wait>(rt: &R, alloc: Global, places: u16) -> Result<
 
 /// A new endless line whose description has two places: it keeps two entries at most.
 pub(crate) fn endless_desk<R: Wait>(rt: &R, alloc: Global) -> Result<Desk, Fail> {
-    let spec = line_spec(alloc, 1, 2, Device::Still)?;
-    desk_at(rt, alloc, Line::open_endless(alloc, spec)?)
+    let mut spec = line_spec(alloc, 1, 2, Device::Still)?;
+    desk_at(rt, alloc, Line::open_endless(alloc, &mut spec)?)
 }
 
 /// Opens the passes of a line.
