@@ -28,18 +28,14 @@ impl Desk<'_> {
         self.line.operate(rt, &mut self.operator, Op::Tick(1));
     }
 
-    /// The operator reports one tick `ticks` times, and then the trail catches up: whether it could, and whether it is
-    /// broken.
+    /// The operator reports one tick `ticks` times, and then the trail catches up: whether it could, and why it is broken.
     fn play<R: Wait>(&mut self, rt: &R, alloc: Global, ticks: u32) -> Result<String, Fail> {
         for _ in 0..ticks {
             self.tick(rt);
         }
-        let end = match self.tail.catch_up(rt) {
-            Ok(_) => "caught up",
-            Err(_) => "not caught up",
-        };
-        let broken = self.tail.is_broken();
-        Ok(format!(in alloc; "{end}, broken {broken}")?)
+        let caught_up = self.tail.catch_up(rt).is_ok();
+        let why = self.tail.broken();
+        Ok(format!(in alloc; "caught up {caught_up}, broken {why:?}")?)
     }
 
     /// Plays each line of a transcript that has an arrow, and returns it with its result.
@@ -58,7 +54,8 @@ impl Desk<'_> {
 /// Plays the transcript of a new line and its trail: in each line with an arrow the number of ticks before the trail
 /// catches up, and the result; then the text that the trail wrote.
 fn check_trail<R: Wait>(rt: &R, alloc: Global, transcript: &str) -> Result<(), Fail> {
-    let line = Line::open_endless(alloc, line_spec(alloc, 1, 2, Device::Still)?)?;
+    let mut spec = line_spec(alloc, 1, 2, Device::Still)?;
+    let line = Line::open_endless(alloc, &mut spec)?;
     let operator = line.open_pass(rt, 127)?;
     let tail = Tail::open(rt, &line, Vec::new(alloc))?;
     let mut desk = Desk {
@@ -68,7 +65,8 @@ fn check_trail<R: Wait>(rt: &R, alloc: Global, transcript: &str) -> Result<(), F
     };
     let mut played = desk.play_rows(rt, alloc, transcript)?;
     let Desk { tail, .. } = desk;
-    played.push_str(&String::from_utf8(tail.close(rt))?)?;
+    let (text, _) = tail.close(rt);
+    played.push_str(&String::from_utf8(text)?)?;
     is_told(played, transcript)
 }
 
@@ -79,10 +77,10 @@ fn three_ticks_break_a_trail(rt: HostRuntime) -> Result<(), Fail> {
         &rt,
         rt.alloc(),
         "\
-1 -> caught up, broken false
-3 -> not caught up, broken true
-0 -> not caught up, broken true
-1 -> not caught up, broken true
+1 -> caught up true, broken None
+3 -> caught up false, broken Some(Overtaken)
+0 -> caught up false, broken Some(Overtaken)
+1 -> caught up false, broken Some(Overtaken)
 rack-audit 3 line 1
 1 tick 1 | none | released
 ",
@@ -96,11 +94,11 @@ fn a_trail_follows_an_endless_line(rt: HostRuntime) -> Result<(), Fail> {
         &rt,
         rt.alloc(),
         "\
-1 -> caught up, broken false
-1 -> caught up, broken false
-1 -> caught up, broken false
-2 -> caught up, broken false
-2 -> caught up, broken false
+1 -> caught up true, broken None
+1 -> caught up true, broken None
+1 -> caught up true, broken None
+2 -> caught up true, broken None
+2 -> caught up true, broken None
 rack-audit 3 line 1
 1 tick 1 | none | released
 2 tick 1 | none | released
