@@ -19,5 +19,6 @@ cause_text causes.NoSpace = codes "  no space left"
 cause_text causes.ReadOnly = codes "  can be read alone"
 cause_text causes.NobodyListens = codes "  nobody listens there"
 cause_text causes.NotTaken = codes "  a row was not taken whole"
+cause_text causes.Forgotten = codes "  entries were forgotten before they were written"
 cause_text (causes.Code code) = codes "  system error " ++ decimal code
 cause_text causes.Unknown = codes "  no cause is known"

@@ -42,6 +42,8 @@ pub enum Cause {
     NobodyListens,
     /// The file doesn't take all octets that are written to it.
     NotTaken,
+    /// Entries of an endless line were forgotten before they were written to the file.
+    Forgotten,
     /// The system names no other cause than this number.
     Code(u32),
     /// No cause is known.
@@ -103,6 +105,7 @@ impl fmt::Display for Cause {
             Cause::ReadOnly => f.write_str("  can be read alone"),
             Cause::NobodyListens => f.write_str("  nobody listens there"),
             Cause::NotTaken => f.write_str("  a row was not taken whole"),
+            Cause::Forgotten => f.write_str("  entries were forgotten before they were written"),
             Cause::Code(code) => write!(f, "  system error {code}"),
             Cause::Unknown => f.write_str("  no cause is known"),
         }

@@ -103,6 +103,11 @@ impl<'a, L: Log + Clock> Notes<'a, L> {
         );
     }
 
+    /// The audit text of a line goes on in a further file.
+    pub fn goes_on<W: Wait>(&self, rt: &W, line: u8, file: impl Display + Drop) {
+        self.tell(rt, format_args!("line {line} goes on in {file}"));
+    }
+
     /// The number of the line whose port has this place.
     fn line_at(&self, port: u8) -> u8 {
         match self.lines.get(usize::from(port)) {

@@ -1,6 +1,6 @@
 mod Writing
 mod Recording
+mod Opening
 mod Serving
 mod Sharing
-mod Opening
 mod RacksServed

@@ -1,6 +1,5 @@
 -- Lines that are opened, and the seats of workers at them.
-use Rattle.std.proofs.Common.{◌≡◌, ℕ, ◌+◌, ◌<◌, take, get_or, length, map, refl, List, [], ◌∷◌, ◌++◌, All, sym, ap, subst}
-use Rattle.std.proofs.lemmas.List.{take_more}
+use Rattle.std.proofs.Common.{◌≡◌, map, Bool, true, false, refl, List, [], ◌∷◌, ◌++◌, All, sym, ap, subst}
 use Rattle.std.proofs.lemmas.List.Elements.{All-weaker}
 use Rattle.std.proofs.lemmas.Slice.Zip.{all_zipped_more}
 use Rattle.dp_line.specs.declared.description.LineSpec.{LineSpec}
@@ -10,6 +9,7 @@ use Rattle.dp_shared.specs.Claims.{Claiming, IsNewSeat, Seated}
 use Rattle.dp_sessions.specs.Pools.{HasSeats, IsSeatAt}
 use Rattle.dp_sessions.specs.declared.port.LineAndClaims.{LineAndClaims}
 use Rattle.rack_server.specs.declared.served_line.ServedLine.{ServedLine}
+use Rattle.rack_server.specs.ServedLines.{as_opened, line_numbers}
 use Rattle.rack_server.specs.ServeOutput.{AreOpened, IsOneMore, line_at, specs_of}
 
 -- there is one port more, and these are seats at it
@@ -29,10 +29,10 @@ one_more_seat before after fresh own seat new has here =
     subst (λ ports. HasSeats ports (own ++ seat ∷ [])) (sym new.more) (all_zipped_more (λ port s. IsSeatAt port.claims s) before own new.port seat has here)
 
 -- one line more is opened
-pub opened_more : {S V P C : Type 0} (lines : List ServedLine) (i : ℕ) (line : ServedLine) (before after : List (LineAndClaims (OneSlot S V LineSpec P) C))
-    → i < length lines → get_or lines i line ≡ line → AreOpened (take i lines) before → IsOneMore line.spec before after → AreOpened (take (i + 1) lines) after
-opened_more lines i line before after within is so_far (port, grown, here) =
-    rw (take_more lines i line within, is, grown) (all_zipped_more (λ l p. line_of p.line ≡ l.spec) (take i lines) before line port so_far here)
+pub opened_more : {S V P C : Type 0} (lines longer : List ServedLine) (line : ServedLine) (before after : List (LineAndClaims (OneSlot S V LineSpec P) C))
+    → longer ≡ lines ++ line ∷ [] → AreOpened lines before → IsOneMore line.spec before after → AreOpened longer after
+opened_more lines longer line before after more so_far (port, grown, here) =
+    rw (more, grown) (all_zipped_more (λ l p. line_of p.line ≡ l.spec) lines before line port so_far here)
 
 -- the lines at the ports are those that were opened
 pub opened_specs : {S V P C : Type 0} (lines : List ServedLine) (ports : List (LineAndClaims (OneSlot S V LineSpec P) C)) → AreOpened lines ports → map line_at ports ≡ specs_of lines
@@ -40,3 +40,14 @@ opened_specs [] [] opened = refl
 opened_specs [] (port ∷ ports) opened = absurd opened
 opened_specs (line ∷ lines) [] opened = absurd opened
 opened_specs (line ∷ lines) (port ∷ ports) opened = rw (opened.0, opened_specs lines ports opened.1)
+
+-- a line's number and ports are not changed by its opening
+pub opened_numbers : (endless : Bool) (lines : List ServedLine) → line_numbers (map (as_opened endless) lines) ≡ line_numbers lines
+opened_numbers endless [] = refl
+opened_numbers true (line ∷ lines) = ap (λ ns. line.spec.number ∷ ns) (opened_numbers true lines)
+opened_numbers false (line ∷ lines) = ap (λ ns. line.spec.number ∷ ns) (opened_numbers false lines)
+
+-- a line that isn't endless is opened as it is
+pub opened_as_they_are : (lines : List ServedLine) → map (as_opened false) lines ≡ lines
+opened_as_they_are [] = refl
+opened_as_they_are (line ∷ lines) = ap (λ ls. line ∷ ls) (opened_as_they_are lines)

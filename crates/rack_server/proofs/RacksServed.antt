@@ -112,41 +112,41 @@ path_of_rack folder rack lines path are = path_grows folder (line_numbers lines)
 -- ---- how it ends
 
 -- lines that aren't put in order
-pub refused_lines : (folder : Option (Bor (List ℕ))) (workers : ℕ) (lines : List RackLine) (old : Option (List ℕ)) (fault : RunFault) → ArePutInOrder (all_served lines) (Err fault)
-    → ServesRack folder (record { workers = workers; lines = map line_described lines }) old old (Err (faults.Run fault))
-refused_lines folder workers lines old runs.OutOfMemory told = inl (keeps_same old)
-refused_lines folder workers lines old (runs.Rack racks.BadKey) told = (some_port_is_missing lines told, keeps_same old)
-refused_lines folder workers lines old (runs.Rack racks.OutOfMemory) never = absurd never
-refused_lines folder workers lines old (runs.Rack racks.NotToml) never = absurd never
-refused_lines folder workers lines old (runs.Rack racks.TwiceLine) never = absurd never
-refused_lines folder workers lines old (runs.Rack (racks.Open position fault)) never = absurd never
-refused_lines folder workers lines old (runs.Script line) never = absurd never
-refused_lines folder workers lines old runs.WriteFault never = absurd never
+pub refused_lines : (folder : Option (Bor (List ℕ))) (endless : Bool) (workers : ℕ) (lines : List RackLine) (old : Option (List ℕ)) (fault : RunFault) → ArePutInOrder (all_served lines) (Err fault)
+    → ServesRack folder endless (record { workers = workers; lines = map line_described lines }) old old (Err (faults.Run fault))
+refused_lines folder endless workers lines old runs.OutOfMemory told = inl (keeps_same old)
+refused_lines folder endless workers lines old (runs.Rack racks.BadKey) told = (some_port_is_missing lines told, keeps_same old)
+refused_lines folder endless workers lines old (runs.Rack racks.OutOfMemory) never = absurd never
+refused_lines folder endless workers lines old (runs.Rack racks.NotToml) never = absurd never
+refused_lines folder endless workers lines old (runs.Rack racks.TwiceLine) never = absurd never
+refused_lines folder endless workers lines old (runs.Rack (racks.Open position fault)) never = absurd never
+refused_lines folder endless workers lines old (runs.Script line) never = absurd never
+refused_lines folder endless workers lines old runs.WriteFault never = absurd never
 
 -- lines that aren't listened at
-pub refused_ports : (folder : Option (Bor (List ℕ))) (rack : RackDescription) (lines : List ServedLine) (old : Option (List ℕ)) (fault : ServeFault) → AreLinesOf rack lines → IsListeningFault lines fault
-    → ServesRack folder rack old old (Err fault)
-refused_ports folder rack lines old (faults.CannotListen port cause) of_rack among = (lines, of_rack, among, keeps_same old)
-refused_ports folder rack lines old (faults.Run runs.OutOfMemory) of_rack told = inl (keeps_same old)
-refused_ports folder rack lines old (faults.Run (runs.Rack fault)) of_rack never = absurd never
-refused_ports folder rack lines old (faults.Run (runs.Script line)) of_rack never = absurd never
-refused_ports folder rack lines old (faults.Run runs.WriteFault) of_rack never = absurd never
-refused_ports folder rack lines old (faults.CannotMake path cause) of_rack never = absurd never
-refused_ports folder rack lines old (faults.CannotWrite path cause) of_rack never = absurd never
+pub refused_ports : (folder : Option (Bor (List ℕ))) (endless : Bool) (rack : RackDescription) (lines : List ServedLine) (old : Option (List ℕ)) (fault : ServeFault) → AreLinesOf rack lines → IsListeningFault lines fault
+    → ServesRack folder endless rack old old (Err fault)
+refused_ports folder endless rack lines old (faults.CannotListen port cause) of_rack among = (lines, of_rack, among, keeps_same old)
+refused_ports folder endless rack lines old (faults.Run runs.OutOfMemory) of_rack told = inl (keeps_same old)
+refused_ports folder endless rack lines old (faults.Run (runs.Rack fault)) of_rack never = absurd never
+refused_ports folder endless rack lines old (faults.Run (runs.Script line)) of_rack never = absurd never
+refused_ports folder endless rack lines old (faults.Run runs.WriteFault) of_rack never = absurd never
+refused_ports folder endless rack lines old (faults.CannotMake path cause) of_rack never = absurd never
+refused_ports folder endless rack lines old (faults.CannotWrite path cause) of_rack never = absurd never
 
 -- lines that are served in part, or not recorded
-stopped : (folder : Option (Bor (List ℕ))) (rack : RackDescription) (lines : List ServedLine) (old new : Option (List ℕ)) (fault : ServeFault) → AreLinesOf rack lines → ServesLines folder lines old new (Err fault)
-    → ServesRack folder rack old new (Err fault)
-stopped folder rack lines old new (faults.CannotMake path cause) of_rack (at, same) = (path_of_rack folder rack lines path of_rack at, same)
-stopped folder rack lines old new (faults.CannotWrite path cause) of_rack (cut, served) = ((file_of_rack folder rack lines path of_rack cut.0, cut.1), (lines, of_rack, served))
-stopped folder rack lines old new (faults.Run runs.OutOfMemory) of_rack part = inr (lines, of_rack, part)
-stopped folder rack lines old new (faults.Run runs.WriteFault) of_rack part = inr (lines, of_rack, part)
-stopped folder rack lines old new (faults.Run (runs.Rack fault)) of_rack never = absurd never
-stopped folder rack lines old new (faults.Run (runs.Script line)) of_rack never = absurd never
-stopped folder rack lines old new (faults.CannotListen port cause) of_rack never = absurd never
+stopped : (folder : Option (Bor (List ℕ))) (endless : Bool) (rack : RackDescription) (lines : List ServedLine) (old new : Option (List ℕ)) (fault : ServeFault) → AreLinesOf rack lines → ServesLines folder endless lines old new (Err fault)
+    → ServesRack folder endless rack old new (Err fault)
+stopped folder endless rack lines old new (faults.CannotMake path cause) of_rack (at, same) = (path_of_rack folder rack lines path of_rack at, same)
+stopped folder endless rack lines old new (faults.CannotWrite path cause) of_rack (cut, served) = ((file_of_rack folder rack lines path of_rack cut.0, cut.1), (lines, of_rack, served))
+stopped folder endless rack lines old new (faults.Run runs.OutOfMemory) of_rack part = inr (lines, of_rack, part)
+stopped folder endless rack lines old new (faults.Run runs.WriteFault) of_rack part = inr (lines, of_rack, part)
+stopped folder endless rack lines old new (faults.Run (runs.Rack fault)) of_rack never = absurd never
+stopped folder endless rack lines old new (faults.Run (runs.Script line)) of_rack never = absurd never
+stopped folder endless rack lines old new (faults.CannotListen port cause) of_rack never = absurd never
 
 -- lines that are listened at
-pub rack_served : (folder : Option (Bor (List ℕ))) (rack : RackDescription) (lines : List ServedLine) (old new : Option (List ℕ)) (result : Result Served ServeFault) → AreLinesOf rack lines
-    → ServesLines folder lines old new result → ServesRack folder rack old new result
-rack_served folder rack lines old new (Ok served) of_rack all = (lines, of_rack, all)
-rack_served folder rack lines old new (Err fault) of_rack part = stopped folder rack lines old new fault of_rack part
+pub rack_served : (folder : Option (Bor (List ℕ))) (endless : Bool) (rack : RackDescription) (lines : List ServedLine) (old new : Option (List ℕ)) (result : Result Served ServeFault) → AreLinesOf rack lines
+    → ServesLines folder endless lines old new result → ServesRack folder endless rack old new result
+rack_served folder endless rack lines old new (Ok served) of_rack all = (lines, of_rack, all)
+rack_served folder endless rack lines old new (Err fault) of_rack part = stopped folder endless rack lines old new fault of_rack part

@@ -6,14 +6,15 @@ use Rattle.std.proofs.lemmas.List.{map-append, take_more}
 use Rattle.std.proofs.lemmas.List.Elements.{Contains-append_left, Contains-append_right, Contains-push}
 use Rattle.std.proofs.lemmas.Slice.Zip.{all_zipped_more}
 use Rattle.dp_script.specs.declared.run_fault.RunFault.TheVariants as runs
+use Rattle.rack_server.specs.declared.audit_file.Incomplete.{Incomplete}
 use Rattle.rack_server.specs.declared.recorder.Recorder.{Recorder}
 use Rattle.rack_server.specs.declared.serve_fault.AuditPath.{AuditPath}
 use Rattle.rack_server.specs.declared.serve_fault.AuditPath.TheVariants as paths
 use Rattle.rack_server.specs.declared.serve_fault.ServeFault.{ServeFault}
 use Rattle.rack_server.specs.declared.serve_fault.ServeFault.TheVariants as faults
 use Rattle.rack_server.specs.declared.served_line.ServedLine.{ServedLine}
-use Rattle.rack_server.specs.AuditPaths.{AreRecordedIn, IsFileIn, IsFolderOrFileIn, IsRecordedIn}
-use Rattle.rack_server.specs.Recordings.{path_of, paths_of}
+use Rattle.rack_server.specs.AuditPaths.{AreRecordedIn, IsFileIn, IsFolderOrFileIn, IsOfLine, IsPartOfOne, in_part}
+use Rattle.rack_server.specs.Recordings.{paths_of}
 use Rattle.rack_server.specs.ServedLines.{line_numbers, number_of}
 use Rattle.rack_server.specs.ServeOutput.{IsRecordingFault}
 
@@ -38,12 +39,12 @@ number_at (x ∷ xs) (suc i) line within is =
 pub file_grows : (folder : Option (Bor (List ℕ))) (few many : List ℕ) → ((n : ℕ) → Contains few n → Contains many n) → (path : AuditPath) → IsFileIn folder few path → IsFileIn folder many path
 file_grows None few many grows path never = absurd never
 file_grows (Some folder) few many grows (paths.Folder named) never = absurd never
-file_grows (Some folder) few many grows (paths.File named line number) is = (is.0, grows line is.1)
+file_grows (Some folder) few many grows (paths.File named line number part) is = (is.0, grows line is.1)
 
 pub path_grows : (folder : Option (Bor (List ℕ))) (few many : List ℕ) → ((n : ℕ) → Contains few n → Contains many n) → (path : AuditPath) → IsFolderOrFileIn folder few path → IsFolderOrFileIn folder many path
 path_grows None few many grows path never = absurd never
 path_grows (Some folder) few many grows (paths.Folder named) is = is
-path_grows (Some folder) few many grows (paths.File named line number) is = (is.0, grows line is.1)
+path_grows (Some folder) few many grows (paths.File named line number part) is = (is.0, grows line is.1)
 
 pub fault_grows : (folder : Option (Bor (List ℕ))) (few many : List ℕ) → ((n : ℕ) → Contains few n → Contains many n) → (fault : ServeFault)
     → IsRecordingFault folder few fault → IsRecordingFault folder many fault
@@ -63,48 +64,50 @@ fault_among folder numbers line fault among = fault_grows folder (line ∷ []) n
 -- ---- what records lines
 
 -- a line more is recorded
-pub recorded_more : {N T : Type 0} (folder : Option (Bor (List ℕ))) (lines : List ServedLine) (i : ℕ) (line : ServedLine) (before after : List (Recorder N T)) (recorder : Recorder N T)
+pub recorded_more : {N T : Type 0} (folder : List ℕ) (lines : List ServedLine) (i : ℕ) (line : ServedLine) (before after : List (Recorder N T)) (recorder : Recorder N T)
     → i < length lines → get_or lines i line ≡ line → AreRecordedIn folder (line_numbers (take i lines)) (paths_of before) → after ≡ before ++ recorder ∷ []
-    → IsRecordedIn folder line.spec.number (path_of recorder.file) → AreRecordedIn folder (line_numbers (take (i + 1) lines)) (paths_of after)
+    → IsOfLine folder line.spec.number recorder.file.path → AreRecordedIn folder (line_numbers (take (i + 1) lines)) (paths_of after)
 recorded_more folder lines i line before after recorder within is so_far more here =
-    rw (take_more lines i line within, is, more, map-append number_of (take i lines) (line ∷ []), map-append (λ (r : Recorder _ _). path_of r.file) before (recorder ∷ []))
-    (all_zipped_more (IsRecordedIn folder) (line_numbers (take i lines)) (paths_of before) line.spec.number (path_of recorder.file) so_far here)
+    rw (take_more lines i line within, is, more, map-append number_of (take i lines) (line ∷ []), map-append (λ (r : Recorder _ _). r.file.path) before (recorder ∷ []))
+    (all_zipped_more (IsOfLine folder) (line_numbers (take i lines)) (paths_of before) line.spec.number recorder.file.path so_far here)
 
-one_file : (folder : Option (Bor (List ℕ))) (number : ℕ) (path : AuditPath) → IsRecordedIn folder number (Some path) → IsFileIn folder (number ∷ []) path
-one_file None number path never = absurd never
-one_file (Some folder) number path is = is
+-- the file of a line is one of those of lines among which it is, and so is each part of its text
+of_one : (folder : Bor (List ℕ)) (number : ℕ) (later : List ℕ) (text : AuditPath) (part : Option ℕ) → IsOfLine folder.now number text → IsFileIn (Some folder) (number ∷ later) (in_part text part)
+of_one folder number later (paths.Folder named) part never = absurd never
+of_one folder number later (paths.File named line of_text other) part (is, same) = (is, (0, omega arith, sym same))
 
-recorded_at : (folder : Option (Bor (List ℕ))) (numbers : List ℕ) (all : List (Option AuditPath)) (path : AuditPath) (k : ℕ) → AreRecordedIn folder numbers all → k < length all
-    → slice_index_or all k (Some path) ≡ Some path → IsFileIn folder numbers path
-recorded_at folder [] [] path k each within is = let no : ⊥ = omega arith in absurd no
-recorded_at folder [] (p ∷ ps) path k each within is = absurd each
-recorded_at folder (n ∷ ns) [] path k each within is = absurd each
-recorded_at folder (n ∷ ns) (p ∷ ps) path zero each within is =
-    file_grows folder (n ∷ []) (n ∷ ns) (λ m here. Contains-append_left (n ∷ []) ns m here) path (one_file folder n path (subst (IsRecordedIn folder n) is each.0))
-recorded_at folder (n ∷ ns) (p ∷ ps) path (suc k) each within is =
-    file_grows folder ns (n ∷ ns) (λ m there. Contains-append_right (n ∷ []) ns m there) path (recorded_at folder ns ps path k each.1 (omega arith) is)
+recorded_at : (folder : Bor (List ℕ)) (numbers : List ℕ) (all : List AuditPath) (text : AuditPath) (part : Option ℕ) (k : ℕ) → AreRecordedIn folder.now numbers all → k < length all
+    → slice_index_or all k text ≡ text → IsFileIn (Some folder) numbers (in_part text part)
+recorded_at folder [] [] text part k each within is = let no : ⊥ = omega arith in absurd no
+recorded_at folder [] (p ∷ ps) text part k each within is = absurd each
+recorded_at folder (n ∷ ns) [] text part k each within is = absurd each
+recorded_at folder (n ∷ ns) (p ∷ ps) text part zero each within is = of_one folder n ns text part (subst (IsOfLine folder.now n) is each.0)
+recorded_at folder (n ∷ ns) (p ∷ ps) text part (suc k) each within is =
+    file_grows (Some folder) ns (n ∷ ns) (λ m there. Contains-append_right (n ∷ []) ns m there) (in_part text part) (recorded_at folder ns ps text part k each.1 (omega arith) is)
 
--- the path of one of these files, if one is told, is in the folder
-pub incomplete_in : (folder : Option (Bor (List ℕ))) (numbers : List ℕ) (all : List (Option AuditPath)) (told : Option AuditPath) → AreRecordedIn folder numbers all
-    → IfSome told (λ path. Contains all (Some path)) → IfSome told (IsFileIn folder numbers)
+-- a file of one of these texts, if one is told, is in the folder
+pub incomplete_in : (folder : Bor (List ℕ)) (numbers : List ℕ) (all : List AuditPath) (told : Option Incomplete) → AreRecordedIn folder.now numbers all
+    → IfSome told (λ lacking. IsPartOfOne all lacking.path) → IfSome told (λ lacking. IsFileIn (Some folder) numbers lacking.path)
 incomplete_in folder numbers all None each among = tt
-incomplete_in folder numbers all (Some path) each (k, within, is) = recorded_at folder numbers all path k each within is
+incomplete_in folder numbers all (Some lacking) each (text, part, (k, within, is), same) =
+    subst (IsFileIn (Some folder) numbers) (sym same) (recorded_at folder numbers all text part k each within is)
 
 -- ---- the first file that isn't complete
 
-either_file : {N T : Type 0} (done : List (Recorder N T)) (recorder : Recorder N T) (first next : Option AuditPath) → IfSome first (λ path. Contains (paths_of done) (Some path))
-    → IfSome next (λ path. path_of recorder.file ≡ Some path) → IfSome (option_or first next) (λ path. Contains (paths_of (done ++ recorder ∷ [])) (Some path))
-either_file done recorder None None before here = tt
-either_file done recorder None (Some path) before here =
-    subst (λ ps. Contains ps (Some path)) (sym (map-append (λ (r : Recorder _ _). path_of r.file) done (recorder ∷ [])))
-    (subst (λ p. Contains (paths_of done ++ p ∷ []) (Some path)) (sym here) (Contains-push (paths_of done) (Some path)))
-either_file done recorder (Some path) next before here =
-    subst (λ ps. Contains ps (Some path)) (sym (map-append (λ (r : Recorder _ _). path_of r.file) done (recorder ∷ [])))
-    (Contains-append_left (paths_of done) (path_of recorder.file ∷ []) (Some path) before)
+one_more_text : (done : List AuditPath) (text path : AuditPath) → IsPartOfOne done path → IsPartOfOne (done ++ text ∷ []) path
+one_more_text done text path (of, part, among, same) = (of, part, Contains-append_left done (text ∷ []) of among, same)
+
+either_file : (done : List AuditPath) (text : AuditPath) (first next : Option Incomplete) → IfSome first (λ lacking. IsPartOfOne done lacking.path)
+    → IfSome next (λ lacking. (part : Option ℕ) × (lacking.path ≡ in_part text part)) → IfSome (option_or first next) (λ lacking. IsPartOfOne (done ++ text ∷ []) lacking.path)
+either_file done text None None before here = tt
+either_file done text None (Some lacking) before (part, same) = (text, part, Contains-push done text, same)
+either_file done text (Some lacking) next before here = one_more_text done text lacking.path before
 
 -- one file more was looked at
-pub first_more : {N T : Type 0} (done : List (Recorder N T)) (recorder : Recorder N T) (first next now : Option AuditPath) → now ≡ option_or first next
-    → IfSome first (λ path. Contains (paths_of done) (Some path)) → IfSome next (λ path. path_of recorder.file ≡ Some path)
-    → IfSome now (λ path. Contains (paths_of (done ++ recorder ∷ [])) (Some path))
+pub first_more : {N T : Type 0} (done : List (Recorder N T)) (recorder : Recorder N T) (first next now : Option Incomplete) → now ≡ option_or first next
+    → IfSome first (λ lacking. IsPartOfOne (paths_of done) lacking.path) → IfSome next (λ lacking. (part : Option ℕ) × (lacking.path ≡ in_part recorder.file.path part))
+    → IfSome now (λ lacking. IsPartOfOne (paths_of (done ++ recorder ∷ [])) lacking.path)
 first_more done recorder first next now is before here =
-    subst (λ told. IfSome told (λ path. Contains (paths_of (done ++ recorder ∷ [])) (Some path))) (sym is) (either_file done recorder first next before here)
+    subst (λ told. IfSome told (λ lacking. IsPartOfOne (paths_of (done ++ recorder ∷ [])) lacking.path)) (sym is)
+    (subst (λ ps. IfSome (option_or first next) (λ lacking. IsPartOfOne ps lacking.path)) (sym (map-append (λ (r : Recorder _ _). r.file.path) done (recorder ∷ [])))
+    (either_file (paths_of done) recorder.file.path first next before here))

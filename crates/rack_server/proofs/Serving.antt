@@ -1,8 +1,8 @@
 -- The lines of a rack that is served, and what is written of them.
-use Rattle.std.proofs.Common.{◌≡◌, ℕ, zero, suc, ◌+◌, ◌<◌, List, [], ◌∷◌, ◌++◌, map, length, take, slice_index_or, get_or, Option, Some, None, option_and_then, option_map, Ok, Err, Contains, inl, inr, refl, sym, ap, subst, ◌∙◌, append_assoc, arith}
+use Rattle.std.proofs.Common.{◌≡◌, ℕ, zero, suc, ◌+◌, ◌<◌, List, [], ◌∷◌, ◌++◌, map, Bool, true, false, length, take, slice_index_or, get_or, Option, Some, None, option_and_then, option_map, Result, Ok, Err, Contains, inl, inr, refl, sym, ap, subst, ◌∙◌, append_assoc, arith}
 use Rattle.std.specs.Borrow.{Bor}
 use Rattle.std.specs.List.{AllZip, flat_map, range_with_len}
-use Rattle.std.specs.Io.KnownBytes.{Appends}
+use Rattle.std.specs.Io.KnownBytes.{Appends, Keeps}
 use Rattle.std.proofs.lemmas.List.{append-nil, map-append, map-id, take_more}
 use Rattle.std.proofs.lemmas.List.Concat.{flat_map-append}
 use Rattle.std.proofs.lemmas.List.Elements.{Contains-append_right}
@@ -16,8 +16,12 @@ use Rattle.dp_script.specs.declared.run_fault.RunFault.TheVariants as runs
 use Rattle.rack_server.specs.declared.serve_fault.ServeFault.{ServeFault}
 use Rattle.rack_server.specs.declared.serve_fault.ServeFault.TheVariants as faults
 use Rattle.rack_server.specs.declared.served_line.ServedLine.{ServedLine}
-use Rattle.rack_server.specs.ServedLines.{all_served, line_numbers, served_line}
-use Rattle.rack_server.specs.ServeOutput.{Attends, AreBrokenOff, AreServed, AreServedInPart, AreWritten, EndsLines, IsLeftBy, IsRecordingFault, ServesLines, WritesAudit, ports_of, ready, specs_of, text_of}
+use Rattle.dp_text.specs.Writes.{WritesPrefix}
+use Rattle.rack_server.specs.declared.serve.Served.{Served}
+use Rattle.rack_server.specs.AuditPaths.{IsFolderOrFileIn}
+use Rattle.rack_server.specs.ServedLines.{all_served, as_opened, line_numbers, served_line}
+use Rattle.rack_server.specs.ServeOutput.{Attends, AreBrokenOff, AreServed, AreServedInPart, AreWritten, EndsLines, IsCut, IsLeftBy, IsRecordingFault, ServesLines, WritesAudit, ports_of, ready, specs_of, text_of}
+use Rattle.rack_server.proofs.Opening.{opened_as_they_are, opened_numbers}
 use Rattle.rack_server.proofs.Writing.{appends_more, appends_none, keeps_more, keeps_nothing, keeps_same}
 
 -- ---- lines with their ports
@@ -164,7 +168,7 @@ one_more_port f done port a b c w more =
 -- ---- serving
 
 -- nothing is written behind `ready`
-pub ready_alone : (lines : List ServedLine) (a b : Option (List ℕ)) → Appends a b ready → AreServedInPart lines a b
+pub ready_alone : (lines : List ServedLine) (a b : Option (List ℕ)) → Appends a b ready → AreServedInPart false lines a b
 ready_alone lines a b said = inr (
   b,
   said,
@@ -179,12 +183,13 @@ ready_alone lines a b said = inr (
 )
 
 -- what lines leave is written behind `ready`
-pub served_whole : (lines : List ServedLine) (specs : List LineSpec) (a b c : Option (List ℕ)) → specs ≡ specs_of lines → Appends a b ready → AreWritten specs b c → AreServed lines a c
+pub served_whole : (lines : List ServedLine) (specs : List LineSpec) (a b c : Option (List ℕ)) → specs ≡ specs_of lines → Appends a b ready → AreWritten specs b c → AreServed false lines a c
 served_whole lines specs a b c same said w = (b, said, subst (λ ls. AreWritten ls b c) same w)
 
 -- and so it is where the program can't say how many were served
-pub served_uncounted : (lines : List ServedLine) (a c : Option (List ℕ)) → AreServed lines a c → AreServedInPart lines a c
-served_uncounted lines a c (b, said, w) = inr (
+pub served_uncounted : (endless : Bool) (lines : List ServedLine) (a c : Option (List ℕ)) → AreServed endless lines a c → AreServedInPart endless lines a c
+served_uncounted true lines a c said = (ready, [], sym (append-nil ready), said)
+served_uncounted false lines a c (b, said, w) = inr (
   b,
   said,
   record {
@@ -199,27 +204,52 @@ served_uncounted lines a c (b, said, w) = inr (
 
 -- or a part of it
 pub served_in_part : (folder : Option (Bor (List ℕ))) (lines : List ServedLine) (specs : List LineSpec) (a b c : Option (List ℕ)) (fault : RunFault) → specs ≡ specs_of lines → Appends a b ready
-    → EndsLines specs b c (Err fault) → ServesLines folder lines a c (Err (faults.Run fault))
+    → EndsLines specs b c (Err fault) → ServesLines folder false lines a c (Err (faults.Run fault))
 served_in_part folder lines specs a b c runs.WriteFault same said w = inr (b, said, subst (λ ls. AreBrokenOff ls b c) same w)
 served_in_part folder lines specs a b c runs.OutOfMemory same said w = inr (b, said, subst (λ ls. AreBrokenOff ls b c) same w)
 served_in_part folder lines specs a b c (runs.Rack fault) same said never = absurd never
 served_in_part folder lines specs a b c (runs.Script at) same said never = absurd never
 
+-- a prefix of `ready` is a part of what is written, of endless lines too
+pub some_of_ready : (endless : Bool) (lines : List ServedLine) (a b : Option (List ℕ)) → WritesPrefix a b ready → AreServedInPart endless lines a b
+some_of_ready true lines a b cut = cut
+some_of_ready false lines a b cut = inl cut
+
 -- nothing of it
-pub served_not_at_all : (folder : Option (Bor (List ℕ))) (lines : List ServedLine) (a b : Option (List ℕ)) (fault : RunFault) → Attends a b (Err fault)
-    → ServesLines folder lines a b (Err (faults.Run fault))
-served_not_at_all folder lines a b runs.WriteFault cut = inl cut
-served_not_at_all folder lines a b runs.OutOfMemory same = inl ([], ready, refl, keeps_nothing a b same)
-served_not_at_all folder lines a b (runs.Rack fault) never = absurd never
-served_not_at_all folder lines a b (runs.Script at) never = absurd never
+pub served_not_at_all : (folder : Option (Bor (List ℕ))) (endless : Bool) (lines : List ServedLine) (a b : Option (List ℕ)) (fault : RunFault) → Attends a b (Err fault)
+    → ServesLines folder endless lines a b (Err (faults.Run fault))
+served_not_at_all folder endless lines a b runs.WriteFault cut = some_of_ready endless lines a b cut
+served_not_at_all folder endless lines a b runs.OutOfMemory same = some_of_ready endless lines a b ([], ready, refl, keeps_nothing a b same)
+served_not_at_all folder endless lines a b (runs.Rack fault) never = absurd never
+served_not_at_all folder endless lines a b (runs.Script at) never = absurd never
 
 -- the lines aren't recorded
-pub served_unopened : (folder : Option (Bor (List ℕ))) (lines : List ServedLine) (old : Option (List ℕ)) (fault : ServeFault) → IsRecordingFault folder (line_numbers lines) fault
-    → ServesLines folder lines old old (Err fault)
-served_unopened folder lines old (faults.CannotMake path cause) told = (told, keeps_same old)
-served_unopened folder lines old (faults.Run runs.OutOfMemory) told = inl ([], ready, refl, appends_none old)
-served_unopened folder lines old (faults.Run (runs.Rack fault)) never = absurd never
-served_unopened folder lines old (faults.Run (runs.Script at)) never = absurd never
-served_unopened folder lines old (faults.Run runs.WriteFault) never = absurd never
-served_unopened folder lines old (faults.CannotListen port cause) never = absurd never
-served_unopened folder lines old (faults.CannotWrite path cause) never = absurd never
+pub served_unopened : (folder : Option (Bor (List ℕ))) (endless : Bool) (lines : List ServedLine) (old : Option (List ℕ)) (fault : ServeFault) → IsRecordingFault folder (line_numbers lines) fault
+    → ServesLines folder endless lines old old (Err fault)
+served_unopened folder endless lines old (faults.CannotMake path cause) told = (told, keeps_same old)
+served_unopened folder endless lines old (faults.Run runs.OutOfMemory) told = some_of_ready endless lines old old ([], ready, refl, appends_none old)
+served_unopened folder endless lines old (faults.Run (runs.Rack fault)) never = absurd never
+served_unopened folder endless lines old (faults.Run (runs.Script at)) never = absurd never
+served_unopened folder endless lines old (faults.Run runs.WriteFault) never = absurd never
+served_unopened folder endless lines old (faults.CannotListen port cause) never = absurd never
+served_unopened folder endless lines old (faults.CannotWrite path cause) never = absurd never
+
+-- endless lines are served alike if their numbers are the same
+same_numbers : (folder : Option (Bor (List ℕ))) (lines others : List ServedLine) (a b : Option (List ℕ)) (result : Result Served ServeFault)
+    → line_numbers others ≡ line_numbers lines → ServesLines folder true others a b result → ServesLines folder true lines a b result
+same_numbers folder lines others a b (Ok served) same is = is
+same_numbers folder lines others a b (Err (faults.CannotMake path cause)) same is = subst (λ ns. IsFolderOrFileIn folder ns path × Keeps a b) same is
+same_numbers folder lines others a b (Err (faults.CannotWrite path cause)) same is = subst (λ ns. IsCut folder ns path cause × Appends a b ready) same is
+same_numbers folder lines others a b (Err (faults.Run runs.WriteFault)) same is = is
+same_numbers folder lines others a b (Err (faults.Run runs.OutOfMemory)) same is = is
+same_numbers folder lines others a b (Err (faults.Run (runs.Rack fault))) same never = absurd never
+same_numbers folder lines others a b (Err (faults.Run (runs.Script at))) same never = absurd never
+same_numbers folder lines others a b (Err (faults.CannotListen port cause)) same never = absurd never
+
+-- what is served of lines as they were opened is served of these lines
+pub served_as_opened : (folder : Option (Bor (List ℕ))) (endless : Bool) (lines opened : List ServedLine) (a b : Option (List ℕ)) (result : Result Served ServeFault)
+    → opened ≡ map (as_opened endless) lines → ServesLines folder endless opened a b result → ServesLines folder endless lines a b result
+served_as_opened folder true lines opened a b result same is =
+    same_numbers folder lines opened a b result (ap line_numbers same ∙ opened_numbers true lines) is
+served_as_opened folder false lines opened a b result same is =
+    subst (λ ls. ServesLines folder false ls a b result) (same ∙ opened_as_they_are lines) is

@@ -1,11 +1,11 @@
 -- A rack that is served (own).
-use Rattle.std.specs.Prelude.{◌≡◌, ◌⊎◌, codes, ℕ, Bool, ◌&&◌, false, List, [], ◌∷◌, ◌++◌, map, Option, Some, None, is_some, Result, Ok, Err, Contains, IsPermutation}
+use Rattle.std.specs.Prelude.{◌≡◌, ◌⊎◌, codes, ℕ, Bool, ◌&&◌, true, false, List, [], ◌∷◌, ◌++◌, map, Option, Some, None, is_some, Result, Ok, Err, Contains, IsPermutation}
 use Rattle.std.specs.Borrow.{Bor}
 use Rattle.std.specs.List.{AllZip, flat_map, list_all}
 use Rattle.std.specs.List.Sorted.{IsNonDecreasingBy}
 use Rattle.std.specs.Io.KnownBytes.{Appends, Keeps}
 use Rattle.dp_cause.specs.declared.cause.Cause.{Cause}
-use Rattle.dp_cause.specs.declared.cause.Cause.TheVariants.{NotTaken}
+use Rattle.dp_cause.specs.declared.cause.Cause.TheVariants.{Forgotten, NotTaken}
 use Rattle.dp_text.specs.Writes.{WritesPrefix}
 use Rattle.dp_audit.specs.AuditText.{audit_text, version_of}
 use Rattle.dp_line.specs.World.{description_of}
@@ -18,6 +18,9 @@ use Rattle.dp_shared.specs.declared.one_slot.OneSlot.{OneSlot}
 use Rattle.rack_file.specs.Rack.{LineDescription, RackDescription}
 use Rattle.rack_file.specs.declared.fault.RackFault.{RackFault}
 use Rattle.rack_file.specs.declared.fault.RackFault.TheVariants as racks
+use Rattle.dp_trail.specs.declared.fault.TrailBreak.{TrailBreak}
+use Rattle.dp_trail.specs.declared.fault.TrailBreak.TheVariants as breaks
+use Rattle.rack_server.specs.declared.audit_file.Incomplete.{Incomplete}
 use Rattle.rack_server.specs.declared.serve_fault.AuditPath.{AuditPath}
 use Rattle.rack_server.specs.declared.serve_fault.ServeFault.{ServeFault}
 use Rattle.rack_server.specs.declared.serve_fault.ServeFault.TheVariants as faults
@@ -112,13 +115,15 @@ ready = codes "ready\n"
 abbrev pub specs_of : List ServedLine → List LineSpec
 specs_of lines = map (λ line. line.spec) lines
 
--- `ready` is written, and then what these lines leave
-abbrev pub AreServed : List ServedLine → Option (List ℕ) → Option (List ℕ) → Type 0
-AreServed lines old new = (between : Option (List ℕ)) × Appends old between ready × AreWritten (specs_of lines) between new
+-- `ready` is written, and then what these lines leave; of endless lines `ready` alone
+abbrev pub AreServed : Bool → List ServedLine → Option (List ℕ) → Option (List ℕ) → Type 0
+AreServed true lines old new = Appends old new ready
+AreServed false lines old new = (between : Option (List ℕ)) × Appends old between ready × AreWritten (specs_of lines) between new
 
 -- a prefix of `ready` is written, or it and a part of what these lines leave
-abbrev pub AreServedInPart : List ServedLine → Option (List ℕ) → Option (List ℕ) → Type 0
-AreServedInPart lines old new = WritesPrefix old new ready
+abbrev pub AreServedInPart : Bool → List ServedLine → Option (List ℕ) → Option (List ℕ) → Type 0
+AreServedInPart true lines old new = WritesPrefix old new ready
+AreServedInPart false lines old new = WritesPrefix old new ready
     ⊎ ((between : Option (List ℕ)) × Appends old between ready × AreBrokenOff (specs_of lines) between new)
 
 -- `ready` is written once all that is needed can be had
@@ -128,25 +133,29 @@ Attends old new (Err runs.WriteFault) = WritesPrefix old new ready
 Attends old new (Err runs.OutOfMemory) = Keeps old new
 Attends old new (Err other) = ⊥
 
--- the file of a line with one of these numbers took a row no more
-abbrev pub IsCut : Option (Bor (List ℕ)) → List ℕ → AuditPath → Cause → Type 0
-IsCut folder numbers path cause = IsFileIn folder numbers path × (cause ≡ NotTaken)
+-- why a row isn't written: the file didn't take it whole, or its entry was forgotten before
+abbrev pub cause_of_break : TrailBreak → Cause
+cause_of_break breaks.WriteFault = NotTaken
+cause_of_break breaks.Overtaken = Forgotten
 
--- how serving lines has ended, by the first file that took a row no more, and by how many sessions were served
-abbrev pub attended_outcome : Option AuditPath → Option ℕ → ℕ → Result Served ServeFault
-attended_outcome (Some path) masters operators = Err (faults.CannotWrite path NotTaken)
+-- the file of a line with one of these numbers lacks a row
+abbrev pub IsCut : Option (Bor (List ℕ)) → List ℕ → AuditPath → Cause → Type 0
+IsCut folder numbers path cause = IsFileIn folder numbers path × ((why : TrailBreak) × (cause ≡ cause_of_break why))
+
+-- how serving lines has ended, by the first file that lacks a row, and by how many sessions were served
+abbrev pub attended_outcome : Option Incomplete → Option ℕ → ℕ → Result Served ServeFault
+attended_outcome (Some lacking) masters operators = Err (faults.CannotWrite lacking.path (cause_of_break lacking.why))
 attended_outcome None (Some masters) operators = Ok (record { masters = masters; operators = operators })
 attended_outcome None None operators = Err (faults.Run runs.OutOfMemory)
 
--- where the folder of the audit texts or a file of it for one of these lines can't be had, nothing is written; where such a file took a row no
--- more, all is
-abbrev pub ServesLines : Option (Bor (List ℕ)) → List ServedLine → Option (List ℕ) → Option (List ℕ) → Result Served ServeFault → Type 0
-ServesLines folder lines old new (Ok served) = AreServed lines old new
-ServesLines folder lines old new (Err (faults.CannotMake path cause)) = IsFolderOrFileIn folder (line_numbers lines) path × Keeps old new
-ServesLines folder lines old new (Err (faults.CannotWrite path cause)) = IsCut folder (line_numbers lines) path cause × AreServed lines old new
-ServesLines folder lines old new (Err (faults.Run runs.WriteFault)) = AreServedInPart lines old new
-ServesLines folder lines old new (Err (faults.Run runs.OutOfMemory)) = AreServedInPart lines old new
-ServesLines folder lines old new (Err other) = ⊥
+-- where the folder of the audit texts or a file of it for one of these lines can't be had, nothing is written; where such a file lacks a row, all is
+abbrev pub ServesLines : Option (Bor (List ℕ)) → Bool → List ServedLine → Option (List ℕ) → Option (List ℕ) → Result Served ServeFault → Type 0
+ServesLines folder endless lines old new (Ok served) = AreServed endless lines old new
+ServesLines folder endless lines old new (Err (faults.CannotMake path cause)) = IsFolderOrFileIn folder (line_numbers lines) path × Keeps old new
+ServesLines folder endless lines old new (Err (faults.CannotWrite path cause)) = IsCut folder (line_numbers lines) path cause × AreServed endless lines old new
+ServesLines folder endless lines old new (Err (faults.Run runs.WriteFault)) = AreServedInPart endless lines old new
+ServesLines folder endless lines old new (Err (faults.Run runs.OutOfMemory)) = AreServedInPart endless lines old new
+ServesLines folder endless lines old new (Err other) = ⊥
 
 -- ---- a rack
 
@@ -166,25 +175,25 @@ pub record AreLinesOf (rack : RackDescription) (lines : List ServedLine) : Type 
   pub ascend : IsNonDecreasingBy number_of lines
 
 -- the lines of a rack are served, in the order of their numbers
-abbrev pub IsServed : RackDescription → Option (List ℕ) → Option (List ℕ) → Type 0
-IsServed rack old new = (lines : List ServedLine) × AreLinesOf rack lines × AreServed lines old new
+abbrev pub IsServed : Bool → RackDescription → Option (List ℕ) → Option (List ℕ) → Type 0
+IsServed endless rack old new = (lines : List ServedLine) × AreLinesOf rack lines × AreServed endless lines old new
 
-abbrev pub IsServedInPart : RackDescription → Option (List ℕ) → Option (List ℕ) → Type 0
-IsServedInPart rack old new = Keeps old new ⊎ ((lines : List ServedLine) × AreLinesOf rack lines × AreServedInPart lines old new)
+abbrev pub IsServedInPart : Bool → RackDescription → Option (List ℕ) → Option (List ℕ) → Type 0
+IsServedInPart endless rack old new = Keeps old new ⊎ ((lines : List ServedLine) × AreLinesOf rack lines × AreServedInPart endless lines old new)
 
 -- a rack that is accepted is served; a line without a port is a bad key, and then nothing is written, nor where a port of the rack can't be
 -- had, or the folder of the audit texts or a file of it for a line of the rack; where such a file took a row no more, all is served; and where
 -- memory, a thread or a write is refused, what is written is a part
-abbrev pub ServesRack : Option (Bor (List ℕ)) → RackDescription → Option (List ℕ) → Option (List ℕ) → Result Served ServeFault → Type 0
-ServesRack folder rack old new (Ok served) = IsServed rack old new
-ServesRack folder rack old new (Err (faults.Run (runs.Rack racks.BadKey))) = (list_all has_ports rack.lines ≡ false) × Keeps old new
-ServesRack folder rack old new (Err (faults.CannotListen port cause)) =
+abbrev pub ServesRack : Option (Bor (List ℕ)) → Bool → RackDescription → Option (List ℕ) → Option (List ℕ) → Result Served ServeFault → Type 0
+ServesRack folder endless rack old new (Ok served) = IsServed endless rack old new
+ServesRack folder endless rack old new (Err (faults.Run (runs.Rack racks.BadKey))) = (list_all has_ports rack.lines ≡ false) × Keeps old new
+ServesRack folder endless rack old new (Err (faults.CannotListen port cause)) =
     (lines : List ServedLine) × AreLinesOf rack lines × Contains (ports_of lines) port × Keeps old new
-ServesRack folder rack old new (Err (faults.CannotMake path cause)) = IsFolderOrFileIn folder (rack_numbers rack) path × Keeps old new
-ServesRack folder rack old new (Err (faults.CannotWrite path cause)) = IsCut folder (rack_numbers rack) path cause × IsServed rack old new
-ServesRack folder rack old new (Err (faults.Run runs.OutOfMemory)) = IsServedInPart rack old new
-ServesRack folder rack old new (Err (faults.Run runs.WriteFault)) = IsServedInPart rack old new
-ServesRack folder rack old new (Err other) = ⊥
+ServesRack folder endless rack old new (Err (faults.CannotMake path cause)) = IsFolderOrFileIn folder (rack_numbers rack) path × Keeps old new
+ServesRack folder endless rack old new (Err (faults.CannotWrite path cause)) = IsCut folder (rack_numbers rack) path cause × IsServed endless rack old new
+ServesRack folder endless rack old new (Err (faults.Run runs.OutOfMemory)) = IsServedInPart endless rack old new
+ServesRack folder endless rack old new (Err (faults.Run runs.WriteFault)) = IsServedInPart endless rack old new
+ServesRack folder endless rack old new (Err other) = ⊥
 
 -- a rack that isn't accepted is reported, or that memory is out, and nothing is written
 abbrev pub RefusesToServe : RackFault → Option (List ℕ) → Option (List ℕ) → Result Served ServeFault → Type 0
@@ -193,6 +202,6 @@ RefusesToServe fault old new (Err (faults.Run runs.OutOfMemory)) = Keeps old new
 RefusesToServe fault old new other = ⊥
 
 -- the rack that a text describes, or doesn't
-abbrev pub Serves : Option (Bor (List ℕ)) → Result RackDescription RackFault → Option (List ℕ) → Option (List ℕ) → Result Served ServeFault → Type 0
-Serves folder (Ok rack) old new result = ServesRack folder rack old new result
-Serves folder (Err fault) old new result = RefusesToServe fault old new result
+abbrev pub Serves : Option (Bor (List ℕ)) → Bool → Result RackDescription RackFault → Option (List ℕ) → Option (List ℕ) → Result Served ServeFault → Type 0
+Serves folder endless (Ok rack) old new result = ServesRack folder endless rack old new result
+Serves folder endless (Err fault) old new result = RefusesToServe fault old new result

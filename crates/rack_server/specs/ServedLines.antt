@@ -1,7 +1,8 @@
 -- The lines of a rack that can be served, and the order in which they are (own).
-use Rattle.std.specs.Prelude.{◌≡◌, ℕ, List, [], ◌∷◌, map, Option, Some, None, option_and_then, option_map, Result, Ok, Err, Vec, IsPermutation}
+use Rattle.std.specs.Prelude.{◌≡◌, ℕ, Bool, true, false, List, [], ◌∷◌, map, Option, Some, None, option_and_then, option_map, Result, Ok, Err, Vec, IsPermutation}
 use Rattle.std.specs.List.Sorted.{IsNonDecreasingBy}
 use Rattle.std.specs.declared.alloc.Global.{Global}
+use Rattle.dp_line.specs.Endless.{endless_places}
 use Rattle.dp_line.specs.declared.description.LineSpec.{LineSpec}
 use Rattle.rack_file.specs.declared.fault.RackFault.TheVariants as racks
 use Rattle.rack_file.specs.declared.rack.RackLine.{RackLine}
@@ -21,6 +22,11 @@ served_line line = with_both line.spec line.listen line.operator
 abbrev pub all_served : List RackLine → Option (List ServedLine)
 all_served [] = Some []
 all_served (line ∷ lines) = option_and_then (λ first. option_map (λ others. first ∷ others) (all_served lines)) (served_line line)
+
+-- a line as it is opened: an endless one has its places
+abbrev pub as_opened : Bool → ServedLine → ServedLine
+as_opened true line = record line { spec = record line.spec { capacity = endless_places } }
+as_opened false line = line
 
 abbrev pub number_of : ServedLine → ℕ
 number_of line = line.spec.number

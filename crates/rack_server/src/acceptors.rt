@@ -18,7 +18,7 @@ use std::sync::Wait;
 
 /// What accepts the connections of a rack.
 #[derive(Drop)]
-pub(crate) struct Acceptors<'a, H: Wait, C: CatchUp> {
+pub(crate) struct Acceptors<'a, H: Wait, C> {
     /// Of masters, one for each line.
     pub(crate) masters: Vec<MasterAcceptor<'a, H, C>>,
     /// Of operators, one for each line.

@@ -10,7 +10,6 @@ pub(crate) const TURNS: u32 = u32::MAX;
 /// What all acceptors of a rack share.
 #[derive(Drop)]
 pub(crate) struct Attendance<'a, H> {
-    /// The runtime.
     pub(crate) rt: &'a H,
     /// The doors of the rack.
     pub(crate) doors: &'a Doors,

@@ -1,42 +1,43 @@
 //! Attending lines: connections are accepted and served, and what is served is recorded.
 
-ghost use Rattle.std.specs.Prelude.{◌≡◌, ◌≤◌, ℕ, List, Option, All, Contains, Err, IfErr, IfOk, IfSome, OnErr, OnOk, Some, length};
+ghost use Rattle.std.specs.Prelude.{◌≡◌, ◌≤◌, ℕ, Bool, List, Option, All, Err, IfErr, IfOk, IfSome, None, OnErr, OnOk, Some, length};
 ghost use Rattle.std.specs.Borrow.{Bor};
 ghost use Rattle.std.specs.Io.KnownBytes.{Appends};
 ghost use Rattle.dp_text.specs.Writes.{WritesPrefix};
 ghost use Rattle.dp_sessions.specs.Pools.{HasSeats};
 ghost use Rattle.rack_server.specs.declared.served_line.ServedLine.{ServedLine};
 ghost use Rattle.rack_server.specs.AuditPaths.{IsFileIn};
-ghost use Rattle.rack_server.specs.Recordings.{paths_of};
 ghost use Rattle.rack_server.specs.ServedLines.{line_numbers};
 ghost use Rattle.rack_server.specs.ServeOutput.{AreOpened, AreServed, Attends, ServesLines, attended_outcome, ready};
 
 use crate::acceptors::Acceptors;
 use crate::attendance::Attendance;
+use crate::audit_file::Incomplete;
 use crate::doors::Doors;
 use crate::host::Host;
 use crate::listening::Listening;
-use crate::recorder::{Recorder, first_incomplete};
+use crate::recorder::{first_incomplete, record_lines};
 use crate::serve::Served;
-use crate::serve_fault::{AuditPath, ServeFault};
+use crate::serve_fault::ServeFault;
 use crate::served_line::ServedLine;
 use crate::threads::{accept_and_serve, can_start};
 use crossbeam_channel::bounded;
-use dp_cause::Cause;
 use dp_notes::Notes;
 use dp_script::RunFault;
 use dp_sessions::Port;
 use dp_shared::WorkerSeat;
 use dp_text::write_whole;
-use dp_trail::{CatchUp, Trail};
+use dp_trail::{CatchUp, NoTrail};
 use std::alloc::Global;
-use std::fs::File;
 use std::io::Write;
 use std::net::TcpListener;
 use std::sync::atomic::AtomicU32;
 
 /// How many sessions of masters wait for a worker at most; more connections wait to be accepted.
 const WAITING: usize = 64;
+
+/// The most lines of a rack.
+const MOST_LINES: usize = 8;
 
 /// What is written once every port is listened at.
 const READY: &[u8] = b"ready\n";
@@ -48,24 +49,24 @@ pub(crate) struct Attended<'a> {
     masters: Option<u32>,
     /// How many sessions of operators were served.
     operators: u32,
-    /// The file of an audit text that took a row no more.
-    incomplete: Option<AuditPath<'a>>,
+    /// The file of an audit text that lacks a row.
+    incomplete: Option<Incomplete<'a>>,
 }
 
 impl<'a> Attended<'a> {
     /// How the program ends, once the audit texts are written.
     pub(crate) fn outcome(self) -> Result<Served, ServeFault<'a>>
         ensures exact { result ≡ attended_outcome self.entry.incomplete self.entry.masters self.entry.operators }
-        ensures serves { (folder : Option (Bor (List ℕ))) → (lines : List ServedLine) → IfSome self.entry.incomplete (IsFileIn folder (line_numbers lines))
-            → (old new : Option (List ℕ)) → AreServed lines old new → ServesLines folder lines old new result }
+        ensures serves { (folder : Option (Bor (List ℕ))) → (endless : Bool) → (lines : List ServedLine) → IfSome self.entry.incomplete (λ lacking. IsFileIn folder (line_numbers lines) lacking.path)
+            → (old new : Option (List ℕ)) → AreServed endless lines old new → ServesLines folder endless lines old new result }
     {
         let Attended {
             masters,
             operators,
             incomplete,
         } = self;
-        if let Some(path) = incomplete {
-            return Err(ServeFault::CannotWrite(path, Cause::NotTaken));
+        if let Some(lacking) = incomplete {
+            return Err(ServeFault::CannotWrite(lacking.path, lacking.cause()));
         }
         match masters {
             Some(masters) => Ok(Served { masters, operators }),
@@ -74,38 +75,64 @@ impl<'a> Attended<'a> {
     }
 }
 
-/// Attends lines, each with what records it, and closes the records.
-pub(crate) fn attend_recorded<'a, 's, H: Host + Sync, W: Write>(
+/// Attends lines, and records each in the folder, if one is named. `megabytes` says how many a part of an audit text has at
+/// least, if the texts have parts.
+pub(crate) fn attend_lines<'a, 's, H: Host + Sync, W: Write>(
     rt: &'s H,
     alloc: Global,
     doors: &'s Doors,
     notes: &'s Notes<'s, H>,
+    folder: Option<&'a str>,
+    megabytes: Option<u16>,
     lines: &'s [ServedLine],
     listening: Vec<Listening<TcpListener>>,
     ports: &'s [Port],
     seats: Vec<Vec<WorkerSeat>>,
-    recorders: Vec<Recorder<'a, 's, H, Trail<'s, File>>>,
     sessions: u64,
     writer: &mut W,
-) -> Result<Attended<'a>, RunFault>
+) -> Result<Attended<'a>, ServeFault<'a>>
     requires few { length lines.now ≤ 8 }
     requires each { length listening.items ≡ length lines.now }
     requires opened { AreOpened lines.now ports.now }
-    requires recorded { length recorders.items ≡ length lines.now }
     requires workers { (1 ≤ length seats.items) × (length seats.items ≤ 32) }
     requires seats { All (λ own. HasSeats ports.now own.items) seats.items }
     ensures ok { OnOk result (Appends (W.contents writer.old) (W.contents writer.new) ready) }
-    ensures incomplete { IfOk result (λ attended. IfSome attended.incomplete (λ path. Contains (paths_of recorders.entry.items) (Some path))) }
-    ensures err { IfErr result (λ fault. Attends (W.contents writer.old) (W.contents writer.new) (Err fault)) }
+    ensures incomplete { IfOk result (λ attended. IfSome attended.incomplete (λ lacking. IsFileIn folder.entry (line_numbers lines.now) lacking.path)) }
+    ensures err { IfErr result (λ fault. (endless : Bool) → ServesLines folder.entry endless lines.now (W.contents writer.old) (W.contents writer.new) (Err fault)) }
 {
-    let operators = AtomicU32::new(0);
     let attendance = Attendance {
         rt,
         doors,
         notes,
-        operators,
+        operators: AtomicU32::new(0),
     };
-    let masters = match attend(
+    let Some(folder) = folder else {
+        let none = &[NoTrail; MOST_LINES][..lines.len()];
+        let masters = attend(
+            &attendance,
+            alloc,
+            lines,
+            listening,
+            ports,
+            seats,
+            none,
+            sessions,
+            writer,
+        );
+        return match masters {
+            Ok(masters) => Ok(Attended {
+                masters,
+                operators: attendance.operators.into_inner(),
+                incomplete: None,
+            }),
+            Err(fault) => Err(ServeFault::Run(fault)),
+        };
+    };
+    let recorders = match record_lines(rt, notes, alloc, doors, folder, megabytes, lines, ports) {
+        Ok(recorders) => recorders,
+        Err(fault) => return Err(fault),
+    };
+    let masters = attend(
         &attendance,
         alloc,
         lines,
@@ -115,16 +142,15 @@ pub(crate) fn attend_recorded<'a, 's, H: Host + Sync, W: Write>(
         &recorders,
         sessions,
         writer,
-    ) {
-        Ok(masters) => masters,
-        Err(fault) => return Err(fault),
-    };
-    let operators = attendance.operators.into_inner();
-    Ok(Attended {
-        masters,
-        operators,
-        incomplete: first_incomplete(rt, recorders),
-    })
+    );
+    match masters {
+        Ok(masters) => Ok(Attended {
+            masters,
+            operators: attendance.operators.into_inner(),
+            incomplete: first_incomplete(rt, recorders),
+        }),
+        Err(fault) => Err(ServeFault::Run(fault)),
+    }
 }
 
 /// Writes `ready`, and accepts and serves connections: how many sessions of masters were served, or None where a

@@ -1,28 +1,51 @@
-//! The file that gets the audit text of a line while this is served.
+//! The files that get the audit text of a line while this is served.
 
-ghost use Rattle.std.specs.Prelude.{◌≡◌, [], ◌∷◌, IfErr, IfOk, Some};
-ghost use Rattle.rack_server.specs.AuditPaths.{IsFileIn};
-ghost use Rattle.rack_server.specs.ServeOutput.{IsNotBegun, IsRecordingFault};
+ghost use Rattle.std.specs.Prelude.{◌≡◌, [], ◌∷◌, IfErr, IfOk, IfSome, ℕ, Option, Some};
+ghost use Rattle.rack_server.specs.AuditPaths.{IsOfLine, in_part};
+ghost use Rattle.rack_server.specs.ServeOutput.{IsNotBegun, IsRecordingFault, cause_of_break};
 
+use crate::audit_writer::{AuditWriter, create};
+use crate::host::Host;
 use crate::serve_fault::{AuditPath, ServeFault};
 use dp_cause::Cause;
+use dp_notes::Notes;
 use dp_script::RunFault;
 use dp_shared::Line;
-use dp_trail::{Tail, Trail, TrailFault};
+use dp_trail::{Tail, Trail, TrailBreak, TrailFault};
 use std::alloc::Global;
 use std::fs::{self, File, Files};
-use std::io::{self, ErrorKind, Write};
-use std::sync::Wait;
+use std::io::{self, ErrorKind};
 
-/// The trail of a line in a file. It is generic, since the check finds that threads may share it by the facts of
+/// The trail of a line in files. It is generic, since the check finds that threads may share it by the facts of
 /// its type parameter.
 #[derive(Drop)]
 pub(crate) struct AuditFile<'a, T> {
-    /// The path of the file.
+    /// The path of the text, if it has one file.
     pub(crate) path: AuditPath<'a>,
-    /// The trail.
     pub(crate) trail: T,
 }
+
+/// A file of an audit text that lacks a row, and why.
+#[derive(Clone, Copy)]
+pub(crate) struct Incomplete<'a> {
+    pub(crate) path: AuditPath<'a>,
+    pub(crate) why: TrailBreak,
+}
+
+impl Incomplete<'_> {
+    /// The cause on standard error.
+    pub(crate) fn cause(self) -> Cause
+        ensures { result ≡ cause_of_break self.entry.why }
+    {
+        match self.why {
+            TrailBreak::WriteFault => Cause::NotTaken,
+            TrailBreak::Overtaken => Cause::Forgotten,
+        }
+    }
+}
+
+/// The trail of a line, which writes to files.
+pub(crate) type FileTrail<'a, 's, H> = Trail<'s, AuditWriter<'a, 's, H>>;
 
 /// Makes the folder, where it is missing, and those above it.
 ///
@@ -36,28 +59,35 @@ pub(crate) fn make_folder<'a>(files: &impl Files, folder: &'a str) -> Result<(),
     }
 }
 
-/// A new file of a folder for the line of this number, by the first number that is free for it, with the header of the
-/// line's audit text. Nothing that is there is changed.
+/// Begins the audit text of the line of this number in a new file of a folder, by the first number that is free for it, with
+/// the header. `megabytes` says how many a part has at least, if the text has parts. Nothing that is there is changed.
 ///
 /// `CannotMake` with the path of the file that can't be had or doesn't take the header, or `OutOfMemory`.
-pub(crate) fn open_file<'a, 'l, H: Files<File = File> + Wait>(
-    rt: &H,
+pub(crate) fn open_file<'a, 's, H: Host>(
+    host: &'s H,
+    notes: &'s Notes<'s, H>,
     alloc: Global,
     folder: &'a str,
-    line: &'l Line,
+    megabytes: Option<u16>,
+    line: &'s Line,
     number: u8,
-) -> Result<AuditFile<'a, Trail<'l, File>>, ServeFault<'a>>
-    ensures path { IfOk result (λ file. IsFileIn (Some folder.entry) (number ∷ []) file.path) }
+) -> Result<AuditFile<'a, FileTrail<'a, 's, H>>, ServeFault<'a>>
+    ensures path { IfOk result (λ file. IsOfLine folder.now number file.path) }
     ensures fault { IfErr result (IsRecordingFault (Some folder.entry) (number ∷ [])) }
 {
-    for of_file in 1..=u32::MAX {
-        let path = AuditPath::File {
+    for of_text in 1..=u32::MAX {
+        let text = AuditPath::File {
             folder,
             line: number,
-            number: of_file,
+            number: of_text,
+            part: None,
         };
-        match create(rt, alloc, path) {
-            Ok(file) => return begin(rt, line, file, path),
+        let path = text.in_part(megabytes.map(|_| 1));
+        match create_first(host, alloc, text, path) {
+            Ok(file) => {
+                let writer = AuditWriter::new(host, notes, alloc, text, number, megabytes, file);
+                return begin(host, line, writer, text, path);
+            }
             Err(error) => match error.kind() {
                 ErrorKind::AlreadyExists => {}
                 ErrorKind::OutOfMemory => return Err(ServeFault::Run(RunFault::OutOfMemory)),
@@ -68,31 +98,39 @@ pub(crate) fn open_file<'a, 'l, H: Files<File = File> + Wait>(
     Err(ServeFault::CannotMake(AuditPath::Folder(folder), Cause::Unknown))
 }
 
-/// Creates a file where nothing has its path.
-fn create<F: Files<File = File>>(
-    files: &F,
+/// Creates the file at a path, the only one or the first part of a text. `AlreadyExists` also where another text of the same
+/// number is there, in one file or in parts.
+fn create_first<H: Host>(
+    host: &H,
     alloc: Global,
+    text: AuditPath<'_>,
     path: AuditPath<'_>,
 ) -> io::Result<File> {
-    let Ok(path) = format!(in alloc; "{path}") else {
-        return Err(io::Error::from(ErrorKind::OutOfMemory));
-    };
-    File::create_new(files, path.as_str())
+    for part in [None, Some(1)] {
+        let Ok(path) = format!(in alloc; "{}", text.in_part(part)) else {
+            return Err(io::Error::from(ErrorKind::OutOfMemory));
+        };
+        if fs::exists(host, path.as_str())? {
+            return Err(io::Error::from(ErrorKind::AlreadyExists));
+        }
+    }
+    create(host, alloc, path)
 }
 
-/// Begins the trail of a line in its file.
-fn begin<'a, 'l, H: Wait, F: Write + Drop>(
-    rt: &H,
-    line: &'l Line,
-    file: F,
+/// Begins the trail of a line by its writer; `text` is the path of a text with one file, and `path` that of its first file.
+fn begin<'a, 's, H: Host>(
+    host: &'s H,
+    line: &'s Line,
+    writer: AuditWriter<'a, 's, H>,
+    text: AuditPath<'a>,
     path: AuditPath<'a>,
-) -> Result<AuditFile<'a, Trail<'l, F>>, ServeFault<'a>>
-    ensures path { IfOk result (λ file. file.path ≡ path.entry) }
+) -> Result<AuditFile<'a, FileTrail<'a, 's, H>>, ServeFault<'a>>
+    ensures path { IfOk result (λ file. file.path ≡ text.entry) }
     ensures fault { IfErr result (IsNotBegun path.entry) }
 {
-    match Tail::open(rt, line, file) {
+    match Tail::open(host, line, writer) {
         Ok(tail) => Ok(AuditFile {
-            path,
+            path: text,
             trail: Trail::of(tail),
         }),
         Err(TrailFault::NoPass) => Err(ServeFault::Run(RunFault::OutOfMemory)),
@@ -100,10 +138,22 @@ fn begin<'a, 'l, H: Wait, F: Write + Drop>(
     }
 }
 
-/// Has a trail catch up a last time, and gives its pass back; whether all its rows are written.
-pub(crate) fn complete<H: Wait, F: Write + Drop>(rt: &H, trail: Trail<'_, F>) -> bool {
+/// Has the trail of a text catch up a last time, and hands its pass back: the file that lacks a row, and why, if one does.
+pub(crate) fn complete<'a, H: Host>(
+    host: &H,
+    file: AuditFile<'a, FileTrail<'a, '_, H>>,
+) -> Option<Incomplete<'a>>
+    ensures { IfSome result (λ lacking. (part : Option ℕ) × (lacking.path ≡ in_part file.entry.path part)) }
+{
+    let AuditFile { path, trail } = file;
     let mut tail = trail.into_tail();
-    let complete = tail.catch_up(rt).is_ok();
-    let _ = tail.close(rt);
-    complete
+    let caught_up = tail.catch_up(host);
+    let (writer, _) = tail.close(host);
+    match caught_up {
+        Ok(_) => None,
+        Err(why) => Some(Incomplete {
+            path: path.in_part(writer.part()),
+            why,
+        }),
+    }
 }

@@ -11,6 +11,7 @@ mod acceptors;
 mod attendance;
 mod attending;
 mod audit_file;
+mod audit_writer;
 mod audits;
 mod connection;
 mod doors;
@@ -25,6 +26,6 @@ mod serve_fault;
 mod served_line;
 mod threads;
 
-pub use host::Host;
+pub use host::{Host, NewFiles};
 pub use serve::{Served, serve_text};
 pub use serve_fault::{AuditPath, ServeFault};

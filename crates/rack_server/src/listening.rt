@@ -13,9 +13,7 @@ use std::net::{Ipv4Addr, Net, TcpListener};
 /// Where a line listens.
 #[derive(Drop)]
 pub(crate) struct Listening<L> {
-    /// For masters.
     pub(crate) masters: L,
-    /// For its operator.
     pub(crate) operators: L,
 }
 

@@ -17,7 +17,7 @@ pub(crate) type MasterJob<'a, H, C> = Job<Connection<'a, H, C>, Connection<'a, H
 
 /// Accepts the masters of a line, and hands their sessions to the workers.
 #[derive(Drop)]
-pub(crate) struct MasterAcceptor<'a, H: Wait, C: CatchUp> {
+pub(crate) struct MasterAcceptor<'a, H: Wait, C> {
     /// Where the line listens for them.
     pub(crate) listener: TcpListener,
     /// The place of its port among those of the pool.

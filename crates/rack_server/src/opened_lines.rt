@@ -1,20 +1,27 @@
 //! The lines of a rack, opened for threads.
 
-ghost use Rattle.std.specs.Prelude.{◌≡◌, [], All, IfOk, None, length};
+ghost use Rattle.std.specs.Prelude.{◌≡◌, [], ◌∷◌, ◌++◌, All, IfOk, None, length, map};
 ghost use Rattle.dp_sessions.specs.Pools.{HasSeats};
 ghost use Rattle.dp_line.specs.World.{description_of, opening_fault};
+ghost use Rattle.dp_shared.specs.Passes.{line_of};
+ghost use Rattle.rack_server.specs.ServedLines.{as_opened};
 ghost use Rattle.rack_server.specs.ServeOutput.{AreOpened, IsOneMore};
 
 use crate::served_line::ServedLine;
-use dp_line::LineSpec;
 use dp_sessions::Port;
 use dp_shared::{Claims, Line, WorkerSeat};
 use std::alloc::{AllocError, Global};
 
+/// The fewest entries for which memory is reserved for an endless line. Between two looks of a trail, 16 masters may each
+/// have one read and what their cutter holds answered, at most 255 and 254 octets with as many requests, and an operator one
+/// `step`, 64 inputs: 8,208 in all. At least half of the entries are always kept, so a trail is not overtaken.
+const LEAST_WINDOW: u32 = 16_416;
+
 /// Lines that threads share, and for each worker a seat at each of them, in the same order.
 #[derive(Drop)]
 pub(crate) struct OpenedLines {
-    /// The lines.
+    /// The lines as they were opened: an endless one has its places.
+    pub(crate) lines: Vec<ServedLine>,
     pub(crate) ports: Vec<Port>,
     /// The seats of each worker.
     pub(crate) seats: Vec<Vec<WorkerSeat>>,
@@ -23,25 +30,42 @@ pub(crate) struct OpenedLines {
 /// The lines at their start, for so many workers; or memory, or a table, was refused.
 pub(crate) fn open_lines(
     alloc: Global,
-    lines: &[ServedLine],
+    lines: Vec<ServedLine>,
+    are_endless: bool,
     workers: u8,
 ) -> Result<OpenedLines, AllocError>
-    requires { All (λ line. opening_fault (description_of line.spec) ≡ None) lines.now }
-    ensures opened { IfOk result (λ opened. AreOpened lines.now opened.ports.items) }
+    requires { All (λ line. opening_fault (description_of line.spec) ≡ None) lines.items }
+    ensures lines { IfOk result (λ opened. opened.lines.items ≡ map (as_opened are_endless) lines.items) }
+    ensures opened { IfOk result (λ opened. AreOpened opened.lines.items opened.ports.items) }
     ensures workers { IfOk result (λ opened. length opened.seats.items ≡ workers) }
     ensures seats { IfOk result (λ opened. All (λ own. HasSeats opened.ports.items own.items) opened.seats.items) }
 {
     let mut opened = OpenedLines::none(alloc, workers)?;
     for line in lines {
-        opened = opened.with_line(alloc, &line.spec, workers)?;
+        opened = opened.with_line(alloc, line, are_endless, workers)?;
     }
     Ok(opened)
+}
+
+/// Opens a line, and changes its description to that of the line that was opened; or memory, or a table, was refused.
+fn open_line(alloc: Global, line: &mut ServedLine, is_endless: bool) -> Result<Line, AllocError>
+    requires { opening_fault (description_of line.old.spec) ≡ None }
+    ensures { IfOk result (λ opened. (line.new ≡ as_opened is_endless line.old) × (line_of opened ≡ line.new.spec)) }
+{
+    let opened = if is_endless {
+        line.spec.capacity = line.spec.capacity.max(LEAST_WINDOW);
+        Line::open_endless(alloc, &mut line.spec)
+    } else {
+        Line::open(alloc, &line.spec)
+    };
+    opened.map_err(|_| AllocError)
 }
 
 impl OpenedLines {
     /// No line, and so many workers without a seat.
     fn none(alloc: Global, workers: u8) -> Result<OpenedLines, AllocError>
-        ensures none { IfOk result (λ opened. opened.ports.items ≡ []) }
+        ensures lines { IfOk result (λ opened. opened.lines.items ≡ []) }
+        ensures ports { IfOk result (λ opened. opened.ports.items ≡ []) }
         ensures workers { IfOk result (λ opened. length opened.seats.items ≡ workers) }
         ensures seats { IfOk result (λ opened. All (λ own. HasSeats opened.ports.items own.items) opened.seats.items) }
     {
@@ -50,6 +74,7 @@ impl OpenedLines {
             seats.push(Vec::new(alloc))?;
         }
         Ok(OpenedLines {
+            lines: Vec::new(alloc),
             ports: Vec::new(alloc),
             seats,
         })
@@ -59,23 +84,29 @@ impl OpenedLines {
     fn with_line(
         self,
         alloc: Global,
-        line: &LineSpec,
+        line: ServedLine,
+        is_endless: bool,
         workers: u8,
     ) -> Result<OpenedLines, AllocError>
-        requires accepted { opening_fault (description_of line.now) ≡ None }
+        requires accepted { opening_fault (description_of line.spec) ≡ None }
         requires workers { length self.seats.items ≡ workers }
         requires seats { All (λ own. HasSeats self.ports.items own.items) self.seats.items }
-        ensures line { IfOk result (λ opened. IsOneMore line.now self.ports.items opened.ports.items) }
+        ensures lines { IfOk result (λ opened. opened.lines.items ≡ self.lines.items ++ as_opened is_endless line ∷ []) }
+        ensures line { IfOk result (λ opened. IsOneMore (as_opened is_endless line).spec self.ports.items opened.ports.items) }
         ensures workers { IfOk result (λ opened. length opened.seats.items ≡ workers) }
         ensures seats { IfOk result (λ opened. All (λ own. HasSeats opened.ports.items own.items) opened.seats.items) }
     {
-        let OpenedLines { mut ports, seats } = self;
-        let Ok((claims, mut fresh)) = Claims::open(alloc, line, workers) else {
+        let OpenedLines {
+            mut lines,
+            mut ports,
+            seats,
+        } = self;
+        let Ok((claims, mut fresh)) = Claims::open(alloc, &line.spec, workers) else {
             return Err(AllocError);
         };
-        let Ok(line) = Line::open(alloc, line) else {
-            return Err(AllocError);
-        };
+        let mut described = line;
+        let line = open_line(alloc, &mut described, is_endless)?;
+        lines.push(described)?;
         ports.push(Port { line, claims })?;
         let mut more = Vec::new(alloc);
         for mut own in seats {
@@ -85,6 +116,10 @@ impl OpenedLines {
             own.push(seat)?;
             more.push(own)?;
         }
-        Ok(OpenedLines { ports, seats: more })
+        Ok(OpenedLines {
+            lines,
+            ports,
+            seats: more,
+        })
     }
 }

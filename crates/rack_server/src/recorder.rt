@@ -1,82 +1,82 @@
 //! What records lines before their answers leave.
 
-ghost use Rattle.std.specs.Prelude.{◌≡◌, ◌≤◌, [], ◌∷◌, Contains, IfErr, IfOk, IfSome, Some, length, option_map};
-ghost use Rattle.rack_server.specs.AuditPaths.{AreRecordedIn, IsRecordedIn};
-ghost use Rattle.rack_server.specs.Recordings.{path_of, paths_of};
+ghost use Rattle.std.specs.Prelude.{◌≡◌, ◌≤◌, IfErr, IfOk, IfSome, Some, length};
+ghost use Rattle.rack_server.specs.AuditPaths.{AreRecordedIn, IsPartOfOne};
+ghost use Rattle.rack_server.specs.Recordings.{paths_of};
 ghost use Rattle.rack_server.specs.ServedLines.{line_numbers};
 ghost use Rattle.rack_server.specs.ServeOutput.{AreOpened, IsRecordingFault};
 
-use crate::audit_file::{AuditFile, complete, make_folder, open_file};
+use crate::audit_file::{AuditFile, FileTrail, Incomplete, complete, make_folder, open_file};
 use crate::doors::Doors;
-use crate::serve_fault::{AuditPath, ServeFault};
+use crate::host::Host;
+use crate::serve_fault::ServeFault;
 use crate::served_line::ServedLine;
+use dp_notes::Notes;
 use dp_script::RunFault;
 use dp_sessions::Port;
-use dp_shared::Line;
-use dp_text::WriteFault;
-use dp_trail::{CatchUp, CaughtUp, NoTrail, Trail};
+use dp_trail::{CatchUp, CaughtUp, TrailBreak};
 use std::alloc::Global;
-use std::fs::{File, Files};
-use std::io::Write;
 use std::net::Net;
 use std::sync::Wait;
 
-/// Records a line before its answers leave: the trail in its file, if it has one. If a row can't be written, the doors of
-/// the rack are shut.
+/// Records a line before its answers leave, by the trail in its files. If a row isn't written, the doors of the rack are
+/// shut.
 #[derive(Drop)]
 pub(crate) struct Recorder<'a, 'l, N, T> {
     pub(crate) net: &'l N,
     pub(crate) doors: &'l Doors,
-    pub(crate) file: Option<AuditFile<'a, T>>,
+    pub(crate) file: AuditFile<'a, T>,
 }
 
+/// What records a line by a trail in files.
+pub(crate) type FileRecorder<'a, 's, H> = Recorder<'a, 's, H, FileTrail<'a, 's, H>>;
+
 impl<N: Net, T: CatchUp> CatchUp for Recorder<'_, '_, N, T> {
-    fn catch_up<H: Wait>(&self, rt: &H) -> Result<CaughtUp, WriteFault> {
-        let Some(file) = &self.file else {
-            return NoTrail.catch_up(rt);
-        };
-        match file.trail.catch_up(rt) {
+    fn catch_up<H: Wait>(&self, rt: &H) -> Result<CaughtUp, TrailBreak> {
+        match self.file.trail.catch_up(rt) {
             Ok(caught_up) => Ok(caught_up),
-            Err(fault) => {
+            Err(why) => {
                 self.doors.shut(rt, self.net);
-                Err(fault)
+                Err(why)
             }
         }
     }
 }
 
-/// What records each of these lines: a new file in the folder, where one is named, which is made first.
+/// What records each of these lines: a new text in the folder, which is made first. `megabytes` says how many a part of a
+/// text has at least, if the texts have parts.
 ///
 /// `CannotMake` with the path that can't be had, or `OutOfMemory`.
-pub(crate) fn record_lines<'a, 'l, H: Files<File = File> + Wait>(
-    rt: &'l H,
+pub(crate) fn record_lines<'a, 's, H: Host>(
+    host: &'s H,
+    notes: &'s Notes<'s, H>,
     alloc: Global,
-    doors: &'l Doors,
-    folder: Option<&'a str>,
+    doors: &'s Doors,
+    folder: &'a str,
+    megabytes: Option<u16>,
     lines: &[ServedLine],
-    ports: &'l [Port],
-) -> Result<Vec<Recorder<'a, 'l, H, Trail<'l, File>>>, ServeFault<'a>>
+    ports: &'s [Port],
+) -> Result<Vec<FileRecorder<'a, 's, H>>, ServeFault<'a>>
     requires opened { AreOpened lines.now ports.now }
     requires few { length lines.now ≤ 8 }
     ensures each { IfOk result (λ all. length all.items ≡ length lines.now) }
-    ensures paths { IfOk result (λ all. AreRecordedIn folder.entry (line_numbers lines.now) (paths_of all.items)) }
-    ensures fault { IfErr result (IsRecordingFault folder.entry (line_numbers lines.now)) }
+    ensures paths { IfOk result (λ all. AreRecordedIn folder.now (line_numbers lines.now) (paths_of all.items)) }
+    ensures fault { IfErr result (IsRecordingFault (Some folder.entry) (line_numbers lines.now)) }
 {
-    if let Some(folder) = folder {
-        match make_folder(rt, folder) {
-            Ok(()) => {}
-            Err(fault) => return Err(fault),
-        }
+    match make_folder(host, folder) {
+        Ok(()) => {}
+        Err(fault) => return Err(fault),
     }
     let mut all = Vec::new(alloc);
     for line in lines {
         let port = &ports[all.len()];
-        let file = match file_of(rt, alloc, folder, &port.line, line.spec.number) {
+        let number = line.spec.number;
+        let file = match open_file(host, notes, alloc, folder, megabytes, &port.line, number) {
             Ok(file) => file,
             Err(fault) => return Err(fault),
         };
         let recorder = Recorder {
-            net: rt,
+            net: host,
             doors,
             file,
         };
@@ -87,52 +87,16 @@ pub(crate) fn record_lines<'a, 'l, H: Files<File = File> + Wait>(
     Ok(all)
 }
 
-/// The file of the line of this number, where a folder is named.
-fn file_of<'a, 'l, H: Files<File = File> + Wait>(
-    rt: &H,
-    alloc: Global,
-    folder: Option<&'a str>,
-    line: &'l Line,
-    number: u8,
-) -> Result<Option<AuditFile<'a, Trail<'l, File>>>, ServeFault<'a>>
-    ensures path { IfOk result (λ file. IsRecordedIn folder.entry number (path_of file)) }
-    ensures fault { IfErr result (IsRecordingFault folder.entry (number ∷ [])) }
-{
-    let Some(folder) = folder else {
-        return Ok(None);
-    };
-    match open_file(rt, alloc, folder, line, number) {
-        Ok(file) => Ok(Some(file)),
-        Err(fault) => Err(fault),
-    }
-}
-
-/// Has each trail catch up a last time, and gives its pass back: the path of the first file that doesn't have all
-/// its rows.
-pub(crate) fn first_incomplete<'a, H: Wait, N, F: Write + Drop>(
-    rt: &H,
-    recorders: Vec<Recorder<'a, '_, N, Trail<'_, F>>>,
-) -> Option<AuditPath<'a>>
-    ensures { IfSome result (λ path. Contains (paths_of recorders.entry.items) (Some path)) }
+/// Has each trail catch up a last time, and hands its pass back: the first file that lacks a row.
+pub(crate) fn first_incomplete<'a, H: Host>(
+    host: &H,
+    recorders: Vec<FileRecorder<'a, '_, H>>,
+) -> Option<Incomplete<'a>>
+    ensures { IfSome result (λ lacking. IsPartOfOne (paths_of recorders.entry.items) lacking.path) }
 {
     let mut first = None;
     for recorder in recorders {
-        first = first.or(incomplete(rt, recorder.file));
+        first = first.or(complete(host, recorder.file));
     }
     first
-}
-
-/// Has the trail of a file catch up a last time: the path of the file, where it doesn't have all its rows.
-fn incomplete<'a, H: Wait, F: Write + Drop>(
-    rt: &H,
-    file: Option<AuditFile<'a, Trail<'_, F>>>,
-) -> Option<AuditPath<'a>>
-    ensures { IfSome result (λ path. path_of file.entry ≡ Some path) }
-{
-    let AuditFile { path, trail } = file?;
-    if complete(rt, trail) {
-        None
-    } else {
-        Some(path)
-    }
 }

@@ -1,19 +1,18 @@
 //! A rack, served at sockets.
 
-ghost use Rattle.std.specs.Prelude.{◌≡◌, ◌≤◌, ◌-◌, ◌^◌, All, None, length, unwrap_or};
+ghost use Rattle.std.specs.Prelude.{◌≡◌, ◌≤◌, ◌-◌, ◌^◌, All, None, is_some, length, unwrap_or};
 ghost use Rattle.dp_sessions.specs.Pools.{HasSeats};
 ghost use Rattle.dp_line.specs.World.{description_of, opening_fault};
 ghost use Rattle.rack_file.specs.Rack.{rack_described};
 ghost use Rattle.rack_file.specs.RackFile.{rack_in};
 ghost use Rattle.rack_server.specs.ServeOutput.{AreOpened, Serves, ServesLines, ServesRack};
 
-use crate::attending::attend_recorded;
+use crate::attending::attend_lines;
 use crate::audits::write_audits;
 use crate::doors::Doors;
 use crate::host::Host;
 use crate::listening::{Listening, listen_at_lines, try_connections};
 use crate::opened_lines::{OpenedLines, open_lines};
-use crate::recorder::record_lines;
 use crate::serve_fault::ServeFault;
 use crate::served_line::{ServedLine, lines_to_serve};
 use dp_notes::{LineNumbers, Notes};
@@ -54,7 +53,7 @@ pub fn serve_text<'a, H: Host + Sync, W: Write>(
     service: Service<'a>,
     writer: &mut W,
 ) -> Result<Served, ServeFault<'a>>
-    ensures { Serves service.entry.audit (rack_in rack.now) (W.contents writer.old) (W.contents writer.new) result }
+    ensures { Serves service.entry.audit (is_some service.entry.endless) (rack_in rack.now) (W.contents writer.old) (W.contents writer.new) result }
 {
     accepted_racks_have_1_to_8_lines();
     accepted_racks_have_1_to_32_workers();
@@ -77,7 +76,7 @@ fn serve_rack<'a, H: Host + Sync, W: Write>(
     requires few { length (rack_described rack).lines ≤ 8 }
     requires workers { (1 ≤ rack.workers) × (rack.workers ≤ 32) }
     requires fit { All (λ line. opening_fault line.line ≡ None) (rack_described rack).lines }
-    ensures { ServesRack service.entry.audit (rack_described rack) (W.contents writer.old) (W.contents writer.new) result }
+    ensures { ServesRack service.entry.audit (is_some service.entry.endless) (rack_described rack) (W.contents writer.old) (W.contents writer.new) result }
 {
     let Rack { workers, lines } = rack;
     let lines = match lines_to_serve(alloc, lines) {
@@ -92,29 +91,29 @@ fn serve_rack<'a, H: Host + Sync, W: Write>(
         Ok(()) => {}
         Err(fault) => return Err(fault),
     }
-    open_and_serve(rt, alloc, &lines, listening, workers, service, writer)
+    open_and_serve(rt, alloc, lines, listening, workers, service, writer)
 }
 
 /// Opens lines that are listened at, and serves them.
 fn open_and_serve<'a, H: Host + Sync, W: Write>(
     rt: &H,
     alloc: Global,
-    lines: &[ServedLine],
+    lines: Vec<ServedLine>,
     listening: Vec<Listening<TcpListener>>,
     workers: u8,
     service: Service<'a>,
     writer: &mut W,
 ) -> Result<Served, ServeFault<'a>>
-    requires few { length lines.now ≤ 8 }
-    requires each { length listening.items ≡ length lines.now }
+    requires few { length lines.items ≤ 8 }
+    requires each { length listening.items ≡ length lines.items }
     requires workers { (1 ≤ workers) × (workers ≤ 32) }
-    requires fit { All (λ line. opening_fault (description_of line.spec) ≡ None) lines.now }
-    ensures { ServesLines service.entry.audit lines.now (W.contents writer.old) (W.contents writer.new) result }
+    requires fit { All (λ line. opening_fault (description_of line.spec) ≡ None) lines.items }
+    ensures { ServesLines service.entry.audit (is_some service.entry.endless) lines.items (W.contents writer.old) (W.contents writer.new) result }
 {
-    let Ok(opened) = open_lines(alloc, lines, workers) else {
+    let Ok(opened) = open_lines(alloc, lines, service.endless.is_some(), workers) else {
         return Err(ServeFault::Run(RunFault::OutOfMemory));
     };
-    serve_lines(rt, alloc, lines, listening, opened, service, writer)
+    serve_lines(rt, alloc, listening, opened, service, writer)
 }
 
 /// How many connections each port accepts; where there is no end of them, more than can come.
@@ -128,44 +127,48 @@ fn sessions_of(service: Service<'_>) -> u64
 fn serve_lines<'a, 's, H: Host + Sync, W: Write>(
     rt: &'s H,
     alloc: Global,
-    lines: &'s [ServedLine],
     listening: Vec<Listening<TcpListener>>,
     opened: OpenedLines,
     service: Service<'a>,
     writer: &mut W,
 ) -> Result<Served, ServeFault<'a>>
-    requires few { length lines.now ≤ 8 }
-    requires each { length listening.items ≡ length lines.now }
-    requires opened { AreOpened lines.now opened.ports.items }
+    requires few { length opened.lines.items ≤ 8 }
+    requires each { length listening.items ≡ length opened.lines.items }
+    requires opened { AreOpened opened.lines.items opened.ports.items }
     requires workers { (1 ≤ length opened.seats.items) × (length opened.seats.items ≤ 32) }
     requires seats { All (λ own. HasSeats opened.ports.items own.items) opened.seats.items }
-    ensures { ServesLines service.entry.audit lines.now (W.contents writer.old) (W.contents writer.new) result }
+    ensures { ServesLines service.entry.audit (is_some service.entry.endless) opened.lines.items (W.contents writer.old) (W.contents writer.new) result }
 {
-    let OpenedLines { ports, seats } = opened;
+    let OpenedLines {
+        lines,
+        ports,
+        seats,
+    } = opened;
     let doors = Doors::unopened(&listening);
-    let recorders = match record_lines(rt, alloc, &doors, service.audit, lines, &ports) {
-        Ok(recorders) => recorders,
-        Err(fault) => return Err(fault),
-    };
-    let notes = Notes::new(rt, service.telling, numbers_of(lines), seats.len() as u32);
-    let attended = attend_recorded(
+    let notes = Notes::new(rt, service.telling, numbers_of(&lines), seats.len() as u32);
+    let attended = attend_lines(
         rt,
         alloc,
         &doors,
         &notes,
-        lines,
+        service.audit,
+        service.endless,
+        &lines,
         listening,
         &ports,
         seats,
-        recorders,
         sessions_of(service),
         writer,
     );
-    match attended {
-        Ok(attended) => match write_audits(alloc, ports, writer) {
-            Ok(()) => attended.outcome(),
-            Err(fault) => Err(ServeFault::Run(fault)),
-        },
+    let attended = match attended {
+        Ok(attended) => attended,
+        Err(fault) => return Err(fault),
+    };
+    if service.endless.is_some() {
+        return attended.outcome();
+    }
+    match write_audits(alloc, ports, writer) {
+        Ok(()) => attended.outcome(),
         Err(fault) => Err(ServeFault::Run(fault)),
     }
 }

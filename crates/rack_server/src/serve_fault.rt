@@ -1,7 +1,7 @@
 //! Why a rack isn't served, or is served no more.
 
-ghost use Rattle.std.specs.Prelude.{Some};
-ghost use Rattle.rack_server.specs.AuditPaths.{audit_path_text};
+ghost use Rattle.std.specs.Prelude.{◌≡◌, Some};
+ghost use Rattle.rack_server.specs.AuditPaths.{audit_path_text, in_part, leading_zeros};
 
 use dp_cause::Cause;
 use dp_script::RunFault;
@@ -12,14 +12,16 @@ use std::fmt;
 pub enum AuditPath<'a> {
     /// The folder, as the words name it.
     Folder(&'a str),
-    /// A file of it: `FOLDER/line-N-K.audit`.
+    /// A file of it: `FOLDER/line-N-K.audit`, or `FOLDER/line-N-K.000001.audit` of a part.
     File {
         /// The folder.
         folder: &'a str,
         /// The number of the line.
         line: u8,
-        /// The number of the file among those of the line, from 1.
+        /// The number of the text among those of the line, from 1.
         number: u32,
+        /// The number of the part, from 1; None if the text has one file.
+        part: Option<u32>,
     },
 }
 
@@ -33,8 +35,59 @@ impl<'a> fmt::Display for AuditPath<'a> {
                 folder,
                 line,
                 number,
+                part: None,
             } => write!(f, "{folder}/line-{line}-{number}.audit"),
+            AuditPath::File {
+                folder,
+                line,
+                number,
+                part: Some(part),
+            } => {
+                let zeros = leading_zeros(*part);
+                write!(f, "{folder}/line-{line}-{number}.{zeros}{part}.audit")
+            }
         }
+    }
+}
+
+impl<'a> AuditPath<'a> {
+    /// The path of this part of the text, or for None that of a text with one file; a folder's path as it is.
+    pub(crate) fn in_part(self, part: Option<u32>) -> AuditPath<'a>
+        ensures { result ≡ in_part self.entry part }
+    {
+        match self {
+            AuditPath::Folder(folder) => AuditPath::Folder(folder),
+            AuditPath::File {
+                folder,
+                line,
+                number,
+                ..
+            } => AuditPath::File {
+                folder,
+                line,
+                number,
+                part,
+            },
+        }
+    }
+}
+
+/// The zeros before a number of fewer than six digits.
+fn leading_zeros(number: u32) -> &'static str
+    ensures { result.now ≡ leading_zeros number }
+{
+    if number < 10 {
+        "00000"
+    } else if number < 100 {
+        "0000"
+    } else if number < 1_000 {
+        "000"
+    } else if number < 10_000 {
+        "00"
+    } else if number < 100_000 {
+        "0"
+    } else {
+        ""
     }
 }
 

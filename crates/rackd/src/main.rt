@@ -30,9 +30,6 @@ use std::rt::Runtime;
 /// How every audit text begins.
 const HEADER: &str = "rack-audit ";
 
-/// How the audit text of an endless line begins. No word serves an endless line yet, so the program refuses such a text.
-const ENDLESS_HEADER: &str = "rack-audit 3 ";
-
 /// A file that has no octets.
 const NOTHING: &str = "/dev/null";
 
@@ -263,7 +260,7 @@ fn check_out<'a>(
     audit: &str,
 ) -> Result<ExitCode, Fault<'a>> {
     let mut output = buffered(rt)?;
-    let checked = run_check(rt.alloc(), rack, judged(audit), &mut output);
+    let checked = run_check(rt.alloc(), rack, audit, &mut output);
     flushed(output)?;
     Ok(noted_header(rt, audit, checked?))
 }
@@ -277,18 +274,9 @@ fn explain_out<'a>(
 ) -> Result<ExitCode, Fault<'a>> {
     let choice = choice_of(entries);
     let mut output = buffered(rt)?;
-    let explained = run_explain(rt.alloc(), rack, judged(audit), &choice, &mut output);
+    let explained = run_explain(rt.alloc(), rack, audit, &choice, &mut output);
     flushed(output)?;
     Ok(noted_header(rt, audit, explained?))
-}
-
-/// The audit text that is judged. That of an endless line has no header that the program accepts, as an empty text.
-fn judged(audit: &str) -> &str {
-    if audit.starts_with(ENDLESS_HEADER) {
-        ""
-    } else {
-        audit
-    }
 }
 
 /// The entries that the words choose.

@@ -34,6 +34,13 @@ const MOST_SESSIONS: u64 = 1_000_000;
 
 pub(crate) const FOLDER: &str = "audit";
 
+pub(crate) const ENDLESS: &str = "endless";
+
+pub(crate) const PART: &str = "part";
+
+/// The most megabytes of a part of an audit text.
+const MOST_PART: u64 = 4_096;
+
 pub(crate) const LOG: &str = "log";
 
 /// The word and the options of `operate`, and the least milliseconds of each.
@@ -64,7 +71,7 @@ Usage: rackd < INPUT
        rackd run RACK SCRIPT
        rackd check RACK AUDIT..
        rackd explain RACK AUDIT.. [--summary] [--from N] [--to N] [--slave A] [--master M] [--refused]
-       rackd serve RACK [--sessions N] [--audit FOLDER] [--log [requests]]
+       rackd serve RACK [--sessions N] [--audit FOLDER [--endless [--part MB]]] [--log [requests]]
        rackd operate PORT [--tick MS] [--step MS]
 
 Standard input is a rack file (TOML: lines with their masters and slaves), a line that is
@@ -96,6 +103,12 @@ sends no address for ten seconds is disconnected.
 With --audit FOLDER the audit text of each line is written to a new file line-N-K.audit of the folder
 while it is served: the row of an event is there before its answer is sent. 'check' wants such a text
 from its header on, without 'ready'.
+
+With --endless as well, a line goes on behind its last place, to place 4294967295, and memory has its
+newest entries alone: at least half as many as the rack file gives it places, and never fewer than
+8208. Its audit text lies in line-N-K.000001.audit, line-N-K.000002.audit and so on, each new once the
+one before has 16 megabytes, or those of --part MB (1 to 4096), and 'ready' is all that is written to
+standard output.
 
 With --log, connections, ends of sessions and octets that are no telegram are told on standard error,
 with --log requests each request and its answer too. That a line is halted is always told.
@@ -235,6 +248,8 @@ pub(crate) fn serving<'a>(alloc: Global) -> Result<Command<'a>, AllocError> {
     words
         .arg(sessions(alloc))?
         .arg(folder(alloc))?
+        .arg(endless(alloc)?)?
+        .arg(part(alloc)?)?
         .arg(log(alloc))
 }
 
@@ -249,6 +264,17 @@ fn folder<'a>(alloc: Global) -> Arg<'a> {
         .long(FOLDER)
         .value_name("FOLDER")
         .value_parser(ValueParser::NonEmptyString)
+}
+
+/// The option `--endless`, which requires `--audit`.
+fn endless<'a>(alloc: Global) -> Result<Arg<'a>, AllocError> {
+    flag(alloc, ENDLESS).requires_arg(FOLDER)
+}
+
+/// The option `--part MB`, which requires `--endless`.
+fn part<'a>(alloc: Global) -> Result<Arg<'a>, AllocError> {
+    let part = number(alloc, PART, 1, MOST_PART).value_name("MB");
+    part.requires_arg(ENDLESS)
 }
 
 /// The option `--log`, behind which may stand what is told.

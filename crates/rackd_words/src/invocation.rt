@@ -18,6 +18,9 @@ pub struct Service<'a> {
     pub sessions: Option<u32>,
     /// The folder in which each line has a file that gets its audit text while it is served; None where it has none.
     pub audit: Option<&'a str>,
+    /// How many megabytes a part of an audit text has at least, 1 to 4,096, if the lines are endless; None if each line has
+    /// the places of the rack file.
+    pub endless: Option<u16>,
     /// How much is told on standard error.
     pub telling: Telling,
 }

@@ -1,8 +1,8 @@
 //! What the words of the command line ask for.
 
 use crate::commands::{
-    AUDIT, FOLDER, FROM, LOG, MASTER, PORT, RACK, REFUSED, SCRIPT, SESSIONS, SLAVE, STEP, SUMMARY,
-    TICK, TO, explaining, known, operating, serving,
+    AUDIT, ENDLESS, FOLDER, FROM, LOG, MASTER, PART, PORT, RACK, REFUSED, SCRIPT, SESSIONS, SLAVE,
+    STEP, SUMMARY, TICK, TO, explaining, known, operating, serving,
 };
 use crate::invocation::{Entries, Invocation, Service, Telling, WordsFault};
 use clap::ArgMatches;
@@ -12,16 +12,20 @@ use std::env::{self, Env};
 use std::io::ErrorKind;
 
 /// The words that are numbers, and how messages name them.
-const NUMBERS: [(&str, &str); 8] = [
+const NUMBERS: [(&str, &str); 9] = [
     (FROM, "--from <from>"),
     (TO, "--to <to>"),
     (SLAVE, "--slave <slave>"),
     (MASTER, "--master <master>"),
     (SESSIONS, "--sessions <sessions>"),
+    (PART, "--part <MB>"),
     (PORT, "<PORT>"),
     (TICK, "--tick <MS>"),
     (STEP, "--step <MS>"),
 ];
+
+/// The least megabytes of a part of an audit text, if the words name none.
+const USUAL_PART: u16 = 16;
 
 /// A number that isn't written plainly.
 struct OddNumber<'a> {
@@ -179,7 +183,17 @@ fn service_of<'a>(words: &ArgMatches<'a>) -> Service<'a> {
     Service {
         sessions: words.get_one(SESSIONS),
         audit: words.get_str(FOLDER),
+        endless: part_of(words),
         telling: telling_of(words.get_str(LOG)),
+    }
+}
+
+/// How many megabytes a part of an audit text has at least, if `--endless` is there.
+fn part_of(words: &ArgMatches<'_>) -> Option<u16> {
+    if words.get_flag(ENDLESS) {
+        Some(words.get_one(PART).unwrap_or(USUAL_PART))
+    } else {
+        None
     }
 }
 

@@ -1,4 +1,5 @@
-use Rattle.std.proofs.Common.{◌≡◌, ◌++◌, Some, IfSome, Contains}
+use Rattle.std.proofs.Common.{◌≡◌, ◌++◌, IfSome}
+use Rattle.rack_server.specs.AuditPaths.{IsPartOfOne}
 use Rattle.rack_server.specs.Recordings.{paths_of}
 use Rattle.rack_server.proofs.recorder.first_incomplete.Given as goal
 
@@ -6,4 +7,4 @@ abbrev pub invariant-loop-recorder : goal.invariant-loop-recorder
 invariant-loop-recorder g l =
     (goal.iterator-loop-recorder g).can_next l.recorder-iterator × (goal.iterator-loop-recorder g).is_finite l.recorder-iterator
     × (l.yielded ++ l.recorder-iterator.rest.items ≡ l.fn.recorders.items)
-    × IfSome l.first (λ path. Contains (paths_of l.yielded) (Some path))
+    × IfSome l.first (λ lacking. IsPartOfOne (paths_of l.yielded) lacking.path)

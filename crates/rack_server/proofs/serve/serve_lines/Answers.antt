@@ -1,35 +1,35 @@
-use Rattle.std.proofs.Common.{arith, map}
-use Rattle.rack_server.specs.Recordings.{paths_of}
+use Rattle.std.proofs.Common.{◌≡◌, Err, IfSome, false, is_some, map, sym, subst, ◌∙◌, arith}
+use Rattle.rack_server.specs.AuditPaths.{IsFileIn}
+use Rattle.rack_server.specs.declared.serve_fault.ServeFault.TheVariants as faults
 use Rattle.rack_server.specs.ServedLines.{line_numbers}
-use Rattle.rack_server.specs.ServeOutput.{line_at}
+use Rattle.rack_server.specs.ServeOutput.{ServesLines, line_at}
 use Rattle.rack_server.proofs.Opening.{opened_specs}
-use Rattle.rack_server.proofs.Recording.{incomplete_in}
-use Rattle.rack_server.proofs.Serving.{served_in_part, served_not_at_all, served_unopened, served_whole}
+use Rattle.rack_server.proofs.Serving.{served_in_part, served_whole}
 use Rattle.rack_server.proofs.serve.serve_lines.Goals as goal
 
 pub overflow_cast-len : goal.overflow_cast-len
 overflow_cast-len g c = omega arith
 
 pub returns-in-Err : goal.returns-in-Err
-returns-in-Err g c = served_unopened c.args.service.audit c.args.lines.now (g.W.Write.contents c.args.writer.now) c.in-Err.fault c.in-Err.ensures.fault
-
-pub returns : goal.returns
-returns g c =
-    served_not_at_all c.args.service.audit c.args.lines.now (g.W.Write.contents c.args.writer.now) (g.W.Write.contents c.attend_recorded-attended.new.writer) c.in-Err-attended.fault
-    c.in-Err-attended.ensures.err
+returns-in-Err g c =
+    subst (λ lines. ServesLines c.args.service.audit (is_some c.args.service.endless) lines (g.W.Write.contents c.args.writer.now) (g.W.Write.contents c.attend_lines-attended.new.writer) (Err c.in-Err.fault))
+    c.deref-3.ensures.value (c.in-Err.ensures.err (is_some c.args.service.endless))
 
 pub returns-in-Ok-write_audits : goal.returns-in-Ok-write_audits
 returns-in-Ok-write_audits g c =
-    c.outcome.ensures.serves c.args.service.audit c.args.lines.now
-    (incomplete_in c.args.service.audit (line_numbers c.args.lines.now) (paths_of c.in-Ok.recorders.items) c.in-Ok-attended.attended.incomplete c.in-Ok.ensures.paths
-    c.in-Ok-attended.ensures.incomplete)
+    let ordinary : is_some c.args.service.endless ≡ false = sym c.is_some.ensures ∙ c.if-is_some.false in
+    rw ordinary
+    (c.outcome-in-Ok-write_audits.ensures.serves c.args.service.audit false c.args.opened.lines.items
+    (subst (λ lines. IfSome c.in-Ok.attended.incomplete (λ lacking. IsFileIn c.args.service.audit (line_numbers lines) lacking.path)) c.deref-3.ensures.value c.in-Ok.ensures.incomplete)
     (g.W.Write.contents c.args.writer.now) (g.W.Write.contents c.write_audits.new.writer)
-    (served_whole c.args.lines.now (map line_at c.args.opened.ports.items) (g.W.Write.contents c.args.writer.now)
-    (g.W.Write.contents c.attend_recorded-attended.new.writer) (g.W.Write.contents c.write_audits.new.writer)
-    (opened_specs c.args.lines.now c.args.opened.ports.items c.requires.opened) c.in-Ok-attended.ensures.ok c.in-Ok-write_audits.ensures)
+    (served_whole c.args.opened.lines.items (map line_at c.args.opened.ports.items) (g.W.Write.contents c.args.writer.now)
+    (g.W.Write.contents c.attend_lines-attended.new.writer) (g.W.Write.contents c.write_audits.new.writer)
+    (opened_specs c.args.opened.lines.items c.args.opened.ports.items c.requires.opened) c.in-Ok.ensures.ok c.in-Ok-write_audits.ensures))
 
-pub returns-in-Ok-attended : goal.returns-in-Ok-attended
-returns-in-Ok-attended g c =
-    served_in_part c.args.service.audit c.args.lines.now (map line_at c.args.opened.ports.items) (g.W.Write.contents c.args.writer.now)
-    (g.W.Write.contents c.attend_recorded-attended.new.writer) (g.W.Write.contents c.write_audits.new.writer) c.in-Err-write_audits.fault
-    (opened_specs c.args.lines.now c.args.opened.ports.items c.requires.opened) c.in-Ok-attended.ensures.ok c.in-Err-write_audits.ensures
+pub returns : goal.returns
+returns g c =
+    let ordinary : is_some c.args.service.endless ≡ false = sym c.is_some.ensures ∙ c.if-is_some.false in
+    subst (λ endless. ServesLines c.args.service.audit endless c.args.opened.lines.items (g.W.Write.contents c.args.writer.now) (g.W.Write.contents c.write_audits.new.writer) (Err (faults.Run c.in-Err-write_audits.fault))) (sym ordinary)
+    (served_in_part c.args.service.audit c.args.opened.lines.items (map line_at c.args.opened.ports.items) (g.W.Write.contents c.args.writer.now)
+    (g.W.Write.contents c.attend_lines-attended.new.writer) (g.W.Write.contents c.write_audits.new.writer) c.in-Err-write_audits.fault
+    (opened_specs c.args.opened.lines.items c.args.opened.ports.items c.requires.opened) c.in-Ok.ensures.ok c.in-Err-write_audits.ensures)

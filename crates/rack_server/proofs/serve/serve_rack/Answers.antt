@@ -1,4 +1,4 @@
-use Rattle.std.proofs.Common.{rules, ◌≡◌, ◌≤◌, length, map, ap, subst, arith}
+use Rattle.std.proofs.Common.{rules, ◌≡◌, ◌≤◌, length, map, is_some, ap, subst, arith}
 use Rattle.rack_file.specs.Rack.{line_described}
 use Rattle.rack_server.specs.ServeOutput.{ServesLines}
 use Rattle.rack_server.proofs.RacksServed.{as_many_lines, lines_of_rack, rack_served, refused_lines, refused_ports, served_open}
@@ -6,25 +6,24 @@ use Rattle.rack_server.proofs.serve.serve_rack.Goals as goal
 
 pub returns-in-Err : goal.returns-in-Err
 returns-in-Err g c =
-    refused_lines c.args.service.audit c.args.rack.workers c.args.rack.lines.items (g.W.Write.contents c.args.writer.now) c.in-Err.fault c.in-Err.ensures
+    refused_lines c.args.service.audit (is_some c.args.service.endless) c.args.rack.workers c.args.rack.lines.items (g.W.Write.contents c.args.writer.now) c.in-Err.fault c.in-Err.ensures
 
 pub returns-in-Err-listen_at_lines : goal.returns-in-Err-listen_at_lines
 returns-in-Err-listen_at_lines g c =
     let (all, is, order) = c.in-Ok.ensures in
-    refused_ports c.args.service.audit _ c.in-Ok.lines.items (g.W.Write.contents c.args.writer.now) c.in-Err-listen_at_lines.fault (lines_of_rack c.args.rack.workers c.args.rack.lines.items all c.in-Ok.lines.items is order)
+    refused_ports c.args.service.audit (is_some c.args.service.endless) _ c.in-Ok.lines.items (g.W.Write.contents c.args.writer.now) c.in-Err-listen_at_lines.fault (lines_of_rack c.args.rack.workers c.args.rack.lines.items all c.in-Ok.lines.items is order)
     (search rules)
 
 pub returns-in-Err-try_connections : goal.returns-in-Err-try_connections
 returns-in-Err-try_connections g c =
     let (all, is, order) = c.in-Ok.ensures in
-    refused_ports c.args.service.audit _ c.in-Ok.lines.items (g.W.Write.contents c.args.writer.now) c.in-Err-try_connections.fault (lines_of_rack c.args.rack.workers c.args.rack.lines.items all c.in-Ok.lines.items is order)
+    refused_ports c.args.service.audit (is_some c.args.service.endless) _ c.in-Ok.lines.items (g.W.Write.contents c.args.writer.now) c.in-Err-try_connections.fault (lines_of_rack c.args.rack.workers c.args.rack.lines.items all c.in-Ok.lines.items is order)
     (search rules)
 
 pub open_and_serve-requires-clause-fit : goal.open_and_serve-requires-clause-fit
 open_and_serve-requires-clause-fit g c κs within =
     let (all, is, order) = c.in-Ok.ensures in
-    let same : c.deref-4.result.now ≡ c.in-Ok.lines.items = c.deref-4.ensures.value in
-    rw same (served_open c.args.rack.lines.items all c.in-Ok.lines.items is order c.requires.fit)
+    served_open c.args.rack.lines.items all c.in-Ok.lines.items is order c.requires.fit
 
 pub open_and_serve-requires-clause-few : goal.open_and_serve-requires-clause-few
 open_and_serve-requires-clause-few g c =
@@ -32,12 +31,10 @@ open_and_serve-requires-clause-few g c =
     let long : length c.in-Ok.lines.items ≡ length (map line_described c.args.rack.lines.items) = as_many_lines _ c.in-Ok.lines.items
     (lines_of_rack c.args.rack.workers c.args.rack.lines.items all c.in-Ok.lines.items is order) in
     let few : length (map line_described c.args.rack.lines.items) ≤ 8 = c.requires.few in
-    let same : c.deref-4.result.now ≡ c.in-Ok.lines.items = c.deref-4.ensures.value in
-    let n = ap length same in omega (arith, n, long, few)
+    omega (arith, long, few)
 
 pub returns : goal.returns
 returns g c =
     let (all, is, order) = c.in-Ok.ensures in
-    rack_served c.args.service.audit _ c.in-Ok.lines.items (g.W.Write.contents c.args.writer.now) (g.W.Write.contents c.open_and_serve.new.writer) c.open_and_serve.result
-    (lines_of_rack c.args.rack.workers c.args.rack.lines.items all c.in-Ok.lines.items is order)
-    (subst (λ lines. ServesLines c.args.service.audit lines (g.W.Write.contents c.args.writer.now) (g.W.Write.contents c.open_and_serve.new.writer) c.open_and_serve.result) c.deref-4.ensures.value c.open_and_serve.ensures)
+    rack_served c.args.service.audit (is_some c.args.service.endless) _ c.in-Ok.lines.items (g.W.Write.contents c.args.writer.now) (g.W.Write.contents c.open_and_serve.new.writer) c.open_and_serve.result
+    (lines_of_rack c.args.rack.workers c.args.rack.lines.items all c.in-Ok.lines.items is order) c.open_and_serve.ensures

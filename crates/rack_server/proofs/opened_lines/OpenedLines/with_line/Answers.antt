@@ -14,7 +14,7 @@ loop-own-init c = (
   search rules,
   search rules,
   record {
-    port = record { line = c.in-Ok-open.line; claims = c.in-Ok.claims };
+    port = record { line = c.in_ok-line.line; claims = c.in-Ok.claims };
     more = search rules;
     each = new_seats c.in-Ok.claims c.in-Ok.fresh.items (search rules);
   },
@@ -32,12 +32,12 @@ loop-own-preserved c =
       tt,
       (let n = ap length more in let m = ap length rest in let k = length_push c.loop-own.more.items c.push-in-loop-own.new.self in let all = c.loop-own.invariant.2 in omega (arith, n, m, k, all)),
       All-rest (λ own. HasSeats c.args.self.ports.items own.items) c.in-Some.own c.next.new.self.rest.items c.loop-own.own-iterator.rest.items rest c.loop-own.invariant.3,
-      All-same (λ own. HasSeats c.push.new.self.items own.items) c.push-in-loop-own-2.new.self.items (c.loop-own.more.items ++ c.push-in-loop-own.new.self ∷ []) more
-          (All-push (λ own. HasSeats c.push.new.self.items own.items) c.loop-own.more.items c.push-in-loop-own.new.self c.loop-own.invariant.4
-          (subst (HasSeats c.push.new.self.items) (sym seats) (one_more_seat c.args.self.ports.items c.push.new.self.items c.loop-own.fresh.items c.in-Some.own.items c.in-Some-pop.seat new has here))),
+      All-same (λ own. HasSeats c.push-2.new.self.items own.items) c.push-in-loop-own-2.new.self.items (c.loop-own.more.items ++ c.push-in-loop-own.new.self ∷ []) more
+          (All-push (λ own. HasSeats c.push-2.new.self.items own.items) c.loop-own.more.items c.push-in-loop-own.new.self c.loop-own.invariant.4
+          (subst (HasSeats c.push-2.new.self.items) (sym seats) (one_more_seat c.args.self.ports.items c.push-2.new.self.items c.loop-own.fresh.items c.in-Some.own.items c.in-Some-pop.seat new has here))),
       (let fewer = ap length c.in-Some-pop.ensures.items in let n = length_push c.pop.new.self.items c.in-Some-pop.seat in let m = ap length rest in let all = c.loop-own.invariant.5 in omega (arith, fewer, n, m, all)),
       record { port = new.port; more = new.more; each = left },
     )
 
 pub returns-clause-line : goal.returns-clause-line
-returns-clause-line c = (record { line = c.in-Ok-open.line; claims = c.in-Ok.claims }, search rules, search rules)
+returns-clause-line c = (record { line = c.in_ok-line.line; claims = c.in-Ok.claims }, search rules, search rules)
