@@ -18,11 +18,14 @@ use std::sync::Wait;
 use std::thread::Threads;
 use std::time::{Clock, Instant};
 
+/// The requests for which an endless line has room, less than two.
+const LEAST_WINDOW: u32 = 16_414;
+
 /// Requests of one measurement, over all sessions.
 const REQUESTS: u32 = 48_000;
 
 /// Prints how many requests a second are answered, bare, by sessions with lines of their own, and by such sessions
-/// whose audit texts go to files: the ratio of the second to the first, and of the third to the second.
+/// with endless lines, whose audit texts go to files: the ratio of the second to the first, and of the third to the second.
 pub(crate) fn measure<
     R: Threads
         + Wait
@@ -33,7 +36,7 @@ pub(crate) fn measure<
         + Sync,
 >(rt: &R, alloc: Global) -> io::Result<()> {
     println!(rt;
-        "| Sessions | bare, requests a second | sessions | ratio | with audit texts | ratio |"
+        "| Sessions | bare, requests a second | sessions | ratio | endless, with audit texts | ratio |"
     )?;
     println!(rt; "|---|---|---|---|---|---|")?;
     for sessions in [1, 2, 4, 8, 16] {
@@ -105,7 +108,7 @@ fn served_round<R: Threads + Wait + Clock + Net<Listener = TcpListener, Stream =
     whole(replies.unwrap_or(0), spent)
 }
 
-/// One round of sessions, each with a line of its own, whose audit text goes to a file of its own.
+/// One round of sessions, each with an endless line of its own, whose audit text goes to a file of its own.
 fn recorded_round<
     R: Threads
         + Wait
@@ -121,7 +124,7 @@ fn recorded_round<
         let path = format!(in alloc; "bench-{place}.audit")?;
         let answers = Recorded {
             replies: stream.try_clone()?,
-            session: opened(alloc, &line, stream)?,
+            session: opened_endless(alloc, &line, stream)?,
             file: File::create(rt, path.as_str())?,
         };
         fs::remove_file(rt, path.as_str())?;
@@ -161,6 +164,17 @@ fn opened(alloc: Global, line: &LineSpec, stream: TcpStream) -> io::Result<Serve
         claims,
     };
     Ok(Served { stream, port, seat })
+}
+
+/// A session to come, with an endless line that has room for as many entries as a served one.
+fn opened_endless(alloc: Global, line: &LineSpec, stream: TcpStream) -> io::Result<Served> {
+    let mut session = opened(alloc, line, stream)?;
+    let mut endless = described(alloc, LEAST_WINDOW)?;
+    let Ok(opened) = Line::open_endless(alloc, &mut endless) else {
+        return Err(io::ErrorKind::OutOfMemory.into());
+    };
+    session.port.line = opened;
+    Ok(session)
 }
 
 /// The requests of each of so many sessions.
