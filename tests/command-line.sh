@@ -117,7 +117,7 @@ run "${rack%'\n'}"; expect 'a rack without its last LF' 0 '' ''
 # ---- words
 
 run '' --help
-hold 'help' eval '[ "$status" = 0 ] && [ ! -s "$work/err" ] && [[ $(cat "$work/out") == *"rackd run RACK SCRIPT"*"rackd check RACK AUDIT.."*"rackd explain RACK AUDIT.. [--summary]"*"rackd serve RACK [--sessions N]"*"rackd operate PORT [--tick MS] [--step MS]"*"exactly %%"*"'journal'"*"Exit statuses"*"  1  a check that is not legal"* ]]'
+hold 'help' eval '[ "$status" = 0 ] && [ ! -s "$work/err" ] && [[ $(cat "$work/out") == *"rackd run RACK SCRIPT"*"rackd check RACK AUDIT.."*"rackd explain RACK AUDIT.. [--summary]"*"rackd serve RACK [--sessions N] [--audit FOLDER [--endless [--part MB]]]"*"rackd operate PORT [--tick MS] [--step MS]"*"exactly %%"*"'journal'"*"Exit statuses"*"  1  a check that is not legal"* ]]'
 cp "$work/out" "$work/help"
 help=$(cat "$work/help")
 hold 'no row of the help has more than 102 characters' eval '[ "$status" = 0 ] && ! grep -n ".\{103\}" "$work/help"'
@@ -135,7 +135,10 @@ for words in word -h -V --hel --help=1 --version=1 '' '--line 1' help 'play rack
   serve 'serve rack word' 'serve --help' 'serve --sessions 1' 'serve rack --sessions' 'serve rack --sessions 0' \
   'serve rack --sessions 1000001' 'serve rack --sessions x' 'serve rack --sessions -1' \
   'serve rack --sessions 1 --sessions 1' 'serve rack --session 1' 'serve rack --sessions +5' 'serve rack --sessions 05' \
-  'serve rack --audit a --renew' \
+  'serve rack --audit a --renew' 'serve rack --endless' 'serve rack --part 1' 'serve rack --audit a --part 1' \
+  'serve rack --audit a --endless --endless' 'serve rack --audit a --endless 1' 'serve rack --audit a --endless --part' \
+  'serve rack --audit a --endless --part 0' 'serve rack --audit a --endless --part 4097' \
+  'serve rack --audit a --endless --part 05' 'serve rack --audit a --endless --part +5' \
   'serve rack --audit' 'serve rack --audit a --audit b' 'serve --audit a' 'serve --log' 'serve rack --log loud' \
   'serve rack --log --log'; do
   if [ "$words" ]; then read -ra list <<<"$words"; else list=(''); fi
@@ -226,10 +229,27 @@ run '' check "$day-rack.toml" "$work/part-2" "$work/part-1" "$work/part-3"
 hold 'check: the files in another order' eval '[ "$status" = 1 ] && [ "$(cat "$work/out")" = "bad line 1" ]'
 run '' check "$day-rack.toml" "$work/part-1" "$work/none"; expect 'check: no third file' 2 '' "rackd: cannot read $work/none"$'\n  nothing is there'
 run '' check "$day-rack.toml" "$work/part-1" "$work/latin"; expect 'check: a third file that is not UTF-8' 2 '' "rackd: cannot read $work/latin"$'\n  not UTF-8'
+
+# audit texts of endless lines
 printf 'rack-audit 3 line 1\n%s\n' "$entry" >"$work/endless"
-for word in check explain; do
-  run '' "$word" "$work/rack" "$work/endless"; expect "$word: no word serves an endless line yet" 1 'bad line 1' ''
-done
+run '' check "$work/rack" "$work/endless"; expect 'check: a text of an endless line' 0 'legal 1' ''
+printf 'rack-audit 3 line 1\n' >"$work/header"
+run '' check "$work/rack" "$work/header" "$work/empty"; expect 'check: its header alone' 0 'legal 0' ''
+printf 'rack-audit 4 line 1\n%s\n' "$entry" >"$work/later"
+run '' check "$work/rack" "$work/later"; expect 'check: a version that there is not' 1 'bad line 1' ''
+sed 's/^rack-audit 2/rack-audit 3/' "$day.audit" >"$work/day"
+run '' explain "$day-rack.toml" "$work/day"; expect 'explain: a text of an endless line' 0 "$(cat "$day.explained")" ''
+# a line of two places answers the second event as its last one, and an endless line does not
+last="2 tick 1 | none | released"
+printf "${rack/1000/2}" >"$work/two-places"
+printf 'rack-audit 3 line 1\n%s\n%s\n' "$entry" "$last" >"$work/beyond"
+run '' check "$work/two-places" "$work/beyond"; expect 'check: an endless line goes on at its last place' 0 'legal 2' ''
+printf 'rack-audit 2 line 1\n%s\n%s\n' "$entry" "$last" >"$work/beyond"
+run '' check "$work/two-places" "$work/beyond"; expect 'check: an ordinary line does not' 1 'not the policy 3' ''
+printf 'rack-audit 2 line 1\n%s\n2 halt | none | released\n' "$entry" >"$work/halted"
+run '' check "$work/two-places" "$work/halted"; expect 'check: an ordinary line halts at its last place' 0 'legal 2' ''
+printf 'rack-audit 3 line 1\n%s\n2 halt | none | released\n%s\n' "$entry" "${last/2/3}" >"$work/halted"
+run '' check "$work/two-places" "$work/halted"; expect 'check: an endless line is halted by its operator alone' 1 'not the policy 4' ''
 
 printf "$rack" >"$work/-"
 cd "$work" || exit 1
@@ -243,6 +263,9 @@ ports() { printf 'masters = [1, 2]\\nlisten = %s\\noperator = %s' "$1" "$2"; }
 line_2=${rack/number = 1/number = 2}
 run '' serve "$work/none"; expect 'serve: no rack file' 2 '' "rackd: cannot read $work/none"$'\n  nothing is there'
 run '' serve "$work/none" --sessions 1000000; expect 'serve: a million sessions, and no rack file' 2 '' "rackd: cannot read $work/none"$'\n  nothing is there'
+for part in 1 4096; do
+  run '' serve "$work/none" --audit "$work/made" --endless --part "$part"; expect "serve: parts of $part megabytes, and no rack file" 2 '' "rackd: cannot read $work/none"$'\n  nothing is there'
+done
 run '' serve "$work/latin"; expect 'serve: a rack that is not UTF-8' 2 '' "rackd: cannot read $work/latin"$'\n  not UTF-8'
 run '' serve "$work"; expect 'serve: a folder' 2 '' "rackd: cannot read $work"$'\n  a folder'
 run '' serve "$work/script"; expect 'serve: a file that is no rack' 2 '' $'rackd: rack NotToml\n  row 1: key with no value, expected `=`'

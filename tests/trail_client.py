@@ -477,7 +477,7 @@ def whole(text):
 def entries(text):
     """Events and outcomes of the entries of an audit text of whole rows, each as its words."""
     head, *rows = text.decode("ascii").split("\n")
-    hold(f"it has no header: {head}", re.fullmatch("rack-audit 2 line [0-9]+", head) and rows and rows.pop() == "")
+    hold(f"it has no header: {head}", re.fullmatch("rack-audit [23] line [0-9]+", head) and rows and rows.pop() == "")
     found = []
     for row in rows:
         parts = row.split(" | ")
