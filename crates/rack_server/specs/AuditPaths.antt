@@ -1,5 +1,5 @@
 -- Where audit texts of a rack lie (own).
-use Rattle.std.specs.Prelude.{◌≡◌, codes, ℕ, List, [], ◌∷◌, ◌++◌, Option, Some, None, Contains, if◌then◌else◌, nat_lt}
+use Rattle.std.specs.Prelude.{◌≡◌, codes, ℕ, List, [], ◌++◌, Option, Some, None, Contains, if◌then◌else◌, nat_lt}
 use Rattle.std.specs.Borrow.{Bor}
 use Rattle.std.specs.Fmt.{decimal}
 use Rattle.std.specs.List.{AllZip}

@@ -38,14 +38,14 @@ pub struct Served {
 
 /// Serves the rack that a text describes on this machine, at the ports of its lines: so many connections at
 /// each port, or without end. It writes `ready`, and when all sessions have ended the audit text of each line,
-/// in ascending order of their numbers.
+/// in ascending order of their numbers; of endless lines it writes `ready` only.
 ///
 /// `Rack` where the rack isn't accepted or a line has no port, `CannotListen` where a port can't be had, or descriptors
 /// for its connections, `CannotMake` where the folder or a file for an audit text can't be had, and then nothing is
 /// written; `WriteFault`; `OutOfMemory` also where a thread is refused. Where that is so only behind `ready`, the audit
-/// texts are written before the end all the same. `CannotWrite` where a file of an audit text took a row no more: what
-/// was being served ends then, and the audit texts are written. What can't be made is the folder that the words name, or
-/// a file of it for a line of the rack, and what can't be written is such a file.
+/// texts are written before the end all the same. `CannotWrite` if a file of an audit text lacks a row: what was being
+/// served ends then, and the audit texts are written. What can't be made is the folder that the words name, or a file of
+/// it for a line of the rack, and what can't be written is such a file.
 pub fn serve_text<'a, H: Host + Sync, W: Write>(
     rt: &H,
     alloc: Global,

@@ -1,6 +1,5 @@
-use Rattle.std.proofs.Common.{rules, ◌≡◌, ◌≤◌, length, map, is_some, ap, subst, arith}
+use Rattle.std.proofs.Common.{rules, ◌≡◌, ◌≤◌, length, map, is_some, arith}
 use Rattle.rack_file.specs.Rack.{line_described}
-use Rattle.rack_server.specs.ServeOutput.{ServesLines}
 use Rattle.rack_server.proofs.RacksServed.{as_many_lines, lines_of_rack, rack_served, refused_lines, refused_ports, served_open}
 use Rattle.rack_server.proofs.serve.serve_rack.Goals as goal
 
