@@ -111,7 +111,7 @@ fn reads_in(alloc: Global, words: &str) -> Result<Vec<Octets>, Fail> {
 }
 
 /// Serves a session of these reads, between streams before which a trail catches up.
-fn serve_between<T: Wait, C: CatchUp>(
+fn serve_between<T: Wait, C: CatchUp<K>, K: Drop>(
     rt: &T,
     trail: &C,
     port: &Port,
