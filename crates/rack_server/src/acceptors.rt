@@ -13,19 +13,18 @@ use crossbeam_channel::Sender;
 use dp_sessions::Port;
 use dp_trail::CatchUp;
 use std::alloc::{AllocError, Global};
+use std::marker::PhantomData;
 use std::net::TcpListener;
 use std::sync::Wait;
 
 /// What accepts the connections of a rack.
 #[derive(Drop)]
-pub(crate) struct Acceptors<'a, H: Wait, C> {
-    /// Of masters, one for each line.
-    pub(crate) masters: Vec<MasterAcceptor<'a, H, C>>,
-    /// Of operators, one for each line.
-    pub(crate) operators: Vec<OperatorAcceptor<'a, Desk<'a>, H, C>>,
+pub(crate) struct Acceptors<'a, H: Wait, C, K> {
+    pub(crate) masters: Vec<MasterAcceptor<'a, H, C, K>>,
+    pub(crate) operators: Vec<OperatorAcceptor<'a, Desk<'a>, H, C, K>>,
 }
 
-impl<'a, H: Wait, C: CatchUp> Acceptors<'a, H, C> {
+impl<'a, H: Wait, C: CatchUp<K>, K: Drop> Acceptors<'a, H, C, K> {
     /// Those of these lines, which are listened at, each with what records it; or memory was refused. The sender
     /// of jobs is gone with the last of those of masters.
     pub(crate) fn of(
@@ -34,9 +33,9 @@ impl<'a, H: Wait, C: CatchUp> Acceptors<'a, H, C> {
         lines: &'a [ServedLine],
         ports: &'a [Port],
         recorders: &'a [C],
-        jobs: Sender<MasterJob<'a, H, C>>,
+        jobs: Sender<MasterJob<'a, H, C, K>>,
         attendance: &'a Attendance<'a, H>,
-    ) -> Result<Acceptors<'a, H, C>, AllocError>
+    ) -> Result<Acceptors<'a, H, C, K>, AllocError>
         requires opened { AreOpened lines.now ports.now }
         requires each { length listening.items ≡ length lines.now }
         requires recorded { length recorders.now ≡ length lines.now }
@@ -66,7 +65,7 @@ impl<'a, H: Wait, C: CatchUp> Acceptors<'a, H, C> {
         here: Listening<TcpListener>,
         port: u8,
         desk: Desk<'a>,
-        jobs: Sender<MasterJob<'a, H, C>>,
+        jobs: Sender<MasterJob<'a, H, C, K>>,
         recorder: &'a C,
         attendance: &'a Attendance<'a, H>,
     ) -> Result<(), AllocError>
@@ -86,6 +85,7 @@ impl<'a, H: Wait, C: CatchUp> Acceptors<'a, H, C> {
             listener: here.operators,
             desk,
             recorder,
+            caught_up: PhantomData,
             attendance,
         })?;
         Ok(())

@@ -11,7 +11,6 @@ pub(crate) const TURNS: u32 = u32::MAX;
 #[derive(Drop)]
 pub(crate) struct Attendance<'a, H> {
     pub(crate) rt: &'a H,
-    /// The doors of the rack.
     pub(crate) doors: &'a Doors,
     /// What is reported of the rack.
     pub(crate) notes: &'a Notes<'a, H>,

@@ -16,7 +16,7 @@ use crate::audit_file::Incomplete;
 use crate::doors::Doors;
 use crate::host::Host;
 use crate::listening::Listening;
-use crate::recorder::{first_incomplete, record_lines};
+use crate::recorder::{FileRecorder, first_incomplete, record_lines};
 use crate::serve::Served;
 use crate::serve_fault::ServeFault;
 use crate::served_line::ServedLine;
@@ -27,7 +27,7 @@ use dp_script::RunFault;
 use dp_sessions::Port;
 use dp_shared::WorkerSeat;
 use dp_text::write_whole;
-use dp_trail::{CatchUp, NoTrail};
+use dp_trail::{CatchUp, CaughtUp, NoRows, NoTrail};
 use std::alloc::Global;
 use std::io::Write;
 use std::net::TcpListener;
@@ -108,7 +108,7 @@ pub(crate) fn attend_lines<'a, 's, H: Host + Sync, W: Write>(
     };
     let Some(folder) = folder else {
         let none = &[NoTrail; MOST_LINES][..lines.len()];
-        let masters = attend(
+        let masters = attend::<H, NoTrail, NoRows, W>(
             &attendance,
             alloc,
             lines,
@@ -132,7 +132,7 @@ pub(crate) fn attend_lines<'a, 's, H: Host + Sync, W: Write>(
         Ok(recorders) => recorders,
         Err(fault) => return Err(fault),
     };
-    let masters = attend(
+    let masters = attend::<H, FileRecorder<'a, 's, H>, CaughtUp, W>(
         &attendance,
         alloc,
         lines,
@@ -158,7 +158,7 @@ pub(crate) fn attend_lines<'a, 's, H: Host + Sync, W: Write>(
 ///
 /// `OutOfMemory` where memory or threads for all sessions can't be had, and then nothing is written;
 /// `WriteFault`.
-fn attend<'a, H: Host + Sync, C: CatchUp + Sync, W: Write>(
+fn attend<'a, H: Host + Sync, C: CatchUp<K> + Sync, K: Drop + Send, W: Write>(
     attendance: &'a Attendance<'a, H>,
     alloc: Global,
     lines: &'a [ServedLine],

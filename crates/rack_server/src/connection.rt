@@ -14,7 +14,7 @@ const MOMENT: u64 = 100;
 const FIRST_MOMENTS: u32 = 100;
 
 /// One direction of a connection, which is waited for in moments, and is used behind what records the line.
-pub(crate) type Connection<'a, H, C> = Trailed<'a, 'a, H, Patient<'a, H, TcpStream>, C>;
+pub(crate) type Connection<'a, H, C, K> = Trailed<'a, 'a, H, Patient<'a, H, TcpStream>, C, K>;
 
 /// Who is connected.
 #[derive(Clone, Copy, PartialEq, Eq)]
@@ -26,13 +26,13 @@ pub(crate) enum Client {
 }
 
 /// A connection that was accepted, to be read and to be written.
-pub(crate) fn connect<'a, H: Wait, C: CatchUp>(
+pub(crate) fn connect<'a, H: Wait, C: CatchUp<K>, K: Drop>(
     rt: &'a H,
     doors: &'a Doors,
     recorder: &'a C,
     stream: TcpStream,
     client: Client,
-) -> Result<(Connection<'a, H, C>, Connection<'a, H, C>)> {
+) -> Result<(Connection<'a, H, C, K>, Connection<'a, H, C, K>)> {
     prepare(&stream)?;
     let heard = stream.try_clone()?;
     let reader = match client {

@@ -13,28 +13,24 @@ use std::sync::Wait;
 use std::time::Clock;
 
 /// A session of a master, at a socket.
-pub(crate) type MasterJob<'a, H, C> = Job<Connection<'a, H, C>, Connection<'a, H, C>>;
+pub(crate) type MasterJob<'a, H, C, K> = Job<Connection<'a, H, C, K>, Connection<'a, H, C, K>>;
 
 /// Accepts the masters of a line, and hands their sessions to the workers.
 #[derive(Drop)]
-pub(crate) struct MasterAcceptor<'a, H: Wait, C> {
-    /// Where the line listens for them.
+pub(crate) struct MasterAcceptor<'a, H: Wait, C, K> {
     pub(crate) listener: TcpListener,
     /// The place of its port among those of the pool.
     pub(crate) port: u8,
     /// The number of the line.
     pub(crate) line: u8,
-    /// The workers.
-    pub(crate) jobs: Sender<MasterJob<'a, H, C>>,
-    /// What records the line.
+    pub(crate) jobs: Sender<MasterJob<'a, H, C, K>>,
     pub(crate) recorder: &'a C,
-    /// What all acceptors share.
     pub(crate) attendance: &'a Attendance<'a, H>,
 }
 
-impl<'a, H: Wait, C: CatchUp> MasterAcceptor<'a, H, C> {
+impl<'a, H: Wait, C: CatchUp<K>, K: Drop> MasterAcceptor<'a, H, C, K> {
     /// The session of a master at a connection.
-    fn job_of(&self, stream: TcpStream) -> io::Result<MasterJob<'a, H, C>> {
+    fn job_of(&self, stream: TcpStream) -> io::Result<MasterJob<'a, H, C, K>> {
         let (rt, doors) = (self.attendance.rt, self.attendance.doors);
         let (reader, writer) = connect(rt, doors, self.recorder, stream, Client::Master)?;
         Ok(Job {
@@ -45,7 +41,7 @@ impl<'a, H: Wait, C: CatchUp> MasterAcceptor<'a, H, C> {
     }
 }
 
-impl<L: Wait + Log + Clock, C: CatchUp> Accept for MasterAcceptor<'_, L, C> {
+impl<L: Wait + Log + Clock, C: CatchUp<K>, K: Drop> Accept for MasterAcceptor<'_, L, C, K> {
     fn listener(&self) -> &TcpListener {
         &self.listener
     }

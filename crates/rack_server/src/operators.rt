@@ -11,6 +11,7 @@ use dp_sessions::{Port, serve_operator_at};
 use dp_trail::CatchUp;
 use log::Log;
 use std::io;
+use std::marker::PhantomData;
 use std::net::{TcpListener, TcpStream};
 use std::sync::Wait;
 use std::sync::atomic::Ordering::SeqCst;
@@ -29,23 +30,27 @@ pub(crate) struct Desk<'a> {
 /// Accepts the operators of a line, and serves one after another. It is generic, since the check finds that it may
 /// go to a thread by the facts of its type parameters, and not where it would have to look into the types of a line.
 #[derive(Drop)]
-pub(crate) struct OperatorAcceptor<'a, D, H, C> {
-    /// Where the line listens for them.
+pub(crate) struct OperatorAcceptor<'a, D, H, C, K> {
     pub(crate) listener: TcpListener,
     /// The line.
     pub(crate) desk: D,
-    /// What records the line.
     pub(crate) recorder: &'a C,
-    /// What all acceptors share.
+    pub(crate) caught_up: PhantomData<K>,
     pub(crate) attendance: &'a Attendance<'a, H>,
 }
 
-impl<L: Wait + Log + Clock, C: CatchUp> OperatorAcceptor<'_, Desk<'_>, L, C> {
+impl<L: Wait + Log + Clock, C: CatchUp<K>, K: Drop> OperatorAcceptor<'_, Desk<'_>, L, C, K> {
     /// Serves an operator at a connection.
     fn serve(&self, stream: TcpStream) -> io::Result<()> {
         let (rt, doors) = (self.attendance.rt, self.attendance.doors);
         let notes = self.attendance.notes;
-        let (mut reader, mut writer) = connect(rt, doors, self.recorder, stream, Client::Operator)?;
+        let (mut reader, mut writer) = connect::<L, C, K>(
+            rt,
+            doors,
+            self.recorder,
+            stream,
+            Client::Operator,
+        )?;
         notes.operator_connected(rt, self.desk.line.number);
         let end = serve_operator_at(
             rt,
@@ -62,7 +67,8 @@ impl<L: Wait + Log + Clock, C: CatchUp> OperatorAcceptor<'_, Desk<'_>, L, C> {
     }
 }
 
-impl<L: Wait + Log + Clock, C: CatchUp> Accept for OperatorAcceptor<'_, Desk<'_>, L, C> {
+impl<L: Wait + Log + Clock, C: CatchUp<K>, K: Drop> Accept
+    for OperatorAcceptor<'_, Desk<'_>, L, C, K> {
     fn listener(&self) -> &TcpListener {
         &self.listener
     }

@@ -14,7 +14,7 @@ use crate::served_line::ServedLine;
 use dp_notes::Notes;
 use dp_script::RunFault;
 use dp_sessions::Port;
-use dp_trail::{CatchUp, CaughtUp, TrailBreak};
+use dp_trail::{CatchUp, TrailBreak};
 use std::alloc::Global;
 use std::net::Net;
 use std::sync::Wait;
@@ -31,8 +31,8 @@ pub(crate) struct Recorder<'a, 'l, N, T> {
 /// What records a line by a trail in files.
 pub(crate) type FileRecorder<'a, 's, H> = Recorder<'a, 's, H, FileTrail<'a, 's, H>>;
 
-impl<N: Net, T: CatchUp> CatchUp for Recorder<'_, '_, N, T> {
-    fn catch_up<H: Wait>(&self, rt: &H) -> Result<CaughtUp, TrailBreak> {
+impl<N: Net, T: CatchUp<K>, K: Drop> CatchUp<K> for Recorder<'_, '_, N, T> {
+    fn catch_up<H: Wait>(&self, rt: &H) -> Result<K, TrailBreak> {
         match self.file.trail.catch_up(rt) {
             Ok(caught_up) => Ok(caught_up),
             Err(why) => {

@@ -42,12 +42,12 @@ pub(crate) fn can_start<H: Threads + Wait + Sync>(rt: &H, count: usize) -> bool 
 ///
 /// Where the thread of an acceptor is refused no connection is accepted, and where that of a worker is, none
 /// any more.
-pub(crate) fn accept_and_serve<'a, H: Host + Sync, C: CatchUp + Sync>(
+pub(crate) fn accept_and_serve<'a, H: Host + Sync, C: CatchUp<K> + Sync, K: Drop + Send>(
     attendance: &'a Attendance<'a, H>,
-    acceptors: Acceptors<'a, H, C>,
+    acceptors: Acceptors<'a, H, C, K>,
     ports: &[Port],
     seats: Vec<Vec<WorkerSeat>>,
-    jobs: Receiver<MasterJob<'a, H, C>>,
+    jobs: Receiver<MasterJob<'a, H, C, K>>,
     sessions: u64,
 ) -> Result<u32, PoolFault>
     requires workers { (1 ≤ length seats.items) × (length seats.items ≤ 32) }
