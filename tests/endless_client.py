@@ -202,7 +202,7 @@ def past_the_last_place(trial):
 def millions(trial):
     """Sixteen masters send events for long on a line of 1,000 places: resident memory does not grow, and the text in its
     parts is legal, with each event."""
-    events = int(os.environ.get("EVENTS", 400_000))
+    events = int(os.environ.get("EVENTS", 5_000_000))
     rack, folder = sixteen(trial), trial.path("texts")
     each = events // 16
     with trial.serve(rack, "--audit", folder, "--endless", "--part", "4") as server:
