@@ -1,7 +1,7 @@
 //! Books: what events tell, and the entries that they leave, packed and not.
 
 use crate::described::{is_told, line};
-use dp_audit::{Book, Entry};
+use dp_audit::{Book, Entry, Record};
 use dp_line::{Event, Facts, LineSpec, Outcome, Step};
 use dp_text::{Text, event_in};
 use std::alloc::{AllocError, Global};
@@ -114,9 +114,25 @@ pub(crate) fn record_of(alloc: Global, record: Option<&[u8]>) -> Result<String, 
     }
 }
 
-/// The entry at a place, and the record of it.
+/// The line of the entry at a place, or `none`, by a record that had the first entry before.
+fn copied_of(alloc: Global, book: &Book, place: u32) -> Result<String, Fail> {
+    let mut record = Record::blank();
+    book.copy_record(1, &mut record);
+    book.copy_record(place, &mut record);
+    let mut text = Text::new();
+    if !record.set_line(&mut text) {
+        return entry_of(alloc, record.entry());
+    }
+    let line = std::str::from_utf8(text.as_bytes())?;
+    Ok(format!(in alloc; "{}", line.trim_end())?)
+}
+
+/// The entry at a place, which is that of the copied record too, and the record of it.
 pub(crate) fn place_of(alloc: Global, book: &Book, place: u32) -> Result<String, Fail> {
     let entry = entry_of(alloc, book.entry(place))?;
+    if entry != copied_of(alloc, book, place)? {
+        return Err(Fail::new("two entries"));
+    }
     let record = record_of(alloc, book.packed(place))?;
     Ok(format!(in alloc; "at {place}: {entry} = {record}\n")?)
 }
