@@ -1,0 +1,148 @@
+//! The queue, and the thread that writes it.
+
+use crate::row::{Row, row_of};
+use crossbeam_channel::{Receiver, Sender, bounded};
+use log::kv::Source;
+use log::span::Spans;
+use log::{Line, Log, Metadata, Record};
+use std::alloc::Global;
+use std::fmt::Display;
+use std::sync::Wait;
+use std::sync::atomic::AtomicU32;
+use std::sync::atomic::Ordering::SeqCst;
+use std::thread::Threads;
+use std::time::{Clock, Duration};
+use std::{io, thread};
+
+/// How many rows wait to be written at most.
+const WAITING: usize = 1_024;
+
+/// How many milliseconds the end waits for standard error at most, for each of two things: room for the number of lost rows,
+/// and that all rows are written.
+const PATIENCE: u64 = 500;
+
+/// Why no queue is started (own).
+#[derive(Clone, Copy, Debug, PartialEq, Eq)]
+pub enum QueueFault {
+    /// Memory was refused, or a thread.
+    OutOfMemory,
+}
+
+/// Rows that wait to be written to standard error, as a log and as standard error itself. Threads share it, and none of
+/// them waits: if there is no room for a row, it is lost, and lost rows are counted. Their number is a row of its own, once
+/// there is room (own).
+#[derive(Drop)]
+pub struct RowQueue<R> {
+    rt: R,
+    sender: Sender<Row>,
+    lost: AtomicU32,
+}
+
+/// Whether all rows are written (own).
+#[derive(Drop)]
+pub struct Written {
+    ended: Receiver<()>,
+}
+
+/// Starts a queue, and the thread that writes its rows to standard error. The program ends without that thread.
+pub fn start<R: Threads + Wait + Eprint + Copy + Send + 'static>(
+    rt: R,
+    alloc: Global,
+) -> Result<(RowQueue<R>, Written), QueueFault> {
+    let Ok((sender, rows)) = bounded(alloc, WAITING) else {
+        return Err(QueueFault::OutOfMemory);
+    };
+    let Ok((ending, ended)) = bounded(alloc, 1) else {
+        return Err(QueueFault::OutOfMemory);
+    };
+    let writing = move || write_rows(rt, rows, ending);
+    if thread::spawn(&rt, writing).is_err() {
+        return Err(QueueFault::OutOfMemory);
+    }
+    let queue = RowQueue {
+        rt,
+        sender,
+        lost: AtomicU32::new(0),
+    };
+    Ok((queue, Written { ended }))
+}
+
+/// Writes each row that comes, until the queue is gone. A row that standard error doesn't take is lost.
+fn write_rows<R: Wait + Eprint + Drop>(rt: R, rows: Receiver<Row>, _ending: Sender<()>) {
+    for _ in rt.forever() {
+        let Ok(row) = rows.recv(&rt) else {
+            return;
+        };
+        let _ = rt.eprintln(row.as_str());
+    }
+    unreachable!()
+}
+
+impl<R: Wait> RowQueue<R> {
+    /// Puts a row behind the others, and before it the number of rows that were lost, if any were; or the row is lost.
+    fn put(&self, row: impl Display + Drop) {
+        if !self.put_lost() || self.sender.try_send(&self.rt, row_of(row)).is_err() {
+            self.lost.fetch_add(1, SeqCst);
+        }
+    }
+
+    /// Puts the number of lost rows, if any were lost; false if there is no room for it.
+    fn put_lost(&self) -> bool {
+        let lost = self.lost.swap(0, SeqCst);
+        if lost == 0 {
+            return true;
+        }
+        let is_put = self.sender.try_send(&self.rt, lost_row(lost)).is_ok();
+        if !is_put {
+            self.lost.fetch_add(lost, SeqCst);
+        }
+        is_put
+    }
+}
+
+/// The row of so many lost rows.
+fn lost_row(lost: u32) -> Row {
+    row_of(format_args!("[WARN rackd] {lost} rows lost"))
+}
+
+impl<R: Wait + Clock + Drop> RowQueue<R> {
+    /// Ends the queue, and waits until all rows are written, if standard error takes them within a second.
+    pub fn end(self, written: Written) {
+        let RowQueue { rt, sender, lost } = self;
+        let patience = Duration::from_millis(PATIENCE);
+        let lost = lost.into_inner();
+        if lost > 0 {
+            let _ = sender.send_timeout(&rt, lost_row(lost), patience);
+        }
+        drop(sender);
+        let _ = written.ended.recv_timeout(&rt, patience);
+    }
+}
+
+impl<R: Wait> Log for RowQueue<R> {
+    fn enabled(&self, _metadata: &Metadata<'_>) -> bool {
+        true
+    }
+
+    fn log<D: Display, K: Source, S: Spans>(&self, record: &Record<'_, D, K, S>) {
+        self.put(Line::new(record));
+    }
+
+    fn flush(&self) {}
+
+    fn target(&self) -> &str {
+        ""
+    }
+}
+
+impl<R: Wait> Eprint for RowQueue<R> {
+    fn eprint<D: Display + Drop>(&self, value: D) -> io::Result<()> {
+        self.put(value);
+        Ok(())
+    }
+
+    fn eprintln<D: Display + Drop>(&self, value: D) -> io::Result<()> {
+        self.put(value);
+        Ok(())
+    }
+}

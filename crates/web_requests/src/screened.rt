@@ -1,0 +1,86 @@
+//! A reader that fails on a request of the web.
+
+ghost use Rattle.std.specs.Prelude.{◌≤◌, length};
+ghost use Rattle.std.specs.Io.{ReadsAtMost};
+
+use crate::words::{LONGEST, is_web_request, may_become_one};
+use arrayvec::ArrayVec;
+use std::io::{Error, ErrorKind, Read, Result};
+
+/// What the first octets show.
+#[derive(Clone, Copy, PartialEq, Eq)]
+enum Shown {
+    /// They may be those of a request of the web, as far as they are read.
+    Nothing,
+    /// They are no request of the web.
+    Other,
+    /// They are a request of the web.
+    WebRequest,
+}
+
+/// A reader whose reads fail with `InvalidData` if its octets begin as a request of the web does. The octets before are
+/// handed on as they come, at most 7; if a whole word comes at once, none is.
+#[derive(Drop)]
+pub struct Screened<R: Drop> {
+    reader: R,
+    first: ArrayVec<u8, LONGEST>,
+    /// How many of the first octets were handed on.
+    given: usize,
+    shown: Shown,
+    ghost within: { given ≤ length first.items },
+}
+
+impl<R: Read + Drop> Screened<R> {
+    /// A reader of which nothing was read.
+    pub fn new(reader: R) -> Screened<R> {
+        Screened {
+            reader,
+            first: ArrayVec::new(),
+            given: 0,
+            shown: Shown::Nothing,
+        }
+    }
+
+    /// Reads more of the first octets, if there are any.
+    fn read_first(&mut self) -> Result<()> {
+        let mut octets = [0; LONGEST];
+        let room = LONGEST.saturating_sub(self.first.len());
+        let count = self.reader.read(&mut octets[..room])?;
+        let _ = self.first.try_extend_from_slice(&octets[..count]);
+        if is_web_request(&self.first) {
+            self.shown = Shown::WebRequest;
+            return Err(Error::from(ErrorKind::InvalidData));
+        }
+        if !may_become_one(&self.first) {
+            self.shown = Shown::Other;
+        }
+        Ok(())
+    }
+
+    /// Hands on what waits of the first octets, as far as there is room.
+    fn hand_on(&mut self, buf: &mut [u8]) -> Result<usize>
+        ensures { ReadsAtMost result buf.new }
+    {
+        let (_, waiting) = self.first.split_at(self.given);
+        let count = waiting.len().min(buf.len());
+        buf[..count].copy_from_slice(&waiting[..count]);
+        self.given += count;
+        Ok(count)
+    }
+}
+
+impl<R: Read + Drop> Read for Screened<R> {
+    fn read(&mut self, buf: &mut [u8]) -> Result<usize> {
+        if self.given < self.first.len() {
+            return self.hand_on(buf);
+        }
+        match self.shown {
+            Shown::Other => self.reader.read(buf),
+            Shown::WebRequest => Err(Error::from(ErrorKind::InvalidData)),
+            Shown::Nothing => {
+                self.read_first()?;
+                self.hand_on(buf)
+            }
+        }
+    }
+}

@@ -1,0 +1,27 @@
+//! How requests of the web begin.
+
+/// The most octets of a word below.
+pub(crate) const LONGEST: usize = 8;
+
+/// The words by which a request of HTTP begins, each with its space.
+const WORDS: [&[u8]; 9] = [
+    b"GET ",
+    b"HEAD ",
+    b"POST ",
+    b"PUT ",
+    b"DELETE ",
+    b"CONNECT ",
+    b"OPTIONS ",
+    b"TRACE ",
+    b"PATCH ",
+];
+
+/// Whether octets begin by one of the words.
+pub(crate) fn is_web_request(octets: &[u8]) -> bool {
+    WORDS.iter().any(|word| octets.starts_with(word))
+}
+
+/// Whether octets are the beginning of one of the words.
+pub(crate) fn may_become_one(octets: &[u8]) -> bool {
+    WORDS.iter().any(|word| word.starts_with(octets))
+}
