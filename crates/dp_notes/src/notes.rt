@@ -43,6 +43,8 @@ struct Noted {
     halted: ArrayVec<u8, MOST_LINES>,
     /// What the sessions under way have asked for.
     asked: ArrayVec<Asked, MOST_SESSIONS>,
+    /// All workers were reported as busy, and none is free since.
+    are_busy: bool,
 }
 
 /// What is told of the lines of a rack, a row on standard error for each thing, with the time of day (UTC).
@@ -69,19 +71,40 @@ impl<'a, L: Log + Clock> Notes<'a, L> {
                 halting: ArrayVec::new(),
                 halted: ArrayVec::new(),
                 asked: ArrayVec::new(),
+                are_busy: false,
             }),
         }
     }
 
-    /// A connection of a master waits for a worker, at a port by its place.
+    /// A connection of a master waits for a worker, at a port by its place. If all workers are busy, that is reported, once
+    /// until one of them is free.
     pub fn waits<W: Wait>(&self, rt: &W, port: u8) {
-        if self.attended.fetch_add(1, SeqCst) >= self.workers {
-            let (line, workers) = (self.line_at(port), self.workers);
-            self.tell(
-                rt,
-                format_args!("line {line}: a connection waits, all {workers} workers are busy"),
-            );
+        if self.attended.fetch_add(1, SeqCst) < self.workers {
+            return;
         }
+        let mut noted = self.noted.lock(rt);
+        if noted.are_busy {
+            return;
+        }
+        noted.are_busy = true;
+        let (line, workers) = (self.line_at(port), self.workers);
+        let time = TimeOfDay::now(self.log);
+        warn!(self.log; target: "rackd", "{time} line {line}: a connection waits, all {workers} workers are busy");
+    }
+
+    /// A worker has ended a session.
+    fn leaves<W: Wait>(&self, rt: &W) {
+        if self.attended.fetch_sub(1, SeqCst) <= self.workers {
+            self.noted.lock(rt).are_busy = false;
+        }
+    }
+
+    /// A connection begins as a request of the web does, and is closed.
+    pub fn web_request<W: Wait>(&self, rt: &W, line: u8) {
+        self.tell(
+            rt,
+            format_args!("line {line}: a request of the web, closed"),
+        );
     }
 
     /// An operator's session begins.
@@ -228,7 +251,7 @@ impl<L: Log + Clock> Gate for Notes<'_, L> {
     }
 
     fn ended<W: Wait>(&self, rt: &W, line: u8, master: u8, end: SessionEnd) {
-        self.attended.fetch_sub(1, SeqCst);
+        self.leaves(rt);
         if self.telling != Telling::Little {
             let Asked {
                 requests,
@@ -246,7 +269,7 @@ impl<L: Log + Clock> Gate for Notes<'_, L> {
     }
 
     fn turned_away<W: Wait>(&self, rt: &W, port: u8, address: Option<u8>, end: SessionEnd) {
-        self.attended.fetch_sub(1, SeqCst);
+        self.leaves(rt);
         let (line, end) = (self.line_at(port), end.name());
         match address {
             Some(master) => self.tell(

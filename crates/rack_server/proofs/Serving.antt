@@ -20,7 +20,9 @@ use Rattle.dp_text.specs.Writes.{WritesPrefix}
 use Rattle.rack_server.specs.declared.serve.Served.{Served}
 use Rattle.rack_server.specs.AuditPaths.{IsFolderOrFileIn}
 use Rattle.rack_server.specs.ServedLines.{all_served, as_opened, line_numbers, served_line}
-use Rattle.rack_server.specs.ServeOutput.{Attends, AreBrokenOff, AreServed, AreServedInPart, AreWritten, EndsLines, IsCut, IsLeftBy, IsRecordingFault, ServesLines, WritesAudit, ports_of, ready, specs_of, text_of}
+use Rattle.dp_trail.specs.declared.fault.TrailBreak.{TrailBreak}
+use Rattle.dp_trail.specs.declared.fault.TrailBreak.TheVariants as breaks
+use Rattle.rack_server.specs.ServeOutput.{Attends, AreBrokenOff, AreServed, AreServedInPart, AreWritten, EndsLines, IsCauseOfCut, IsCut, IsLeftBy, IsRecordingFault, ServesLines, WritesAudit, cause_of_break, ports_of, ready, specs_of, text_of}
 use Rattle.rack_server.proofs.Opening.{opened_as_they_are, opened_numbers}
 use Rattle.rack_server.proofs.Writing.{appends_more, appends_none, keeps_more, keeps_nothing, keeps_same}
 
@@ -234,12 +236,19 @@ served_unopened folder endless lines old (faults.Run runs.WriteFault) never = ab
 served_unopened folder endless lines old (faults.CannotListen port cause) never = absurd never
 served_unopened folder endless lines old (faults.CannotWrite path cause) never = absurd never
 
+-- the cause of a break is one of a cut
+pub cause_cuts : (endless : Bool) (why : TrailBreak) → IsCauseOfCut endless (cause_of_break endless why)
+cause_cuts true breaks.WriteFault = inl refl
+cause_cuts true breaks.Overtaken = inr refl
+cause_cuts false breaks.WriteFault = refl
+cause_cuts false breaks.Overtaken = refl
+
 -- endless lines are served alike if their numbers are the same
 same_numbers : (folder : Option (Bor (List ℕ))) (lines others : List ServedLine) (a b : Option (List ℕ)) (result : Result Served ServeFault)
     → line_numbers others ≡ line_numbers lines → ServesLines folder true others a b result → ServesLines folder true lines a b result
 same_numbers folder lines others a b (Ok served) same is = is
 same_numbers folder lines others a b (Err (faults.CannotMake path cause)) same is = subst (λ ns. IsFolderOrFileIn folder ns path × Keeps a b) same is
-same_numbers folder lines others a b (Err (faults.CannotWrite path cause)) same is = subst (λ ns. IsCut folder ns path cause × Appends a b ready) same is
+same_numbers folder lines others a b (Err (faults.CannotWrite path cause)) same is = subst (λ ns. IsCut folder true ns path cause × Appends a b ready) same is
 same_numbers folder lines others a b (Err (faults.Run runs.WriteFault)) same is = is
 same_numbers folder lines others a b (Err (faults.Run runs.OutOfMemory)) same is = is
 same_numbers folder lines others a b (Err (faults.Run (runs.Rack fault))) same never = absurd never

@@ -133,26 +133,32 @@ Attends old new (Err runs.WriteFault) = WritesPrefix old new ready
 Attends old new (Err runs.OutOfMemory) = Keeps old new
 Attends old new (Err other) = ⊥
 
--- why a row isn't written: the file didn't take it whole, or its entry was forgotten before
-abbrev pub cause_of_break : TrailBreak → Cause
-cause_of_break breaks.WriteFault = NotTaken
-cause_of_break breaks.Overtaken = Forgotten
+-- why a row isn't written: the file didn't take it whole, or its entry was forgotten before; only endless lines forget entries
+abbrev pub cause_of_break : Bool → TrailBreak → Cause
+cause_of_break endless breaks.WriteFault = NotTaken
+cause_of_break true breaks.Overtaken = Forgotten
+cause_of_break false breaks.Overtaken = NotTaken
+
+-- a cause why a file lacks a row: that of an ordinary line didn't take it whole
+abbrev pub IsCauseOfCut : Bool → Cause → Type 0
+IsCauseOfCut true cause = (cause ≡ NotTaken) ⊎ (cause ≡ Forgotten)
+IsCauseOfCut false cause = cause ≡ NotTaken
 
 -- the file of a line with one of these numbers lacks a row
-abbrev pub IsCut : Option (Bor (List ℕ)) → List ℕ → AuditPath → Cause → Type 0
-IsCut folder numbers path cause = IsFileIn folder numbers path × ((why : TrailBreak) × (cause ≡ cause_of_break why))
+abbrev pub IsCut : Option (Bor (List ℕ)) → Bool → List ℕ → AuditPath → Cause → Type 0
+IsCut folder endless numbers path cause = IsFileIn folder numbers path × IsCauseOfCut endless cause
 
 -- how serving lines has ended, by the first file that lacks a row, and by how many sessions were served
-abbrev pub attended_outcome : Option Incomplete → Option ℕ → ℕ → Result Served ServeFault
-attended_outcome (Some lacking) masters operators = Err (faults.CannotWrite lacking.path (cause_of_break lacking.why))
-attended_outcome None (Some masters) operators = Ok (record { masters = masters; operators = operators })
-attended_outcome None None operators = Err (faults.Run runs.OutOfMemory)
+abbrev pub attended_outcome : Bool → Option Incomplete → Option ℕ → ℕ → Result Served ServeFault
+attended_outcome endless (Some lacking) masters operators = Err (faults.CannotWrite lacking.path (cause_of_break endless lacking.why))
+attended_outcome endless None (Some masters) operators = Ok (record { masters = masters; operators = operators })
+attended_outcome endless None None operators = Err (faults.Run runs.OutOfMemory)
 
 -- where the folder of the audit texts or a file of it for one of these lines can't be had, nothing is written; where such a file lacks a row, all is
 abbrev pub ServesLines : Option (Bor (List ℕ)) → Bool → List ServedLine → Option (List ℕ) → Option (List ℕ) → Result Served ServeFault → Type 0
 ServesLines folder endless lines old new (Ok served) = AreServed endless lines old new
 ServesLines folder endless lines old new (Err (faults.CannotMake path cause)) = IsFolderOrFileIn folder (line_numbers lines) path × Keeps old new
-ServesLines folder endless lines old new (Err (faults.CannotWrite path cause)) = IsCut folder (line_numbers lines) path cause × AreServed endless lines old new
+ServesLines folder endless lines old new (Err (faults.CannotWrite path cause)) = IsCut folder endless (line_numbers lines) path cause × AreServed endless lines old new
 ServesLines folder endless lines old new (Err (faults.Run runs.WriteFault)) = AreServedInPart endless lines old new
 ServesLines folder endless lines old new (Err (faults.Run runs.OutOfMemory)) = AreServedInPart endless lines old new
 ServesLines folder endless lines old new (Err other) = ⊥
@@ -190,7 +196,7 @@ ServesRack folder endless rack old new (Err (faults.Run (runs.Rack racks.BadKey)
 ServesRack folder endless rack old new (Err (faults.CannotListen port cause)) =
     (lines : List ServedLine) × AreLinesOf rack lines × Contains (ports_of lines) port × Keeps old new
 ServesRack folder endless rack old new (Err (faults.CannotMake path cause)) = IsFolderOrFileIn folder (rack_numbers rack) path × Keeps old new
-ServesRack folder endless rack old new (Err (faults.CannotWrite path cause)) = IsCut folder (rack_numbers rack) path cause × IsServed endless rack old new
+ServesRack folder endless rack old new (Err (faults.CannotWrite path cause)) = IsCut folder endless (rack_numbers rack) path cause × IsServed endless rack old new
 ServesRack folder endless rack old new (Err (faults.Run runs.OutOfMemory)) = IsServedInPart endless rack old new
 ServesRack folder endless rack old new (Err (faults.Run runs.WriteFault)) = IsServedInPart endless rack old new
 ServesRack folder endless rack old new (Err other) = ⊥

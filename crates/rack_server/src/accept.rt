@@ -1,6 +1,7 @@
 //! Accepting the connections of a port.
 
 use crate::doors::Doors;
+use std::io::ErrorKind;
 use std::net::{TcpListener, TcpStream};
 use std::sync::Wait;
 use std::time::{Clock, Duration};
@@ -49,13 +50,17 @@ pub(crate) trait Accept: Sized + Drop {
     }
 }
 
-/// A connection, or why there is none, after a rest.
+/// A connection, or why there is none, after a rest. An accept that a signal interrupted is tried again at once.
 fn next_connection<H: Wait + Clock>(rt: &H, listener: &TcpListener) -> io::Result<TcpStream> {
-    match listener.accept() {
-        Ok((stream, _)) => Ok(stream),
-        Err(error) => {
-            thread::sleep(rt, Duration::from_millis(REST));
-            Err(error)
+    for _ in rt.forever() {
+        match listener.accept() {
+            Ok((stream, _)) => return Ok(stream),
+            Err(error) if error.kind() == ErrorKind::Interrupted => {}
+            Err(error) => {
+                thread::sleep(rt, Duration::from_millis(REST));
+                return Err(error);
+            }
         }
     }
+    unreachable!()
 }

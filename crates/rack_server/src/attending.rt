@@ -55,10 +55,10 @@ pub(crate) struct Attended<'a> {
 
 impl<'a> Attended<'a> {
     /// How the program ends, once the audit texts are written.
-    pub(crate) fn outcome(self) -> Result<Served, ServeFault<'a>>
-        ensures exact { result ≡ attended_outcome self.entry.incomplete self.entry.masters self.entry.operators }
-        ensures serves { (folder : Option (Bor (List ℕ))) → (endless : Bool) → (lines : List ServedLine) → IfSome self.entry.incomplete (λ lacking. IsFileIn folder (line_numbers lines) lacking.path)
-            → (old new : Option (List ℕ)) → AreServed endless lines old new → ServesLines folder endless lines old new result }
+    pub(crate) fn outcome(self, are_endless: bool) -> Result<Served, ServeFault<'a>>
+        ensures exact { result ≡ attended_outcome are_endless self.entry.incomplete self.entry.masters self.entry.operators }
+        ensures serves { (folder : Option (Bor (List ℕ))) → (lines : List ServedLine) → IfSome self.entry.incomplete (λ lacking. IsFileIn folder (line_numbers lines) lacking.path)
+            → (old new : Option (List ℕ)) → AreServed are_endless lines old new → ServesLines folder are_endless lines old new result }
     {
         let Attended {
             masters,
@@ -66,7 +66,7 @@ impl<'a> Attended<'a> {
             incomplete,
         } = self;
         if let Some(lacking) = incomplete {
-            return Err(ServeFault::CannotWrite(lacking.path, lacking.cause()));
+            return Err(ServeFault::CannotWrite(lacking.path, lacking.cause(are_endless)));
         }
         match masters {
             Some(masters) => Ok(Served { masters, operators }),

@@ -33,13 +33,13 @@ pub(crate) struct Incomplete<'a> {
 }
 
 impl Incomplete<'_> {
-    /// The cause on standard error.
-    pub(crate) fn cause(self) -> Cause
-        ensures { result ≡ cause_of_break self.entry.why }
+    /// The cause on standard error. Only endless lines forget entries.
+    pub(crate) fn cause(self, are_endless: bool) -> Cause
+        ensures { result ≡ cause_of_break are_endless self.entry.why }
     {
         match self.why {
-            TrailBreak::WriteFault => Cause::NotTaken,
-            TrailBreak::Overtaken => Cause::Forgotten,
+            TrailBreak::Overtaken if are_endless => Cause::Forgotten,
+            TrailBreak::Overtaken | TrailBreak::WriteFault => Cause::NotTaken,
         }
     }
 }

@@ -1,48 +1,54 @@
 //! The connection of a session.
 
-use crate::doors::Doors;
+use crate::attendance::Attendance;
 use dp_trail::{CatchUp, Trailed};
+use log::Log;
 use std::io::{Error, ErrorKind, Read, Result, Write};
 use std::net::TcpStream;
 use std::sync::Wait;
-use std::time::Duration;
+use std::time::{Clock, Duration};
+use web_requests::Screened;
 
 /// How long a read or a write waits before it looks at the doors, in milliseconds.
 const MOMENT: u64 = 100;
 
-/// How many moments the first octet of a master may take: 10 s.
-const FIRST_MOMENTS: u32 = 100;
+/// How many moments the address of a master may take: 10 s.
+pub(crate) const FIRST_MOMENTS: u32 = 100;
 
 /// One direction of a connection, which is waited for in moments, and is used behind what records the line.
-pub(crate) type Connection<'a, H, C, K> = Trailed<'a, 'a, H, Patient<'a, H, TcpStream>, C, K>;
+type Connection<'a, H, C, K, S> = Trailed<'a, 'a, H, Patient<'a, H, S>, C, K>;
 
-/// Who is connected.
-#[derive(Clone, Copy, PartialEq, Eq)]
-pub(crate) enum Client {
-    /// A master, whose address comes first, within 10 s.
-    Master,
-    /// An operator, who may be silent for as long as he likes.
-    Operator,
-}
+/// Where a connection is read.
+pub(crate) type Heard<'a, H, C, K> = Connection<'a, H, C, K, Screened<TcpStream>>;
 
-/// A connection that was accepted, to be read and to be written.
-pub(crate) fn connect<'a, H: Wait, C: CatchUp<K>, K: Drop>(
-    rt: &'a H,
-    doors: &'a Doors,
+/// Where a connection is written.
+pub(crate) type Answered<'a, H, C, K> = Connection<'a, H, C, K, TcpStream>;
+
+/// A connection to a line that was accepted, to be read and to be written. Its first read may take so many moments, if there
+/// is a bound.
+pub(crate) fn connect<'a, H: Wait + Log + Clock, C: CatchUp<K>, K: Drop>(
+    attendance: &'a Attendance<'a, H>,
     recorder: &'a C,
+    line: u8,
     stream: TcpStream,
-    client: Client,
-) -> Result<(Connection<'a, H, C, K>, Connection<'a, H, C, K>)> {
+    moments: Option<u32>,
+) -> Result<(Heard<'a, H, C, K>, Answered<'a, H, C, K>)> {
     prepare(&stream)?;
-    let heard = stream.try_clone()?;
-    let reader = match client {
-        Client::Master => Patient::unread(rt, doors, heard),
-        Client::Operator => Patient::new(rt, doors, heard),
+    let reader = Patient {
+        attendance,
+        line,
+        stream: Screened::new(stream.try_clone()?),
+        moments,
     };
-    let writer = Patient::new(rt, doors, stream);
+    let writer = Patient {
+        attendance,
+        line,
+        stream,
+        moments: None,
+    };
     Ok((
-        Trailed::new(rt, recorder, reader),
-        Trailed::new(rt, recorder, writer),
+        Trailed::new(attendance.rt, recorder, reader),
+        Trailed::new(attendance.rt, recorder, writer),
     ))
 }
 
@@ -57,34 +63,16 @@ fn prepare(stream: &TcpStream) -> Result<()> {
 /// A stream whose reads and writes time out every 100 ms, to check the doors, and are then tried again. They fail with
 /// `TimedOut` once the doors are shut for good. A call that a signal interrupted is tried again at once.
 #[derive(Drop)]
-pub(crate) struct Patient<'a, H: Wait, S: Drop> {
-    rt: &'a H,
-    doors: &'a Doors,
+pub(crate) struct Patient<'a, H, S: Drop> {
+    attendance: &'a Attendance<'a, H>,
+    /// The number of the line.
+    line: u8,
     stream: S,
+    /// How many moments more the first read may take, if there is a bound.
     moments: Option<u32>,
 }
 
-impl<'a, H: Wait, S: Drop> Patient<'a, H, S> {
-    /// A stream that may be silent for as long as it likes.
-    fn new(rt: &'a H, doors: &'a Doors, stream: S) -> Patient<'a, H, S> {
-        Patient {
-            rt,
-            doors,
-            stream,
-            moments: None,
-        }
-    }
-
-    /// A stream of which nothing was read: a first read that takes 10 s fails with `TimedOut`.
-    fn unread(rt: &'a H, doors: &'a Doors, stream: S) -> Patient<'a, H, S> {
-        Patient {
-            rt,
-            doors,
-            stream,
-            moments: Some(FIRST_MOMENTS),
-        }
-    }
-
+impl<H: Wait + Log + Clock, S: Drop> Patient<'_, H, S> {
     /// A moment has passed; whether one more may.
     fn may_wait(&mut self) -> bool {
         if let Some(moments) = self.moments {
@@ -93,7 +81,7 @@ impl<'a, H: Wait, S: Drop> Patient<'a, H, S> {
                 return false;
             }
         }
-        !self.doors.are_shut(self.rt)
+        !self.attendance.doors.are_shut(self.attendance.rt)
     }
 
     /// Returns Ok if a failed read or write is to be tried again, else the error that it fails with.
@@ -107,19 +95,27 @@ impl<'a, H: Wait, S: Drop> Patient<'a, H, S> {
                     Err(Error::from(ErrorKind::TimedOut))
                 }
             }
+            ErrorKind::InvalidData => {
+                self.attendance
+                    .notes
+                    .web_request(self.attendance.rt, self.line);
+                Err(error)
+            }
             _ => Err(error),
         }
     }
 }
 
-impl<H: Wait, R: Read + Drop> Read for Patient<'_, H, R> {
+impl<H: Wait + Log + Clock, R: Read + Drop> Read for Patient<'_, H, R> {
     fn read(&mut self, buf: &mut [u8]) -> Result<usize> {
-        for _ in self.rt.forever() {
+        for _ in self.attendance.rt.forever() {
             match self.stream.read(buf) {
                 Ok(count) => {
                     self.moments = None;
                     return Ok(count);
                 }
+                // The client has left without reading all of its answers.
+                Err(error) if error.kind() == ErrorKind::ConnectionReset => return Ok(0),
                 Err(error) => self.try_again(error)?,
             }
         }
@@ -127,9 +123,9 @@ impl<H: Wait, R: Read + Drop> Read for Patient<'_, H, R> {
     }
 }
 
-impl<H: Wait, W: Write + Drop> Write for Patient<'_, H, W> {
+impl<H: Wait + Log + Clock, W: Write + Drop> Write for Patient<'_, H, W> {
     fn write(&mut self, buf: &[u8]) -> Result<usize> {
-        for _ in self.rt.forever() {
+        for _ in self.attendance.rt.forever() {
             match self.stream.write(buf) {
                 Ok(count) => return Ok(count),
                 Err(error) => self.try_again(error)?,

@@ -2,7 +2,7 @@
 
 use crate::accept::Accept;
 use crate::attendance::Attendance;
-use crate::connection::{Client, Connection, connect};
+use crate::connection::{Answered, FIRST_MOMENTS, Heard, connect};
 use crossbeam_channel::Sender;
 use dp_sessions::Job;
 use dp_trail::CatchUp;
@@ -13,7 +13,7 @@ use std::sync::Wait;
 use std::time::Clock;
 
 /// A session of a master, at a socket.
-pub(crate) type MasterJob<'a, H, C, K> = Job<Connection<'a, H, C, K>, Connection<'a, H, C, K>>;
+pub(crate) type MasterJob<'a, H, C, K> = Job<Heard<'a, H, C, K>, Answered<'a, H, C, K>>;
 
 /// Accepts the masters of a line, and hands their sessions to the workers.
 #[derive(Drop)]
@@ -28,11 +28,16 @@ pub(crate) struct MasterAcceptor<'a, H: Wait, C, K> {
     pub(crate) attendance: &'a Attendance<'a, H>,
 }
 
-impl<'a, H: Wait, C: CatchUp<K>, K: Drop> MasterAcceptor<'a, H, C, K> {
+impl<'a, H: Wait + Log + Clock, C: CatchUp<K>, K: Drop> MasterAcceptor<'a, H, C, K> {
     /// The session of a master at a connection.
     fn job_of(&self, stream: TcpStream) -> io::Result<MasterJob<'a, H, C, K>> {
-        let (rt, doors) = (self.attendance.rt, self.attendance.doors);
-        let (reader, writer) = connect(rt, doors, self.recorder, stream, Client::Master)?;
+        let (reader, writer) = connect(
+            self.attendance,
+            self.recorder,
+            self.line,
+            stream,
+            Some(FIRST_MOMENTS),
+        )?;
         Ok(Job {
             port: self.port,
             reader,

@@ -5,7 +5,7 @@ ghost use Rattle.dp_shared.specs.Passes.{line_of};
 
 use crate::accept::Accept;
 use crate::attendance::{Attendance, TURNS};
-use crate::connection::{Client, connect};
+use crate::connection::connect;
 use dp_line::LineSpec;
 use dp_sessions::{Port, serve_operator_at};
 use dp_trail::CatchUp;
@@ -42,16 +42,11 @@ pub(crate) struct OperatorAcceptor<'a, D, H, C, K> {
 impl<L: Wait + Log + Clock, C: CatchUp<K>, K: Drop> OperatorAcceptor<'_, Desk<'_>, L, C, K> {
     /// Serves an operator at a connection.
     fn serve(&self, stream: TcpStream) -> io::Result<()> {
-        let (rt, doors) = (self.attendance.rt, self.attendance.doors);
-        let notes = self.attendance.notes;
-        let (mut reader, mut writer) = connect::<L, C, K>(
-            rt,
-            doors,
-            self.recorder,
-            stream,
-            Client::Operator,
-        )?;
-        notes.operator_connected(rt, self.desk.line.number);
+        let (attendance, line) = (self.attendance, self.desk.line.number);
+        let connected = connect::<L, C, K>(attendance, self.recorder, line, stream, None)?;
+        let (mut reader, mut writer) = connected;
+        let (rt, notes) = (attendance.rt, attendance.notes);
+        notes.operator_connected(rt, line);
         let end = serve_operator_at(
             rt,
             &mut reader,
@@ -61,8 +56,8 @@ impl<L: Wait + Log + Clock, C: CatchUp<K>, K: Drop> OperatorAcceptor<'_, Desk<'_
             notes,
             TURNS,
         );
-        notes.operator_ended(rt, self.desk.line.number, end);
-        self.attendance.operators.fetch_add(1, SeqCst);
+        notes.operator_ended(rt, line, end);
+        attendance.operators.fetch_add(1, SeqCst);
         Ok(())
     }
 }

@@ -165,10 +165,10 @@ fn serve_lines<'a, 's, H: Host + Sync, W: Write>(
         Err(fault) => return Err(fault),
     };
     if service.endless.is_some() {
-        return attended.outcome();
+        return attended.outcome(true);
     }
     match write_audits(alloc, ports, writer) {
-        Ok(()) => attended.outcome(),
+        Ok(()) => attended.outcome(false),
         Err(fault) => Err(ServeFault::Run(fault)),
     }
 }

@@ -216,3 +216,24 @@ fn waiting_connection_names_its_line(rt: HostRuntime) -> Result<(), Fail> {
     notes.turned_away(&rt, 1, None, SessionEnd::ReadFault);
     log.is_met(rt.alloc())
 }
+
+#[test]
+fn busy_workers_are_reported_once_until_one_is_free(rt: HostRuntime) -> Result<(), Fail> {
+    let rows = [
+        "line 7: a connection waits, all 1 workers are busy",
+        "line 3: a connection waits, all 1 workers are busy",
+    ];
+    let log = Expecting::new(&rows);
+    let notes = Notes::new(&log, Telling::Little, two_lines(), 1);
+    notes.waits(&rt, 0);
+    notes.waits(&rt, 1);
+    notes.waits(&rt, 0);
+    notes.ended(&rt, 3, 1, SessionEnd::EndOfInput);
+    notes.waits(&rt, 1);
+    notes.ended(&rt, 7, 1, SessionEnd::EndOfInput);
+    notes.ended(&rt, 3, 1, SessionEnd::EndOfInput);
+    notes.ended(&rt, 7, 1, SessionEnd::EndOfInput);
+    notes.waits(&rt, 0);
+    notes.waits(&rt, 0);
+    log.is_met(rt.alloc())
+}

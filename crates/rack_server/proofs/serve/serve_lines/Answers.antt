@@ -1,4 +1,4 @@
-use Rattle.std.proofs.Common.{◌≡◌, Err, IfSome, false, is_some, map, sym, subst, ◌∙◌, arith}
+use Rattle.std.proofs.Common.{◌≡◌, Err, IfSome, false, is_some, map, sym, true, subst, ◌∙◌, arith}
 use Rattle.rack_server.specs.AuditPaths.{IsFileIn}
 use Rattle.rack_server.specs.declared.serve_fault.ServeFault.TheVariants as faults
 use Rattle.rack_server.specs.ServedLines.{line_numbers}
@@ -15,11 +15,19 @@ returns-in-Err g c =
     subst (λ lines. ServesLines c.args.service.audit (is_some c.args.service.endless) lines (g.W.Write.contents c.args.writer.now) (g.W.Write.contents c.attend_lines-attended.new.writer) (Err c.in-Err.fault))
     c.deref-3.ensures.value (c.in-Err.ensures.err (is_some c.args.service.endless))
 
+pub returns-then-is_some : goal.returns-then-is_some
+returns-then-is_some g c =
+    let lasting : is_some c.args.service.endless ≡ true = sym c.is_some.ensures ∙ c.if-is_some.true in
+    subst (λ endless. ServesLines c.args.service.audit endless c.args.opened.lines.items (g.W.Write.contents c.args.writer.now) (g.W.Write.contents c.attend_lines-attended.new.writer) c.outcome.result) (sym lasting)
+    (c.outcome.ensures.serves c.args.service.audit c.args.opened.lines.items
+    (subst (λ lines. IfSome c.in-Ok.attended.incomplete (λ lacking. IsFileIn c.args.service.audit (line_numbers lines) lacking.path)) c.deref-3.ensures.value c.in-Ok.ensures.incomplete)
+    (g.W.Write.contents c.args.writer.now) (g.W.Write.contents c.attend_lines-attended.new.writer) c.in-Ok.ensures.ok)
+
 pub returns-in-Ok-write_audits : goal.returns-in-Ok-write_audits
 returns-in-Ok-write_audits g c =
     let ordinary : is_some c.args.service.endless ≡ false = sym c.is_some.ensures ∙ c.if-is_some.false in
     rw ordinary
-    (c.outcome-in-Ok-write_audits.ensures.serves c.args.service.audit false c.args.opened.lines.items
+    (c.outcome-in-Ok-write_audits.ensures.serves c.args.service.audit c.args.opened.lines.items
     (subst (λ lines. IfSome c.in-Ok.attended.incomplete (λ lacking. IsFileIn c.args.service.audit (line_numbers lines) lacking.path)) c.deref-3.ensures.value c.in-Ok.ensures.incomplete)
     (g.W.Write.contents c.args.writer.now) (g.W.Write.contents c.write_audits.new.writer)
     (served_whole c.args.opened.lines.items (map line_at c.args.opened.ports.items) (g.W.Write.contents c.args.writer.now)
