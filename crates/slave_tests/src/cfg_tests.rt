@@ -97,6 +97,8 @@ read c101 => Cut 1
 read 807f807f => TooLong 2
 read 807f807fc1 => Cut 1
 read 807f8079 => 0 244
+read 807f803f8034 => TooLong 2
+read 407f403f4034 => TooLong 2
 ",
     )
 }

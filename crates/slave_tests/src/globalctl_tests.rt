@@ -101,6 +101,21 @@ parameters => 11 Some(10) Some(0)
 }
 
 #[test]
+fn unsync_goes_before_sync(rt: HostRuntime) -> Result<(), Fail> {
+    play(
+        rt.alloc(),
+        &mut exchanging(rt.alloc())?,
+        "\
+control 2000 => done
+exchange 5678 => low
+control 3000 => done
+rd_outp => 5678
+parameters => 11 Some(10) Some(0)
+",
+    )
+}
+
+#[test]
 fn freeze_and_unfreeze(rt: HostRuntime) -> Result<(), Fail> {
     play(
         rt.alloc(),
@@ -136,6 +151,9 @@ fn a_control_retriggers_the_watchdog(rt: HostRuntime) -> Result<(), Fail> {
         "\
 tick 9 => kept
 control 0000 => done
+parameters => 11 Some(10) Some(0)
+tick 9 => kept
+control 0001 => done
 parameters => 11 Some(10) Some(0)
 ",
     )
