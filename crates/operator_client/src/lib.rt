@@ -8,6 +8,7 @@
 mod fault;
 mod incoming;
 mod operator;
+mod printable;
 
 pub use fault::ClientFault;
 pub use operator::{Operation, operate};

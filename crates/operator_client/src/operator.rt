@@ -2,12 +2,13 @@
 
 use crate::fault::ClientFault;
 use crate::incoming::{Incoming, LF, Side, Taken, hand_on, without_end};
+use crate::printable::printable;
 use crossbeam_channel::{Receiver, Sender, bounded};
 use dp_cause::Cause;
 use dp_operate::{Due, Schedule, is_answered, is_news};
 use log::{Log, info, warn};
 use std::alloc::Global;
-use std::io::{BufReader, Read, Write};
+use std::io::{self, BufReader, ErrorKind, Read, Write};
 use std::net::{Ipv4Addr, Net, TcpStream};
 use std::sync::Wait;
 use std::thread;
@@ -97,14 +98,20 @@ pub fn operate<
 }
 
 /// A connection to a port of this machine, to be written and to be read.
-fn connect<N: Net<Stream = TcpStream>>(
+fn connect<N: Net<Stream = TcpStream> + Wait>(
     net: &N,
     port: u16,
 ) -> Result<(TcpStream, TcpStream), Cause> {
-    let stream = match TcpStream::connect(net, (Ipv4Addr::LOCALHOST, port)) {
+    let stream = match connect_once(net, port) {
         Ok(stream) => stream,
         Err(error) => return Err(Cause::of(&error)),
     };
+    match (stream.local_addr(), stream.peer_addr()) {
+        // Without a listener, the system may connect a socket at that port with itself.
+        (Ok(own), Ok(other)) if own == other => return Err(Cause::NobodyListens),
+        (Ok(_), Ok(_)) => {}
+        (Err(error), _) | (_, Err(error)) => return Err(Cause::of(&error)),
+    }
     if let Err(error) = stream.set_nodelay(true) {
         return Err(Cause::of(&error));
     }
@@ -112,6 +119,17 @@ fn connect<N: Net<Stream = TcpStream>>(
         Ok(answers) => Ok((stream, answers)),
         Err(error) => Err(Cause::of(&error)),
     }
+}
+
+/// A connection to a port of this machine. A call that a signal interrupted is made again.
+fn connect_once<N: Net<Stream = TcpStream> + Wait>(net: &N, port: u16) -> io::Result<TcpStream> {
+    for _ in net.forever() {
+        match TcpStream::connect(net, (Ipv4Addr::LOCALHOST, port)) {
+            Err(error) if error.kind() == ErrorKind::Interrupted => {}
+            connected => return connected,
+        }
+    }
+    unreachable!()
 }
 
 /// Starts the threads that read the input, a line each time that one is asked for, and the answers.
@@ -310,8 +328,13 @@ impl<H: Wait + Clock + Log + Copy> Operator<H> {
             Some(Asked::Tick) => is_news(without_end(&row), without_end(&self.ticked)),
             Some(Asked::Step) => is_news(without_end(&row), without_end(&self.stepped)),
         };
-        if is_shown && (output.write_all(&row).is_err() || output.flush().is_err()) {
-            return Err(ClientFault::WriteFault);
+        if is_shown {
+            let Ok(shown) = printable(self.alloc, without_end(&row)) else {
+                return Err(ClientFault::OutOfMemory);
+            };
+            if output.write_all(&shown).is_err() || output.flush().is_err() {
+                return Err(ClientFault::WriteFault);
+            }
         }
         match asked {
             Some(Asked::Tick) => self.ticked = row,
