@@ -15,17 +15,21 @@ use dp_cause::Cause;
 use dp_script::split_input;
 pub use dp_script::{Choice, RunFault, run_check, run_explain, run_text};
 use ending::{Fault, cause, status};
-use log::{Log, info};
+use log::{Level, Log, Logged, info};
 use operator_client::{Operation, operate};
 use rack_cause::rack_cause;
 pub use rack_file::{Rack, RackFault, RackLine, read_rack};
 use rack_server::{Host, Served, serve_text};
 use rackd_words::{Entries, Invocation, Service, read_words, words_of};
+use row_queue::{Escaped, RowQueue, Written};
+use std::alloc::Global;
 use std::fs::{self, File, Files};
 use std::io::{self, BufWriter, ErrorKind, Printer, Read, Write};
 use std::net::{TcpListener, TcpStream};
 use std::process::ExitCode;
 use std::rt::Runtime;
+use std::sync::Wait;
+use std::thread::Threads;
 
 /// How every audit text begins.
 const HEADER: &str = "rack-audit ";
@@ -39,21 +43,56 @@ const NO_HEADER: &str = "  row 1: no header; does the text begin with \"ready\"?
 fn main(rt: HostRuntime) -> ExitCode {
     // The check of this function wants the types named that `Host` fixes.
     let _named: (Option<TcpListener>, Option<TcpStream>, Option<File>) = (None, None, None);
-    match words_of(&rt) {
-        Ok(words) => match obey(&rt, rt.stdin(), words.as_slice()) {
-            Ok(code) => code,
+    let words = match words_of(&rt) {
+        Ok(words) => words,
+        Err(fault) => return report(&rt, Fault::from(fault)),
+    };
+    match read_words(rt.alloc(), words.as_slice()) {
+        Ok(Invocation::Input) => ended(&rt, run_input(&rt)),
+        Ok(Invocation::Run { rack, script }) => ended(&rt, run_files(&rt, rack, script)),
+        Ok(Invocation::Check { rack, audit }) => {
+            ended(&rt, check_files(&rt, rack, audit.as_slice()))
+        }
+        Ok(
+            Invocation::Explain {
+                rack,
+                audit,
+                entries,
+            },
+        ) => ended(&rt, explain_files(&rt, rack, audit.as_slice(), entries)),
+        Ok(Invocation::Serve { rack, service }) => match before_serving(&rt, rack) {
+            Ok((rack, queue, written)) => {
+                let host = Logged::new(rt, Level::Info, queue);
+                let code = serve_rack(&host, host.sink(), rt.alloc(), rack.as_str(), service);
+                let (_, queue) = host.into_parts();
+                queue.end(written);
+                code
+            }
             Err(fault) => report(&rt, fault),
         },
+        Ok(Invocation::Operate { port, tick, step }) => {
+            let operation = Operation { port, tick, step };
+            ended(&rt, operate_line(&rt, operation, rt.stdin()))
+        }
+        Ok(Invocation::Answer(answer)) => ended(&rt, answer_words(&rt, &words, answer)),
         Err(fault) => report(&rt, Fault::from(fault)),
     }
 }
 
+/// The exit status of what was done. A fault is reported.
+fn ended(errors: &impl Eprint, done: Result<ExitCode, Fault<'_>>) -> ExitCode {
+    match done {
+        Ok(code) => code,
+        Err(fault) => report(errors, fault),
+    }
+}
+
 /// Reports a fault on standard error, and its cause in a second row, and answers its exit status.
-fn report(rt: &impl Eprint, fault: Fault<'_>) -> ExitCode {
+fn report(errors: &impl Eprint, fault: Fault<'_>) -> ExitCode {
     // A closed or full standard error changes no status.
-    let _ = rt.eprintln(fault);
+    let _ = errors.eprintln(Escaped(fault));
     if let Some(cause) = cause(fault) {
-        let _ = rt.eprintln(cause);
+        let _ = errors.eprintln(cause);
     }
     ExitCode::from(status(fault))
 }
@@ -61,43 +100,58 @@ fn report(rt: &impl Eprint, fault: Fault<'_>) -> ExitCode {
 /// The exit status of what was done with a rack. Where the rack isn't accepted, that is reported here, and where it
 /// is wrong in a second row.
 fn reported<'a>(
-    rt: &(impl Runtime + AllocGlobal),
+    errors: &impl Eprint,
+    alloc: Global,
     rack: &str,
     done: Result<ExitCode, Fault<'a>>,
 ) -> Result<ExitCode, Fault<'a>> {
     let Err(Fault::Run(RunFault::Rack(refused))) = done else {
         return done;
     };
-    let Ok(cause) = rack_cause(rt.alloc(), rack, refused) else {
+    let Ok(cause) = rack_cause(alloc, rack, refused) else {
         return Err(Fault::Run(RunFault::OutOfMemory));
     };
-    let code = report(rt, Fault::Run(RunFault::Rack(refused)));
+    let code = report(errors, Fault::Run(RunFault::Rack(refused)));
     if let Some(cause) = cause {
-        let _ = eprintln!(rt; "  {cause}");
+        let _ = eprintln!(errors; "  {}", Escaped(cause.as_str()));
     }
     Ok(code)
 }
 
-/// Does what the words ask for.
-fn obey<
-    'a,
-    H: Runtime + AllocGlobal + Host + Sync + Copy + Send + 'static,
-    I: Read + Send + Drop + 'static,
->(rt: &H, input: I, words: &'a [String]) -> Result<ExitCode, Fault<'a>> {
-    match read_words(rt.alloc(), words)? {
-        Invocation::Input => run_input(rt),
-        Invocation::Run { rack, script } => run_files(rt, rack, script),
-        Invocation::Check { rack, audit } => check_files(rt, rack, audit.as_slice()),
-        Invocation::Explain {
-            rack,
-            audit,
-            entries,
-        } => explain_files(rt, rack, audit.as_slice(), entries),
-        Invocation::Serve { rack, service } => serve_file(rt, rack, service),
-        Invocation::Operate { port, tick, step } => {
-            operate_line(rt, Operation { port, tick, step }, input)
+/// Tells what `clap` answers to words.
+fn answer_words<'a>(
+    rt: &(impl Runtime + AllocGlobal),
+    words: &[String],
+    answer: clap::Error,
+) -> Result<ExitCode, Fault<'a>> {
+    let answer = escaped_answer(rt.alloc(), words, answer)?;
+    Ok(tell(rt, &answer)?)
+}
+
+/// What `clap` answers to words. If a word has control characters, it is the answer to the words with these escaped.
+fn escaped_answer<'a>(
+    alloc: Global,
+    words: &[String],
+    answer: clap::Error,
+) -> Result<clap::Error, Fault<'a>> {
+    if !words
+        .iter()
+        .any(|word| word.as_str().contains(char::is_control))
+    {
+        return Ok(answer);
+    }
+    let mut escaped = Vec::new(alloc);
+    for word in words {
+        let Ok(word) = format!(in alloc; "{}", Escaped(word.as_str())) else {
+            return Err(Fault::Run(RunFault::OutOfMemory));
+        };
+        if escaped.push(word).is_err() {
+            return Err(Fault::Run(RunFault::OutOfMemory));
         }
-        Invocation::Answer(answer) => Ok(tell(rt, &answer)?),
+    }
+    match read_words(alloc, escaped.as_slice())? {
+        Invocation::Answer(escaped) => Ok(escaped),
+        _ => Ok(answer),
     }
 }
 
@@ -121,7 +175,7 @@ fn tell(rt: &(impl Print + Eprint), answer: &clap::Error) -> Result<ExitCode, Ru
 fn run_input<'a>(rt: &(impl Runtime + AllocGlobal)) -> Result<ExitCode, Fault<'a>> {
     let text = io::read_to_string(rt.alloc(), rt.reader()).map_err(|error| read_fault(error, "-"))?;
     let (rack, script) = split_input(text.as_str());
-    reported(rt, rack, run_out(rt, rack, script))
+    reported(rt, rt.alloc(), rack, run_out(rt, rack, script))
 }
 
 /// Runs the script of a file on the rack of another.
@@ -133,7 +187,7 @@ fn run_files<'a>(
     let rack = read_file(rt, rack)?;
     let script = read_file(rt, script)?;
     let ran = run_out(rt, rack.as_str(), script.as_str());
-    reported(rt, rack.as_str(), ran)
+    reported(rt, rt.alloc(), rack.as_str(), ran)
 }
 
 /// Checks the audit text of these files on the rack of another.
@@ -145,7 +199,7 @@ fn check_files<'a>(
     let rack = read_file(rt, rack)?;
     let audit = read_files(rt, audit)?;
     let checked = check_out(rt, rack.as_str(), audit.as_str());
-    reported(rt, rack.as_str(), checked)
+    reported(rt, rt.alloc(), rack.as_str(), checked)
 }
 
 /// Explains the audit text of these files on the rack of another.
@@ -158,24 +212,48 @@ fn explain_files<'a>(
     let rack = read_file(rt, rack)?;
     let audit = read_files(rt, audit)?;
     let explained = explain_out(rt, rack.as_str(), audit.as_str(), entries);
-    reported(rt, rack.as_str(), explained)
+    reported(rt, rt.alloc(), rack.as_str(), explained)
 }
 
-/// Serves the rack of a file, and notes how many sessions were served.
-fn serve_file<'a, H: Runtime + AllocGlobal + Host + Sync>(
+/// The rack of a file, and the queue of what is reported while it is served: a thread of its own writes that to standard
+/// error, so nothing waits for who reads it.
+fn before_serving<'a, H: Runtime + AllocGlobal + Threads + Wait + Copy + Send + 'static>(
     rt: &H,
     rack: &'a str,
+) -> Result<(String, RowQueue<H>, Written), Fault<'a>> {
+    let rack = read_file(rt, rack)?;
+    match row_queue::start(*rt, rt.alloc()) {
+        Ok((queue, written)) => Ok((rack, queue, written)),
+        Err(_) => Err(Fault::Run(RunFault::OutOfMemory)),
+    }
+}
+
+/// Serves a rack, and reports how that ended.
+fn serve_rack<H: Print + Host + Sync>(
+    rt: &H,
+    errors: &impl Eprint,
+    alloc: Global,
+    rack: &str,
+    service: Service<'_>,
+) -> ExitCode {
+    let served = serve_out(rt, alloc, rack, service);
+    ended(errors, reported(errors, alloc, rack, served))
+}
+
+/// Serves a rack, writes what it leaves on standard output, and notes how many sessions were served.
+fn serve_out<'a, H: Print + Host + Sync>(
+    rt: &H,
+    alloc: Global,
+    rack: &str,
     service: Service<'a>,
 ) -> Result<ExitCode, Fault<'a>> {
-    let rack = read_file(rt, rack)?;
-    let mut output = buffered(rt)?;
-    let served = serve_text(rt, rt.alloc(), rack.as_str(), service, &mut output);
+    let mut output = buffered(rt, alloc)?;
+    let served = serve_text(rt, alloc, rack, service, &mut output);
     flushed(output)?;
-    let noted = match served {
+    match served {
         Ok(served) => Ok(note_served(rt, served)),
         Err(fault) => Err(Fault::from(fault)),
-    };
-    reported(rt, rack.as_str(), noted)
+    }
 }
 
 /// Notes how many sessions were served.
@@ -246,7 +324,7 @@ fn run_out<'a>(
     rack: &str,
     script: &str,
 ) -> Result<ExitCode, Fault<'a>> {
-    let mut output = buffered(rt)?;
+    let mut output = buffered(rt, rt.alloc())?;
     let ran = run_text(rt.alloc(), rack, script, &mut output);
     flushed(output)?;
     ran?;
@@ -259,7 +337,7 @@ fn check_out<'a>(
     rack: &str,
     audit: &str,
 ) -> Result<ExitCode, Fault<'a>> {
-    let mut output = buffered(rt)?;
+    let mut output = buffered(rt, rt.alloc())?;
     let checked = run_check(rt.alloc(), rack, audit, &mut output);
     flushed(output)?;
     Ok(noted_header(rt, audit, checked?))
@@ -273,7 +351,7 @@ fn explain_out<'a>(
     entries: Entries,
 ) -> Result<ExitCode, Fault<'a>> {
     let choice = choice_of(entries);
-    let mut output = buffered(rt)?;
+    let mut output = buffered(rt, rt.alloc())?;
     let explained = run_explain(rt.alloc(), rack, audit, &choice, &mut output);
     flushed(output)?;
     Ok(noted_header(rt, audit, explained?))
@@ -301,8 +379,8 @@ fn noted_header(rt: &impl Eprint, audit: &str, status: u8) -> ExitCode {
 }
 
 /// Standard output behind a buffer.
-fn buffered<H: Runtime + AllocGlobal>(rt: &H) -> Result<BufWriter<Printer<'_, H>>, RunFault> {
-    BufWriter::new(rt.alloc(), io::writer(rt)).map_err(|_| RunFault::OutOfMemory)
+fn buffered<H: Print>(rt: &H, alloc: Global) -> Result<BufWriter<Printer<'_, H>>, RunFault> {
+    BufWriter::new(alloc, io::writer(rt)).map_err(|_| RunFault::OutOfMemory)
 }
 
 /// Writes what the buffer has left. A fault of it goes before any other.
