@@ -563,13 +563,14 @@ noted() {
 
 { echo 'workers = 2'; line 1 "$masters" "$operators" '1, 2' 4; slave 5; } >"$work/noted"
 noted
-expect 'nothing else is told without --log' 1 "$(told | wc -l)"
+tells 1 'WARN line 1: a connection waits, all 2 workers are busy'
+expect 'nothing else is told without --log' 2 "$(told | wc -l)"
 for words in --log '--log requests'; do
   noted $words
   tells 1 'INFO line 1: master 1 connected'
   tells 1 'INFO line 1: master 1 refused: AddressHeld'
   tells 1 'INFO line 1: master 9 refused: UnknownMaster'
-  tells 1 'INFO line 1: a connection waits, all 2 workers are busy'
+  tells 1 'WARN line 1: a connection waits, all 2 workers are busy'
   tells 2 'INFO line 1: no address came: EndOfInput'
   tells 1 'INFO line 1 master 1: dropped NoStart 1'
   tells 1 'INFO line 1: master 1 ended: EndOfInput, 2 requests, 1 refused'
@@ -597,7 +598,8 @@ orders 'the operator behind that' "$operator" 'tick 2' released
 hang_up "$one"; hang_up "$operator"
 stop
 
-# ---- threads that are refused: a line with two workers needs four, which are tried before they are started
+# ---- threads that are refused: a line with two workers needs four, which are tried before they are started; before them
+# one is started that writes standard error
 
 # starved NAME COUNT: the program ends with status 3; before that it writes the audit text of its line, of so many entries
 starved() {
@@ -609,18 +611,18 @@ starved() {
 # refused_threads: the program gets no more than so many
 refused_threads() {
   local threads one two operator
-  for threads in 0 1 2 3; do
+  for threads in 0 1 2 3 4; do
     timeout "$limit" "$refuse" "$threads" "$program" serve "$work/rack-2" </dev/null >"$work/said" 2>"$work/told"
     status=$?
     ends "$threads threads at the trial" 3 'rackd: out of memory'
   done
-  for threads in 4 5 6; do
+  for threads in 5 6 7; do
     serve "$threads threads" "$work/rack-2"
     starved "$threads threads" 0
     serve "$threads threads at ports that the system chose" "$work/rack-0"
     starved "$threads threads at ports that the system chose" 0
   done
-  threads=7
+  threads=8
   serve 'one worker is refused' "$work/rack-2" 2
   master 'a master of the other' "$masters" 1; one=$fd
   connect "$operators"; operator=$fd

@@ -24,8 +24,8 @@ import threading
 import time
 
 LINES, MASTERS, SLAVES, WORKERS, CAPACITY = 8, range(16), range(20, 28), 32, 65536
-# The threads of the program: its first one, the workers, and one for each port.
-THREADS = 1 + WORKERS + 2 * LINES
+# The threads of the program: its first one, the one that writes standard error, the workers, and one for each port.
+THREADS = 2 + WORKERS + 2 * LINES
 # Seconds that a client waits for one answer, that an address may be held after its session, and that the program may
 # take to end.
 PATIENCE, FREE_WITHIN, ENDING = 20, 20, 120

@@ -13,7 +13,11 @@ import select
 import signal
 import socket
 import sys
+import termios
 import tty
+
+# A speed that no stack uses.
+OTHER_SPEED = termios.B50
 
 
 def stop(text):
@@ -61,10 +65,20 @@ def open_session(address, port):
     return line
 
 
-def hand_on(end, line):
+def change_speed(port):
+    """Sets a speed that no stack uses. A pseudo terminal has no parity, and Linux refuses settings of which only the parity
+    is new. So a stack with even parity that opens the port again must find another speed than its own."""
+    settings = termios.tcgetattr(port)
+    if settings[5] != OTHER_SPEED:
+        settings[4] = settings[5] = OTHER_SPEED
+        termios.tcsetattr(port, termios.TCSANOW, settings)
+
+
+def hand_on(end, port, line):
     """Hands on every octet both ways, until the rack is gone."""
     while True:
-        ready, _, _ = select.select([end, line], [], [])
+        ready, _, _ = select.select([end, line], [], [], 0.05)
+        change_speed(port)
         if end in ready:
             line.sendall(os.read(end, 4096))
         if line in ready:
@@ -83,9 +97,9 @@ def main(words):
     port = number_in(words[2], "PORT", 1, 65535)
     signal.signal(signal.SIGTERM, signal.default_int_handler)
     line = open_session(address, port)
-    end, _kept = open_terminal(path)
+    end, kept = open_terminal(path)
     try:
-        hand_on(end, line)
+        hand_on(end, kept, line)
     except KeyboardInterrupt:
         return
     except OSError as error:
