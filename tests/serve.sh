@@ -110,7 +110,8 @@ ended() {
   expect "$1: status" "$2" "$status"
 }
 
-# finish NAME PORT..: uses up the connections that are left at each of these ports; the program ends, with one note
+# finish NAME PORT..: uses up the connections that are left at each of these ports; the program ends, with one note beside those
+# of a halted line and of busy workers
 finish() {
   local name=$1 port count
   shift
@@ -123,7 +124,7 @@ finish() {
   done
   ended "$name" 0
   [ ! "${errors:-}" ] || return
-  expect "$name: one note" 1 "$(grep -vc "halted, " "$work/told")"
+  expect "$name: one note" 1 "$(grep -vcE "halted, |a connection waits" "$work/told")"
   expect "$name: the note counts the sessions of masters" "$count" "$(grep -ow "$count" "$work/told" | head -n 1)"
 }
 
