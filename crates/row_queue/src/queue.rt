@@ -17,9 +17,8 @@ use std::{io, thread};
 /// How many rows wait to be written at most.
 const WAITING: usize = 1_024;
 
-/// How many milliseconds the end waits for standard error at most, for each of two things: room for the number of lost rows,
-/// and that all rows are written.
-const PATIENCE: u64 = 500;
+/// How many milliseconds the end waits for standard error at most.
+const PATIENCE: u64 = 1_000;
 
 /// Why no queue is started (own).
 #[derive(Clone, Copy, Debug, PartialEq, Eq)]
@@ -35,6 +34,8 @@ pub enum QueueFault {
 pub struct RowQueue<R> {
     rt: R,
     sender: Sender<Row>,
+    /// For a row behind all others.
+    last: Sender<Row>,
     lost: AtomicU32,
 }
 
@@ -52,25 +53,38 @@ pub fn start<R: Threads + Wait + Eprint + Copy + Send + 'static>(
     let Ok((sender, rows)) = bounded(alloc, WAITING) else {
         return Err(QueueFault::OutOfMemory);
     };
+    let Ok((last, last_row)) = bounded(alloc, 1) else {
+        return Err(QueueFault::OutOfMemory);
+    };
     let Ok((ending, ended)) = bounded(alloc, 1) else {
         return Err(QueueFault::OutOfMemory);
     };
-    let writing = move || write_rows(rt, rows, ending);
+    let writing = move || write_rows(rt, rows, last_row, ending);
     if thread::spawn(&rt, writing).is_err() {
         return Err(QueueFault::OutOfMemory);
     }
     let queue = RowQueue {
         rt,
         sender,
+        last,
         lost: AtomicU32::new(0),
     };
     Ok((queue, Written { ended }))
 }
 
-/// Writes each row that comes, until the queue is gone. A row that standard error doesn't take is lost.
-fn write_rows<R: Wait + Eprint + Drop>(rt: R, rows: Receiver<Row>, _ending: Sender<()>) {
+/// Writes each row that comes, until the queue is gone, and then the last one, if there is one. A row that standard error
+/// doesn't take is lost.
+fn write_rows<R: Wait + Eprint + Drop>(
+    rt: R,
+    rows: Receiver<Row>,
+    last: Receiver<Row>,
+    _ending: Sender<()>,
+) {
     for _ in rt.forever() {
         let Ok(row) = rows.recv(&rt) else {
+            if let Ok(row) = last.try_recv(&rt) {
+                let _ = rt.eprintln(row.as_str());
+            }
             return;
         };
         let _ = rt.eprintln(row.as_str());
@@ -108,14 +122,20 @@ fn lost_row(lost: u32) -> Row {
 impl<R: Wait + Clock + Drop> RowQueue<R> {
     /// Ends the queue, and waits until all rows are written, if standard error takes them within a second.
     pub fn end(self, written: Written) {
-        let RowQueue { rt, sender, lost } = self;
-        let patience = Duration::from_millis(PATIENCE);
+        let RowQueue {
+            rt,
+            sender,
+            last,
+            lost,
+        } = self;
         let lost = lost.into_inner();
         if lost > 0 {
-            let _ = sender.send_timeout(&rt, lost_row(lost), patience);
+            let _ = last.try_send(&rt, lost_row(lost));
         }
         drop(sender);
-        let _ = written.ended.recv_timeout(&rt, patience);
+        let _ = written
+            .ended
+            .recv_timeout(&rt, Duration::from_millis(PATIENCE));
     }
 }
 
