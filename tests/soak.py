@@ -417,7 +417,8 @@ def soak(program, seconds, octets, folder):
         said, told = server.communicate()
         case("it ends", False, f"within {ENDING} seconds")
     case("status", server.returncode == 0, str(server.returncode))
-    case("one note", len(told.splitlines()) == 1, told.decode(errors="replace")[:300])
+    others = [row for row in told.splitlines() if b"a connection waits" not in row]
+    case("one note beside those of busy workers", len(others) == 1, told.decode(errors="replace")[:300])
     texts = re.split(rb"(?m)^(?=rack-audit )", said)
     case("a text of each line", len(texts) == LINES + 1 and not texts[0].strip(), f"{len(texts)} {texts[0][:80]!r}")
     entries = 0
