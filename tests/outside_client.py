@@ -30,6 +30,8 @@ TOP = os.path.dirname(os.path.dirname(os.path.abspath(__file__)))
 REQUESTS = 4000
 # How often a program is stopped and goes on, and for how many seconds.
 STOPS, STOPPED = 30, 0.02
+# Seconds after which the program has seen what a client did, also on a machine that is busy.
+SETTLED = 1
 # The words by which requests of the web begin.
 WEB = ("GET", "HEAD", "POST", "PUT", "DELETE", "CONNECT", "OPTIONS", "TRACE", "PATCH")
 # The flag of a network that is up, and the calls that get and set flags.
@@ -271,9 +273,9 @@ def leaves_with_a_reply_unread(trial):
         with trial.serve(rack, "--log", *words) as server:
             master = Master(rack.masters[1], 1)
             master.send(diag(1, 5))
-            time.sleep(0.2)
+            time.sleep(SETTLED)
             master.hang_up()
-            time.sleep(0.2)
+            time.sleep(SETTLED)
             server.process.terminate()
             told = errors_of(server)
         hold(f"the end: {told}", "line 1: master 1 ended: EndOfInput, 1 requests, 0 refused" in told)
@@ -285,13 +287,13 @@ def busy_workers_are_reported(trial):
     with trial.serve(rack) as server:
         first = Master(rack.masters[1], 1)
         waiting = [connected(rack.masters[1]) for _ in range(3)]
-        time.sleep(0.2)
+        time.sleep(SETTLED)
         for connection in [first.connection, *waiting]:
             connection.close()
-        time.sleep(0.3)
+        time.sleep(SETTLED)
         second = Master(rack.masters[1], 2)
         late = connected(rack.masters[1])
-        time.sleep(0.2)
+        time.sleep(SETTLED)
         server.process.terminate()
         told = errors_of(server)
         late.close()
