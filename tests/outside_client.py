@@ -152,22 +152,22 @@ cfg = "2111"
     return rack
 
 
-def is_closed_unanswered(port, *pieces, accepted=b""):
-    """Ends the case if a connection that sends these pieces gets anything but `accepted`, or isn't closed."""
+def is_closed_unanswered(port, first, rest=b"", accepted=b""):
+    """Ends the case if a connection that sends these octets gets anything but `accepted` behind the first of them, or isn't
+    closed."""
     connection = connected(port)
-    connection.settimeout(PATIENCE)
-    got = b""
-    for piece in pieces:
-        connection.sendall(piece)
-        time.sleep(0.05)
+    connection.sendall(first)
+    got = read(connection, len(accepted))
+    time.sleep(0.05)
     try:
+        connection.sendall(rest)
         while octets := connection.recv(100):
             got += octets
-    except ConnectionResetError:
+    except ConnectionError:
         pass
     except socket.timeout:
-        raise Wrong(f"{pieces} is not closed") from None
-    expect(f"what came for {pieces}", accepted, got)
+        raise Wrong(f"{first + rest} is not closed") from None
+    expect(f"what came for {first + rest}", accepted, got)
 
 
 def web_requests_are_closed(trial):
