@@ -34,7 +34,7 @@ pub enum QueueFault {
 pub struct RowQueue<R> {
     rt: R,
     sender: Sender<Row>,
-    /// For a row behind all others.
+    /// For one row after all others.
     last: Sender<Row>,
     lost: AtomicU32,
 }
@@ -45,7 +45,9 @@ pub struct Written {
     ended: Receiver<()>,
 }
 
-/// Starts a queue, and the thread that writes its rows to standard error. The program ends without that thread.
+/// Starts a queue, and the thread that writes its rows to standard error. The program can end while that thread writes.
+///
+/// Returns `OutOfMemory` if memory or the thread is refused (own).
 pub fn start<R: Threads + Wait + Eprint + Copy + Send + 'static>(
     rt: R,
     alloc: Global,
@@ -72,8 +74,7 @@ pub fn start<R: Threads + Wait + Eprint + Copy + Send + 'static>(
     Ok((queue, Written { ended }))
 }
 
-/// Writes each row that comes, until the queue is gone, and then the last one, if there is one. A row that standard error
-/// doesn't take is lost.
+/// Writes each row in turn until the queue is dropped, and then the last row, if there is one. A failed write loses its row.
 fn write_rows<R: Wait + Eprint + Drop>(
     rt: R,
     rows: Receiver<Row>,
@@ -93,14 +94,14 @@ fn write_rows<R: Wait + Eprint + Drop>(
 }
 
 impl<R: Wait> RowQueue<R> {
-    /// Puts a row behind the others, and before it the number of rows that were lost, if any were; or the row is lost.
+    /// Appends a row, after the number of lost rows if any were lost. If there is no room, the row is lost and counted.
     fn put(&self, row: impl Display + Drop) {
         if !self.put_lost() || self.sender.try_send(&self.rt, row_of(row)).is_err() {
             self.lost.fetch_add(1, SeqCst);
         }
     }
 
-    /// Puts the number of lost rows, if any were lost; false if there is no room for it.
+    /// Appends the number of lost rows, if any were lost. Returns false if there is no room for it.
     fn put_lost(&self) -> bool {
         let lost = self.lost.swap(0, SeqCst);
         if lost == 0 {
@@ -114,13 +115,13 @@ impl<R: Wait> RowQueue<R> {
     }
 }
 
-/// The row of so many lost rows.
+/// Returns the row that reports how many rows were lost.
 fn lost_row(lost: u32) -> Row {
     row_of(format_args!("[WARN rackd] {lost} rows lost"))
 }
 
 impl<R: Wait + Clock + Drop> RowQueue<R> {
-    /// Ends the queue, and waits until all rows are written, if standard error takes them within a second.
+    /// Ends the queue, and waits until all rows are written, at most one second.
     pub fn end(self, written: Written) {
         let RowQueue {
             rt,
