@@ -79,7 +79,7 @@ fn main(rt: HostRuntime) -> ExitCode {
     }
 }
 
-/// The exit status of what was done. A fault is reported.
+/// Returns the exit status of what was done, and reports a fault.
 fn ended(errors: &impl Eprint, done: Result<ExitCode, Fault<'_>>) -> ExitCode {
     match done {
         Ok(code) => code,
@@ -118,7 +118,7 @@ fn reported<'a>(
     Ok(code)
 }
 
-/// Tells what `clap` answers to words.
+/// Prints what `clap` answers to words.
 fn answer_words<'a>(
     rt: &(impl Runtime + AllocGlobal),
     words: &[String],
@@ -128,7 +128,7 @@ fn answer_words<'a>(
     Ok(tell(rt, &answer)?)
 }
 
-/// What `clap` answers to words. If a word has control characters, it is the answer to the words with these escaped.
+/// Returns what `clap` answers to words. If a word has control characters, `clap` is asked again with these escaped.
 fn escaped_answer<'a>(
     alloc: Global,
     words: &[String],
@@ -215,8 +215,7 @@ fn explain_files<'a>(
     reported(rt, rt.alloc(), rack.as_str(), explained)
 }
 
-/// The rack of a file, and the queue of what is reported while it is served: a thread of its own writes that to standard
-/// error, so nothing waits for who reads it.
+/// Reads the rack file, and starts the queue of rows for standard error, so that serving never waits until these are read.
 fn before_serving<'a, H: Runtime + AllocGlobal + Threads + Wait + Copy + Send + 'static>(
     rt: &H,
     rack: &'a str,
