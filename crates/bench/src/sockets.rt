@@ -113,7 +113,7 @@ impl<F: Write + Drop> Answers for Recorded<F> {
         let Ok(tail) = Tail::open(rt, &port.line, file) else {
             return;
         };
-        let trail = Trail::of(tail);
+        let trail = Trail::new(tail);
         let mut reader = Trailed::new(rt, &trail, stream);
         let mut writer = Trailed::new(rt, &trail, replies);
         serve(

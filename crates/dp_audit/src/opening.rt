@@ -26,7 +26,7 @@ pub fn open_line(alloc: Global, line: &LineSpec, text: &str) -> Result<LineState
         (λ fault. fault ≡ OpenFault.OutOfMemory) }
 {
     let mut state = LineState::open(alloc, line)?;
-    if let Some(header) = Lines::of(text.as_bytes()).next() {
+    if let Some(header) = Lines::new(text.as_bytes()).next() {
         lift_by_header(&mut state, header, line.number);
     }
     Ok(state)

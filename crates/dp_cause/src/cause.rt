@@ -52,7 +52,7 @@ pub enum Cause {
 
 impl Cause {
     /// What an error of the system says.
-    pub fn of(error: &io::Error) -> Cause
+    pub fn from_error(error: &io::Error) -> Cause
         ensures { result ≡ cause_of_error (error_kind error.now) (raw_os_error error.now) }
     {
         match error.kind() {

@@ -32,7 +32,7 @@ impl<'a> Addressed<'a> {
     ghost use Rattle.dp_decode.specs.Addressed.{addressed_text};
 
     /// To whom any octets are sent.
-    pub fn of(octets: &'a [u8]) -> Addressed<'a>
+    pub fn from_octets(octets: &'a [u8]) -> Addressed<'a>
         ensures { result ≡ addressed_text octets.now }
     {
         Addressed { octets }

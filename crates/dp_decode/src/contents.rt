@@ -67,7 +67,7 @@ impl Contents {
 
     /// That of any octets; None where they are no telegram with data.
     #[tactic(auto, unfolding(crate::specs::Contents::contents_text))]
-    pub fn of(octets: &[u8]) -> Option<Contents>
+    pub fn from_octets(octets: &[u8]) -> Option<Contents>
         ensures { result ≡ contents_text octets.now }
     {
         match decode(octets) {

@@ -40,7 +40,7 @@ impl<'a> Kind<'a> {
     ghost use Rattle.dp_decode.specs.Kinds.{kind_text};
 
     /// That of any octets.
-    pub fn of(octets: &'a [u8]) -> Kind<'a>
+    pub fn from_octets(octets: &'a [u8]) -> Kind<'a>
         ensures { result ≡ kind_text octets.now }
     {
         Kind { octets }
@@ -188,7 +188,7 @@ impl fmt::Display for Asked {
     #[tactic(auto, unfolding(crate::specs::Kinds::asked_text))]
     fn fmt<W: fmt::Write>(&self, f: &mut fmt::Formatter<W>) -> fmt::Result {
         let words = Words(self.0);
-        if is_of_point(Function::of(self.0)) {
+        if is_of_point(Function::from_fc(self.0)) {
             let count = Count(self.0);
             write!(f, "{words}{count}")
         } else {
@@ -223,7 +223,7 @@ impl fmt::Display for Words {
     ghost output = { λ fc. Some (function_text (function_name (function_of fc.0)) fc.0) };
 
     fn fmt<W: fmt::Write>(&self, f: &mut fmt::Formatter<W>) -> fmt::Result {
-        match name(Function::of(self.0)) {
+        match name(Function::from_fc(self.0)) {
             Some(name) => f.write_str(name),
             None => {
                 let number = self.0 & 0x0F;

@@ -39,7 +39,7 @@ impl Reply {
     /// That of any octets that came back to these of a request; None where they are neither a telegram nor a short
     /// acknowledgement.
     #[tactic(auto, unfolding(crate::specs::Replies::reply_text))]
-    pub fn of(request: &[u8], reply: &[u8]) -> Option<Reply>
+    pub fn from_octets(request: &[u8], reply: &[u8]) -> Option<Reply>
         ensures { result ≡ reply_text request.now reply.now }
     {
         match decode(reply) {

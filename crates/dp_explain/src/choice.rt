@@ -29,7 +29,7 @@ pub struct Choice {
 pub(crate) fn is_chosen(choice: &Choice, place: u64, event: &Event, outcome: &Outcome) -> bool
     ensures { result ≡ is_chosen choice.now place event.now outcome.now }
 {
-    let who = Who::of(event);
+    let who = Who::from_event(event);
     is_from(choice.from, place)
         && is_to(choice.to, place)
         && is_of_slave(choice.slave, who, outcome)

@@ -190,7 +190,7 @@ fn tell_holds_of<W: Write>(
 fn rows_of(text: &str) -> Lines<'_>
     ensures { result ≡ drop 1 (lines_of text.now) }
 {
-    let mut rows = Lines::of(text.as_bytes());
+    let mut rows = Lines::new(text.as_bytes());
     let _ = rows.next();
     rows
 }

@@ -35,7 +35,7 @@ fn before_bar(text: &[u8]) -> Option<&[u8]>
 fn event_in_placed(text: &[u8]) -> Option<Event>
     ensures { result ≡ option_map (λ placed. placed.event) (placed_of text.now) }
 {
-    let mut words = Words::of(text);
+    let mut words = Words::new(text);
     let place = words.next()?;
     let event = words.rest()?;
     number_in(place, u32::MAX)?;

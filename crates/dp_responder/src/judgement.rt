@@ -94,7 +94,7 @@ pub fn judge_sdn(points: &Points, sender: u8, fc: u8, parts: &PartsLent<'_>) -> 
 fn is_repeat(last: &Last, fc: u8) -> bool
     ensures { result ≡ is_repeated (Some last.now) fc }
 {
-    Function::of(fc).is_srd() && function_code::fcv(fc) && last.fcb == function_code::fcb(fc)
+    Function::from_fc(fc).is_srd() && function_code::fcv(fc) && last.fcb == function_code::fcb(fc)
 }
 
 /// The reply that is remembered, once more.
@@ -148,7 +148,7 @@ fn by_rule<'a>(rule: Rule, fc: u8) -> JudgedLent<'a>
 {
     match rule {
         Rule::Done => JudgedLent::Pass,
-        refusal if Function::of(fc).is_sdn() => JudgedLent::Silent(refusal),
+        refusal if Function::from_fc(fc).is_sdn() => JudgedLent::Silent(refusal),
         refusal => JudgedLent::Refuse(refusal_function(refusal), refusal),
     }
 }
@@ -179,8 +179,8 @@ fn uses(fc: u8, service: Service) -> bool
     ensures { result ≡ is_used fc service }
 {
     match service {
-        Service::Srd => Function::of(fc).is_srd(),
-        Service::Sdn => Function::of(fc).is_sdn(),
+        Service::Srd => Function::from_fc(fc).is_srd(),
+        Service::Sdn => Function::from_fc(fc).is_sdn(),
     }
 }
 

@@ -129,7 +129,7 @@ impl Entry {
         requires { length reply.now ≤ 255 }
         ensures { self.new ≡ master_after sender fc reply.now self.old }
     {
-        if self.master != sender || !Function::of(fc).is_srd() {
+        if self.master != sender || !Function::from_fc(fc).is_srd() {
             return;
         }
         let fcb = function_code::fcb(fc);

@@ -45,7 +45,7 @@ fn verdict_on(alloc: Global, rack: &Rack, audit: &str) -> Result<u32, AuditFault
     requires { All (λ line. opening_fault (description_of line.spec) ≡ None) rack.now.lines.items }
     ensures { (result ≡ Err AuditFault.OutOfMemory) ⊎ (result ≡ checked_on (rack_described rack.now) audit.now) }
 {
-    let Some(header) = Lines::of(audit.as_bytes()).next() else {
+    let Some(header) = Lines::new(audit.as_bytes()).next() else {
         return Err(AuditFault::BadLine(1));
     };
     match line_named(&rack.lines, header) {

@@ -31,7 +31,7 @@ pub(crate) enum Command<'a> {
 pub(crate) fn command_in(line: &[u8]) -> Option<Command<'_>>
     ensures { option_and_then command_view result ≡ command_of line.now }
 {
-    let mut words = Words::of(line);
+    let mut words = Words::new(line);
     let first = words.next()?;
     if is_text(first, b"m") {
         return send(&mut words);

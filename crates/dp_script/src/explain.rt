@@ -55,7 +55,7 @@ fn explain_on<W: Write>(
     ensures { Explains (checked_on (rack_described rack.now) audit.now) (explained_on (rack_described rack.now) audit.now choice.now)
         (W.contents writer.old) (W.contents writer.new) result }
 {
-    let Some(header) = Lines::of(audit.as_bytes()).next() else {
+    let Some(header) = Lines::new(audit.as_bytes()).next() else {
         return tell_verdict(Err(AuditFault::BadLine(1)), writer);
     };
     match line_named(&rack.lines, header) {

@@ -45,7 +45,7 @@ fn play_lines<W: Write>(
     ensures { Plays (play script_rack.old 1 (lines_of script.now)) (W.contents writer.old) (W.contents writer.new) result }
 {
     let mut text = Text::new();
-    let mut lines = Lines::of(script);
+    let mut lines = Lines::new(script);
     for index in 0..u64::MAX {
         let Some(line) = lines.next() else {
             return Ok(());

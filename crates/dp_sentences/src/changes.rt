@@ -186,7 +186,7 @@ impl<'a> fmt::Display for ChangeRows<'a> {
                 let change = AskedChange {
                     before: self.before,
                     after: self.after,
-                    whom: Whom::of(octets.as_slice()),
+                    whom: Whom::from_octets(octets.as_slice()),
                 };
                 write!(f, "{change}")
             }

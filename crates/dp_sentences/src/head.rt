@@ -150,7 +150,7 @@ impl<'a> fmt::Display for Head<'a> {
     fn fmt<W: fmt::Write>(&self, f: &mut fmt::Formatter<W>) -> fmt::Result {
         let place = self.place;
         let before = Spaces(PLACE_COLUMNS.saturating_sub(digits_of_long(place)));
-        let who = Who::of(self.event);
+        let who = Who::from_event(self.event);
         let behind = Spaces(WHO_COLUMNS.saturating_sub(who.width()));
         let kind = EventKind(self.event);
         write!(f, "{before}{place}  {who}{behind}{kind}\n")

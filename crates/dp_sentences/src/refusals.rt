@@ -190,7 +190,7 @@ impl fmt::Display for NoService {
     ghost output = { λ s. Some (no_service_text s.fc s.point) };
 
     fn fmt<W: fmt::Write>(&self, f: &mut fmt::Formatter<W>) -> fmt::Result {
-        match other_service(Function::of(self.fc)) {
+        match other_service(Function::from_fc(self.fc)) {
             None => f.write_str("No slave has this function."),
             Some(service) => {
                 let point = PointWords(self.point);

@@ -17,7 +17,7 @@ impl<'a> fmt::Display for KindWords<'a> {
     ghost output = { λ words. Some (kind_text words.0.now) };
 
     fn fmt<W: fmt::Write>(&self, f: &mut fmt::Formatter<W>) -> fmt::Result {
-        let kind = Kind::of(self.0);
+        let kind = Kind::from_octets(self.0);
         write!(f, "{kind}")
     }
 }
@@ -32,7 +32,7 @@ impl<'a> fmt::Display for ContentsRow<'a> {
     ghost output = { λ row. Some (row_where (contents_text row.0.now)) };
 
     fn fmt<W: fmt::Write>(&self, f: &mut fmt::Formatter<W>) -> fmt::Result {
-        match Contents::of(self.0) {
+        match Contents::from_octets(self.0) {
             Some(contents) => write!(f, "       {contents}\n"),
             None => Ok(()),
         }
@@ -89,7 +89,7 @@ impl<'a> fmt::Display for ReplyRow<'a> {
     ghost output = { λ row. Some (row_where (reply_text row.request.now row.reply.now)) };
 
     fn fmt<W: fmt::Write>(&self, f: &mut fmt::Formatter<W>) -> fmt::Result {
-        match Reply::of(self.request, self.reply) {
+        match Reply::from_octets(self.request, self.reply) {
             Some(reply) => write!(f, "       {reply}\n"),
             None => Ok(()),
         }

@@ -33,7 +33,7 @@ pub enum Who {
 
 impl Whom {
     /// To whom the octets of a request go.
-    pub fn of(octets: &[u8]) -> Whom
+    pub fn from_octets(octets: &[u8]) -> Whom
         ensures { result ≡ whom_of_frame (frame_of octets.now) }
     {
         match decode(octets) {
@@ -92,11 +92,11 @@ impl fmt::Display for Whom {
 
 impl Who {
     /// From whom to whom an event goes.
-    pub fn of(event: &Event) -> Who
+    pub fn from_event(event: &Event) -> Who
         ensures { result ≡ who_of event.now }
     {
         match event {
-            Event::Request { master, octets } => Who::Master(*master, Whom::of(octets.as_slice())),
+            Event::Request { master, octets } => Who::Master(*master, Whom::from_octets(octets.as_slice())),
             Event::Operator(Op::Input { address, .. }) => Who::Operator(Some(*address)),
             Event::Operator(Op::Diag { address, .. }) => Who::Operator(Some(*address)),
             Event::Operator(Op::Busy { address, .. }) => Who::Operator(Some(*address)),

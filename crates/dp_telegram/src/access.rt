@@ -32,7 +32,7 @@ impl Parts {
     pub fn lent(&self) -> PartsLent<'_>
         ensures { result ≡ self.now }
     {
-        PartsLent::of(self)
+        PartsLent::new(self)
     }
 }
 
@@ -45,7 +45,7 @@ impl Telegram {
         ensures computed { result ≡ parts_of self.now }
         ensures parts { (parts : Parts) → (result ≡ Some parts) ↔ HasParts self.now parts }
     {
-        let telegram = TelegramLent::of(self);
+        let telegram = TelegramLent::new(self);
         let parts = telegram.parts()?;
         Some(parts.copied())
     }

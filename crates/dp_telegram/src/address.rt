@@ -49,7 +49,7 @@ impl Telegram {
     pub const fn function(&self) -> Function
         ensures { result ≡ function_of self.now.fc }
     {
-        Function::of(self.fc)
+        Function::from_fc(self.fc)
     }
 
     /// FCB, the frame count bit, where it is a request.

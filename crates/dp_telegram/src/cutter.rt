@@ -234,7 +234,7 @@ fn lent_frame(octets: &[u8]) -> WholeFrame<'_>
     ensures octets { result ≡ take (frame_length octets.now) octets.now }
     ensures same { frame_at result ≡ frame_at octets.now }
 {
-    WholeFrame::of(&octets[..frame_size(octets)])
+    WholeFrame::new(&octets[..frame_size(octets)])
 }
 
 /// The frame in front: its head is right, and all of its octets are there.

@@ -48,7 +48,7 @@ pub enum Function {
 
 impl Function {
     /// The function of a request with this FC, 0 to 255, by bits 3 to 0.
-    pub const fn of(fc: u8) -> Function
+    pub const fn from_fc(fc: u8) -> Function
         ensures { result ≡ function_of fc }
     {
         match fc & 0x0F {

@@ -41,11 +41,11 @@ impl<'a> WholeFrame<'a> {
         if fault_in(octets).is_some() {
             return None;
         }
-        Some(WholeFrame::of(octets))
+        Some(WholeFrame::new(octets))
     }
 
     /// The frame of these octets, which are one.
-    pub(crate) fn of(octets: &'a [u8]) -> WholeFrame<'a>
+    pub(crate) fn new(octets: &'a [u8]) -> WholeFrame<'a>
         requires { fault_of octets.now ≡ None }
         ensures { result ≡ octets.now }
     {
@@ -130,7 +130,7 @@ impl<'a> Model for TelegramLent<'a> {
 
 impl<'a> TelegramLent<'a> {
     /// The same telegram, whose data unit is lent.
-    pub(crate) fn of(telegram: &'a Telegram) -> TelegramLent<'a>
+    pub(crate) fn new(telegram: &'a Telegram) -> TelegramLent<'a>
         ensures { result ≡ telegram.now }
     {
         TelegramLent {
@@ -187,7 +187,7 @@ impl<'a> TelegramLent<'a> {
     pub fn function(&self) -> Function
         ensures { result ≡ function_of self.now.fc }
     {
-        Function::of(self.fc)
+        Function::from_fc(self.fc)
     }
 
     /// The same telegram, with a copy of the data unit.
@@ -237,7 +237,7 @@ impl<'a> Model for PartsLent<'a> {
 
 impl<'a> PartsLent<'a> {
     /// The same parts, whose payload is lent.
-    pub(crate) fn of(parts: &'a Parts) -> PartsLent<'a>
+    pub(crate) fn new(parts: &'a Parts) -> PartsLent<'a>
         ensures { result ≡ parts.now }
     {
         PartsLent {

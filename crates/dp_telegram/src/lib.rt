@@ -13,12 +13,14 @@ mod cutter;
 mod decoding;
 mod delimiter;
 mod encoding;
+
 mod fault;
 mod frame;
 pub mod function_code;
 pub mod laws;
 mod lent;
 pub mod stream_laws;
+
 
 pub use access::{Parts, request};
 pub use address::{GLOBAL_ADDRESS, LAST_STATION, is_station};

@@ -13,7 +13,7 @@ use dp_telegram::Octets;
 pub fn event_in(text: &[u8]) -> Option<Event>
     ensures { result ≡ event_of text.now }
 {
-    event_in_words(&mut Words::of(text))
+    event_in_words(&mut Words::new(text))
 }
 
 /// The event by its first word.

@@ -62,7 +62,7 @@ impl<'a> Model for HexWords<'a> {
 impl<'a> HexWords<'a> {
     /// The octets of a text of words, each of whole pairs of hex digits in either case; None where one
     /// of the words is empty or isn't such.
-    pub fn of(text: &'a [u8]) -> Option<HexWords<'a>>
+    pub fn new(text: &'a [u8]) -> Option<HexWords<'a>>
         ensures { result ≡ octets_of_words (words_of text.now) }
     {
         if are_hex_words(text) {
@@ -72,7 +72,7 @@ impl<'a> HexWords<'a> {
         }
     }
 
-    /// Looks at all of a text of words, as [`HexWords::of`] does, and decodes in the same pass as many octets as have
+    /// Looks at all of a text of words, as [`HexWords::new`] does, and decodes in the same pass as many octets as have
     /// room: how many these are, and the octets that are left.
     ///
     /// It is not inlined, as [`HexWords::fill`].
@@ -86,7 +86,7 @@ impl<'a> HexWords<'a> {
         // Behind the test of the count, this would cost each octet an instruction more.
         let (_, mut left) = text.split_at(2 * count);
         if count == 0 {
-            return Some((0, HexWords::of(text)?));
+            return Some((0, HexWords::new(text)?));
         }
         while count < octets.len() {
             match left {

@@ -107,7 +107,7 @@ pub fn op_line_into(line: &[u8], op: &mut Op) -> Option<Asked>
     match line {
         [] => Some(Asked::Nothing),
         [b'#', ..] => Some(Asked::Nothing),
-        [_, ..] => op_line_in_words(&mut Words::of(line), op),
+        [_, ..] => op_line_in_words(&mut Words::new(line), op),
     }
 }
 

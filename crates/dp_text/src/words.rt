@@ -30,7 +30,7 @@ impl<'a> Model for Lines<'a> {
 
 impl<'a> Lines<'a> {
     /// The lines of a text, which end in LF; what follows the last LF is a line too.
-    pub fn of(text: &'a [u8]) -> Lines<'a>
+    pub fn new(text: &'a [u8]) -> Lines<'a>
         ensures { result ≡ lines_of text.now }
     {
         Lines { rest: Some(text) }
@@ -64,7 +64,7 @@ impl<'a> Model for Words<'a> {
 
 impl<'a> Words<'a> {
     /// The words of a line, which one space each parts.
-    pub fn of(line: &'a [u8]) -> Words<'a>
+    pub fn new(line: &'a [u8]) -> Words<'a>
         ensures { result ≡ words_of line.now }
     {
         Words { rest: Some(line) }

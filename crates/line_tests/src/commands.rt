@@ -19,7 +19,7 @@ pub(crate) fn answer(
     command: &[u8],
     told: &mut Vec<u8>,
 ) -> Result<(), Fail> {
-    let mut words = Words::of(command);
+    let mut words = Words::new(command);
     let kind = words.next().ok_or("a command")?;
     if is_text(kind, b"owned") {
         return push_owned(state, only_octet_in(&mut words).ok_or("a master")?, told);
@@ -42,7 +42,7 @@ pub(crate) fn answer(
 
 /// The event of a text.
 pub(crate) fn event_of(text: &[u8]) -> Result<Event, Fail> {
-    let mut words = Words::of(text);
+    let mut words = Words::new(text);
     match words.next() {
         Some(b"ask") => asked(&mut words),
         _ => Ok(event_in(text).ok_or("an event")?),

@@ -63,7 +63,7 @@ pub(crate) fn described_with(
     addresses: &[u8],
     text: &str,
 ) -> Result<LineSpec, Fail> {
-    let mut words = Words::of(text.as_bytes());
+    let mut words = Words::new(text.as_bytes());
     let capacity = words.next().ok_or("a capacity")?;
     let configuration = octets_of(words.next().ok_or("a configuration")?)?;
     let mut masters = ArrayVec::new();

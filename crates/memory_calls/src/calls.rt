@@ -83,7 +83,7 @@ fn rack_read(alloc: Global) -> Answer {
 /// Runs the script on the rack.
 fn script_run(alloc: Global) -> Answer {
     let written = Written::nothing();
-    match run_text(alloc, RACK, SCRIPT, &mut Expecting::of(ANSWERS, &written)) {
+    match run_text(alloc, RACK, SCRIPT, &mut Expecting::new(ANSWERS, &written)) {
         Ok(()) if written.is_whole(ANSWERS) => Answer::Whole,
         Err(RunFault::OutOfMemory) => refused(&written),
         _ => Answer::Other,
@@ -93,7 +93,7 @@ fn script_run(alloc: Global) -> Answer {
 /// Checks the audit text on the rack.
 fn check_run(alloc: Global) -> Answer {
     let written = Written::nothing();
-    match run_check(alloc, RACK, AUDIT, &mut Expecting::of(VERDICT, &written)) {
+    match run_check(alloc, RACK, AUDIT, &mut Expecting::new(VERDICT, &written)) {
         Ok(0) if written.is_whole(VERDICT) => Answer::Whole,
         Err(RunFault::OutOfMemory) => refused(&written),
         _ => Answer::Other,

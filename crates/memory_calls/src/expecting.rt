@@ -43,7 +43,7 @@ pub(crate) struct Expecting<'a> {
 
 impl<'a> Expecting<'a> {
     /// A writer for this whole, which notes what is written.
-    pub(crate) fn of(whole: &'a [u8], written: &'a Written) -> Expecting<'a> {
+    pub(crate) fn new(whole: &'a [u8], written: &'a Written) -> Expecting<'a> {
         Expecting {
             left: whole,
             written,

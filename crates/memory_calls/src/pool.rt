@@ -105,7 +105,7 @@ fn one_job<'a, H: Wait>(
     let job = Job {
         port: 0,
         reader: ASKS,
-        writer: Expecting::of(ANSWERED, written),
+        writer: Expecting::new(ANSWERED, written),
     };
     match sender.send(rt, job) {
         Ok(()) => Ok(receiver),

@@ -79,7 +79,7 @@ fn next_line<R: Read + Drop>(alloc: Global, side: Side, lines: &mut BufReader<R>
         Ok(_) => Taken::Line(line),
         Err(error) => match error.kind() {
             ErrorKind::OutOfMemory => Taken::OutOfMemory,
-            _ => Taken::Fault(Cause::of(&error)),
+            _ => Taken::Fault(Cause::from_error(&error)),
         },
     }
 }

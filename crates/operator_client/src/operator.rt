@@ -104,20 +104,20 @@ fn connect<N: Net<Stream = TcpStream> + Wait>(
 ) -> Result<(TcpStream, TcpStream), Cause> {
     let stream = match connect_once(net, port) {
         Ok(stream) => stream,
-        Err(error) => return Err(Cause::of(&error)),
+        Err(error) => return Err(Cause::from_error(&error)),
     };
     match (stream.local_addr(), stream.peer_addr()) {
         // Without a listener, the system may connect a socket at that port with itself.
         (Ok(own), Ok(other)) if own == other => return Err(Cause::NobodyListens),
         (Ok(_), Ok(_)) => {}
-        (Err(error), _) | (_, Err(error)) => return Err(Cause::of(&error)),
+        (Err(error), _) | (_, Err(error)) => return Err(Cause::from_error(&error)),
     }
     if let Err(error) = stream.set_nodelay(true) {
-        return Err(Cause::of(&error));
+        return Err(Cause::from_error(&error));
     }
     match stream.try_clone() {
         Ok(answers) => Ok((stream, answers)),
-        Err(error) => Err(Cause::of(&error)),
+        Err(error) => Err(Cause::from_error(&error)),
     }
 }
 

@@ -16,7 +16,7 @@ pub(crate) struct Counting<'a> {
 
 impl<'a> Counting<'a> {
     /// A reader of these octets, of which no read was made.
-    pub(crate) fn of(octets: &'a [u8]) -> Counting<'a>
+    pub(crate) fn new(octets: &'a [u8]) -> Counting<'a>
         ensures left { result.left.now ≡ octets.now }
         ensures made { result.made ≡ 0 }
     {

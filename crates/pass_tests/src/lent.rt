@@ -53,7 +53,7 @@ fn check_master<T: Wait>(
     let line = Line::open(alloc, &ample_line(alloc, 1, Device::Still)?)?;
     let mut pass = line.open_pass(rt, 2)?;
     let octets = octets_of(octets)?;
-    let mut reader = Counting::of(&octets);
+    let mut reader = Counting::new(&octets);
     let mut writer: Vec<u8> = Vec::new(alloc);
     let end = serve_master(
         rt,
@@ -111,7 +111,7 @@ fn check_operator<T: Wait>(
     let spec = ample_line(alloc, 1, Device::Still)?;
     let line = Line::open(alloc, &spec)?;
     let mut pass = line.open_pass(rt, 127)?;
-    let mut reader = Counting::of(lines.as_bytes());
+    let mut reader = Counting::new(lines.as_bytes());
     let mut writer: Vec<u8> = Vec::new(alloc);
     let end = serve_lines(
         rt,
@@ -146,7 +146,7 @@ fn check_port<T: Wait>(
     let line = Line::open(alloc, &spec)?;
     let port = Port { line, claims };
     let octets = octets_of(octets)?;
-    let mut reader = Counting::of(&octets);
+    let mut reader = Counting::new(&octets);
     let mut writer: Vec<u8> = Vec::new(alloc);
     let end = serve_by::<T, Counting, ByCount, Vec<u8>, OpenGate>(
         rt,

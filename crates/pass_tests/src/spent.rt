@@ -81,7 +81,7 @@ fn check_both<T: Wait>(
     let line = Line::open(alloc, &spec)?;
     let port = Port { line, claims };
     let octets = octets_of(octets)?;
-    let (mut master_reader, mut operator_reader) = (Counting::of(&octets), Counting::of(lines));
+    let (mut master_reader, mut operator_reader) = (Counting::new(&octets), Counting::new(lines));
     let mut written: Vec<u8> = Vec::new(alloc);
     let master = master_session(rt, &port, &mut seat, &mut master_reader, &mut written, 9)?;
     let operator = operator_session(rt, &port, &spec, &mut operator_reader, &mut written, 9)?;

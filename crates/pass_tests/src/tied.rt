@@ -126,7 +126,7 @@ fn check_client<T: Wait>(
 ) -> Result<(), Fail> {
     let spec = ample_line(alloc, 1, Device::Still)?;
     let octets = octets_of(octets)?;
-    let mut reader = Counting::of(&octets);
+    let mut reader = Counting::new(&octets);
     let mut writer: Vec<u8> = Vec::new(alloc);
     let closed = claim_and_serve(rt, alloc, &spec, address, &mut reader, &mut writer, turns)?;
     let (made, written) = (reader.made, hex_of(alloc, &writer)?);

@@ -55,7 +55,7 @@ pub(crate) fn make_folder<'a>(files: &impl Files, folder: &'a str) -> Result<(),
 {
     match fs::create_dir_all(files, folder) {
         Ok(()) => Ok(()),
-        Err(error) => Err(ServeFault::CannotMake(AuditPath::Folder(folder), Cause::of(&error))),
+        Err(error) => Err(ServeFault::CannotMake(AuditPath::Folder(folder), Cause::from_error(&error))),
     }
 }
 
@@ -91,7 +91,7 @@ pub(crate) fn open_file<'a, 's, H: Host>(
             Err(error) => match error.kind() {
                 ErrorKind::AlreadyExists => {}
                 ErrorKind::OutOfMemory => return Err(ServeFault::Run(RunFault::OutOfMemory)),
-                _ => return Err(ServeFault::CannotMake(path, Cause::of(&error))),
+                _ => return Err(ServeFault::CannotMake(path, Cause::from_error(&error))),
             },
         }
     }
@@ -131,7 +131,7 @@ fn begin<'a, 's, H: Host>(
     match Tail::open(host, line, writer) {
         Ok(tail) => Ok(AuditFile {
             path: text,
-            trail: Trail::of(tail),
+            trail: Trail::new(tail),
         }),
         Err(TrailFault::NoPass) => Err(ServeFault::Run(RunFault::OutOfMemory)),
         Err(TrailFault::WriteFault) => Err(ServeFault::CannotMake(path, Cause::NotTaken)),

@@ -49,7 +49,7 @@ pub(crate) fn listen_at_lines<'a, N: Net>(
 fn listen_at<N: Net>(net: &N, lines: &[ServedLine], port: u16) -> Result<N::Listener, Cause> {
     match TcpListener::bind(net, (Ipv4Addr::LOCALHOST, port)) {
         Ok(listener) => Ok(listener),
-        Err(error) => match Cause::of(&error) {
+        Err(error) => match Cause::from_error(&error) {
             Cause::InUse if is_twice(lines, port) => Err(Cause::TwiceInRack),
             cause => Err(cause),
         },
@@ -87,7 +87,7 @@ pub(crate) fn try_connections<'a>(
     for _ in 0..2 * (connections + lines.len()) {
         let descriptor = match here.masters.try_clone() {
             Ok(descriptor) => descriptor,
-            Err(error) => return Err(ServeFault::CannotListen(line.listen, Cause::of(&error))),
+            Err(error) => return Err(ServeFault::CannotListen(line.listen, Cause::from_error(&error))),
         };
         if held.push(descriptor).is_err() {
             return Err(ServeFault::Run(RunFault::OutOfMemory));

@@ -313,7 +313,7 @@ fn read_files<'a>(
 fn read_fault(error: io::Error, path: &str) -> Fault<'_> {
     match error.kind() {
         ErrorKind::OutOfMemory => Fault::Run(RunFault::OutOfMemory),
-        _ => Fault::CannotRead(path, Cause::of(&error)),
+        _ => Fault::CannotRead(path, Cause::from_error(&error)),
     }
 }
 

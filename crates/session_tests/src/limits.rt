@@ -20,7 +20,7 @@ pub(crate) struct Limits {
 
 impl Limits {
     /// `turns=N`, `by=N`, `room=N` and `fails`, parted by a space; what isn't named limits nothing.
-    pub(crate) fn of(text: &str) -> Result<Limits, Fail> {
+    pub(crate) fn new(text: &str) -> Result<Limits, Fail> {
         let mut limits = Limits {
             turns: 100,
             most: 100_000,

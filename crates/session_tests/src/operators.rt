@@ -24,7 +24,7 @@ fn operates_with<T: Wait>(
     let spec = ample_line(alloc, 1, device)?;
     let Place { port, .. } = fresh_place(alloc, &spec)?;
     let passes = many_passes(rt, alloc, &port.line, 2, out)?;
-    let limits = Limits::of(limits)?;
+    let limits = Limits::new(limits)?;
     let mut reader = limits.reader(octets);
     let mut writer = limits.writer(alloc);
     let end = serve_operator(rt, &mut reader, &mut writer, &port, &spec, limits.turns);

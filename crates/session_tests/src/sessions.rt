@@ -45,7 +45,7 @@ fn sessions_in<'a>(alloc: Global, rows: &'a str, arrow: &str) -> Result<Vec<Sess
             sessions.push(Session {
                 text,
                 octets: octets_of(octets)?,
-                limits: Limits::of(limits)?,
+                limits: Limits::new(limits)?,
             })?;
         }
     }

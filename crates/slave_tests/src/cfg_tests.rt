@@ -24,7 +24,7 @@ struct Reading;
 impl Answers for Reading {
     /// Commands are `read HEX`, answered by `INPUTS OUTPUTS` or `FAULT CODE`, and `each HEAD`.
     fn answer(&mut self, alloc: Global, command: &str) -> Result<String, Fail> {
-        let mut words = Words::of(command);
+        let mut words = Words::new(command);
         match words.word()? {
             "read" => match lengths(&words.octets(alloc)?)? {
                 Ok((inputs, outputs)) => Ok(format!(in alloc; "{inputs} {outputs}")?),
@@ -59,7 +59,7 @@ impl Answers for CfgIds {
     /// Commands are `octets`, `equals HEX`, `inputs` as [`input_sum_of`] has them, and `sums` as [`sums_of`]
     /// has them.
     fn answer(&mut self, alloc: Global, command: &str) -> Result<String, Fail> {
-        let mut words = Words::of(command);
+        let mut words = Words::new(command);
         match words.word()? {
             "octets" => hex_text(alloc, self.octets()),
             "equals" => {
@@ -155,7 +155,7 @@ struct Choices {
 impl Answers for Choices {
     /// The command is `choose HEX`, answered by the number of a configuration or `none`.
     fn answer(&mut self, alloc: Global, command: &str) -> Result<String, Fail> {
-        let mut words = Words::of(command);
+        let mut words = Words::new(command);
         if words.word()? != "choose" {
             return Err("a command")?;
         }

@@ -16,7 +16,7 @@ impl Answers for Reading {
     /// Commands are `read HEX`, answered by what is asked for and the groups in hex, and
     /// `selects HEX GROUPS`, whether a slave of these groups is selected.
     fn answer(&mut self, alloc: Global, command: &str) -> Result<String, Fail> {
-        let mut words = Words::of(command);
+        let mut words = Words::new(command);
         let kind = words.word()?;
         let octets = words.octets(alloc)?;
         if octets.len() != 2 {

@@ -186,7 +186,7 @@ impl Answers for Table {
     /// Commands are `give PLAYER CARD`, `take CARD`, `deal`, `gather`, `hand PLAYER`, `hands`, `ends PLAYER`,
     /// `walk PLAYER` and `six`, which has nothing to do with the table.
     fn answer(&mut self, alloc: Global, command: &str) -> Result<String, Fail> {
-        let mut words = Words::of(command);
+        let mut words = Words::new(command);
         match words.word()? {
             "give" => {
                 let player = player_in(&mut words)?;

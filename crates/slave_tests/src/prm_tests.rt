@@ -20,7 +20,7 @@ impl Answers for Limits {
     /// A command is the octets of a parameter telegram in hex, and the answer what they mean to a slave
     /// with these limits.
     fn answer(&mut self, alloc: Global, command: &str) -> Result<String, Fail> {
-        let octets = Words::of(command).octets(alloc)?;
+        let octets = Words::new(command).octets(alloc)?;
         if octets.len() > MOST_OCTETS {
             return Err("no telegram")?;
         }

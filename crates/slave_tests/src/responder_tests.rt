@@ -36,7 +36,7 @@ impl Answers for Exchanging {
     /// Commands are `judge SENDER FC POINT HEX`, `sdn` with the same, `remember SENDER FC HEX` and
     /// `busy POINT on` or `off`. FC is in hex, and a point a number or `none` for the default one.
     fn answer(&mut self, alloc: Global, command: &str) -> Result<String, Fail> {
-        let mut words = Words::of(command);
+        let mut words = Words::new(command);
         match words.word()? {
             "judge" => {
                 let (sender, fc) = (words.number()?, words.octet(alloc)?);
@@ -97,7 +97,7 @@ fn sdn_text(
     fc: u8,
     parts: &Parts,
 ) -> Result<String, Fail> {
-    if !Function::of(fc).is_sdn() {
+    if !Function::from_fc(fc).is_sdn() {
         return Err("an SDN")?;
     }
     match judge_sdn(points, sender, fc, &parts.lent()) {
@@ -278,7 +278,7 @@ struct Rules;
 impl Answers for Rules {
     /// A command is a place in [`EVERY_RULE`], from 0; the answer is the rule, its number and its name.
     fn answer(&mut self, alloc: Global, command: &str) -> Result<String, Fail> {
-        let place = Words::of(command).number()?;
+        let place = Words::new(command).number()?;
         let rule = EVERY_RULE.get(usize::from(place)).ok_or("a rule")?;
         Ok(format!(in alloc; "{rule:?} {} {}", rule.code(), rule.name())?)
     }

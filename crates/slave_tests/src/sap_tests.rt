@@ -60,7 +60,7 @@ impl Answers for Points {
     /// SENDER`, `busy POINT on` or `off`, `marks`, `table POINT`, `names`, `marked` and `marked_so POINT on` or `off`. A point is a
     /// number, or `none` for the default one.
     fn answer(&mut self, alloc: Global, command: &str) -> Result<String, Fail> {
-        let mut words = Words::of(command);
+        let mut words = Words::new(command);
         match words.word()? {
             "now" => now_text(alloc, self),
             "move" => {

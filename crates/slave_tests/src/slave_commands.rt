@@ -71,7 +71,7 @@ fn opened(description: &SlaveSpec) -> Slave
 impl Answers for Slave {
     /// Commands are those of [`shown`], [`change`], [`request`] and [`event`].
     fn answer(&mut self, alloc: Global, command: &str) -> Result<String, Fail> {
-        let mut words = Words::of(command);
+        let mut words = Words::new(command);
         let kind = words.word()?;
         if let Some(told) = shown(alloc, self, kind)? {
             return Ok(told);

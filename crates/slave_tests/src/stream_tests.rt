@@ -14,7 +14,7 @@ impl Answers for Cutter {
     /// Commands are `feed HEX`, `next`, `front`, `pass` as [`pass_front`] does, and `two` as
     /// [`first_two`] does.
     fn answer(&mut self, alloc: Global, command: &str) -> Result<String, Fail> {
-        let mut words = Words::of(command);
+        let mut words = Words::new(command);
         match words.word()? {
             "feed" => {
                 let octets = words.octets(alloc)?;

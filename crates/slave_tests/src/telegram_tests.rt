@@ -28,7 +28,7 @@ impl Answers for Codec {
     /// `request DA SA FC DSAP SSAP HEX`, `parts TELEGRAM`, `addresses TELEGRAM`, `source FRAME`, `stations` and
     /// `code FC`. A telegram is `DA SA FC DU` in hex, a frame `ack`, `token DA SA` or `telegram` and such.
     fn answer(&mut self, alloc: Global, command: &str) -> Result<String, Fail> {
-        let mut words = Words::of(command);
+        let mut words = Words::new(command);
         match words.word()? {
             "decode" => decoded(alloc, &words.octets(alloc)?),
             "whole" => whole_text(alloc, &words.octets(alloc)?),

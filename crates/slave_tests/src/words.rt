@@ -11,7 +11,7 @@ pub(crate) struct Words<'a> {
 }
 
 impl<'a> Words<'a> {
-    pub(crate) fn of(command: &'a str) -> Words<'a> {
+    pub(crate) fn new(command: &'a str) -> Words<'a> {
         Words {
             rest: Some(command),
         }

@@ -74,7 +74,7 @@ fn steps(alloc: Global, recorded: u8, row: &str) -> Result<(), Fail> {
 
 /// The first three lines of a text are these, each shown as its octets.
 fn parts_lines(alloc: Global, text: &str, expected: &str) -> Result<(), Fail> {
-    let mut lines = Lines::of(text.as_bytes());
+    let mut lines = Lines::new(text.as_bytes());
     let first = lines.next();
     let second = lines.next();
     let third = lines.next();
@@ -84,7 +84,7 @@ fn parts_lines(alloc: Global, text: &str, expected: &str) -> Result<(), Fail> {
 
 /// The first two words of a line and the rest are these, each with a bar behind it.
 fn parts_words(alloc: Global, line: &str, expected: &str) -> Result<(), Fail> {
-    let mut words = Words::of(line.as_bytes());
+    let mut words = Words::new(line.as_bytes());
     let mut found = words.next().ok_or("a first word")?.to_vec(alloc)?;
     found.push(b'|')?;
     found.extend_from_slice(words.next().ok_or("a second word")?)?;
@@ -107,7 +107,7 @@ fn are_no_octets(words: &[&str]) -> Result<(), Fail> {
 /// None of these texts is words of hex digits.
 fn are_no_hex_words(texts: &[&str]) -> Result<(), Fail> {
     for text in texts {
-        if HexWords::of(text.as_bytes()).is_some() {
+        if HexWords::new(text.as_bytes()).is_some() {
             return Err("hex words")?;
         }
     }
@@ -116,7 +116,7 @@ fn are_no_hex_words(texts: &[&str]) -> Result<(), Fail> {
 
 /// Three octets are filled three times with those of hex words: how many, and what they are then.
 fn fills(alloc: Global, text: &str, expected: &str) -> Result<(), Fail> {
-    let mut words = HexWords::of(text.as_bytes()).ok_or("no hex words")?;
+    let mut words = HexWords::new(text.as_bytes()).ok_or("no hex words")?;
     let mut octets = [0; 3];
     let first = words.fill(&mut octets);
     let mut found = format!(in alloc; "{first} {octets:?}")?;

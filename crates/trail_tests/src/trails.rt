@@ -149,7 +149,7 @@ fn log_of<T: Wait>(
     let log = empty_log(alloc, room.unwrap_or(0));
     let reads = reads_in(alloc, words)?;
     let end = if room.is_some() {
-        let trail = Trail::of(Tail::open(rt, &port.line, Rows { rt, log: &log })?);
+        let trail = Trail::new(Tail::open(rt, &port.line, Rows { rt, log: &log })?);
         let end = serve_between(rt, &trail, &port, &mut seat, &log, reads.as_slice());
         let mut other = port.line.open_pass(rt, 2)?;
         port.line
