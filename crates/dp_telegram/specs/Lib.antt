@@ -8,3 +8,4 @@ pub mod Encoding
 pub mod Lent
 pub mod Replies
 pub mod Names
+pub mod WrongEnd

@@ -110,6 +110,13 @@ impl Cutter {
         taken
     }
 
+    /// Lends the octets held.
+    pub fn held(&self) -> &[u8]
+        ensures { result.now ≡ self.now }
+    {
+        &self.buffer[self.start..self.end]
+    }
+
     /// Hands out the first piece of the octets held; it is held no longer.
     ///
     /// None exactly where they begin with no piece. Then nothing changes, and `feed` has room.

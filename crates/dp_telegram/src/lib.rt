@@ -9,6 +9,7 @@
 
 mod access;
 mod address;
+mod bad_end;
 mod cutter;
 mod decoding;
 mod delimiter;
@@ -32,3 +33,4 @@ pub use fault::FrameFault;
 pub use frame::{Frame, MOST_OCTETS, Octets, Telegram};
 pub use function_code::Function;
 pub use lent::{FrameLent, PartsLent, TelegramLent, WholeFrame};
+pub use bad_end::{WrongEnd, wrong_end};
