@@ -1,11 +1,10 @@
 -- Which entries are told (own).
 use Rattle.std.specs.Prelude.{ℕ, ◌==◌, ◌&&◌, ◌||◌, not, nat_le, Bool, true, false, Option, Some, None}
 use Rattle.std.specs.List.{list_any}
-use Rattle.dp_responder.specs.declared.rule.Rule.{Rule}
-use Rattle.dp_responder.specs.declared.rule.Rule.TheVariants as rules
 use Rattle.dp_line.specs.declared.event.Event.{Event}
 use Rattle.dp_line.specs.declared.event.Outcome.{Outcome}
-use Rattle.dp_line.specs.declared.event.Outcome.TheVariants.{Reply, Silence, Spread, Released}
+use Rattle.dp_line.specs.declared.event.Outcome.TheVariants.{Spread, Released}
+use Rattle.dp_line.specs.Refusals.{is_refused}
 use Rattle.dp_explain.specs.declared.choice.Choice.{Choice}
 use Rattle.dp_sentences.specs.declared.who.Whom.TheVariants.{Slave}
 use Rattle.dp_sentences.specs.declared.who.Who.{Who}
@@ -46,21 +45,6 @@ abbrev pub is_of_master : Option ℕ → Who → Bool
 is_of_master None who = true
 is_of_master (Some master) who = comes_from master who
 
--- what is asked for is refused by each rule but these: by Status, Repeat and Done it is answered, and a token and a response ask for nothing
-abbrev pub is_refusal : Rule → Bool
-is_refusal rules.Token = false
-is_refusal rules.NotRequest = false
-is_refusal rules.Status = false
-is_refusal rules.Repeat = false
-is_refusal rules.Done = false
-is_refusal other = true
-
-abbrev pub refuses : Outcome → Bool
-refuses (Reply reply rule) = is_refusal rule
-refuses (Silence rule) = is_refusal rule
-refuses (Spread pairs) = list_any (λ pair. is_refusal pair.1) pairs.items
-refuses outcome = false
-
 -- an entry that all parts of the choice let through
 abbrev pub is_chosen : Choice → ℕ → Event → Outcome → Bool
 is_chosen choice place event outcome =
@@ -68,5 +52,5 @@ is_chosen choice place event outcome =
     && is_to choice.to place
     && is_of_slave choice.slave (who_of event) outcome
     && is_of_master choice.master (who_of event)
-    && (not choice.refused || refuses outcome)
+    && (not choice.refused || is_refused outcome)
     && not choice.summary

@@ -11,18 +11,11 @@ use Rattle.dp_line.specs.declared.event.Event.TheVariants.{Request, Operator}
 use Rattle.dp_line.specs.declared.event.Outcome.{Outcome}
 use Rattle.dp_line.specs.declared.event.Outcome.TheVariants.{Reply, Silence, Spread, Done}
 use Rattle.dp_explain.specs.declared.tally.Counted.{Counted}
-use Rattle.dp_explain.specs.Choices.{is_refusal}
+use Rattle.dp_responder.specs.Rules.{all_rules, is_refusal}
 use Rattle.dp_sentences.specs.Words.{at_left, at_right}
 use Rattle.dp_sentences.specs.Changes.{same_holder}
 
 -- ---- counting
-
--- the rules in the order of the verdict
-abbrev pub all_rules : List Rule
-all_rules =
-    rules.Halted ∷ rules.NoFrame ∷ rules.NoMaster ∷ rules.ForeignSender ∷ rules.Token ∷ rules.NotRequest ∷ rules.BadFunction
-    ∷ rules.BadExtension ∷ rules.BadBroadcast ∷ rules.NoStation ∷ rules.Status ∷ rules.NoService ∷ rules.Repeat ∷ rules.NotActive
-    ∷ rules.NotHolder ∷ rules.NotListed ∷ rules.Busy ∷ rules.Length ∷ rules.NotSelected ∷ rules.Done ∷ []
 
 -- what is counted of a sender: by each rule, and the requests to all that no slave was told of
 abbrev pub all_ways : List (Option Rule)

@@ -2,7 +2,7 @@
 
 ghost use Rattle.std.specs.Prelude.{◌≡◌, ◌==◌};
 ghost use Rattle.std.specs.List.{list_any};
-ghost use Rattle.dp_explain.specs.Choices.{is_from, is_to, goes_to, is_about, is_of_slave, comes_from, is_of_master, is_refusal, refuses, is_chosen};
+ghost use Rattle.dp_explain.specs.Choices.{is_from, is_to, goes_to, is_about, is_of_slave, comes_from, is_of_master, is_chosen};
 
 use dp_line::{Event, Outcome};
 use dp_responder::Rule;
@@ -34,7 +34,7 @@ pub(crate) fn is_chosen(choice: &Choice, place: u64, event: &Event, outcome: &Ou
         && is_to(choice.to, place)
         && is_of_slave(choice.slave, who, outcome)
         && is_of_master(choice.master, who)
-        && (!choice.refused || refuses(outcome))
+        && (!choice.refused || outcome.is_refusal())
         && !choice.summary
 }
 
@@ -115,37 +115,4 @@ fn is_of_master(master: Option<u8>, who: Who) -> bool
             Who::Operator(_) => false,
         },
     }
-}
-
-/// What was asked for is refused by the rule.
-pub(crate) fn is_refusal(rule: Rule) -> bool
-    ensures { result ≡ is_refusal rule }
-{
-    match rule {
-        Rule::Token => false,
-        Rule::NotRequest => false,
-        Rule::Status => false,
-        Rule::Repeat => false,
-        Rule::Done => false,
-        _ => true,
-    }
-}
-
-fn refuses(outcome: &Outcome) -> bool
-    ensures { result ≡ refuses outcome.now }
-{
-    match outcome {
-        Outcome::Reply { rule, .. } => is_refusal(*rule),
-        Outcome::Silence(rule) => is_refusal(*rule),
-        Outcome::Spread(pairs) => has_refusal(pairs.as_slice()),
-        Outcome::Released(_) => false,
-        Outcome::Done => false,
-        Outcome::Refused(_) => false,
-    }
-}
-
-fn has_refusal(pairs: &[(u8, Rule)]) -> bool
-    ensures { result ≡ list_any (λ pair. is_refusal pair.1) pairs.now }
-{
-    pairs.iter().any(|pair| is_refusal(pair.1))
 }

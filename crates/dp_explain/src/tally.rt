@@ -5,7 +5,6 @@ ghost use Rattle.std.specs.List.{flat_map, list_any};
 ghost use Rattle.dp_sentences.specs.Changes.{same_holder};
 ghost use Rattle.dp_explain.specs.Tallies.{uncounted, uncounted_of, first_tally, same_way, counts_of, sender_in, counted_at, tally_with, tally_spread, tally_answer, tally_after, way_words, count_columns, sender_words, counted_row, total, refused_row, counted_table, refused_table, tally_text};
 
-use crate::choice::is_refusal;
 use dp_line::{Event, Outcome};
 use dp_responder::Rule;
 use dp_sentences::{Spaces, digits_of, digits_of_long, same_holder};
@@ -18,30 +17,6 @@ const SENDER_COLUMNS: usize = 12;
 const WAY_COLUMNS: usize = 14;
 
 const COUNT_COLUMNS: usize = 8;
-
-/// The rules in the order of the verdict.
-const RULES: [Rule; 20] = [
-    Rule::Halted,
-    Rule::NoFrame,
-    Rule::NoMaster,
-    Rule::ForeignSender,
-    Rule::Token,
-    Rule::NotRequest,
-    Rule::BadFunction,
-    Rule::BadExtension,
-    Rule::BadBroadcast,
-    Rule::NoStation,
-    Rule::Status,
-    Rule::NoService,
-    Rule::Repeat,
-    Rule::NotActive,
-    Rule::NotHolder,
-    Rule::NotListed,
-    Rule::Busy,
-    Rule::Length,
-    Rule::NotSelected,
-    Rule::Done,
-];
 
 /// How many requests of a sender were answered in one way.
 #[derive(Drop)]
@@ -184,7 +159,7 @@ pub(crate) fn first_tally(alloc: Global, masters: &[u8]) -> Result<Vec<Counted>,
 fn push_sender(tally: &mut Vec<Counted>, sender: Option<u8>) -> Result<(), AllocError>
     ensures { OnOk result (tally.new.items ≡ tally.old.items ++ uncounted_of sender) }
 {
-    push_rules(tally, sender, &RULES)?;
+    push_rules(tally, sender, &Rule::ALL)?;
     push_way(tally, sender, None)
 }
 
@@ -314,7 +289,7 @@ impl<'a> fmt::Display for RefusedRow<'a> {
 
     fn fmt<W: fmt::Write>(&self, f: &mut fmt::Formatter<W>) -> fmt::Result {
         let count = total(self.tally, self.rule);
-        if is_refusal(self.rule) && count != 0 {
+        if self.rule.is_refusal() && count != 0 {
             let columns = CountColumns {
                 way: Some(self.rule),
                 count,
@@ -387,7 +362,7 @@ impl<'a> fmt::Display for RefusedTable<'a> {
     fn fmt<W: fmt::Write>(&self, f: &mut fmt::Formatter<W>) -> fmt::Result {
         let rows = RefusedRows {
             tally: self.0,
-            rules: &RULES,
+            rules: &Rule::ALL,
         };
         write!(f, "refusals by rule\n{rows}")
     }

@@ -1,5 +1,5 @@
 -- The rules: their numbers and names, and which rule the rows of a verdict give (own).
-use Rattle.std.specs.Prelude.{ℕ, codes, Bool, if◌then◌else◌, List, [], ◌∷◌}
+use Rattle.std.specs.Prelude.{ℕ, codes, Bool, true, false, ◌==◌, if◌then◌else◌, List, [], ◌∷◌, Option, Some, None}
 use Rattle.dp_responder.specs.declared.rule.Rule.{Rule}
 use Rattle.dp_responder.specs.declared.rule.Rule.TheVariants as rules
 
@@ -47,6 +47,45 @@ rule_name rules.Length = codes "Length"
 rule_name rules.NotSelected = codes "NotSelected"
 rule_name rules.Done = codes "Done"
 rule_name rules.NotListed = codes "NotListed"
+
+-- all rules, in the order of the verdict
+abbrev pub all_rules : List Rule
+all_rules =
+    rules.Halted ∷ rules.NoFrame ∷ rules.NoMaster ∷ rules.ForeignSender ∷ rules.Token ∷ rules.NotRequest ∷ rules.BadFunction
+    ∷ rules.BadExtension ∷ rules.BadBroadcast ∷ rules.NoStation ∷ rules.Status ∷ rules.NoService ∷ rules.Repeat ∷ rules.NotActive
+    ∷ rules.NotHolder ∷ rules.NotListed ∷ rules.Busy ∷ rules.Length ∷ rules.NotSelected ∷ rules.Done ∷ []
+
+-- the first of these rules that has this number
+abbrev pub first_of : ℕ → List Rule → Option Rule
+first_of code [] = None
+first_of code (rule ∷ others) = if rule_code rule == code then Some rule else first_of code others
+
+-- the rule of this number
+unfoldable pub rule_of : ℕ → Option Rule
+rule_of code = first_of code all_rules
+
+-- a rule by which what a request asks for is refused: Status, Repeat and Done answer it, and a token and a response ask for nothing (own)
+abbrev pub is_refusal : Rule → Bool
+is_refusal rules.Halted = true
+is_refusal rules.NoFrame = true
+is_refusal rules.NoMaster = true
+is_refusal rules.ForeignSender = true
+is_refusal rules.Token = false
+is_refusal rules.NotRequest = false
+is_refusal rules.BadFunction = true
+is_refusal rules.BadExtension = true
+is_refusal rules.BadBroadcast = true
+is_refusal rules.NoStation = true
+is_refusal rules.Status = false
+is_refusal rules.NoService = true
+is_refusal rules.Repeat = false
+is_refusal rules.NotActive = true
+is_refusal rules.NotHolder = true
+is_refusal rules.NotListed = true
+is_refusal rules.Busy = true
+is_refusal rules.Length = true
+is_refusal rules.NotSelected = true
+is_refusal rules.Done = false
 
 -- the rule of the first row whose condition holds, and Done where there is none
 abbrev pub first_row : List (Bool × Rule) → Rule

@@ -1,7 +1,7 @@
 //! The rules of the verdict.
 
-ghost use Rattle.std.specs.Prelude.{◌≡◌};
-ghost use Rattle.dp_responder.specs.Rules.{rule_code, rule_name};
+ghost use Rattle.std.specs.Prelude.{◌≡◌, Some};
+ghost use Rattle.dp_responder.specs.Rules.{all_rules, is_refusal, rule_code, rule_name, rule_of};
 
 /// Why a request is answered as it is: the row of the verdict that decided (own order).
 ///
@@ -54,9 +54,90 @@ pub enum Rule {
 }
 
 impl Rule {
+    /// All rules, in the order of the verdict.
+    pub const ALL: [Rule; 20] = [
+        Rule::Halted,
+        Rule::NoFrame,
+        Rule::NoMaster,
+        Rule::ForeignSender,
+        Rule::Token,
+        Rule::NotRequest,
+        Rule::BadFunction,
+        Rule::BadExtension,
+        Rule::BadBroadcast,
+        Rule::NoStation,
+        Rule::Status,
+        Rule::NoService,
+        Rule::Repeat,
+        Rule::NotActive,
+        Rule::NotHolder,
+        Rule::NotListed,
+        Rule::Busy,
+        Rule::Length,
+        Rule::NotSelected,
+        Rule::Done,
+    ];
+
+    /// Returns the rule of this number, 1 to 20; None for any other number (own).
+    #[tactic(auto, unfolding(crate::specs::Rules::rule_of))]
+    pub const fn from_code(code: u8) -> Option<Rule>
+        ensures { result ≡ rule_of code }
+    {
+        match code {
+            1 => Some(Rule::Halted),
+            2 => Some(Rule::NoFrame),
+            3 => Some(Rule::NoMaster),
+            4 => Some(Rule::ForeignSender),
+            5 => Some(Rule::Token),
+            6 => Some(Rule::NotRequest),
+            7 => Some(Rule::BadFunction),
+            8 => Some(Rule::BadExtension),
+            9 => Some(Rule::BadBroadcast),
+            10 => Some(Rule::NoStation),
+            11 => Some(Rule::Status),
+            12 => Some(Rule::NoService),
+            13 => Some(Rule::Repeat),
+            14 => Some(Rule::NotActive),
+            15 => Some(Rule::NotHolder),
+            16 => Some(Rule::Busy),
+            17 => Some(Rule::Length),
+            18 => Some(Rule::NotSelected),
+            19 => Some(Rule::Done),
+            20 => Some(Rule::NotListed),
+            _ => None,
+        }
+    }
+
+    /// Returns whether the rule refuses what a request asks for (own). Status, Repeat and Done answer it; a token and a
+    /// response ask for nothing.
+    pub const fn is_refusal(self) -> bool
+        ensures { result ≡ is_refusal self }
+    {
+        match self {
+            Rule::Token | Rule::NotRequest | Rule::Status | Rule::Repeat | Rule::Done => false,
+            Rule::Halted
+            | Rule::NoFrame
+            | Rule::NoMaster
+            | Rule::ForeignSender
+            | Rule::BadFunction
+            | Rule::BadExtension
+            | Rule::BadBroadcast
+            | Rule::NoStation
+            | Rule::NoService
+            | Rule::NotActive
+            | Rule::NotHolder
+            | Rule::NotListed
+            | Rule::Busy
+            | Rule::Length
+            | Rule::NotSelected => true,
+        }
+    }
+
     /// The number of the rule, 1 to 20 (own): up to 19 in the order of the verdict.
+    #[tactic(auto, unfolding(crate::specs::Rules::rule_of))]
     pub const fn code(self) -> u8
-        ensures { result ≡ rule_code self }
+        ensures number { result ≡ rule_code self }
+        ensures own { rule_of result ≡ Some self }
     {
         match self {
             Rule::Halted => 1,

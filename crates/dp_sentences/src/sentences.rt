@@ -103,7 +103,16 @@ impl<'a> fmt::Display for LineWords<'a> {
                 "silence: BadBroadcast. Only a Global_Control goes to all slaves.",
             ),
             Rule::NoStation => f.write_str("silence: NoStation. No slave has this address."),
-            _ => Ok(()),
+            Rule::Status
+            | Rule::NoService
+            | Rule::Repeat
+            | Rule::NotActive
+            | Rule::NotHolder
+            | Rule::NotListed
+            | Rule::Busy
+            | Rule::Length
+            | Rule::NotSelected
+            | Rule::Done => Ok(()),
         }
     }
 }
@@ -175,7 +184,16 @@ impl<'a> fmt::Display for SlaveWords<'a> {
                 let words = DoneService(meeting);
                 write!(f, "{words}")
             }
-            _ => Ok(()),
+            Rule::Halted
+            | Rule::NoFrame
+            | Rule::NoMaster
+            | Rule::ForeignSender
+            | Rule::Token
+            | Rule::NotRequest
+            | Rule::BadFunction
+            | Rule::BadExtension
+            | Rule::BadBroadcast
+            | Rule::NoStation => Ok(()),
         }
     }
 }

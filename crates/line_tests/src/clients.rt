@@ -26,7 +26,7 @@ ghost use Rattle.dp_line.specs.World.{Description, described_at, description_of,
 ghost use Rattle.dp_line.specs.Events.{is_request_of};
 ghost use Rattle.dp_line.specs.Effects.{slave_after};
 ghost use Rattle.dp_line.specs.Steps.{run, step};
-ghost use Rattle.dp_line.specs.Refusals.{IsRefusal};
+ghost use Rattle.dp_line.specs.Refusals.{IsUndone};
 ghost use Rattle.dp_line.specs.Isolation.{Agrees, MeetsNoLastPlace, only_requests_of, seen_by, watched};
 
 use dp_line::laws::take_each;
@@ -55,7 +55,7 @@ pub fn look_around(line: &mut LineState, event: &Event, address: u8) -> Looks
         → address ≢ address_of telegram.da
         → result.answer.halted ≡ None
         → result.after ≡ result.before }
-    ensures refused { IsRefusal result.answer.outcome → result.answer.halted ≡ None → result.after ≡ result.before }
+    ensures refused { IsUndone result.answer.outcome → result.answer.halted ≡ None → result.after ≡ result.before }
     ensures done { (master : ℕ) (octets reply : Vectors ℕ) (telegram : Telegrams) (parts : Parts) (slave : SlaveRecord)
         → event.now ≡ Events.Request master octets
         → Spells octets.items (Frames.Telegram telegram)
