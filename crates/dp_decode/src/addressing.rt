@@ -3,12 +3,9 @@
 ghost use Rattle.std.specs.Prelude.{◌≡◌, Some};
 ghost use Rattle.dp_decode.specs.Addressed.{frame_receiver};
 
-use dp_telegram::{Frame, GLOBAL_ADDRESS, decode};
+use dp_telegram::{ADDRESS_BITS, Frame, GLOBAL_ADDRESS, decode};
 use std::fmt;
 use std::marker::Model;
-
-/// The bits of an address octet that are the address.
-const ADDRESS_BITS: u8 = 0x7F;
 
 /// To whom octets are sent (IEC 61158-4-3, address octets).
 ///

@@ -5,13 +5,11 @@ ghost use Rattle.std.specs.Fmt.{WritesOnOk};
 ghost use Rattle.dp_decode.specs.Diagnoses.{diagnosis_words, extended_text, holder_text, status_1_rows, status_2_rows, status_3_rows, status_text, whole_text};
 
 use crate::words::{Flag, Hex, Ident, Names};
+use dp_diag::NO_MASTER;
 use std::fmt;
 
 /// The octets before the extended ones.
 const HEAD: usize = 6;
-
-/// The address that stands for no master (IEC 61158-6-3, Slave_Diag response, Master_Add).
-const NO_MASTER: u8 = 255;
 
 /// The octets of a diagnosis.
 #[derive(Drop)]

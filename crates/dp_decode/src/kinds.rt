@@ -6,12 +6,9 @@ ghost use Rattle.dp_telegram.specs.FunctionCode.{function_of};
 ghost use Rattle.dp_decode.specs.Kinds.{asked_text, bit_text, count_text, fault_text, format_text, frame_fault_words, frame_text, function_name, function_text, is_of_point as is_of_point_by, service_text, telegram_text};
 
 use crate::points::{Point, Source};
-use dp_telegram::{Frame, FrameFault, Function, Parts, Telegram, decode, function_code};
+use dp_telegram::{ADDRESS_BITS, Frame, FrameFault, Function, Parts, Telegram, decode, function_code};
 use std::fmt;
 use std::marker::Model;
-
-/// The bits of an address octet that are the address.
-const ADDRESS_BITS: u8 = 0x7F;
 
 /// Start delimiters (IEC 61158-4-3, frame formats).
 const SD1: u8 = 0x10;

@@ -6,18 +6,8 @@ ghost use Rattle.dp_prm.specs.Meaning.{user_prm};
 ghost use Rattle.dp_decode.specs.Parameters.{locking_text, min_tsdr_alone, min_tsdr_text, parameters_text, requests_text, user_text, watchdog_text};
 
 use crate::words::{Flag, Groups, Hex, Ident, Names, is_set};
+use dp_prm::{FREEZE_REQ, LOCK_REQ, SYNC_REQ, UNLOCK_REQ, WD_ON};
 use std::fmt;
-
-// The bits of the first octet by their numbers (IEC 61158-6-3, Set_Prm request, Station_status).
-const LOCK_REQ: u32 = 7;
-
-const UNLOCK_REQ: u32 = 6;
-
-const SYNC_REQ: u32 = 5;
-
-const FREEZE_REQ: u32 = 4;
-
-const WD_ON: u32 = 3;
 
 /// The octets before the user parameters.
 const HEAD: usize = 7;

@@ -9,7 +9,7 @@ use arrayvec::ArrayVec;
 use dp_sap::{MOST_DATA, State};
 
 /// The address that stands for no master (IEC 61158-6-3, Slave_Diag response, Master_Add).
-const NO_MASTER: u8 = 255;
+pub const NO_MASTER: u8 = 255;
 
 /// All that the diagnosis of a slave tells (IEC 61158-6-3, Slave_Diag response).
 #[derive(Clone, Debug, Drop, PartialEq, Eq)]

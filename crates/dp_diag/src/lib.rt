@@ -12,4 +12,4 @@ pub mod laws;
 
 pub use diag::{Diag, MOST_EXTENDED};
 pub use dp_sap::State;
-pub use facts::{DiagFacts, DiagFactsLent, octets, octets_into, octets_lent_into};
+pub use facts::{DiagFacts, DiagFactsLent, NO_MASTER, octets, octets_into, octets_lent_into};

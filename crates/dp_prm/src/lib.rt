@@ -15,4 +15,6 @@ mod reading;
 pub use lent::{PrmLent, PrmVerdictLent};
 pub use limits::Limits;
 pub use prm::{MOST_USER_PARAMETERS, Prm, PrmVerdict};
-pub use reading::{MOST_OCTETS, read, read_lent};
+pub use reading::{
+    FREEZE_REQ, LOCK_REQ, MOST_OCTETS, SYNC_REQ, UNLOCK_REQ, WD_ON, read, read_lent,
+};

@@ -11,16 +11,20 @@ use crate::prm::PrmVerdict;
 /// The most octets of a parameter telegram (IEC 61158-6-3, data unit).
 pub const MOST_OCTETS: usize = 244;
 
-// The bits of the first octet by their numbers (IEC 61158-6-3, Set_Prm request, Station_status).
-const LOCK_REQ: u32 = 7;
+/// The bit of the first octet that locks the slave (IEC 61158-6-3, Set_Prm request, Station_status).
+pub const LOCK_REQ: u32 = 7;
 
-const UNLOCK_REQ: u32 = 6;
+/// The bit of the first octet that unlocks the slave (IEC 61158-6-3, Set_Prm request, Station_status).
+pub const UNLOCK_REQ: u32 = 6;
 
-const SYNC_REQ: u32 = 5;
+/// The bit of the first octet that asks for Sync mode (IEC 61158-6-3, Set_Prm request, Station_status).
+pub const SYNC_REQ: u32 = 5;
 
-const FREEZE_REQ: u32 = 4;
+/// The bit of the first octet that asks for Freeze mode (IEC 61158-6-3, Set_Prm request, Station_status).
+pub const FREEZE_REQ: u32 = 4;
 
-const WD_ON: u32 = 3;
+/// The bit of the first octet that turns the watchdog on (IEC 61158-6-3, Set_Prm request, Station_status).
+pub const WD_ON: u32 = 3;
 
 /// The meaning of octets that are too few.
 const TOO_SHORT: PrmVerdictLent<'static> = PrmVerdictLent::Fault {

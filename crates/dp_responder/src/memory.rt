@@ -5,12 +5,10 @@ ghost use Rattle.std.specs.Option.{option_copied};
 ghost use Rattle.dp_responder.specs.Memory.{master_after, no_memory, remembered_of, with_remembered};
 
 use arrayvec::ArrayVec;
+use dp_owners::MOST_MASTERS;
 use dp_telegram::Octets;
 use dp_telegram::function_code::{self, Function};
 use std::marker::Model;
-
-/// The most masters of a line.
-const MOST_MASTERS: usize = 16;
 
 /// The last SRD of a master that was judged anew with FCV 1 or FCB 1.
 #[derive(Debug, Drop)]

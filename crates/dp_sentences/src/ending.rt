@@ -8,11 +8,9 @@ ghost use Rattle.dp_sentences.specs.Endings.{ending_by_parts, ending_by_telegram
 use crate::operations::is_halt;
 use crate::prm_fault::is_set;
 use dp_line::Event;
+use dp_prm::UNLOCK_REQ;
 use dp_sap::CHK_CFG;
 use dp_telegram::{Frame, Parts, Telegram, decode};
-
-/// Bit 6 of the first octet of Set_Prm (IEC 61158-6-3, Set_Prm request, Station_status).
-const UNLOCK_REQ: u32 = 6;
 
 /// How a hold ended.
 #[derive(Clone, Copy)]

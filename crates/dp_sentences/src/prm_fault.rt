@@ -7,18 +7,12 @@ ghost use Rattle.dp_sentences.specs.Services.{fault_where, user_parameters_text,
 
 use crate::words::{CountWords, IdentWords, word_for};
 use arrayvec::ArrayVec;
+use dp_prm::{FREEZE_REQ, SYNC_REQ, WD_ON};
 use dp_slave::SlaveSpec;
 use std::fmt;
 
 /// The most reasons why the octets of one request are refused.
 const MOST_FAULTS: usize = 5;
-
-// The bits of the first octet by their numbers (IEC 61158-6-3, Set_Prm request, Station_status).
-const SYNC_REQ: u32 = 5;
-
-const FREEZE_REQ: u32 = 4;
-
-const WD_ON: u32 = 3;
 
 /// Why parameters are wrong (IEC 61158-6-3, Set_Prm request).
 #[derive(Clone, Copy)]

@@ -7,6 +7,7 @@ ghost use Rattle.dp_sentences.specs.Services.{released_words, wrong_prm_text, he
 use crate::meeting::Meeting;
 use crate::prm_fault::{PrmFault, PrmFaults, is_set, prm_faults};
 use crate::words::SinceWords;
+use dp_prm::{LOCK_REQ, UNLOCK_REQ};
 use dp_slave::SlaveView;
 use std::fmt;
 
@@ -165,11 +166,6 @@ pub(crate) struct SetPrm<'a> {
     pub(crate) meeting: &'a Meeting<'a>,
     pub(crate) octets: &'a [u8],
 }
-
-/// Bits of the first octet of Set_Prm by their numbers (IEC 61158-6-3, Set_Prm request, Station_status).
-const LOCK_REQ: u32 = 7;
-
-const UNLOCK_REQ: u32 = 6;
 
 impl<'a> fmt::Display for SetPrm<'a> {
     ghost output = { λ s. Some (set_prm_text s.meeting.now s.octets.now) };

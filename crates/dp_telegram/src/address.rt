@@ -13,8 +13,8 @@ pub const GLOBAL_ADDRESS: u8 = 127;
 /// The last address that a station may have; the first is 0 (IEC 61158-4-3, address octets).
 pub const LAST_STATION: u8 = 126;
 
-/// The bits of an address octet that are the address.
-pub(crate) const ADDRESS_BITS: u8 = 0x7F;
+/// The bits of an address octet that are the address (IEC 61158-4-3, address octets).
+pub const ADDRESS_BITS: u8 = 0x7F;
 
 /// A station may have this address: 0 to 126.
 pub const fn is_station(address: u8) -> bool

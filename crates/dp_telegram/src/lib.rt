@@ -24,7 +24,7 @@ pub mod stream_laws;
 
 
 pub use access::{Parts, request};
-pub use address::{GLOBAL_ADDRESS, LAST_STATION, is_station};
+pub use address::{ADDRESS_BITS, GLOBAL_ADDRESS, LAST_STATION, is_station};
 pub use cutter::{Cut, Cutter, Piece};
 pub use decoding::decode;
 pub use delimiter::SC;
