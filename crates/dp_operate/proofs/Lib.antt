@@ -1,4 +1,3 @@
 pub mod Rounds
 pub mod Telling
 pub mod Stepping
-pub mod Asking

@@ -4,7 +4,7 @@ use Rattle.std.specs.List.{starts_with}
 use Rattle.dp_text.specs.Words.{same_text}
 use Rattle.dp_text.specs.declared.op_line.OpLine.{OpLine}
 use Rattle.dp_text.specs.declared.op_line.OpLine.TheVariants.{Nothing}
-use Rattle.dp_sessions.specs.Operators.{command_in}
+use Rattle.dp_text.specs.OperatorLines.{command_in}
 
 -- an empty line and a comment ask for nothing
 abbrev pub asks_for : OpLine → Bool

@@ -1,7 +1,7 @@
 -- Moments and answers that are worked out.
 use Rattle.std.specs.Prelude.{◌≡◌, codes, true, false, [], ◌∷◌, Some, None, option_map, Err, refl}
 use Rattle.std.specs.Fmt.{digits}
-use Rattle.dp_sessions.specs.Operators.{asked_in}
+use Rattle.dp_text.specs.OperatorLines.{asked_in}
 use Rattle.dp_operate.specs.Answers.{asks, asks_for, is_news}
 use Rattle.dp_operate.specs.declared.schedule.Due.TheVariants.{Tick, Step}
 use Rattle.dp_operate.specs.declared.schedule.Schedule.{Schedule}

@@ -9,8 +9,9 @@ use Rattle.std.proofs.lemmas.List.{append-nil, length-take, map-append, nil_from
 use Rattle.dp_text.specs.Writes.{WritesPrefix}
 use Rattle.dp_shared.specs.declared.line_view.PassView.{PassView}
 use Rattle.dp_devices.specs.declared.driven_slave.DrivenSlave.{DrivenSlave}
-use Rattle.dp_sessions.specs.declared.line_fault.LineFault.TheVariants as faults
-use Rattle.dp_sessions.specs.Operators.{AreAnswered, AreBrokenOff, AreServed, BeginsWith, FallsInto, IsAnswered, IsDone, IsUnended, asked_in, command_in, ended, line_feed}
+use Rattle.dp_text.specs.declared.operator_line.LineFault.TheVariants as faults
+use Rattle.dp_text.specs.OperatorLines.{asked_in, command_in}
+use Rattle.dp_sessions.specs.Operators.{AreAnswered, AreBrokenOff, AreServed, BeginsWith, FallsInto, IsAnswered, IsDone, IsUnended, ended, line_feed}
 use Rattle.dp_sessions.specs.Operating.{AreServedTo, BreaksOff, GoesOn, kept}
 use Rattle.dp_sessions.proofs.Exchanging.{appends_more, appends_none, concat_append, cut_off_then}
 

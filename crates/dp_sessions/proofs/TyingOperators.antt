@@ -22,11 +22,12 @@ use Rattle.dp_text.specs.declared.op_line.OpLine.{OpLine}
 use Rattle.dp_text.specs.declared.op_line.OpLine.TheVariants as asked
 use Rattle.dp_devices.specs.declared.driven_slave.DrivenSlave.{DrivenSlave}
 use Rattle.dp_devices.specs.DrivenSlaves.{next_input}
-use Rattle.dp_sessions.specs.declared.line_fault.LineFault.{LineFault}
+use Rattle.dp_text.specs.declared.operator_line.LineFault.{LineFault}
 use Rattle.dp_sessions.specs.declared.session_end.SessionEnd.{SessionEnd}
 use Rattle.dp_sessions.specs.declared.session_end.SessionEnd.TheVariants as ends
 use Rattle.dp_sessions.specs.Sessions.{Streams}
-use Rattle.dp_sessions.specs.Operators.{AreAnswered, AreBrokenOff, AreFed, AreServed, HasOperatedBy, IsDone, IsFed, IsFedAsSeen, IsLook, IsOperated, IsTaken, Operates, command_in}
+use Rattle.dp_text.specs.OperatorLines.{command_in}
+use Rattle.dp_sessions.specs.Operators.{AreAnswered, AreBrokenOff, AreFed, AreServed, HasOperatedBy, IsDone, IsFed, IsFedAsSeen, IsLook, IsOperated, IsTaken, Operates}
 use Rattle.dp_sessions.specs.Tied.{entries_behind}
 use Rattle.dp_sessions.specs.TiedOperators.{AnswersLines, AreAnsweredBy, AreBrokenOffBy, AreFedBy, AreServedBy, HasAnsweredLines, IsDoneBy, IsFedAsSeenBy, IsFedBy, IsOperatedBy, IsSeenIn, IsTakenBy}
 use Rattle.dp_sessions.proofs.Tying.{behind, begins, behind_first}

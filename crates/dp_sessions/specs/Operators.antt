@@ -1,7 +1,6 @@
 -- What a session of an operator reads, does and writes (own).
 use Rattle.std.specs.Prelude.{codes, ◌≡◌, ◌⊎◌, ℕ, ◌+◌, ◌≤◌, nat_lt, if◌then◌else◌, Bool, true, false, not, ◌==◌, List, [], ◌∷◌, ◌++◌, map, length, Option, Some, None, is_some, ok_or, IfNone, IfSome, Result, Ok, Err}
 use Rattle.std.specs.List.{AllByRecursion, concat, list_all}
-use Rattle.std.specs.Str.{is_utf8}
 use Rattle.std.specs.Io.KnownBytes.{Appends, Consumes, IsAtEnd, Keeps}
 use Rattle.arrayvec.specs.ArrayVec.{ArrayVec}
 use Rattle.dp_slave.specs.declared.view.SlaveView.{SlaveView}
@@ -16,11 +15,10 @@ use Rattle.dp_shared.specs.declared.line_view.Answer.{Answer}
 use Rattle.dp_shared.specs.Passes.{look_by, new_pass, with_look, with_receipt}
 use Rattle.dp_text.specs.declared.op_line.OpLine.{OpLine}
 use Rattle.dp_text.specs.declared.op_line.OpLine.TheVariants as asked
-use Rattle.dp_text.specs.OpLines.{op_line_of}
 use Rattle.dp_text.specs.Texts.{outcome_line, owned_text, show_text, stepped_text}
 use Rattle.dp_devices.specs.declared.driven_slave.DrivenSlave.{DrivenSlave}
-use Rattle.dp_sessions.specs.declared.line_fault.LineFault.{LineFault}
-use Rattle.dp_sessions.specs.declared.line_fault.LineFault.TheVariants as faults
+use Rattle.dp_text.specs.declared.operator_line.LineFault.{LineFault}
+use Rattle.dp_text.specs.OperatorLines.{command_in, line_fault_name}
 use Rattle.dp_sessions.specs.declared.session_end.SessionEnd.{SessionEnd}
 use Rattle.dp_sessions.specs.declared.session_end.SessionEnd.TheVariants as ends
 use Rattle.dp_devices.specs.DrivenSlaves.{next_input}
@@ -49,30 +47,11 @@ pub record FallsInto (stream : List ℕ) (lines : List (List ℕ)) (rest : List 
   pub begins : BeginsWith stream lines rest
   pub unended : IsUnended rest
 
--- the most octets of a line that may be a command
-abbrev pub longest_line : ℕ
-longest_line = 1024
+-- ---- what a line does
 
--- ---- what a line asks for
-
-abbrev pub line_fault_name : LineFault → List ℕ
-line_fault_name faults.TooLong = codes "TooLong"
-line_fault_name faults.NotACommand = codes "NotACommand"
-
--- a text asks for what it says; other octets ask for nothing
-abbrev pub asked_in : Bool → List ℕ → Option OpLine
-asked_in true line = op_line_of line
-asked_in false line = None
-
--- a line that is too long is no command, whatever it holds
-abbrev pub command_in : List ℕ → Result OpLine LineFault
-command_in line = if nat_lt longest_line (length line) then Err faults.TooLong else ok_or (asked_in (is_utf8 line) line) faults.NotACommand
-
--- the line that answers a line that can't be done: `fault FAULT`
+-- the text that answers a line that can't be done: `fault FAULT`
 abbrev pub fault_text : LineFault → List ℕ
 fault_text fault = codes "fault " ++ line_fault_name fault ++ codes "\n"
-
--- ---- what a line does
 
 -- one event: its receipt is the pass's, and has the outcome. Without a place it has the reason of the refusal; with one, the pass was not
 -- answered before that the line is halted

@@ -19,11 +19,12 @@ use Rattle.dp_text.specs.declared.op_line.OpLine.TheVariants as asked
 use Rattle.dp_text.specs.Texts.{outcome_line, owned_text, show_text, stepped_text}
 use Rattle.dp_devices.specs.declared.driven_slave.DrivenSlave.{DrivenSlave}
 use Rattle.dp_devices.specs.DrivenSlaves.{next_input}
-use Rattle.dp_sessions.specs.declared.line_fault.LineFault.{LineFault}
+use Rattle.dp_text.specs.declared.operator_line.LineFault.{LineFault}
 use Rattle.dp_sessions.specs.declared.session_end.SessionEnd.{SessionEnd}
 use Rattle.dp_sessions.specs.declared.session_end.SessionEnd.TheVariants as ends
 use Rattle.dp_sessions.specs.Sessions.{IsCutOff, Streams}
-use Rattle.dp_sessions.specs.Operators.{BeginsWith, FallsInto, command_in, fault_text}
+use Rattle.dp_text.specs.OperatorLines.{command_in}
+use Rattle.dp_sessions.specs.Operators.{BeginsWith, FallsInto, fault_text}
 
 -- the entries that an event left: one with its outcome, or none if it was refused
 abbrev pub IsTakenBy : Event → Outcome → List Entry → Type 0

@@ -7,7 +7,6 @@
 mod exchange;
 mod gate;
 pub mod laws;
-mod line_fault;
 mod operator;
 mod operator_line;
 mod pool;

@@ -4,18 +4,14 @@ ghost use Rattle.std.specs.Prelude.{◌≡◌, ◌≤◌, length, OnErr, OnOk, I
 ghost use Rattle.std.specs.Io.KnownBytes.{Appends};
 ghost use Rattle.dp_shared.specs.Passes.{table_of};
 ghost use Rattle.dp_devices.specs.declared.driven_slave.TheConstants.{MOST_DRIVEN};
-ghost use Rattle.dp_sessions.specs.Operators.{AreFed, IsAnswered, IsFed, IsFedAsSeen, IsOperated, command_in as command_of, fault_text};
+ghost use Rattle.dp_sessions.specs.Operators.{AreFed, IsAnswered, IsFed, IsFedAsSeen, IsOperated, fault_text};
 
 use crate::gate::Gate;
-use crate::line_fault::LineFault;
 use dp_devices::DrivenSlave;
 use dp_line::{Op, SlaveView};
 use dp_shared::{Line, Pass};
-use dp_text::{OpLine, Text, read_op};
+use dp_text::{LineFault, OpLine, Text, read_line};
 use std::sync::Wait;
-
-/// The most octets of a line that may be a command.
-pub(crate) const LONGEST_LINE: usize = 1_024;
 
 /// Does what a line asks for, by an operator's pass, and makes the text the answer to it: none for an
 /// empty line or a comment. These are the slaves of the line that devices drive.
@@ -35,25 +31,9 @@ pub(crate) fn answer_line<T: Wait, G: Gate>(
     ensures address { pass.new.view.address ≡ pass.old.view.address }
     ensures answered { IsAnswered driven.now octets.now pass.old.view pass.new.view text.new }
 {
-    match command_in(octets) {
+    match read_line(octets) {
         Ok(op_line) => operate(rt, line, gate, driven, pass, op_line, text),
         Err(fault) => set_fault(text, fault),
-    }
-}
-
-/// What a line asks for; or why it isn't done.
-fn command_in(octets: &[u8]) -> Result<OpLine, LineFault>
-    ensures { result ≡ command_of octets.now }
-{
-    if octets.len() > LONGEST_LINE {
-        return Err(LineFault::TooLong);
-    }
-    let Ok(line) = std::str::from_utf8(octets) else {
-        return Err(LineFault::NotACommand);
-    };
-    match read_op(line) {
-        Ok(op_line) => Ok(op_line),
-        Err(_) => Err(LineFault::NotACommand),
     }
 }
 

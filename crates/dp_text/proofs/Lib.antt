@@ -13,3 +13,4 @@ pub mod Writing
 pub mod Limits
 pub mod HexTable
 pub mod HexRows
+pub mod Asking

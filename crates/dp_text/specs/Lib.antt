@@ -8,3 +8,4 @@ pub mod Codes
 pub mod Writes
 pub mod TextExamples
 pub mod OpLineExamples
+pub mod OperatorLines

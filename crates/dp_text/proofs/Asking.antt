@@ -7,9 +7,9 @@ use Rattle.dp_text.specs.declared.op_line.OpLine.{OpLine}
 use Rattle.dp_text.specs.declared.op_line.TextFault.{TextFault}
 use Rattle.dp_text.specs.declared.op_line.TextFault.TheVariants as text_faults
 use Rattle.dp_text.specs.OpLines.{op_line_of}
-use Rattle.dp_sessions.specs.declared.line_fault.LineFault.{LineFault}
-use Rattle.dp_sessions.specs.declared.line_fault.LineFault.TheVariants as faults
-use Rattle.dp_sessions.specs.Operators.{asked_in, command_in}
+use Rattle.dp_text.specs.declared.operator_line.LineFault.{LineFault}
+use Rattle.dp_text.specs.declared.operator_line.LineFault.TheVariants as faults
+use Rattle.dp_text.specs.OperatorLines.{asked_in, command_in}
 
 abbrev pub read_ok : OpLine → Result OpLine TextFault
 read_ok op_line = Ok op_line

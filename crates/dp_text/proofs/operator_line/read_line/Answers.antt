@@ -1,5 +1,5 @@
-use Rattle.dp_sessions.proofs.Asking.{not_text, of_text}
-use Rattle.dp_sessions.proofs.operator_line.command_in.Goals as goal
+use Rattle.dp_text.proofs.Asking.{not_text, of_text}
+use Rattle.dp_text.proofs.operator_line.read_line.Goals as goal
 
 pub returns-in_default : goal.returns-in_default
 returns-in_default c = not_text c.args.octets.now c.if-octets-gt-LONGEST_LINE.false c.in_default.ensures.cases.0
