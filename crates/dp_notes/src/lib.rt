@@ -3,6 +3,7 @@
 //! Rows have the form of the crate `log` and the time of day; their texts aren't fixed, and tests show them.
 #![tactic(auto)]
 
+mod dropped_rows;
 mod notes;
 mod time_of_day;
 

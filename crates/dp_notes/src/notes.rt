@@ -1,11 +1,12 @@
 //! What is told on standard error while a rack is served.
 
+use crate::dropped_rows::DroppedRows;
 use crate::time_of_day::TimeOfDay;
 use arrayvec::ArrayVec;
 use dp_audit::Receipt;
 use dp_line::{Event, Op, OperatorFault, Outcome, Rule, Step};
-use dp_sessions::{Gate, SessionEnd};
-use dp_telegram::{FrameFault, WholeFrame};
+use dp_sessions::{DroppedOctets, Gate, SessionEnd};
+use dp_telegram::WholeFrame;
 use dp_text::Text;
 use log::{Log, info, warn};
 use rackd_words::Telling;
@@ -25,13 +26,14 @@ pub type LineNumbers = ArrayVec<u8, MOST_LINES>;
 /// The most sessions of masters at one time: one for each worker.
 const MOST_SESSIONS: usize = 32;
 
-/// What a session under way has asked for.
-#[derive(Clone, Copy, Default)]
-struct Asked {
+/// A session of a master: what it has asked for, and what it has dropped.
+#[derive(Default, Drop)]
+struct MasterSession {
     line: u8,
     master: u8,
     requests: u32,
     refused: u32,
+    dropped: DroppedRows,
 }
 
 /// What was told or counted, and is needed again.
@@ -41,8 +43,8 @@ struct Noted {
     halting: ArrayVec<u8, MOST_LINES>,
     /// The lines that were reported as halted.
     halted: ArrayVec<u8, MOST_LINES>,
-    /// What the sessions under way have asked for.
-    asked: ArrayVec<Asked, MOST_SESSIONS>,
+    /// The sessions of masters, while connections, sessions or requests are logged.
+    sessions: ArrayVec<MasterSession, MOST_SESSIONS>,
     /// All workers were reported as busy, and none is free since.
     are_busy: bool,
 }
@@ -70,7 +72,7 @@ impl<'a, L: Log + Clock> Notes<'a, L> {
             noted: Mutex::new(Noted {
                 halting: ArrayVec::new(),
                 halted: ArrayVec::new(),
-                asked: ArrayVec::new(),
+                sessions: ArrayVec::new(),
                 are_busy: false,
             }),
         }
@@ -179,37 +181,57 @@ impl<'a, L: Log + Clock> Notes<'a, L> {
     /// Counts a request of a session.
     fn count<W: Wait>(&self, rt: &W, line: u8, master: u8, outcome: &Outcome) {
         let mut noted = self.noted.lock(rt);
-        for asked in &mut noted.asked {
-            if asked.line == line && asked.master == master {
-                asked.requests = asked.requests.saturating_add(1);
-                if is_refused(outcome) {
-                    asked.refused = asked.refused.saturating_add(1);
+        for session in &mut noted.sessions {
+            if session.line == line && session.master == master {
+                session.requests = session.requests.saturating_add(1);
+                if outcome.is_refusal() {
+                    session.refused = session.refused.saturating_add(1);
                 }
+                self.write_dropped(session, false);
             }
+        }
+    }
+
+    /// Writes the row about what a session has dropped, if it may have one more in this second, or if it has ended.
+    fn write_dropped(&self, session: &mut MasterSession, has_ended: bool) {
+        if session.dropped.is_empty() {
+            return;
+        }
+        let second = match self.log.since_1970() {
+            Ok(since) => since.as_secs(),
+            Err(_) => 0,
+        };
+        let (line, master) = (session.line, session.master);
+        if let Some(row) = session.dropped.next_row(second, has_ended) {
+            let time = TimeOfDay::now(self.log);
+            info!(self.log; target: "rackd", "{time} line {line} master {master}: {row}");
         }
     }
 
     /// A session is under way, which has asked for nothing.
     fn begin<W: Wait>(&self, rt: &W, line: u8, master: u8) {
-        let _ = self.noted.lock(rt).asked.try_push(Asked {
+        let _ = self.noted.lock(rt).sessions.try_push(MasterSession {
             line,
             master,
             requests: 0,
             refused: 0,
+            dropped: DroppedRows::default(),
         });
     }
 
     /// What a session has asked for, which is under way no more.
-    fn finish<W: Wait>(&self, rt: &W, line: u8, master: u8) -> Asked {
+    fn finish<W: Wait>(&self, rt: &W, line: u8, master: u8) -> MasterSession {
         let mut noted = self.noted.lock(rt);
         let place = noted
-            .asked
+            .sessions
             .iter()
-            .position(|asked| asked.line == line && asked.master == master);
-        match place {
-            Some(place) => noted.asked.swap_remove(place),
-            None => Asked::default(),
-        }
+            .position(|session| session.line == line && session.master == master);
+        let mut session = match place {
+            Some(place) => noted.sessions.swap_remove(place),
+            None => MasterSession::default(),
+        };
+        self.write_dropped(&mut session, true);
+        session
     }
 }
 
@@ -243,17 +265,23 @@ impl<L: Log + Clock> Gate for Notes<'_, L> {
         }
     }
 
-    fn dropped<W: Wait>(&self, rt: &W, line: u8, master: u8, fault: FrameFault, count: u8) {
-        self.tell(
-            rt,
-            format_args!("line {line} master {master}: dropped {fault} {count}"),
-        );
+    fn dropped<W: Wait>(&self, rt: &W, line: u8, master: u8, dropped: &DroppedOctets) {
+        if self.telling == Telling::Little {
+            return;
+        }
+        let mut noted = self.noted.lock(rt);
+        for session in &mut noted.sessions {
+            if session.line == line && session.master == master {
+                session.dropped.add(dropped);
+                self.write_dropped(session, false);
+            }
+        }
     }
 
     fn ended<W: Wait>(&self, rt: &W, line: u8, master: u8, end: SessionEnd) {
         self.leaves(rt);
         if self.telling != Telling::Little {
-            let Asked {
+            let MasterSession {
                 requests,
                 refused,
                 ..
@@ -314,19 +342,4 @@ fn cause_of_halt(is_halt: bool, outcome: &Outcome) -> Option<&'static str> {
         | Outcome::Done
         | Outcome::Refused(_) => None,
     }
-}
-
-/// A request got nothing of what it asked for.
-fn is_refused(outcome: &Outcome) -> bool {
-    match outcome {
-        Outcome::Reply { rule, .. } => !is_good(*rule),
-        Outcome::Silence(rule) => !is_good(*rule),
-        Outcome::Refused(_) => true,
-        Outcome::Spread(_) | Outcome::Released(_) | Outcome::Done => false,
-    }
-}
-
-/// A request by this rule got what it asked for, or asked for nothing.
-fn is_good(rule: Rule) -> bool {
-    matches!(rule, Rule::Done | Rule::Status | Rule::Repeat | Rule::Token)
 }

@@ -7,3 +7,4 @@ pub mod Operators
 pub mod Operating
 pub mod Tied
 pub mod TiedOperators
+pub mod Dropped

@@ -9,6 +9,7 @@ ghost use Rattle.dp_shared.specs.Passes.{table_of};
 ghost use Rattle.dp_sessions.specs.Sessions.{Accepts, AreExchanged, HasExchanged, IsCutOff, octets_of, reply_in};
 ghost use Rattle.dp_sessions.specs.SessionProgress.{IsBrokenIn, IsServedTo};
 
+use crate::dropped::DroppedOctets;
 use crate::gate::Gate;
 use crate::reads::{Reads, Uncounted};
 use crate::session_end::SessionEnd;
@@ -147,12 +148,15 @@ fn pass_octets<T: Wait, W: Write, G: Gate>(
         pass.old.view pass.new.view (W.contents writer.old) (W.contents writer.new)) }
 {
     let mut left = octets;
+    let mut dropped = DroppedOctets::default();
     loop {
         if let Some(piece) = cutter.front() {
             let count = piece.size();
-            answer(rt, writer, line, gate, pass, piece, step)?;
+            let octets = &cutter.held()[..count];
+            answer(rt, writer, line, gate, pass, piece, octets, &mut dropped, step)?;
             cutter.pass(count);
         } else if left.is_empty() {
+            report(rt, gate, pass, &mut dropped);
             return Ok(());
         } else {
             let taken = cutter.feed(left);
@@ -161,8 +165,8 @@ fn pass_octets<T: Wait, W: Write, G: Gate>(
     }
 }
 
-/// Exchanges a frame, once the gate lets it through, and writes its reply, if there is one; nothing comes of
-/// dropped octets. `step` is room for the answer of the line.
+/// Exchanges a frame, after the gate has let it through, and writes its reply, if there is one. Octets that are dropped are
+/// added to `dropped`, which is reported before the frame is exchanged. `step` is room for the answer of the line.
 fn answer<T: Wait, W: Write, G: Gate>(
     rt: &T,
     writer: &mut W,
@@ -170,11 +174,13 @@ fn answer<T: Wait, W: Write, G: Gate>(
     gate: &G,
     pass: &mut Pass,
     piece: Piece<'_>,
+    octets: &[u8],
+    dropped: &mut DroppedOctets,
     step: &mut Step,
 ) -> Result<(), WriteFault>
     requires ours { pass.old.table ≡ table_of line.now }
     requires master { pass.old.view.address ≢ 127 }
-    requires few { cut_length (cut_lent piece) ≤ 255 }
+    requires few { length octets.now ≤ 255 }
     ensures ours { pass.new.table ≡ pass.old.table }
     ensures address { pass.new.view.address ≡ pass.old.view.address }
     ensures ok { OnOk result ((receipts : List TheReceipt) × AreExchanged pass.old.view.address (cut_lent piece.entry ∷ []) receipts pass.old.view pass.new.view
@@ -184,15 +190,24 @@ fn answer<T: Wait, W: Write, G: Gate>(
 {
     match piece {
         Piece::Frame(frame) => {
+            report(rt, gate, pass, dropped);
             gate.enter(rt, pass.line(), pass.address());
             line.exchange_frame(rt, pass, &frame, step);
             gate.answered(rt, pass.line(), pass.address(), &frame, step);
             write_whole(writer, octets_in(&step.outcome))
         }
-        Piece::Dropped { fault, count } => {
-            gate.dropped(rt, pass.line(), pass.address(), fault, count);
+        Piece::Dropped { fault, .. } => {
+            dropped.add(fault, octets);
             Ok(())
         }
+    }
+}
+
+/// Reports what was dropped to the gate, if anything was.
+fn report<T: Wait, G: Gate>(rt: &T, gate: &G, pass: &Pass, dropped: &mut DroppedOctets) {
+    if dropped.count > 0 {
+        gate.dropped(rt, pass.line(), pass.address(), dropped);
+        *dropped = DroppedOctets::default();
     }
 }
 

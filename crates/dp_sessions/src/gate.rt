@@ -1,9 +1,10 @@
 //! What stands beside the exchanges of sessions.
 
+use crate::dropped::DroppedOctets;
 use crate::session_end::SessionEnd;
 use dp_audit::Receipt;
 use dp_line::{Op, Step};
-use dp_telegram::{FrameFault, WholeFrame};
+use dp_telegram::WholeFrame;
 use std::sync::Wait;
 
 /// What stands before each exchange of a session, and gets the results of sessions. It may hold the session up,
@@ -26,8 +27,9 @@ pub trait Gate {
         _answer: &Step,
     ) {}
 
-    /// Called where octets of a master are no frame and are dropped: why, and how many, 1 to 255.
-    fn dropped<W: Wait>(&self, _rt: &W, _line: u8, _master: u8, _fault: FrameFault, _count: u8) {}
+    /// Called if octets of a master were dropped, before the next frame is exchanged, or once all octets that were read
+    /// are cut.
+    fn dropped<W: Wait>(&self, _rt: &W, _line: u8, _master: u8, _dropped: &DroppedOctets) {}
 
     /// Called where an accepted session has ended, before its address is free again.
     fn ended<W: Wait>(&self, _rt: &W, _line: u8, _master: u8, _end: SessionEnd) {}

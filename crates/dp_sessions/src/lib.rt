@@ -4,6 +4,7 @@
 //! A session comes to a [`Port`], by any reader and writer. Nothing here takes memory but what a thread takes.
 #![tactic(auto)]
 
+mod dropped;
 mod exchange;
 mod gate;
 pub mod laws;
@@ -20,6 +21,7 @@ pub mod sharing;
 
 pub use dp_devices::next_inputs;
 pub use dp_text::{OpLine, TextFault, read_op};
+pub use dropped::DroppedOctets;
 pub use exchange::{serve_pass, serve_pass_by};
 pub use gate::{Gate, OpenGate};
 pub use operator::{

@@ -5,9 +5,9 @@ ghost use Rattle.dp_sessions.specs.Pools.{IsSeatAt};
 use crate::place::{Place, fresh_place};
 use dp_audit::Receipt;
 use dp_line::{Device, Op, Step};
-use dp_sessions::{Gate, OpenGate, Port, SessionEnd, serve, serve_operator_at};
+use dp_sessions::{DroppedOctets, Gate, OpenGate, Port, SessionEnd, serve, serve_operator_at};
 use dp_shared::WorkerSeat;
-use dp_telegram::{FrameFault, WholeFrame};
+use dp_telegram::WholeFrame;
 use shared_tests::line_specs::ample_line;
 use shared_tests::rows::{is_told, many_passes};
 use std::alloc::Global;
@@ -102,7 +102,7 @@ impl Gate for Noting<'_> {
         self.calls.add(4);
     }
 
-    fn dropped<W: Wait>(&self, _rt: &W, _line: u8, _master: u8, _fault: FrameFault, _count: u8) {
+    fn dropped<W: Wait>(&self, _rt: &W, _line: u8, _master: u8, _dropped: &DroppedOctets) {
         self.calls.add(6);
     }
 

@@ -1,0 +1,117 @@
+//! Rows about octets that sessions drop.
+
+use dp_sessions::DroppedOctets;
+use dp_telegram::WrongEnd;
+use std::fmt;
+
+/// How many rows a session may have in one second.
+const MOST_ROWS: u32 = 10;
+
+/// What a session has dropped since the last row about it, and the number of rows in this second.
+#[derive(Default, Drop)]
+pub(crate) struct DroppedRows {
+    waiting: DroppedOctets,
+    /// How many times octets were dropped with no frame between them.
+    runs: u32,
+    second: u64,
+    rows: u32,
+}
+
+impl DroppedRows {
+    /// Adds octets that were dropped one after another.
+    pub(crate) fn add(&mut self, dropped: &DroppedOctets) {
+        self.waiting.add_later(dropped);
+        self.runs = self.runs.saturating_add(1);
+    }
+
+    /// Returns whether no row waits.
+    pub(crate) fn is_empty(&self) -> bool {
+        self.runs == 0
+    }
+
+    /// Returns the row to write in this second since 1970: None if nothing waits, or if the session has had its rows of this
+    /// second and this is not its last one.
+    pub(crate) fn next_row(&mut self, second: u64, is_last: bool) -> Option<DroppedRow> {
+        if second != self.second {
+            self.second = second;
+            self.rows = 0;
+        }
+        if self.is_empty() || (self.rows >= MOST_ROWS && !is_last) {
+            return None;
+        }
+        self.rows = self.rows.saturating_add(1);
+        let row = DroppedRow {
+            dropped: self.waiting.clone(),
+            runs: self.runs,
+        };
+        self.waiting = DroppedOctets::default();
+        self.runs = 0;
+        Some(row)
+    }
+}
+
+/// A row about dropped octets: `dropped 64 octets: NoStart, BadHead (33 68 05 ..)`.
+#[derive(Drop)]
+pub(crate) struct DroppedRow {
+    dropped: DroppedOctets,
+    runs: u32,
+}
+
+impl fmt::Display for DroppedRow {
+    fn fmt<W: fmt::Write>(&self, f: &mut fmt::Formatter<W>) -> fmt::Result {
+        let count = self.dropped.count;
+        let octets = if count == 1 { "octet" } else { "octets" };
+        write!(f, "dropped {count} {octets}")?;
+        if self.runs > 1 {
+            write!(f, " in {} runs", self.runs)?;
+        }
+        self.write_faults(f)?;
+        self.write_octets(f)?;
+        match self.dropped.wrong_end {
+            Some(end) => write_wrong_end(f, end),
+            None => Ok(()),
+        }
+    }
+}
+
+impl DroppedRow {
+    /// Writes why the octets were dropped.
+    fn write_faults<W: fmt::Write>(&self, f: &mut fmt::Formatter<W>) -> fmt::Result {
+        let mut before = ": ";
+        for (has_fault, name) in [
+            (self.dropped.no_start, "NoStart"),
+            (self.dropped.bad_head, "BadHead"),
+            (self.dropped.bad_end, "BadEnd"),
+        ] {
+            if has_fault {
+                write!(f, "{before}{name}")?;
+                before = ", ";
+            }
+        }
+        Ok(())
+    }
+
+    /// Writes the first octets, and two dots if there are more.
+    fn write_octets<W: fmt::Write>(&self, f: &mut fmt::Formatter<W>) -> fmt::Result {
+        let mut before = " (";
+        for octet in &self.dropped.first {
+            write!(f, "{before}{octet:02x}")?;
+            before = " ";
+        }
+        let are_all = self.dropped.count as usize == self.dropped.first.len();
+        f.write_str(if are_all { ")" } else { " ..)" })
+    }
+}
+
+/// Writes what is wrong at the end of a frame.
+fn write_wrong_end<W: fmt::Write>(f: &mut fmt::Formatter<W>, end: WrongEnd) -> fmt::Result {
+    let WrongEnd {
+        check_sequence,
+        expected,
+        end_delimiter,
+    } = end;
+    if check_sequence == expected {
+        return write!(f, ", the end delimiter is {end_delimiter:02x}, not 16");
+    }
+    write!(f, ", the check sequence is {check_sequence:02x}, not {expected:02x}")
+}
