@@ -1,4 +1,4 @@
--- Which configuration is the first with some octets.
+-- The first configuration with some octets.
 use Rattle.std.proofs.Common.{◌≡◌, ◌≢◌, ℕ, zero, suc, ◌+◌, ◌<◌, ◌≤◌, Bool, true, false, cond, ◌&&◌, List, [], ◌∷◌, length, take, refl, sym, ap, ◌∙◌, Option, Some, None, Result, Ok, Err, arith, eqb}
 use Rattle.std.specs.Prelude.{nat_lt, position, slice_get, IfSome}
 use Rattle.std.specs.List.{position_from}
@@ -116,7 +116,7 @@ no_choice configurations octets at =
     ap (option_and_then (below most_choices)) (at ∙ position_is_chosen configurations octets)
     ∙ sym (chosen_among_first most_choices configurations octets)
 
--- where there are no more than have a number, none is left out
+-- if the configurations are at most as many as there are numbers, none is left out
 pub choice_among_all : (configurations : List (List ℕ)) (octets : List ℕ) → length configurations ≤ most_choices
     → chosen (take most_choices configurations) octets ≡ chosen configurations octets
 choice_among_all configurations octets few = ap (λ all. chosen all octets) (take_all most_choices configurations few)

@@ -1,4 +1,4 @@
--- What a reading says of the split.
+-- What a reading says about the split.
 use Rattle.std.proofs.Common.{◌≡◌, ℕ, ◌<◌, ◌≤◌, ◌⊎◌, inl, inr, Bool, true, false, cond, List, [], ap, sym, ◌∙◌, refl, Option, Some, None, Result, Ok, Err, arith}
 use Rattle.std.specs.Prelude.{unwrap_or, nat_lt, ◌||◌, IsOk, IsErrOf, ◌↔◌}
 use Rattle.std.specs.Option.{option_map}
@@ -17,7 +17,7 @@ input_octets_are octets ids split = ap (λ o. input_sum (unwrap_or o [])) (split
 pub output_octets_are : (octets : List ℕ) (ids : List Identifier) → IsSplit octets ids → output_octets octets ≡ output_sum ids
 output_octets_are octets ids split = ap (λ o. output_sum (unwrap_or o [])) (split_found octets ids split)
 
--- the split that each answer tells of
+-- what each answer means for the split
 abbrev pub IsFitting : List ℕ → Type 0
 IsFitting octets = (ids : List Identifier) × IsSplit octets ids × (input_sum ids ≤ most_octets) × (output_sum ids ≤ most_octets)
 
@@ -43,7 +43,7 @@ above_from : (ids : List Identifier) → (most_octets < input_sum ids) ⊎ (most
 above_from ids (inl a) = or_left _ _ (lt-ltb _ _ a)
 above_from ids (inr b) = or_right _ _ (lt-ltb _ _ b)
 
--- each answer, with what the split is then
+-- each answer, with its meaning for the split
 data Answer (octets : List ℕ) (fault : Option CfgFault) : Type 0 where
   fits : fault ≡ None → IsFitting octets → Answer octets fault
   is_cut : fault ≡ Some Cut → IsCut octets → Answer octets fault
@@ -60,7 +60,7 @@ answer_in octets (Some ids) e = answer_above octets ids (is_above ids) (split_is
 answer_of : (octets : List ℕ) → Answer octets (fault_of octets)
 answer_of octets = answer_in octets (split_of octets) refl
 
--- and what the split is then fixes the answer
+-- and that meaning determines the answer
 fitting_answer : (octets : List ℕ) → IsFitting octets → fault_of octets ≡ None
 fitting_answer octets h = ap fault_in (split_found octets h.0 h.1) ∙ cond-false _ _ _ (or_from _ _ (le-ltb _ _ h.2) (le-ltb _ _ h.3))
 

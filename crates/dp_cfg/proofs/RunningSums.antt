@@ -8,7 +8,7 @@ use Rattle.dp_cfg.specs.Reading.{first_identifier, split_of}
 use Rattle.dp_cfg.specs.PrivateWords.{sums_of, lengths_and_rest}
 use Rattle.dp_cfg.proofs.Splits.{split_step, split_stops}
 
--- the sums with those so far
+-- the sums of the identifiers, added to those so far
 abbrev pub added : ℕ → ℕ → List Identifier → ℕ × ℕ
 added inputs outputs ids = (inputs + input_sum ids, outputs + output_sum ids)
 
@@ -32,7 +32,7 @@ added_read inputs outputs a b octets rest (Some first) is e =
 pub added_more : (inputs outputs : ℕ) (a b : ℕ) (octets rest : List ℕ) → Some (a, b, rest) ≡ option_map lengths_and_rest (first_identifier octets) → option_map (added (inputs + a) (outputs + b)) (split_of rest) ≡ option_map (added inputs outputs) (split_of octets)
 added_more inputs outputs a b octets rest e = added_read inputs outputs a b octets rest (first_identifier octets) refl e
 
--- no more where one is cut
+-- there are no sums if an identifier is cut
 no_first : (o : Option (Identifier × List ℕ)) → None ≡ option_map lengths_and_rest o → o ≡ None
 no_first None e = refl
 no_first (Some first) e = cc

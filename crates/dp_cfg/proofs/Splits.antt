@@ -1,4 +1,4 @@
--- The relation of `Identifiers` and the reading of `Reading` say the same.
+-- The relation of `Identifiers` agrees with the reading of `Reading`.
 use Rattle.std.proofs.Common.{◌≡◌, ℕ, zero, suc, ◌<◌, ◌≤◌, List, [], ◌∷◌, ◌++◌, length, take, drop, Option, Some, None, refl, ap, sym, ◌∙◌, arith, length-append, append_assoc}
 use Rattle.std.specs.Prelude.{IfSome}
 use Rattle.std.specs.Option.{option_map, option_and_then}
@@ -19,13 +19,13 @@ identifier_has_octets i (special_inputs head inputs maker k e) = rw e (omega ari
 identifier_has_octets i (special_outputs head outputs maker k e) = rw e (omega arith)
 identifier_has_octets i (special_both head outputs inputs maker k e) = rw e (omega arith)
 
--- the maker's octets are found where they stand
+-- the maker's octets are found at their place
 with_maker_found : (made : List ℕ → Identifier) (count : ℕ) (maker rest : List ℕ) → length maker ≡ count → with_maker made count (maker ++ rest) ≡ Some (made maker, rest)
 with_maker_found made count maker rest e =
     cond-false _ _ _ (le-ltb (length (maker ++ rest)) count (omega (arith, length-append maker rest)))
     ∙ rw (take_at maker rest count e, drop_at maker rest count e)
 
--- an identifier is found where it stands first
+-- an identifier is found if it comes first
 pub first_found : (i : Identifier) (rest : List ℕ) → IsIdentifier i → first_identifier (i.octets ++ rest) ≡ Some (i, rest)
 first_found i rest (general_inputs head k e) = rw (e, k)
 first_found i rest (general_outputs head k e) = rw (e, k)
@@ -44,7 +44,7 @@ pub record Stands (octets : List ℕ) (first : Identifier × List ℕ) : Type 0 
   pub is : IsIdentifier first.0
   pub joined : octets ≡ first.0.octets ++ first.1
 
--- what is found with its maker's octets stands there
+-- what is found with its maker's octets is there
 with_maker_stands : (front : List ℕ) (made : List ℕ → Identifier) (count : ℕ) (rest : List ℕ) → ((maker : List ℕ) → length maker ≡ count → IsIdentifier (made maker)) → ((maker : List ℕ) → (made maker).octets ≡ front ++ maker) → IfSome (with_maker made count rest) (Stands (front ++ rest))
 with_maker_stands front made count rest is octets =
     cond_both _ _ _ (λ o. IfSome o (Stands (front ++ rest))) (λ _. tt)
@@ -89,7 +89,7 @@ special_stands head rest k =
     let c : bits_7_6 head ≡ 2 → ⊥ = eqb-false _ _ not_two in
     both_stand head rest k (omega arith))))
 
--- what is found first stands first
+-- what is found first comes first
 pub first_stands : (octets : List ℕ) → IfSome (first_identifier octets) (Stands octets)
 first_stands [] = tt
 first_stands (head ∷ rest) =
@@ -103,17 +103,17 @@ first_stands (head ∷ rest) =
     let c : bits_5_4 head ≡ 3 → ⊥ = eqb-false _ _ not_three in
     special_stands head rest (omega arith))))
 
--- fewer octets stand behind an identifier
+-- the octets after an identifier are fewer
 pub first_shortens : (octets : List ℕ) → IfSome (first_identifier octets) (λ first. length first.1 < length octets)
 first_shortens octets = IfSome_then (first_identifier octets) (first_stands octets) (λ first stands.
     let some : 0 < length first.0.octets = identifier_has_octets first.0 stands.is in
     omega (arith, ap length stands.joined, length-append first.0.octets first.1))
 
--- the identifiers with the first
+-- the identifiers of the rest, with the first in front
 abbrev behind : ℕ → Identifier × List ℕ → Option (List Identifier)
 behind most first = option_map (λ others. first.0 ∷ others) (split_within most first.1)
 
--- any bound on the length serves
+-- every bound on the length gives the same split
 behind_same : (m n bound : ℕ) (o : Option (Identifier × List ℕ)) → IfSome o (λ first. length first.1 ≤ bound) → ((octets : List ℕ) → length octets ≤ bound → split_within m octets ≡ split_within n octets) → option_and_then (behind m) o ≡ option_and_then (behind n) o
 behind_same m n bound None short same = refl
 behind_same m n bound (Some first) short same = ap (option_map (λ others. first.0 ∷ others)) (same first.1 short)
@@ -130,7 +130,7 @@ split_within_any (suc m) (suc n) (head ∷ rest) p q =
     (IfSome_then (first_identifier (head ∷ rest)) (first_shortens (head ∷ rest)) (λ first short. omega arith))
     (λ octets short. split_within_any m n octets (omega arith) (omega arith))
 
--- the split, by the identifier that stands first
+-- the split, by the first identifier
 pub split_step : (octets : List ℕ) (first : Identifier × List ℕ) → first_identifier octets ≡ Some first → split_of octets ≡ option_map (λ others. first.0 ∷ others) (split_of first.1)
 split_step [] first e = cc
 split_step (head ∷ rest) first e =
@@ -138,11 +138,11 @@ split_step (head ∷ rest) first e =
     ap (option_and_then (behind (length rest))) e
     ∙ ap (option_map (λ others. first.0 ∷ others)) (split_within_any (length rest) (length first.1) first.1 (omega arith) (omega arith))
 
--- no identifier stands first: no split
+-- without a first identifier there is no split
 pub split_stops : (head : ℕ) (rest : List ℕ) → first_identifier (head ∷ rest) ≡ None → split_of (head ∷ rest) ≡ None
 split_stops head rest e = ap (option_and_then (behind (length rest))) e
 
--- what is one identifier after another is split so
+-- octets of identifiers one after another split into these identifiers
 joined_split : (ids : List Identifier) → AllByRecursion IsIdentifier ids → split_of (flat_map (λ i. i.octets) ids) ≡ Some ids
 joined_split [] each = refl
 joined_split (i ∷ ids) each =
@@ -174,6 +174,6 @@ split_within_is (suc most) (head ∷ rest) =
 pub split_is : (octets : List ℕ) (ids : List Identifier) → split_of octets ≡ Some ids → IsSplit octets ids
 split_is octets ids e = MatchOption-at_some _ (IsSplit octets) ids e (split_within_is (length octets) octets)
 
--- and there is no other
+-- and there is no other split
 pub split_unique : (octets : List ℕ) (these those : List Identifier) → IsSplit octets these → IsSplit octets those → these ≡ those
 split_unique octets these those a b = same_Some these those (sym (split_found octets these a) ∙ split_found octets those b)

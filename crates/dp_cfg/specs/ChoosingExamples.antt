@@ -1,4 +1,4 @@
--- Worked choices: the number of the first configuration with the octets.
+-- Example choices: the number of the first configuration with the octets.
 use Rattle.std.specs.Prelude.{◌≡◌, [], ◌∷◌, Some, None, refl}
 use Rattle.dp_cfg.specs.Choosing.{chosen}
 

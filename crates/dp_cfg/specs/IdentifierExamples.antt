@@ -1,4 +1,4 @@
--- Worked configurations: the inputs and outputs of the octets, or their fault.
+-- Example configurations: the inputs and outputs of the octets, or their fault.
 use Rattle.std.specs.Prelude.{◌≡◌, ℕ, List, [], ◌∷◌, Some, Err, refl}
 use Rattle.dp_cfg.specs.Identifiers.{identifier}
 use Rattle.dp_cfg.specs.Reading.{split_of, input_octets, output_octets, reading_of}
@@ -44,10 +44,10 @@ cut = refl
 pub too_long : reading_of (0x80 ∷ 0x7F ∷ 0x80 ∷ 0x7F ∷ []) ≡ Err TooLong
 too_long = refl
 
--- the identifiers of the double special one: outputs stand before inputs
+-- the identifiers of the double special one: outputs come before inputs
 pub double_special_split : split_of (0xC1 ∷ 0x01 ∷ 0x03 ∷ 0x00 ∷ []) ≡ Some (identifier (0xC1 ∷ 0x01 ∷ 0x03 ∷ 0x00 ∷ []) 4 2 ∷ [])
 double_special_split = refl
 
--- the maker's octets belong to their identifier, whatever they would be by themselves
+-- the maker's octets belong to their identifier, whatever they would mean on their own
 pub maker_split : split_of (0x02 ∷ 0x11 ∷ 0x11 ∷ 0x21 ∷ []) ≡ Some (identifier (0x02 ∷ 0x11 ∷ 0x11 ∷ []) 0 0 ∷ identifier (0x21 ∷ []) 0 2 ∷ [])
 maker_split = refl

@@ -32,7 +32,7 @@ bit_6 octet = octet / 64 % 2
 abbrev pub bits_7_6 : ℕ → ℕ
 bits_7_6 octet = octet / 64 % 4
 
--- octets of one unit: bit 6 says that the length counts words of two octets; bit 7, consistency, changes no length (IEC 61158-6-3, identifier byte)
+-- octets of one unit: with bit 6 the length counts words of two octets; bit 7, consistency, changes no length (IEC 61158-6-3, identifier byte)
 abbrev pub unit_octets : ℕ → ℕ
 unit_octets octet = if bit_6 octet == 1 then 2 else 1
 
@@ -48,7 +48,8 @@ announced_octets octet = (bits_5_0 octet + 1) * unit_octets octet
 abbrev pub maker_count : ℕ → ℕ
 maker_count head = if bits_3_0 head == 15 then 0 else bits_3_0 head
 
--- special format: bits 5 and 4 are 00, bits 7 and 6 say which length octets follow, and then the maker's octets do (IEC 61158-6-3, special identifier format)
+-- special format: bits 5 and 4 are 00, bits 7 and 6 give the length octets that follow, and the maker's octets follow those (IEC 61158-6-3, special
+-- identifier format)
 abbrev pub IsSpecial : ℕ → ℕ → List ℕ → Type 0
 IsSpecial head lengths maker = (bits_5_4 head ≡ 0) × (bits_7_6 head ≡ lengths) × (length maker ≡ maker_count head)
 
@@ -82,14 +83,14 @@ pub record IsSplit (octets : List ℕ) (identifiers : List Identifier) : Type 0 
   pub joined : octets ≡ flat_map (λ i. i.octets) identifiers
   pub each : AllByRecursion IsIdentifier identifiers
 
--- inputs of all of them, in octets (IEC 61158-6-3, Chk_Cfg request)
+-- inputs of all identifiers, in octets (IEC 61158-6-3, Chk_Cfg request)
 abbrev pub input_sum : List Identifier → ℕ
 input_sum identifiers = sum_by (λ i. i.inputs) identifiers
 
--- outputs of all of them, in octets (IEC 61158-6-3, Chk_Cfg request)
+-- outputs of all identifiers, in octets (IEC 61158-6-3, Chk_Cfg request)
 abbrev pub output_sum : List Identifier → ℕ
 output_sum identifiers = sum_by (λ i. i.outputs) identifiers
 
--- the most octets of inputs, of outputs and of a configuration: those that a telegram has room for (IEC 61158-6-3, data unit)
+-- the greatest number of octets of inputs, of outputs and of a configuration: as many as a telegram has room for (IEC 61158-6-3, data unit)
 abbrev pub most_octets : ℕ
 most_octets = 244

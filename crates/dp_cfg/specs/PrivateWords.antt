@@ -1,9 +1,9 @@
--- Words of private functions and of the type's invariant: no public clause cites this module.
+-- Definitions for private functions and for the type's invariant. No public clause cites this module.
 use Rattle.std.specs.Prelude.{◌≡◌, ℕ, List, Ok}
 use Rattle.dp_cfg.specs.Identifiers.{Identifier, input_sum, output_sum}
 use Rattle.dp_cfg.specs.Reading.{reading_of, input_octets, output_octets}
 
--- inputs, outputs and the octets behind
+-- inputs and outputs of an identifier, and the octets after it
 abbrev pub lengths_and_rest : Identifier × List ℕ → ℕ × ℕ × List ℕ
 lengths_and_rest first = (first.0.inputs, first.0.outputs, first.1)
 

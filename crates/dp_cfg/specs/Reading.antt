@@ -1,4 +1,4 @@
--- Configuration octets read from left to right: what the relation of `Identifiers` says, in a form that computes.
+-- Configuration octets read from left to right: the relation of `Identifiers` in a form that computes.
 use Rattle.std.specs.Prelude.{ℕ, zero, suc, ◌==◌, nat_lt, ◌||◌, if◌then◌else◌, List, [], ◌∷◌, length, take, drop, Option, Some, None, unwrap_or, option_and_then, Result, Ok, Err}
 use Rattle.std.specs.Option.{option_map}
 use Rattle.dp_cfg.specs.Identifiers.{Identifier, identifier, bits_5_4, bits_7_6, general_octets, announced_octets, maker_count, input_sum, output_sum, most_octets}
@@ -10,12 +10,12 @@ abbrev pub fault_code : CfgFault → ℕ
 fault_code Cut = 1
 fault_code TooLong = 2
 
--- the identifier that ends with so many octets of its maker, and the octets behind it; none where they are fewer (own)
+-- the identifier that ends with `count` octets of its maker, and the octets after it; None if there are fewer (own)
 abbrev pub with_maker : (List ℕ → Identifier) → ℕ → List ℕ → Option (Identifier × List ℕ)
 with_maker made count rest =
     if nat_lt (length rest) count then None else Some (made (take count rest), drop count rest)
 
--- an empty place, from the octets behind its head (own)
+-- an empty place, from the octets after its head (own)
 abbrev pub empty_at : ℕ → List ℕ → Option (Identifier × List ℕ)
 empty_at head rest = with_maker (λ maker. identifier (head ∷ maker) 0 0) (maker_count head) rest
 
@@ -55,7 +55,7 @@ identifier_at head rest =
     else if bits_5_4 head == 3 then Some (identifier (head ∷ []) (general_octets head) (general_octets head), rest)
     else special_at head rest
 
--- the identifier that stands first, and the octets behind it; none where it is cut (own)
+-- the first identifier, and the octets after it; None if it is cut (own)
 abbrev pub first_identifier : List ℕ → Option (Identifier × List ℕ)
 first_identifier [] = None
 first_identifier (head ∷ rest) = identifier_at head rest
@@ -68,7 +68,7 @@ split_within (suc most) (head ∷ rest) =
     option_and_then (λ first. option_map (λ others. first.0 ∷ others) (split_within most first.1))
     (first_identifier (head ∷ rest))
 
--- the identifiers of which these are the octets; none where the last is cut (own)
+-- the identifiers that these octets are; None if the last is cut (own)
 abbrev pub split_of : List ℕ → Option (List Identifier)
 split_of octets = split_within (length octets) octets
 
@@ -91,7 +91,7 @@ fault_in (Some identifiers) =
 abbrev pub fault_of : List ℕ → Option CfgFault
 fault_of octets = fault_in (split_of octets)
 
--- what is right where there is no fault (own)
+-- the right value if there is no fault, or else the fault (own)
 abbrev pub unless_faulty : {A : Type 0} → Option CfgFault → A → Result A CfgFault
 unless_faulty None right = Ok right
 unless_faulty (Some fault) right = Err fault

@@ -1,4 +1,4 @@
-//! Why octets are no configuration.
+//! Faults of octets that are no configuration.
 
 ghost use Rattle.std.specs.Prelude.{◌≡◌};
 ghost use Rattle.dp_cfg.specs.Names.{cfg_fault_name};
@@ -6,7 +6,7 @@ ghost use Rattle.dp_cfg.specs.Reading.{fault_code};
 
 use thiserror::Error;
 
-/// Why octets are no configuration. `Cut` goes first: octets that are cut have no sums.
+/// The reason why octets are no configuration. `Cut` comes first: octets that are cut have no sums.
 #[derive(Clone, Copy, Debug, PartialEq, Eq, Error)]
 #[error("{}", self.name())]
 pub enum CfgFault {
@@ -17,7 +17,7 @@ pub enum CfgFault {
 }
 
 impl CfgFault {
-    /// The number of the fault, 1 or 2 (own).
+    /// Returns the number of the fault, 1 or 2 (own).
     pub const fn code(self) -> u8
         ensures { result ≡ fault_code self }
     {
@@ -27,7 +27,7 @@ impl CfgFault {
         }
     }
 
-    /// Its name in texts (own).
+    /// Returns its name in texts (own).
     pub const fn name(self) -> &'static str
         ensures { result.now ≡ cfg_fault_name self }
     {

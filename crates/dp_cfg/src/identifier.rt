@@ -21,8 +21,8 @@ impl Lengths {
     }
 }
 
-/// The lengths of the identifier that stands first, and the octets behind it; `None` where it is
-/// cut (IEC 61158-6-3, configuration identifiers).
+/// Returns the lengths of the first identifier, and the octets after it; `None` if it is cut (IEC
+/// 61158-6-3, configuration identifiers).
 pub(crate) fn first_identifier(octets: &[u8]) -> Option<(Lengths, &[u8])>
     ensures value { option_map (λ p. (p.0.inputs, p.0.outputs, p.1.now)) result
         ≡ option_map lengths_and_rest (first_of octets.now) }
@@ -40,7 +40,8 @@ pub(crate) fn first_identifier(octets: &[u8]) -> Option<(Lengths, &[u8])>
     Some((lengths, rest))
 }
 
-/// The lengths of an identifier of the special format, and the octets behind it; `rest` is what follows its head.
+/// Returns the lengths of an identifier of the special format, and the octets after it; `None` if
+/// it is cut. `rest` is what follows its head.
 fn special(head: u8, rest: &[u8]) -> Option<(Lengths, &[u8])>
     ensures value { option_map (λ p. (p.0.inputs, p.0.outputs, p.1.now)) result
         ≡ option_map lengths_and_rest (special_at head rest.now) }
@@ -59,7 +60,8 @@ fn special(head: u8, rest: &[u8]) -> Option<(Lengths, &[u8])>
     Some((Lengths::new(inputs, outputs), rest))
 }
 
-/// What the head of a general identifier announces: bits 3 to 0 are the length less one.
+/// Returns the octets that the head of a general identifier announces. Bits 3 to 0 are the length
+/// less one, in units.
 fn general_octets(head: u8) -> u8
     ensures value { result ≡ general_of head }
     ensures most { result ≤ 32 }
@@ -67,7 +69,7 @@ fn general_octets(head: u8) -> u8
     ((head & 0x0F) + 1) * unit_octets(head)
 }
 
-/// What a length octet announces: bits 5 to 0 are the length less one.
+/// Returns the octets that a length octet announces. Bits 5 to 0 are the length less one, in units.
 fn announced_octets(octet: u8) -> u8
     ensures value { result ≡ announced_by octet }
     ensures most { result ≤ 128 }
@@ -75,14 +77,14 @@ fn announced_octets(octet: u8) -> u8
     ((octet & 0x3F) + 1) * unit_octets(octet)
 }
 
-/// Bit 6 makes the unit a word of two octets.
+/// Returns the octets of a unit: bit 6 makes it a word of two octets.
 fn unit_octets(octet: u8) -> u8
     ensures { result ≡ unit_of octet }
 {
     if octet >> 6 & 1 == 1 { 2 } else { 1 }
 }
 
-/// The maker's octets of a special identifier, where 15 means none.
+/// Returns the number of the maker's octets of a special identifier. 15 means none.
 fn maker_count(head: u8) -> usize
     ensures { result ≡ maker_of head }
 {

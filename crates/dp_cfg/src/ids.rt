@@ -33,9 +33,9 @@ impl Model for CfgIds {
 }
 
 impl CfgIds {
-    /// The configuration of these octets, at most 244 of them. `Cut` where they end within an
-    /// identifier, `TooLong` where they don't and the inputs or the outputs of all identifiers
-    /// together are more than 244 octets (IEC 61158-6-3, Chk_Cfg request).
+    /// Returns the configuration of these octets, at most 244 of them. Returns `Cut` if they end
+    /// within an identifier. If they don't, returns `TooLong` if the inputs or the outputs of all
+    /// identifiers together are more than 244 octets (IEC 61158-6-3, Chk_Cfg request).
     pub fn parse(octets: &[u8]) -> Result<CfgIds, CfgFault>
         requires { length octets.now ≤ most_octets }
         ensures ok { IsOk result ↔ ((ids : List Identifier) × IsSplit octets.now ids
@@ -54,8 +54,8 @@ impl CfgIds {
         })
     }
 
-    /// The inputs of all identifiers together, 0 to 244 octets (IEC 61158-6-3, Data_Exchange): the
-    /// octets split into identifiers, and it is the sum over these.
+    /// Returns the inputs of all identifiers together, 0 to 244 octets (IEC 61158-6-3,
+    /// Data_Exchange): the sum over the identifiers into which the octets split.
     pub fn input_len(&self) -> u8
         ensures computed { result ≡ input_octets self.now }
         ensures summed { (ids : List Identifier) × IsSplit self.now ids × (result ≡ input_sum ids) }
@@ -64,8 +64,8 @@ impl CfgIds {
         self.inputs
     }
 
-    /// The outputs of all identifiers together, 0 to 244 octets (IEC 61158-6-3, Data_Exchange): the
-    /// octets split into identifiers, and it is the sum over these.
+    /// Returns the outputs of all identifiers together, 0 to 244 octets (IEC 61158-6-3,
+    /// Data_Exchange): the sum over the identifiers into which the octets split.
     pub fn output_len(&self) -> u8
         ensures computed { result ≡ output_octets self.now }
         ensures summed { (ids : List Identifier) × IsSplit self.now ids × (result ≡ output_sum ids) }
@@ -74,7 +74,7 @@ impl CfgIds {
         self.outputs
     }
 
-    /// The octets as they were given, at most 244 (IEC 61158-6-3, Get_Cfg response).
+    /// Returns the octets as they were given, at most 244 (IEC 61158-6-3, Get_Cfg response).
     pub fn octets(&self) -> &[u8]
         ensures value { result.now ≡ self.now }
         ensures most { length result.now ≤ most_octets }
@@ -83,8 +83,8 @@ impl CfgIds {
         self.octets.as_slice()
     }
 
-    /// Whether these octets are the configuration's, octet by octet (IEC 61158-6-3, Chk_Cfg
-    /// request).
+    /// Returns whether these octets are those of the configuration, octet by octet (IEC 61158-6-3,
+    /// Chk_Cfg request).
     pub fn equals(&self, octets: &[u8]) -> bool
         ensures equal { IsTrue result ↔ (self.now ≡ octets.now) }
         ensures computed { result ≡ same_octets self.now octets.now }

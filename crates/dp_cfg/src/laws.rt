@@ -1,4 +1,4 @@
-//! What holds of every configuration, as contracts of functions that do nothing.
+//! Laws of configurations: each is the contract of an empty function.
 
 ghost use Rattle.std.specs.Prelude.{◌≡◌, ◌≢◌, ℕ, ◌<◌, List, Some, None, ◌↔◌, slice_get};
 ghost use Rattle.dp_cfg.specs.Choosing.{chosen};
@@ -11,7 +11,7 @@ pub fn split_is_unique()
         → IsSplit octets these → IsSplit octets those → these ≡ those }
 {}
 
-/// Reading from left to right finds the split exactly where there is one (own).
+/// Reading from left to right finds the split exactly if there is one (own).
 pub fn split_is_found()
     ensures { (octets : List ℕ) (identifiers : List Identifier)
         → IsSplit octets identifiers ↔ (split_of octets ≡ Some identifiers) }
@@ -25,8 +25,8 @@ pub fn lengths_are_sums()
         → IsSplit octets identifiers → output_octets octets ≡ output_sum identifiers }
 {}
 
-/// The number that is chosen is that of the first configuration with the octets, and none is chosen exactly where
-/// none has them (IEC 61158-6-3, Chk_Cfg request).
+/// The number that is chosen is that of the first configuration with the octets. None is chosen
+/// exactly if no configuration has them (IEC 61158-6-3, Chk_Cfg request).
 pub fn the_first_equal_one_is_chosen()
     ensures first { (configurations : List (List ℕ)) (octets : List ℕ) (number : ℕ)
         → (chosen configurations octets ≡ Some number) ↔ ((slice_get configurations number ≡ Some octets)

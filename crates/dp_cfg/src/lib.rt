@@ -1,8 +1,9 @@
 //! Configuration identifiers of PROFIBUS DP (IEC 61158-6-3): how many octets of inputs and of
 //! outputs a configuration announces.
 //!
-//! A configuration is identifiers one after another, in the general format of one octet or in the
-//! special format with length octets and octets of the maker. [`CfgIds::parse`] reads one.
+//! A configuration is a list of identifiers. Each has the general format of one octet, or the
+//! special format with length octets and octets of the maker. [`CfgIds::parse`] reads a
+//! configuration.
 #![tactic(auto)]
 
 mod choosing;

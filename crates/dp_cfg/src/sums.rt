@@ -9,12 +9,14 @@ ghost use Rattle.dp_cfg.specs.Reading.{split_of, unless_faulty, fault_of, input_
 use crate::fault::CfgFault;
 use crate::identifier::{Lengths, first_identifier};
 
-/// The most octets of inputs, of outputs and of a configuration (IEC 61158-6-3, data unit).
+/// The greatest number of octets of inputs, of outputs and of a configuration (IEC 61158-6-3, data
+/// unit).
 pub const MOST_OCTETS: usize = 244;
 
 const MOST: u32 = MOST_OCTETS as u32;
 
-/// Inputs and outputs of a configuration, or why it is none.
+/// Returns the inputs and outputs of a configuration, or the fault of octets that are no
+/// configuration.
 pub(crate) fn lengths_of(octets: &[u8]) -> Result<Lengths, CfgFault>
     requires { length octets.now ≤ most_octets }
     ensures { result ≡ unless_faulty (fault_of octets.now)
@@ -27,7 +29,7 @@ pub(crate) fn lengths_of(octets: &[u8]) -> Result<Lengths, CfgFault>
     Ok(Lengths::new(inputs as u8, outputs as u8))
 }
 
-/// The sums of inputs and of outputs over the identifiers; `None` where the last is cut.
+/// Returns the sums of inputs and of outputs over the identifiers; `None` if the last is cut.
 fn sums(octets: &[u8]) -> Option<(u32, u32)>
     requires { length octets.now ≤ most_octets }
     ensures { result ≡ option_map sums_of (split_of octets.now) }

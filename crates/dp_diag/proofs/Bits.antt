@@ -3,7 +3,7 @@ use Rattle.std.specs.Prelude.{◌≡◌, ℕ, ◌^◌, [], ◌∷◌, Bool, true
 use Rattle.std.proofs.Common.{bit_or, arith}
 use Rattle.dp_diag.specs.DiagnosisText.{octet_of}
 
--- an octet in which the bit of this number alone may be 1
+-- an octet in which only the bit of this number may be 1
 abbrev bit : ℕ → Bool → ℕ
 bit number flag = if flag then 2 ^ number else 0
 

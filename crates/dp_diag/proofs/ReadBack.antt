@@ -8,7 +8,7 @@ use Rattle.dp_diag.specs.declared.facts.DiagFacts.{DiagFacts}
 use Rattle.dp_sap.specs.States.{is_in_data_exch, is_in_wait_prm}
 use Rattle.dp_diag.specs.DiagnosisText.{octet_of, diagnosis_text, no_master, station_status_1, station_status_2, station_status_3, shown, HolderIsStation}
 
--- as many bits are told by their octet
+-- an octet determines its bits, for lists of bits of the same length
 bits_told : (these those : List Bool) → length these ≡ length those → octet_of these ≡ octet_of those → these ≡ those
 bits_told [] [] _ _ = refl
 bits_told [] (bit ∷ bits) many _ = cc
@@ -24,13 +24,13 @@ state_of true true = WaitPrm
 state_of true false = WaitCfg
 state_of false _ = DataExch
 
--- the two conditions tell the state
+-- the two conditions determine the state
 state_of-state : (state : State) → state_of (not (is_in_data_exch state)) (is_in_wait_prm state) ≡ state
 state_of-state WaitPrm = refl
 state_of-state WaitCfg = refl
 state_of-state DataExch = refl
 
--- octet 4 tells the holder
+-- octet 4 determines the holder
 holder_told : (one another : Option ℕ) → IfSome one (λ holder. holder < 127) → IfSome another (λ holder. holder < 127)
     → unwrap_or one no_master ≡ unwrap_or another no_master → one ≡ another
 holder_told None None _ _ _ = refl
@@ -38,7 +38,7 @@ holder_told None (Some holder) _ below same = absurd (omega arith)
 holder_told (Some holder) None below _ same = absurd (omega arith)
 holder_told (Some one) (Some another) _ _ same = ap Some same
 
--- octets 5 and 6 tell the ident number
+-- octets 5 and 6 determine the ident number
 ident_told : (one another : ℕ) → one / 256 ≡ another / 256 → one % 256 ≡ another % 256 → one ≡ another
 ident_told one another high low = omega arith
 
@@ -46,7 +46,7 @@ ident_told one another high low = omega arith
 abbrev array_vec_of : List ℕ → ArrayVec ℕ
 array_vec_of items = record { items = items }
 
--- the octets tell each fact but whether the diagnosis is unread
+-- the octets determine each fact except whether the diagnosis is unread
 pub diagnosis_text_told : (one another : DiagFacts) → HolderIsStation one → HolderIsStation another
     → diagnosis_text one ≡ diagnosis_text another → shown one ≡ shown another
 diagnosis_text_told one another held held' same =

@@ -1,8 +1,8 @@
--- What a slave keeps of its diagnosis.
+-- The diagnosis data that a slave stores.
 use Rattle.std.specs.Prelude.{ℕ, Bool, false, true, ◌||◌, List, []}
 use Rattle.dp_diag.specs.declared.diag.Diag.{Diag}
 
--- the most octets of extended diagnosis: those of a telegram but for the six that come before them (IEC 61158-6-3, Slave_Diag response)
+-- the greatest number of octets of extended diagnosis: those of a telegram without its first six (IEC 61158-6-3, Slave_Diag response)
 abbrev pub most_extended : ℕ
 most_extended = 238
 
@@ -30,6 +30,6 @@ reported diag ext stat overflow octets = record diag {
   unread = true;
 }
 
--- the next reply to Data_Exchange is of high priority, so that the master asks for the diagnosis: it is unread, or Stat_Diag is set (own)
+-- the next reply to Data_Exchange has high priority, so that the master asks for the diagnosis: it is unread, or Stat_Diag is set (own)
 abbrev pub is_due_high : Diag → Bool
 is_due_high diag = diag.unread || diag.stat

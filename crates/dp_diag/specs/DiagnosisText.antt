@@ -11,21 +11,21 @@ octet_of (bit ∷ bits) = (if bit then 1 else 0) + 2 * octet_of bits
 -- octet 1 by its bits, bit 0 first (IEC 61158-6-3, Slave_Diag response, Station_status_1)
 abbrev pub station_status_1 : DiagFacts → List Bool
 station_status_1 facts =
-    -- 0 Station_Non_Existent: the master's own, a slave sends 0
+    -- 0 Station_Non_Existent: set by the master; a slave sends 0
     false
     -- 1 Station_Not_Ready: the state is not Data_Exch
     ∷ not (is_in_data_exch facts.state)
     -- 2 Cfg_Fault: a configuration was refused
     ∷ facts.diag.cfg_fault
-    -- 3 Ext_Diag: the extended octets tell of a fault
+    -- 3 Ext_Diag: the extended octets report a fault
     ∷ facts.diag.ext
-    -- 4 Not_Supported: a function was asked for that the slave has not
+    -- 4 Not_Supported: the slave was asked for a function that it does not have
     ∷ facts.diag.not_supported
-    -- 5 Invalid_Slave_Response: the master's own, a slave sends 0
+    -- 5 Invalid_Slave_Response: set by the master; a slave sends 0
     ∷ false
     -- 6 Prm_Fault: parameters were refused
     ∷ facts.diag.prm_fault
-    -- 7 Master_Lock: the master's own, a slave sends 0
+    -- 7 Master_Lock: set by the master; a slave sends 0
     ∷ false
     ∷ []
 
@@ -46,7 +46,7 @@ station_status_2 facts =
     ∷ facts.sync_mode
     -- 6 reserved
     ∷ false
-    -- 7 Deactivated: the master's own, a slave sends 0
+    -- 7 Deactivated: set by the master; a slave sends 0
     ∷ false
     ∷ []
 
@@ -61,7 +61,7 @@ station_status_3 facts =
     ∷ false
     ∷ false
     ∷ false
-    -- 7 Ext_Diag_Overflow: there was more to tell than fits
+    -- 7 Ext_Diag_Overflow: there was more to report than fits
     ∷ facts.diag.overflow
     ∷ []
 
@@ -69,7 +69,7 @@ station_status_3 facts =
 abbrev pub no_master : ℕ
 no_master = 255
 
--- octet 4: the address of the holder (IEC 61158-6-3, Slave_Diag response, Master_Add)
+-- octet 4: the address of the holder, 255 if there is none (IEC 61158-6-3, Slave_Diag response, Master_Add)
 abbrev pub master_add : DiagFacts → ℕ
 master_add facts = unwrap_or facts.holder no_master
 
@@ -91,6 +91,6 @@ diagnosis_text facts =
 abbrev pub HolderIsStation : DiagFacts → Type 0
 HolderIsStation facts = IfSome facts.holder (λ holder. holder < 127)
 
--- what the octets show: every fact, but not whether the diagnosis is unread (own)
+-- what the octets show: every fact except whether the diagnosis is unread (own)
 abbrev pub shown : DiagFacts → DiagFacts
 shown facts = record facts { diag = record facts.diag { unread = false } }

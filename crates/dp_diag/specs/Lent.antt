@@ -1,8 +1,8 @@
--- What a diagnosis tells, by facts that lend what the slave keeps of it.
+-- What a diagnosis reports, with the stored diagnosis data lent.
 use Rattle.dp_diag.specs.declared.facts.DiagFacts.{DiagFacts}
 use Rattle.dp_diag.specs.declared.facts.DiagFactsLent.{DiagFactsLent}
 
--- all that a diagnosis tells, where what the slave keeps of it is lent
+-- the facts that a `DiagFactsLent` stands for
 abbrev pub facts_lent : DiagFactsLent → DiagFacts
 facts_lent facts = record {
   state = facts.state;

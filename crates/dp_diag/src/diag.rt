@@ -1,22 +1,22 @@
-//! What a slave keeps of its diagnosis.
+//! The diagnosis data that a slave stores.
 
 ghost use Rattle.std.specs.Prelude.{◌≡◌};
 ghost use Rattle.dp_diag.specs.Diagnosis.{is_due_high, no_diagnosis, reported};
 
 use arrayvec::ArrayVec;
 
-/// The most octets of extended diagnosis (IEC 61158-6-3, Slave_Diag response).
+/// The greatest number of octets of extended diagnosis (IEC 61158-6-3, Slave_Diag response).
 pub const MOST_EXTENDED: usize = 238;
 
-/// What a slave keeps of its diagnosis: what its application reported last, and its faults.
+/// The diagnosis data that a slave stores: what its application reported last, and its faults.
 #[derive(Clone, Debug, Default, Drop, PartialEq, Eq)]
 pub struct Diag {
-    /// Ext_Diag: the extended octets tell of a fault, and not only of a state.
+    /// Ext_Diag: the extended octets report a fault, and not only a state.
     pub ext: bool,
     /// Stat_Diag: the application has no valid data to give, and the master asks for the diagnosis
     /// until this is false.
     pub stat: bool,
-    /// Ext_Diag_Overflow: there was more to tell than the extended octets hold.
+    /// Ext_Diag_Overflow: there was more to report than the extended octets hold.
     pub overflow: bool,
     /// Extended diagnosis, 0 to 238 octets.
     pub octets: ArrayVec<u8, MOST_EXTENDED>,
@@ -31,16 +31,16 @@ pub struct Diag {
 }
 
 impl Diag {
-    /// No fault, no diagnosis, and nothing unread: what a slave starts with (own).
+    /// Returns what a slave starts with: no fault, no diagnosis, and nothing unread (own).
     pub fn new() -> Diag
         ensures { result ≡ no_diagnosis }
     {
         Diag::default()
     }
 
-    /// The application reports Ext_Diag, Stat_Diag, Ext_Diag_Overflow and the extended octets (IEC
-    /// 61158-6-3, Slave_Diag response). The diagnosis is unread then, and the three faults stay
-    /// (own).
+    /// Stores a report of the application: Ext_Diag, Stat_Diag, Ext_Diag_Overflow and the extended
+    /// octets (IEC 61158-6-3, Slave_Diag response). The diagnosis is unread then, and the three
+    /// faults stay (own).
     pub fn update(
         &mut self,
         ext: bool,
@@ -58,8 +58,8 @@ impl Diag {
         self.unread = true;
     }
 
-    /// Whether the next reply to Data_Exchange is of high priority, so that the master asks for the
-    /// diagnosis: exactly while it is unread or Stat_Diag is set (own).
+    /// Returns whether the next reply to Data_Exchange has high priority, so that the master asks
+    /// for the diagnosis: exactly while it is unread or Stat_Diag is set (own).
     pub const fn due_high(&self) -> bool
         ensures { result ≡ is_due_high self.now }
     {

@@ -1,4 +1,4 @@
-//! What a diagnosis tells, and its octets.
+//! What a diagnosis reports, and its octets.
 
 ghost use Rattle.std.specs.Prelude.{◌≡◌, ◌^◌, ◌<◌, if◌then◌else◌};
 ghost use Rattle.dp_diag.specs.DiagnosisText.{diagnosis_text, octet_of, station_status_1, station_status_2, station_status_3};
@@ -11,7 +11,7 @@ use dp_sap::{MOST_DATA, State};
 /// The address that stands for no master (IEC 61158-6-3, Slave_Diag response, Master_Add).
 pub const NO_MASTER: u8 = 255;
 
-/// All that the diagnosis of a slave tells (IEC 61158-6-3, Slave_Diag response).
+/// All that the diagnosis of a slave reports (IEC 61158-6-3, Slave_Diag response).
 #[derive(Clone, Debug, Drop, PartialEq, Eq)]
 pub struct DiagFacts {
     /// The slave's state.
@@ -26,31 +26,31 @@ pub struct DiagFacts {
     pub freeze_mode: bool,
     /// The slave is in sync mode.
     pub sync_mode: bool,
-    /// What the slave keeps of its diagnosis; whether it is unread is not told.
+    /// The diagnosis data that the slave stores. Whether it is unread is not reported.
     pub diag: Diag,
 }
 
-/// All that the diagnosis of a slave tells, as [`DiagFacts`] has it; what the slave keeps of its
-/// diagnosis is lent.
+/// All that the diagnosis of a slave reports, with the stored diagnosis data lent. See
+/// [`DiagFacts`].
 #[derive(Clone, Copy, Debug, PartialEq, Eq)]
 pub struct DiagFactsLent<'a> {
-    /// As [`DiagFacts::state`].
+    /// See [`DiagFacts::state`].
     pub state: State,
-    /// As [`DiagFacts::holder`].
+    /// See [`DiagFacts::holder`].
     pub holder: Option<u8>,
-    /// As [`DiagFacts::ident`].
+    /// See [`DiagFacts::ident`].
     pub ident: u16,
-    /// As [`DiagFacts::wd_on`].
+    /// See [`DiagFacts::wd_on`].
     pub wd_on: bool,
-    /// As [`DiagFacts::freeze_mode`].
+    /// See [`DiagFacts::freeze_mode`].
     pub freeze_mode: bool,
-    /// As [`DiagFacts::sync_mode`].
+    /// See [`DiagFacts::sync_mode`].
     pub sync_mode: bool,
-    /// As [`DiagFacts::diag`].
+    /// See [`DiagFacts::diag`].
     pub diag: &'a Diag,
 }
 
-/// The octets of the diagnosis, 6 to 244 of them (IEC 61158-6-3, Slave_Diag response).
+/// Returns the octets of the diagnosis, 6 to 244 of them (IEC 61158-6-3, Slave_Diag response).
 pub fn octets(facts: &DiagFacts) -> ArrayVec<u8, MOST_DATA>
     ensures { result.items ≡ diagnosis_text facts.now }
 {
@@ -59,7 +59,7 @@ pub fn octets(facts: &DiagFacts) -> ArrayVec<u8, MOST_DATA>
     octets
 }
 
-/// Puts the octets of the diagnosis where octets lie, as [`octets`] answers them.
+/// Replaces `octets` with the octets of the diagnosis. See [`octets`].
 pub fn octets_into(facts: &DiagFacts, octets: &mut ArrayVec<u8, MOST_DATA>)
     ensures { octets.new.items ≡ diagnosis_text facts.now }
 {
@@ -75,7 +75,7 @@ pub fn octets_into(facts: &DiagFacts, octets: &mut ArrayVec<u8, MOST_DATA>)
     octets_lent_into(&facts, octets);
 }
 
-/// Like [`octets_into`], but of facts that lend what the slave keeps of its diagnosis.
+/// Replaces `octets` with the octets of a diagnosis whose [`Diag`] is lent. See [`octets`].
 pub fn octets_lent_into(facts: &DiagFactsLent<'_>, octets: &mut ArrayVec<u8, MOST_DATA>)
     ensures { octets.new.items ≡ diagnosis_text (facts_lent facts.now) }
 {
@@ -93,7 +93,7 @@ pub fn octets_lent_into(facts: &DiagFactsLent<'_>, octets: &mut ArrayVec<u8, MOS
     octets.try_extend_from_slice(&facts.diag.octets).unwrap();
 }
 
-/// Station_status_1 (IEC 61158-6-3, Slave_Diag response).
+/// Returns Station_status_1 (IEC 61158-6-3, Slave_Diag response).
 #[tactic(auto, using(crate::proofs::Bits::or_station_status_1))]
 fn octet_1(facts: &DiagFactsLent<'_>) -> u8
     ensures { result ≡ octet_of (station_status_1 (facts_lent facts.now)) }
@@ -105,7 +105,7 @@ fn octet_1(facts: &DiagFactsLent<'_>) -> u8
         | bit(6, facts.diag.prm_fault)
 }
 
-/// Station_status_2 (IEC 61158-6-3, Slave_Diag response).
+/// Returns Station_status_2 (IEC 61158-6-3, Slave_Diag response).
 #[tactic(auto, using(crate::proofs::Bits::or_station_status_2))]
 fn octet_2(facts: &DiagFactsLent<'_>) -> u8
     ensures { result ≡ octet_of (station_status_2 (facts_lent facts.now)) }
@@ -118,14 +118,14 @@ fn octet_2(facts: &DiagFactsLent<'_>) -> u8
         | bit(5, facts.sync_mode)
 }
 
-/// Station_status_3 (IEC 61158-6-3, Slave_Diag response).
+/// Returns Station_status_3 (IEC 61158-6-3, Slave_Diag response).
 fn octet_3(facts: &DiagFactsLent<'_>) -> u8
     ensures { result ≡ octet_of (station_status_3 (facts_lent facts.now)) }
 {
     bit(7, facts.diag.overflow)
 }
 
-/// An octet in which this bit alone is 1, where the flag is set, and else no bit.
+/// Returns an octet in which only this bit, 0 to 7, is 1 if the flag is set; 0 if it is not.
 fn bit(number: u32, flag: bool) -> u8
     requires { number < 8 }
     ensures { result ≡ (if flag then 2 ^ number else 0) }

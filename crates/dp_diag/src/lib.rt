@@ -1,9 +1,9 @@
-//! Diagnosis of a DP slave (IEC 61158-6-3, Slave_Diag response): what a slave keeps about itself,
-//! and the octets that tell a master of it.
+//! Diagnosis of a DP slave (IEC 61158-6-3, Slave_Diag response): what a slave stores about itself,
+//! and the octets that report it to a master.
 //!
-//! A [`Diag`] is the part of a slave's state that its application and its faults set, and
-//! [`DiagFacts`] is all that a diagnosis tells; [`octets`] writes it, and [`octets_lent_into`] the
-//! same of [`DiagFactsLent`], which lend the [`Diag`].
+//! A [`Diag`] is the part of a slave's state that its application and its faults set. [`DiagFacts`]
+//! is all that a diagnosis reports, and [`octets`] writes it. [`DiagFactsLent`] lends the [`Diag`],
+//! and [`octets_lent_into`] writes it.
 #![tactic(auto)]
 
 mod diag;

@@ -1,4 +1,4 @@
--- Commands, and whom they select.
+-- Commands, and the slaves that they select.
 use Rattle.std.specs.Prelude.{◌≡◌, true, false, [], ◌∷◌, refl}
 use Rattle.dp_globalctl.specs.Command.{command_of, selects}
 
@@ -9,7 +9,7 @@ sync_bit = refl
 pub other_bits : command_of (0xC1 ∷ 0x02 ∷ []) ≡ record { clear_data = false; unfreeze = false; freeze = false; unsync = false; sync = false; group = 2 }
 other_bits = refl
 
--- Group_Select 0 selects every slave, also one of no group
+-- Group_Select 0 selects every slave, also one in no group
 pub all_are_selected : selects 0 0 ≡ true
 all_are_selected = refl
 

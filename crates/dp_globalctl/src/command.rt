@@ -1,4 +1,4 @@
-//! A Global_Control.
+//! Reads and executes a Global_Control.
 
 ghost use Rattle.std.specs.Prelude.{◌≡◌, ◌<◌, length};
 ghost use Rattle.dp_telegram.specs.FunctionCode.{is_set as is_set_of};
@@ -21,7 +21,7 @@ const UNSYNC: u32 = 4;
 
 const SYNC: u32 = 5;
 
-/// What a Global_Control asks for.
+/// A command of a Global_Control, with the groups that it selects.
 #[derive(Clone, Copy, Debug, PartialEq, Eq)]
 pub struct Command {
     /// Clear_Data: outputs and latest data become zero, and a fail-safe slave is cleared.
@@ -39,7 +39,8 @@ pub struct Command {
 }
 
 impl Command {
-    /// What the two octets of a Global_Control say; the other bits of the first are ignored (own).
+    /// Returns the command in the two octets of a Global_Control. The other bits of the first are
+    /// ignored (own).
     pub fn read(octets: &[u8]) -> Command
         requires { length octets.now ≡ 2 }
         ensures { result ≡ command_of octets.now }
@@ -55,16 +56,16 @@ impl Command {
         }
     }
 
-    /// It selects a slave of these groups: Group_Select 0 selects every slave, and else a group has
-    /// to be in common.
+    /// Returns whether it selects a slave of these groups. Group_Select 0 selects every slave; any
+    /// other value selects a slave that has a group in common with it.
     pub const fn selects(&self, group: u8) -> bool
         ensures { result ≡ is_selected self.now.group group }
     {
         self.group == 0 || self.group & group != 0
     }
 
-    /// Does to a slave in Data_Exch what it asks for, in this order (own): Clear_Data; Unsync, or
-    /// else Sync; Unfreeze, or else Freeze. A watchdog that runs is set to its full time.
+    /// Executes the command on a slave in Data_Exch, in this order (own): Clear_Data; Unsync, or
+    /// else Sync; Unfreeze, or else Freeze. A running watchdog is set to its full time.
     #[tactic(auto, unfolding(dp_slave::specs::Fields::acted))]
     pub fn apply(&self, slave: &mut Slave)
         ensures { slave.new ≡ with_slave slave.old (acted slave.old.slave (is_controlled (control_in self.now))) }
@@ -86,7 +87,7 @@ impl Command {
     }
 }
 
-/// The bit of this number is 1.
+/// Returns whether the bit of this number, 0 to 7, is 1.
 const fn is_set(number: u32, octet: u8) -> bool
     requires { number < 8 }
     ensures { result ≡ is_set_of number octet }

@@ -1,4 +1,4 @@
--- What an append leaves of the lists.
+-- The lists after an append.
 use Rattle.std.proofs.Common.{◌≡◌, ◌≢◌, ℕ, ◌<◌, List, [], ◌∷◌, ◌++◌, length, get_or, set, Option, Some, None, sym, ap, subst, ◌∙◌, arith, get_or-set_same, get_or-set_other, length-set}
 use Rattle.std.specs.Prelude.{slice_get, IfSome}
 use Rattle.dp_owners.specs.declared.owners.TheConstants.{MOST_MASTERS}
@@ -14,7 +14,7 @@ use Rattle.dp_owners.proofs.Homes.{moved, home_kept, home_push, last_away}
 use Rattle.dp_owners.proofs.Chains.{chain_kept, relink_last, chain_join, last_below}
 use Rattle.dp_owners.proofs.Changes.{each, each_before, at_changed, length-with_end, end_other, head_here, among}
 
--- what the code writes, where this was the last of the list
+-- what the code writes, if `last` was the last of the list
 abbrev pub pushed : Option ℕ → Links → Links
 pushed last own = record { prev = last; next = None }
 

@@ -1,4 +1,4 @@
--- Chains of records, and what a change of one link leaves of them.
+-- Chains of records, and chains after a change of one link.
 use Rattle.std.proofs.Common.{◌≡◌, ℕ, zero, suc, ◌<◌, List, [], ◌∷◌, ◌++◌, length, map, reverse, Option, Some, None, refl, sym, ap, subst, ◌∙◌}
 use Rattle.std.specs.Prelude.{slice_get, IfSome}
 use Rattle.std.proofs.lemmas.List.{reverse-append}
@@ -9,7 +9,7 @@ use Rattle.dp_owners.specs.Mending.{changed_where, with_next, with_prev, mirrore
 use Rattle.dp_owners.proofs.Mending.{get_below, get_changed, get_unchanged}
 use Rattle.dp_owners.proofs.Positions.{Misses, misses_first, misses_rest, last_is_other, last_join}
 
--- a chain stays where a change is at no record of it
+-- a chain stays if no record of it changes
 pub chain_kept : (change : Links → Links) (at : Option ℕ) (links : List Links) (before : Option ℕ) (xs : List ℕ) (after : Option ℕ)
     → Misses at xs → IsChain links before xs after → IsChain (changed_where change at links) before xs after
 chain_kept change at links before [] after missed chain = tt
@@ -18,7 +18,7 @@ chain_kept change at links before (x ∷ xs) after missed chain = (
   chain_kept change at links (Some x) xs after (misses_rest at x xs missed) chain.1,
 )
 
--- the last record gets another neighbour behind it
+-- the last record gets another successor
 pub relink_last : (links : List Links) (before : Option ℕ) (xs : List ℕ) (after later : Option ℕ)
     → IsDistinct xs → IsChain links before xs after → IsChain (changed_where (with_next later) (last_or None xs) links) before xs later
 relink_last links before [] after later distinct chain = tt
@@ -28,7 +28,7 @@ relink_last links before (x ∷ y ∷ xs) after later distinct chain = (
   relink_last links (Some x) (y ∷ xs) after later distinct.1 chain.1,
 )
 
--- the first record gets another neighbour before it
+-- the first record gets another predecessor
 pub relink_first : (links : List Links) (before earlier : Option ℕ) (xs : List ℕ) (after : Option ℕ)
     → IsDistinct xs → IsChain links before xs after → IsChain (changed_where (with_prev earlier) (first_or xs None) links) earlier xs after
 relink_first links before earlier [] after distinct chain = tt
@@ -37,7 +37,7 @@ relink_first links before earlier (x ∷ xs) after distinct chain = (
   chain_kept (with_prev earlier) (Some x) links (Some x) xs after distinct.0 chain.1,
 )
 
--- two chains, one behind the other
+-- two chains, one after the other
 pub chain_join : (links : List Links) (before : Option ℕ) (xs ys : List ℕ) (after : Option ℕ)
     → IsChain links before xs (first_or ys after) → IsChain links (last_or before xs) ys after → IsChain links before (xs ++ ys) after
 chain_join links before [] ys after one two = two
@@ -53,7 +53,7 @@ pub chain_back : (links : List Links) (before : Option ℕ) (xs ys : List ℕ) (
 chain_back links before [] ys after chain = chain
 chain_back links before (x ∷ xs) ys after chain = chain_back links (Some x) xs ys after chain.1
 
--- where a chain has a record, there is one
+-- the first and the last of a chain are records
 pub first_below : (links : List Links) (before : Option ℕ) (xs : List ℕ) → IsChain links before xs None → IfSome (first_or xs None) (λ at. at < length links)
 first_below links before [] chain = tt
 first_below links before (x ∷ xs) chain = get_below links x _ chain.0

@@ -1,4 +1,4 @@
--- Where one master's list is changed: what holds of each list, and the ends of the lists.
+-- A change of one master's list: what holds for each list, and the ends of the lists.
 use Rattle.std.proofs.Common.{◌≡◌, ◌≢◌, ℕ, ◌<◌, Bool, true, false, cond, eqb, List, [], ◌∷◌, ◌++◌, length, get_or, Option, Some, None, refl, sym, ap, subst, ◌∙◌, arith, get_or-set_same, get_or-set_other, length-set}
 use Rattle.std.proofs.lemmas.Bool.{eqb-true, eqb-false, eq-eqb}
 use Rattle.dp_owners.specs.declared.owners.TheConstants.{MOST_MASTERS}
@@ -6,7 +6,7 @@ use Rattle.dp_owners.specs.Positions.{first_or, last_or}
 use Rattle.dp_owners.specs.Mending.{with_end}
 use Rattle.dp_owners.proofs.Positions.{last_join}
 
--- the lists with another one for a master
+-- the lists with another list for one master
 abbrev pub changed : (ℕ → List ℕ) → ℕ → List ℕ → ℕ → List ℕ
 changed lists m new n = cond (eqb n m) new (lists n)
 
@@ -17,7 +17,7 @@ each_by P lists m new n false e here others = others (eqb-false n m e)
 pub each : (P : ℕ → List ℕ → Type 0) (lists : ℕ → List ℕ) (m : ℕ) (new : List ℕ) → P m new → ((n : ℕ) → n < MOST_MASTERS → n ≢ m → P n (lists n)) → (n : ℕ) → n < MOST_MASTERS → P n (changed lists m new n)
 each P lists m new here others n small = each_by P lists m new n (eqb n m) refl here (others n small)
 
--- what held of each list before
+-- what held for each list before
 before_by : (P : List ℕ → Type 0) (lists : ℕ → List ℕ) (m : ℕ) (new : List ℕ) (n : ℕ) (b : Bool) → eqb n m ≡ b → P (lists m) → P (cond b new (lists n)) → P (lists n)
 before_by P lists m new n true e here after = subst (λ k. P (lists k)) (sym (eqb-true n m e)) here
 before_by P lists m new n false e here after = after
@@ -43,13 +43,13 @@ end_kept : (m x : ℕ) (xs : List ℕ) (end : Option ℕ) (ends : List (Option �
 end_kept m x [] end ends = refl
 end_kept m x (y ∷ xs) end ends = end_kept m y xs end ends
 
--- the head of a list, where what stands behind xs is changed from ys to zs
+-- the head of a list, if what comes after xs changes from ys to zs
 pub head_here : (heads : List (Option ℕ)) (m : ℕ) (xs ys zs : List ℕ) → m < length heads → get_or heads m None ≡ first_or (xs ++ ys) None
     → get_or (with_end (last_or None xs) m (first_or zs None) heads) m None ≡ first_or (xs ++ zs) None
 head_here heads m [] ys zs below e = get_or-set_same heads m (first_or zs None) None below
 head_here heads m (x ∷ xs) ys zs below e = ap (λ ends. get_or ends m None) (end_kept m x xs (first_or zs None) heads) ∙ e
 
--- the tail of a list that loses at, behind xs and before ys
+-- the tail of a list from which `at`, between xs and ys, is removed
 pub tail_here : (tails : List (Option ℕ)) (m : ℕ) (xs : List ℕ) (at : ℕ) (ys : List ℕ) → m < length tails → get_or tails m None ≡ last_or None (xs ++ at ∷ ys)
     → get_or (with_end (first_or ys None) m (last_or None xs) tails) m None ≡ last_or None (xs ++ ys)
 tail_here tails m xs at [] below e = get_or-set_same tails m (last_or None xs) None below ∙ sym (last_join None xs [])

@@ -1,4 +1,4 @@
--- The lists together are no longer than the records.
+-- The lists together have at most as many records as there are.
 use Rattle.std.specs.Prelude.{◌||◌, ◌⊎◌}
 use Rattle.std.proofs.Common.{◌≡◌, ◌≢◌, ℕ, zero, suc, ◌+◌, ◌<◌, ◌≤◌, Bool, true, false, eqb, List, [], ◌∷◌, ◌++◌, length, Option, None, refl, sym, ap, subst, arith, length-append, inl, inr}
 use Rattle.std.specs.List.{AllByRecursion, list_any, IsDistinct as AreDistinct}
@@ -46,7 +46,7 @@ chain_below links before (x ∷ xs) after chain = (get_below links x _ chain.0, 
 pub list_fits : (owners : Owners) (links : List Links) (lists : ℕ → List ℕ) (m : ℕ) → m < MOST_MASTERS → IsThreaded owners links lists → length (lists m) ≤ length links
 list_fits owners links lists m small threaded = fits (length links) (lists m) (threaded.distinct m small) (chain_below links None (lists m) None (threaded.chains m small))
 
--- the lists of so many masters, one behind the other
+-- the lists of the masters below a number, joined
 joined : ℕ → (ℕ → List ℕ) → List ℕ
 joined zero lists = []
 joined (suc masters) lists = lists masters ++ joined masters lists

@@ -8,7 +8,7 @@ use Rattle.dp_owners.proofs.Positions.{IsNot, Misses, all_join, all_map, all_bot
 abbrev pub IsAt : (ℕ → ℕ) → ℕ → ℕ → Type 0
 IsAt home m x = home x ≡ m
 
--- homes with another one for one record
+-- the homes, with another home for one record
 abbrev pub moved : (ℕ → ℕ) → ℕ → ℕ → ℕ → ℕ
 moved home at m x = cond (eqb x at) m (home x)
 

@@ -1,4 +1,4 @@
--- What the code writes: links at one place of a list.
+-- Changes of the links at one place of a list, as the code makes them.
 use Rattle.std.proofs.Common.{◌≡◌, ◌≢◌, ℕ, zero, suc, ◌<◌, List, [], ◌∷◌, length, get_or, map, set, Option, Some, None, refl, sym, ap, ◌∙◌, arith}
 use Rattle.std.specs.Prelude.{slice_get}
 use Rattle.dp_owners.specs.declared.links.Links.{Links}

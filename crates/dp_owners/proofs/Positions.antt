@@ -4,7 +4,7 @@ use Rattle.std.specs.List.{AllByRecursion}
 use Rattle.std.proofs.lemmas.Bool.{ne_eqb, eq-eqb}
 use Rattle.dp_owners.specs.Positions.{first_or, last_or, without, NotIn, IsDistinct}
 
--- what is true of each position
+-- what holds for each position
 pub all_join : (P : ℕ → Type 0) (xs ys : List ℕ) → AllByRecursion P xs → AllByRecursion P ys → AllByRecursion P (xs ++ ys)
 all_join P [] ys one two = two
 all_join P (x ∷ xs) ys one two = (one.0, all_join P xs ys one.1 two)
@@ -82,7 +82,7 @@ pub first_is_other : (x : ℕ) (xs : List ℕ) → NotIn x xs → first_or xs No
 first_is_other x [] out = λ e. absurd cc
 first_is_other x (y ∷ xs) out = λ e. out.0 cc
 
--- the record, where there is one, is not in the list
+-- the record, if there is one, is not in the list
 abbrev pub Misses : Option ℕ → List ℕ → Type 0
 Misses None xs = Unit {0}
 Misses (Some at) xs = NotIn at xs

@@ -1,4 +1,4 @@
--- The same lists are threaded through the same links in one way.
+-- The lists determine the heads, the tails and the links.
 use Rattle.std.proofs.Common.{◌≡◌, ◌≢◌, ℕ, zero, suc, ◌<◌, Bool, true, false, eqb, List, [], ◌∷◌, length, get_or, Some, None, refl, sym, ap, subst, ◌∙◌, arith, inl, inr}
 use Rattle.std.specs.Prelude.{◌⊎◌, slice_get}
 use Rattle.std.proofs.lemmas.Bool.{eqb-true, eqb-false}
@@ -38,7 +38,7 @@ among_or_nowhere : (at n : ℕ) (lists : ℕ → List ℕ) → IsAmong at n list
 among_or_nowhere at zero lists = inr (λ m below. absurd (omega arith))
 among_or_nowhere at (suc n) lists = among_by at n lists (in_or_out at (lists n)) (among_or_nowhere at n lists)
 
--- lists that are the same at each place
+-- lists that are equal at each place are equal
 same_by_get : {A : Type 0} (xs ys : List A) → length xs ≡ length ys → ((i : ℕ) → i < length xs → slice_get xs i ≡ slice_get ys i) → xs ≡ ys
 same_by_get [] [] long same = refl
 same_by_get [] (y ∷ ys) long same = absurd (omega arith)

@@ -1,4 +1,4 @@
--- What an unlink leaves of the lists. The master's list is xs, then the record, then ys.
+-- The lists after an unlink. The master's list is xs, then the record, then ys.
 use Rattle.std.proofs.Common.{◌≡◌, ◌≢◌, ℕ, ◌<◌, Bool, true, false, eqb, List, ◌∷◌, ◌++◌, length, get_or, Some, None, refl, sym, ap, subst, ◌∙◌, arith}
 use Rattle.std.specs.Prelude.{slice_get, IfSome}
 use Rattle.std.proofs.lemmas.Bool.{eqb-true, eqb-false}
@@ -15,7 +15,7 @@ use Rattle.dp_owners.proofs.Homes.{IsAt, away, first_away, last_away}
 use Rattle.dp_owners.proofs.Chains.{chain_kept, relink_last, relink_first, chain_join, chain_front, chain_back, first_below, last_below}
 use Rattle.dp_owners.proofs.Changes.{changed, each, each_before, at_changed, length-with_end, end_other, head_here, tail_here, among}
 
--- what the code writes, where these were the links of the record
+-- what the code writes, if `own` are the links of the record
 abbrev pub cleared : Links → Links
 cleared own = no_links
 
@@ -59,7 +59,7 @@ chain_other links home m n xs ys zs apart one two chain =
     (first_away home m n ys zs apart (all_back (IsAt home m) xs ys one) two)
     (chain_kept (with_next (first_or ys None)) (last_or None xs) links None zs None (last_away home m n None xs zs apart (all_front (IsAt home m) xs ys one) two tt) chain)
 
--- a record in no list afterwards is the one taken out, or was in no list before
+-- a record in no list after the unlink is the unlinked one, or was in no list before
 unlisted_by : (owners : Owners) (links : List Links) (lists : ℕ → List ℕ) (m at : ℕ) (xs ys : List ℕ) (x : ℕ) (b : Bool) → eqb x at ≡ b → m < MOST_MASTERS → lists m ≡ xs ++ at ∷ ys → NotIn x (xs ++ ys)
     → IsThreaded owners links lists → x < length links → IsFree x (changed lists m (xs ++ ys)) → slice_get (changed_at cleared at (mended links xs ys)) x ≡ Some no_links
 unlisted_by owners links lists m at xs ys x true e small is out threaded below free =
@@ -117,7 +117,7 @@ thread_unlink owners links lists m at own small there here threaded =
     (subst (λ k. IsThreaded (mended_owners owners m k) (mended_links links at k) (changed lists m (there.0 ++ there.1))) same
     (unlink_at owners links lists m at there.0 there.1 small there.2 threaded))
 
--- where a neighbour is, there is a record
+-- if a record has a neighbour, the neighbour is a record
 pub neighbours_below : (owners : Owners) (links : List Links) (lists : ℕ → List ℕ) (m at : ℕ) (own : Links) → m < MOST_MASTERS → IsIn at (lists m) → slice_get links at ≡ Some own → IsThreaded owners links lists
     → IfSome own.prev (λ x. x < length links) × IfSome own.next (λ x. x < length links)
 neighbours_below owners links lists m at own small there here threaded =

@@ -13,7 +13,7 @@ use Rattle.dp_owners.proofs.Mending.{get_map}
 use Rattle.dp_owners.proofs.Positions.{append_nil, last_join}
 use Rattle.dp_owners.proofs.Chains.{first_below}
 
--- the cursor behind a step
+-- the cursor after a step
 step_by : (links : List Links) (given rest : List ℕ) (cursor later : Cursor) → IsWalk cursor links given rest
     → later.at ≡ next_of links (first_or rest None) → later.visits ≡ length (given ++ option_to_list (first_or rest None))
     → IsWalk later links (given ++ option_to_list (first_or rest None)) (rest_of rest)
@@ -43,7 +43,7 @@ pub walk_below : (links : List Links) (given rest : List ℕ) (cursor : Cursor) 
 walk_below links given rest cursor walk =
     subst (λ o. IfSome o (λ at. at < length links)) (sym walk.at) (first_below links (last_or None given) rest walk.chain)
 
--- what is behind a record, read from it
+-- the record after one, read from its links
 pub next_read : {A : Type 0} (links_of : A → Links) (xs : List A) (i : ℕ) (x : A) (at : Option ℕ) → i < length xs → x ≡ get_or xs i x → at ≡ Some i
     → (links_of x).next ≡ next_of (map links_of xs) at
 next_read links_of xs i x at below is there =

@@ -1,4 +1,4 @@
--- Links that hold records together.
+-- Chains of linked records.
 use Rattle.std.specs.Prelude.{◌≡◌, ℕ, List, [], ◌∷◌, Option, Some, None, slice_get}
 use Rattle.std.specs.List.{AllByRecursion}
 use Rattle.dp_owners.specs.declared.links.Links.{Links}
@@ -12,7 +12,7 @@ no_links = record { prev = None; next = None }
 abbrev pub HaveNoLinks : List Links → Type 0
 HaveNoLinks links = AllByRecursion (λ own. own ≡ no_links) links
 
--- each record of the list is linked to those beside it there, its ends to what stands before and after the list (own)
+-- each record of the list is linked to those beside it, and the ends to what comes before and after the list (own)
 abbrev pub IsChain : List Links → Option ℕ → List ℕ → Option ℕ → Type 0
 IsChain links before [] after = Unit {0}
 IsChain links before (at ∷ others) after =

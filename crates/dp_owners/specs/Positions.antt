@@ -2,17 +2,17 @@
 use Rattle.std.specs.Prelude.{◌≡◌, ◌≢◌, ℕ, ◌==◌, not, List, [], ◌∷◌, ◌++◌, filter, Option, Some}
 use Rattle.std.specs.List.{AllByRecursion}
 
--- the first of a list, or what comes after it where it is empty (own)
+-- the first of a list, or what comes after the list if it is empty (own)
 abbrev pub first_or : List ℕ → Option ℕ → Option ℕ
 first_or [] after = after
 first_or (at ∷ others) after = Some at
 
--- the last of a list, or what came before it where it is empty (own)
+-- the last of a list, or what comes before the list if it is empty (own)
 abbrev pub last_or : Option ℕ → List ℕ → Option ℕ
 last_or before [] = before
 last_or before (at ∷ others) = last_or (Some at) others
 
--- all of a list but its first (own)
+-- a list without its first (own)
 abbrev pub rest_of : List ℕ → List ℕ
 rest_of [] = []
 rest_of (at ∷ others) = others

@@ -15,11 +15,11 @@ IsFree at lists = (master : ℕ) → master < MOST_MASTERS → NotIn at (lists m
 abbrev pub IsListed : ℕ → ℕ → (ℕ → List ℕ) → Type 0
 IsListed master at lists = IsIn at (lists master)
 
--- each record of the list has this master for its home (own)
+-- each record of the list has this master as its home (own)
 abbrev pub AreAt : (ℕ → ℕ) → ℕ → List ℕ → Type 0
 AreAt home master list = AllByRecursion (λ at. home at ≡ master) list
 
--- these are the lists of the masters, read off the heads and the links of the records (own)
+-- these are the lists of the masters, as the heads and the links of the records give them (own)
 pub record IsThreaded (owners : Owners) (links : List Links) (lists : ℕ → List ℕ) : Type 0 where
   -- there is a head and a tail for each master
   pub ends : (length owners.heads ≡ MOST_MASTERS) × (length owners.tails ≡ MOST_MASTERS)
@@ -30,7 +30,7 @@ pub record IsThreaded (owners : Owners) (links : List Links) (lists : ℕ → Li
   pub chains : (master : ℕ) → master < MOST_MASTERS → IsChain links None (lists master) None
   -- no record is twice in a list
   pub distinct : (master : ℕ) → master < MOST_MASTERS → IsDistinct (lists master)
-  -- each record has one home at most, so that none is in the lists of two masters
+  -- each record has at most one home, so that none is in the lists of two masters
   pub home : ℕ → ℕ
   pub at_home : (master : ℕ) → master < MOST_MASTERS → AreAt home master (lists master)
   -- a record in no list has no links
@@ -40,14 +40,14 @@ pub record IsThreaded (owners : Owners) (links : List Links) (lists : ℕ → Li
 abbrev pub HasLists : Owners → List Links → Type 0
 HasLists owners links = (lists : ℕ → List ℕ) × IsThreaded owners links lists
 
--- some lists are threaded through the records, and this is true of them (own)
+-- some lists are threaded through the records, and P holds for them (own)
 abbrev pub IsThreadedWith : Owners → List Links → ((ℕ → List ℕ) → Type 0) → Type 0
 IsThreadedWith owners links P = (lists : ℕ → List ℕ) × (IsThreaded owners links lists × P lists)
 
--- the lists with a record more, last in one master's (own)
+-- the lists after a record is appended to one master's list (own)
 abbrev pub appended : (ℕ → List ℕ) → ℕ → ℕ → ℕ → List ℕ
 appended lists master at other = if other == master then lists master ++ at ∷ [] else lists other
 
--- the lists with a record less, in one master's (own)
+-- the lists after a record is removed from one master's list (own)
 abbrev pub unlinked : (ℕ → List ℕ) → ℕ → ℕ → ℕ → List ℕ
 unlinked lists master at other = if other == master then without at (lists master) else lists other

@@ -12,7 +12,7 @@ use crate::owners::{MOST_MASTERS, MOST_RECORDS, Owners};
 
 /// A walk along a list, first to last.
 ///
-/// It takes no hold of the records: they may change under it, as long as their links stay.
+/// It does not borrow the records. They may change during the walk, as long as their links stay.
 #[derive(Drop)]
 pub struct Cursor {
     at: Option<u8>,
@@ -20,7 +20,7 @@ pub struct Cursor {
 }
 
 impl Cursor {
-    /// A walk along the list of a master below 16, which has given nothing yet.
+    /// Returns a walk along the list of a master below 16, which has given no record yet.
     pub fn over(owners: &Owners, master: usize) -> Cursor
         requires { master < MOST_MASTERS }
         ensures { (links : List Links) (lists : ℕ → List ℕ)
@@ -33,9 +33,9 @@ impl Cursor {
         }
     }
 
-    /// The next record of the list by its position, and `None` for ever when there is no more.
+    /// Returns the position of the next record of the list, and `None` from the end of the list on.
     ///
-    /// The records are at most 64, and have the links that they had at the walk's start.
+    /// The records are at most 64, and must have the links that they had at the start of the walk.
     pub fn next<T: Linked>(&mut self, records: &[T]) -> Option<u8>
         requires walk { (given : List ℕ) × (rest : List ℕ)
             × IsWalk self.old (map T.links_of records.now) given rest }
@@ -52,7 +52,7 @@ impl Cursor {
         Some(here)
     }
 
-    /// How many records the walk has given.
+    /// Returns the number of records that the walk has given.
     pub fn visits(&self) -> u32
         ensures { (links : List Links) (given rest : List ℕ)
             → IsWalk self.now links given rest

@@ -1,4 +1,4 @@
-//! Laws of threaded lists.
+//! Laws of threaded lists: each is the contract of an empty function.
 
 ghost use Rattle.std.specs.Prelude.{◌≡◌, ◌≢◌, ℕ, ◌+◌, ◌<◌, ◌≤◌, List, ◌∷◌, ◌++◌, length, slice_get};
 ghost use Rattle.dp_owners.specs.declared.links.Links.{Links};
@@ -8,7 +8,7 @@ ghost use Rattle.dp_owners.specs.Positions.{first_or, last_or, NotIn};
 ghost use Rattle.dp_owners.specs.Threaded.{IsThreaded, IsFree, IsListed, appended, unlinked};
 ghost use Rattle.dp_owners.specs.Reading.{list_of, listed_count};
 
-/// The lists are read off the heads and the links: no other lists are threaded so.
+/// The heads and the links determine the lists: no other lists are threaded so.
 pub fn lists_are_read_off()
     ensures { (owners : Owners) (links : List Links) (lists : ℕ → List ℕ) (master : ℕ)
         → master < MOST_MASTERS
@@ -16,7 +16,7 @@ pub fn lists_are_read_off()
         → lists master ≡ list_of owners links master }
 {}
 
-/// Lists that are the same for each master are threaded alike.
+/// If lists are threaded, so are all lists that are the same for each master.
 pub fn same_lists_are_threaded_alike()
     ensures { (owners : Owners) (links : List Links) (lists others : ℕ → List ℕ)
         → ((master : ℕ) → master < MOST_MASTERS → lists master ≡ others master)
@@ -24,7 +24,8 @@ pub fn same_lists_are_threaded_alike()
         → IsThreaded owners links others }
 {}
 
-/// The lists say all: the same lists through as many records have the same heads, tails and links.
+/// The lists determine all: the same lists through as many records have the same heads, tails and
+/// links.
 pub fn lists_say_all()
     ensures { (owners later : Owners) (links after : List Links) (lists others : ℕ → List ℕ)
         → IsThreaded owners links lists
@@ -34,8 +35,8 @@ pub fn lists_say_all()
         → (owners ≡ later) × (links ≡ after) }
 {}
 
-/// A record that is appended and then unlinked leaves all as it was: the lists, and with them the
-/// heads, the tails and the links.
+/// Appending a record and then unlinking it restores the lists, and with them the heads, the tails
+/// and the links.
 pub fn append_then_unlink_is_as_before()
     ensures lists { (lists : ℕ → List ℕ) (master at other : ℕ)
         → master < MOST_MASTERS
@@ -71,8 +72,8 @@ pub fn an_unlinked_record_is_in_no_list()
         → IsFree at (unlinked lists master at) }
 {}
 
-/// A call moves its record alone: another record in no list stays so, and another one in a list
-/// stays in that list.
+/// A call moves only its record. Another record in no list stays in none, and another record in a
+/// list stays in that list.
 pub fn other_records_stay()
     ensures free_after_append { (lists : ℕ → List ℕ) (master at other : ℕ)
         → master < MOST_MASTERS
@@ -92,7 +93,8 @@ pub fn other_records_stay()
         → IsListed owner other (unlinked lists master at) }
 {}
 
-/// A call touches the record and those beside it: every other record keeps its links.
+/// A call changes only the links of its record and of those beside it. Every other record keeps its
+/// links.
 pub fn a_call_touches_neighbours_alone()
     ensures append { (owners later : Owners) (links after : List Links) (lists : ℕ → List ℕ)
         (master at other : ℕ)
@@ -118,8 +120,8 @@ pub fn a_call_touches_neighbours_alone()
         → slice_get after other ≡ slice_get links other }
 {}
 
-/// The lists together have no more records than there are, one more after an append and one less
-/// after an unlink.
+/// The lists together have at most as many records as there are. They have one more after an
+/// append, and one less after an unlink.
 pub fn lengths_add_up()
     ensures most { (owners : Owners) (links : List Links) (lists : ℕ → List ℕ)
         → IsThreaded owners links lists

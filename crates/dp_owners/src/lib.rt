@@ -1,11 +1,11 @@
-//! The records that masters own, one list for each master, threaded through the records by index:
-//! no list takes memory, and a record is put into one or taken out of one in the same few steps
-//! however long the list is.
+//! The lists of the records that masters own, one list for each master, threaded through the
+//! records by index. No list needs memory of its own. A record is appended or unlinked in constant
+//! time, however long the list is.
 //!
-//! A client's record has [`Links`], which it shows as a [`Linked`] type. [`Owners`] has the ends of
-//! the lists, and a [`Cursor`] walks along one. What it is for lists to be threaded is
-//! `IsThreaded` of `specs/Threaded`; the contracts speak of all lists that are threaded so, and
-//! [`laws`] says that there are no two such lists of one master.
+//! A client's record has [`Links`] and implements [`Linked`]. [`Owners`] has the ends of the lists,
+//! and a [`Cursor`] walks along one. `IsThreaded` in `specs/Threaded` defines when lists are
+//! threaded. The contracts hold for all lists that are threaded so, and [`laws`] shows that each
+//! master has only one such list.
 #![tactic(auto)]
 
 mod cursor;

@@ -7,7 +7,7 @@ ghost use Rattle.std.specs.Prelude.{◌≡◌};
 pub struct Links {
     /// The record before it, `None` for the first of a list.
     pub prev: Option<u8>,
-    /// The record behind it, `None` for the last of a list.
+    /// The record after it, `None` for the last of a list.
     pub next: Option<u8>,
 }
 
@@ -15,13 +15,13 @@ pub struct Links {
 pub trait Linked {
     ghost use Rattle.dp_owners.specs.declared.links.Links.{Links};
 
-    /// What its links are.
+    /// Its links.
     ghost links_of: { Self → Links };
 
-    /// All else of it: the same record under links that say nothing.
+    /// The record without its links: the same record with links that have no meaning.
     ghost bare: { Self → Self };
 
-    /// Its links, as they were last set.
+    /// Returns its links, as they were last set.
     fn links(&self) -> Links
         ensures { result ≡ links_of self.now };
 

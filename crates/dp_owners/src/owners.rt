@@ -1,4 +1,4 @@
-//! The ends of the lists, and what is done to the lists.
+//! The ends of the lists, and the operations on the lists.
 
 ghost use Rattle.std.specs.Prelude.{◌≡◌, ℕ, ◌<◌, ◌≤◌, List, [], ◌++◌, length, map, reverse, None, IfSome, MatchOption, true, false};
 ghost use Rattle.std.specs.Option.{option_to_list};
@@ -13,16 +13,16 @@ use crate::cursor::Cursor;
 use crate::links::{Linked, Links};
 use arrayvec::ArrayVec;
 
-/// How many masters have a list.
+/// The number of masters, each of which has a list.
 pub const MOST_MASTERS: usize = 16;
 
-/// How many records there are at most.
+/// The greatest number of records.
 pub const MOST_RECORDS: usize = 64;
 
 /// The first and the last record of each master's list, for masters below 16.
 ///
-/// The calls are given the same at most 64 records each time, and no one else sets their links. A
-/// position is that of a record among them.
+/// Each call must be given the same records, at most 64, and nobody else may set their links. A
+/// position is the index of a record among them.
 #[derive(Drop)]
 pub struct Owners {
     heads: [Option<u8>; MOST_MASTERS],
@@ -30,7 +30,7 @@ pub struct Owners {
 }
 
 impl Owners {
-    /// Every list is empty, which is so for records that have no links.
+    /// Returns empty lists, for records that have no links.
     pub fn new() -> Owners
         ensures { (links : List Links)
             → HaveNoLinks links
@@ -42,10 +42,10 @@ impl Owners {
         }
     }
 
-    /// Puts a record that is in no list last in the master's list.
+    /// Appends a record that is in no list to the master's list.
     ///
-    /// The other lists stay, and of the records all else but links. Only the record and the one
-    /// that was last get other links.
+    /// The other lists stay. Of the records only links change: those of the record, and of the one
+    /// that was last.
     pub fn append<T: Linked>(&mut self, records: &mut [T], master: usize, at: usize)
         requires free { IsThreadedWith self.old (map T.links_of records.old) (IsFree at) }
         requires few { length records.old ≤ MOST_RECORDS }
@@ -66,10 +66,10 @@ impl Owners {
         self.tails[master] = Some(at as u8);
     }
 
-    /// Takes a record out of the master's list. The others there keep their order.
+    /// Removes a record from the master's list. The others in it keep their order.
     ///
-    /// The other lists stay, and of the records all else but links. The record has no links then,
-    /// and only the two beside it get other links.
+    /// The other lists stay. Of the records only links change: the record has none then, and the
+    /// two beside it get other links.
     pub fn unlink<T: Linked>(&mut self, records: &mut [T], master: usize, at: usize)
         requires listed { IsThreadedWith self.old (map T.links_of records.old)
             (IsListed master at) }
@@ -91,7 +91,7 @@ impl Owners {
         });
     }
 
-    /// The first record of the master's list, `None` where the list is empty.
+    /// Returns the first record of the master's list; `None` if the list is empty.
     pub fn first(&self, master: usize) -> Option<u8>
         requires { master < MOST_MASTERS }
         ensures { (links : List Links) (lists : ℕ → List ℕ)
@@ -101,7 +101,7 @@ impl Owners {
         self.heads[master]
     }
 
-    /// The last record of the master's list, `None` where the list is empty.
+    /// Returns the last record of the master's list; `None` if the list is empty.
     pub fn last(&self, master: usize) -> Option<u8>
         requires { master < MOST_MASTERS }
         ensures { (links : List Links) (lists : ℕ → List ℕ)
@@ -111,7 +111,7 @@ impl Owners {
         self.tails[master]
     }
 
-    /// The positions of the master's list, first to last.
+    /// Returns the positions of the master's list, first to last.
     pub fn list<T: Linked>(&self, records: &[T], master: usize) -> ArrayVec<u8, MOST_RECORDS>
         requires threaded { HasLists self.now (map T.links_of records.now) }
         requires few { length records.now ≤ MOST_RECORDS }
@@ -129,7 +129,7 @@ impl Owners {
         list
     }
 
-    /// The positions of the master's list, last to first.
+    /// Returns the positions of the master's list, last to first.
     pub fn list_back<T: Linked>(&self, records: &[T], master: usize) -> ArrayVec<u8, MOST_RECORDS>
         requires threaded { HasLists self.now (map T.links_of records.now) }
         requires few { length records.now ≤ MOST_RECORDS }
@@ -147,7 +147,7 @@ impl Owners {
         list
     }
 
-    /// The master in whose list the record is, `None` where it is in no list.
+    /// Returns the master in whose list the record is; `None` if it is in no list.
     pub fn owner_of<T: Linked>(&self, records: &[T], at: usize) -> Option<usize>
         requires threaded { HasLists self.now (map T.links_of records.now) }
         requires few { length records.now ≤ MOST_RECORDS }
@@ -165,7 +165,7 @@ impl Owners {
         None
     }
 
-    /// Whether the record is in the master's list.
+    /// Returns whether the record is in the master's list.
     fn is_listed<T: Linked>(&self, records: &[T], master: usize, at: usize) -> bool
         requires threaded { HasLists self.now (map T.links_of records.now) }
         requires few { length records.now ≤ MOST_RECORDS }
@@ -184,7 +184,7 @@ impl Owners {
         list.as_slice().contains(&(at as u8))
     }
 
-    /// Has `next` follow `prev` in the master's list, or begin the list where there is no `prev`.
+    /// Makes `next` follow `prev` in the master's list, or begin the list if there is no `prev`.
     fn mend_next<T: Linked>(
         &mut self,
         records: &mut [T],
@@ -213,7 +213,7 @@ impl Owners {
         }
     }
 
-    /// Has `prev` precede `next` in the master's list, or end the list where there is no `next`.
+    /// Makes `prev` precede `next` in the master's list, or end the list if there is no `next`.
     fn mend_prev<T: Linked>(
         &mut self,
         records: &mut [T],
@@ -243,7 +243,7 @@ impl Owners {
     }
 }
 
-/// The record before this one in its list.
+/// Returns the record before this one in its list.
 fn record_before<T: Linked>(records: &[T], at: Option<u8>) -> Option<u8>
     requires { IfSome at (λ at. at < length records.now) }
     ensures { result ≡ next_of (map mirrored (map T.links_of records.now)) at }
@@ -251,7 +251,7 @@ fn record_before<T: Linked>(records: &[T], at: Option<u8>) -> Option<u8>
     records[usize::from(at?)].links().prev
 }
 
-/// Appends a position where there is one.
+/// Appends a position if there is one.
 fn push_some(positions: &mut ArrayVec<u8, MOST_RECORDS>, position: Option<u8>)
     requires { length positions.old.items < MOST_RECORDS }
     ensures { positions.new.items ≡ positions.old.items ++ option_to_list position }

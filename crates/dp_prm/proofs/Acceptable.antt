@@ -34,7 +34,7 @@ none_unsupported : (asked has : Bool) → (asked ≡ true → has ≡ true) → 
 none_unsupported false has h = refl
 none_unsupported true has h = ap not (h refl)
 
--- there is no reason to refuse exactly what is acceptable
+-- parameters are acceptable exactly if there is no reason to refuse them
 pub is_faulty-acceptable : (octets : List ℕ) (limits : Limits) → is_faulty octets limits ≡ false → IsAcceptable octets limits
 is_faulty-acceptable octets limits e =
     let none = no_reason (is_of_another_ident octets limits) (has_factor_0 octets) (asks_unsupported_sync octets limits)
@@ -56,7 +56,7 @@ acceptable-is_faulty octets limits good =
     let user : has_too_many_user_prm octets limits ≡ false = let most = good.user in grind arith in
     simp (ident, factors, sync, freeze, user)
 
--- something is not supported exactly where it is asked for
+-- something is not supported exactly if it is asked for without support
 pub is_not_supported-asks : (octets : List ℕ) (limits : Limits) → is_not_supported octets limits ≡ true → AsksUnsupported octets limits
 is_not_supported-asks octets limits e = grind arith
 

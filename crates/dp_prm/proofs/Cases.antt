@@ -1,4 +1,4 @@
--- Which case gives a verdict.
+-- The case that gives a verdict.
 use Rattle.std.proofs.Common.{◌≡◌, ℕ, ◌<◌, ◌≤◌, ◌↔◌, ◌⊎◌, inl, inr, Bool, true, false, not, List, [], ◌∷◌, length, All, IfSome, refl, sym, ap, ◌∙◌, arith, length-drop}
 use Rattle.std.proofs.lemmas.Grind.{common_steps}
 use Rattle.std.proofs.lemmas.Bool.{ltb-false, ltb-true}
@@ -21,7 +21,7 @@ by_cases short unlock lock faulty unsupported tsdr prm = first_case (
     ∷ (faulty, Fault unsupported)
     ∷ []) (Lock prm)
 
--- what holds where a verdict was given
+-- what holds if a verdict was given
 lock_case : (short unlock lock faulty unsupported : Bool) (tsdr : ℕ) (mine prm : Prm)
     → by_cases short unlock lock faulty unsupported tsdr mine ≡ Lock prm
     → (short ≡ false) × (unlock ≡ false) × (lock ≡ true) × (faulty ≡ false) × (mine ≡ prm)
@@ -49,7 +49,7 @@ unsupported_case false false false faulty unsupported tsdr prm e = absurd cc
 unsupported_case false false true true unsupported tsdr prm e = (refl, refl, refl, cc)
 unsupported_case false false true false unsupported tsdr prm e = absurd cc
 
--- a verdict where its case is reached
+-- a verdict if its case is reached
 whole_is : (octets : List ℕ) → 7 ≤ length octets → is_short octets ≡ false
 whole_is octets whole = grind (arith, common_steps)
 
@@ -88,7 +88,7 @@ tells_not_supported octets limits = (
   λ (locking, asked). unsupported_by octets limits locking (asks-is_not_supported octets limits asked),
 )
 
--- the conditions of the cases leave nothing out
+-- the conditions of the cases cover all octets
 abbrev SomeCase : List ℕ → Limits → Type 0
 SomeCase octets limits =
     (length octets < 7)

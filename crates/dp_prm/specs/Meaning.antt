@@ -1,4 +1,4 @@
--- What a parameter telegram means: its octets and bits by their names, and the cases in their order.
+-- What a parameter telegram means: its octets and bits by name, and the cases in their order.
 use Rattle.std.specs.Prelude.{ℕ, ◌+◌, ◌*◌, ◌/◌, ◌%◌, ◌^◌, Bool, false, not, ◌&&◌, ◌||◌, ◌==◌, nat_lt, if◌then◌else◌, List, [], ◌∷◌, length, drop, find, slice_index, Option, Some, None}
 use Rattle.std.specs.List.{list_any}
 use Rattle.std.specs.Option.{option_map_or}
@@ -7,11 +7,11 @@ use Rattle.dp_prm.specs.declared.prm.Prm.{Prm}
 use Rattle.dp_prm.specs.declared.prm.PrmVerdict.{PrmVerdict}
 use Rattle.dp_prm.specs.declared.prm.PrmVerdict.TheVariants.{MinTsdr, Unlock, Lock, Fault}
 
--- the most octets of a parameter telegram (IEC 61158-6-3, data unit)
+-- the greatest number of octets of a parameter telegram (IEC 61158-6-3, data unit)
 abbrev pub most_octets : ℕ
 most_octets = 244
 
--- the most octets of user parameters (IEC 61158-6-3, Set_Prm request, User_Prm)
+-- the greatest number of octets of user parameters (IEC 61158-6-3, Set_Prm request, User_Prm)
 abbrev pub most_user_parameters : ℕ
 most_user_parameters = 237
 
@@ -27,7 +27,7 @@ station_status octets = slice_index octets 0
 abbrev pub lock_req : List ℕ → Bool
 lock_req octets = is_set 7 (station_status octets)
 
--- bit 6: the slave is to be let go (IEC 61158-6-3, Set_Prm request, Station_status)
+-- bit 6: the slave is to be released (IEC 61158-6-3, Set_Prm request, Station_status)
 abbrev pub unlock_req : List ℕ → Bool
 unlock_req octets = is_set 6 (station_status octets)
 
@@ -51,7 +51,7 @@ wd_fact_1 octets = slice_index octets 1
 abbrev pub wd_fact_2 : List ℕ → ℕ
 wd_fact_2 octets = slice_index octets 2
 
--- octet 4: min TSDR, 0 leaves it (IEC 61158-6-3, Set_Prm request, min TSDR)
+-- octet 4: min TSDR; 0 leaves it unchanged (IEC 61158-6-3, Set_Prm request, min TSDR)
 abbrev pub min_tsdr : List ℕ → ℕ
 min_tsdr octets = slice_index octets 3
 
@@ -63,7 +63,7 @@ ident_number octets = slice_index octets 4 * 256 + slice_index octets 5
 abbrev pub group_ident : List ℕ → ℕ
 group_ident octets = slice_index octets 6
 
--- octet 8 and on: the user parameters (IEC 61158-6-3, Set_Prm request, User_Prm)
+-- octet 8 onwards: the user parameters (IEC 61158-6-3, Set_Prm request, User_Prm)
 abbrev pub user_prm : List ℕ → List ℕ
 user_prm octets = drop 7 octets
 
@@ -86,7 +86,7 @@ parameters octets = record {
 abbrev pub is_short : List ℕ → Bool
 is_short octets = nat_lt (length octets) 7
 
--- a reason to refuse: the ident number is another one than the slave's (IEC 61158-6-3, Set_Prm request)
+-- a reason to refuse: the ident number is not the slave's (IEC 61158-6-3, Set_Prm request)
 abbrev pub is_of_another_ident : List ℕ → Limits → Bool
 is_of_another_ident octets limits = not (ident_number octets == limits.ident)
 
@@ -120,7 +120,7 @@ is_faulty octets limits = list_any (λ reason. reason) (
 abbrev pub is_not_supported : List ℕ → Limits → Bool
 is_not_supported octets limits = asks_unsupported_sync octets limits || asks_unsupported_freeze octets limits
 
--- the verdict of the first case whose condition holds, or else the other one (own)
+-- the verdict of the first case whose condition holds, or else `otherwise` (own)
 abbrev pub first_case : List (Bool × PrmVerdict) → PrmVerdict → PrmVerdict
 first_case cases otherwise = option_map_or (λ row. row.1) (find (λ row. row.0) cases) otherwise
 

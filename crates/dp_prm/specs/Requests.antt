@@ -1,9 +1,9 @@
--- What a request is and what makes it acceptable, as facts that hold side by side, with no order of cases.
+-- The kinds of requests, and what makes a request acceptable, as conditions without an order of cases.
 use Rattle.std.specs.Prelude.{◌≡◌, ℕ, ◌<◌, ◌≤◌, ◌⊎◌, true, false, List, length}
 use Rattle.dp_prm.specs.declared.limits.Limits.{Limits}
 use Rattle.dp_prm.specs.Meaning.{lock_req, unlock_req, sync_req, freeze_req, wd_on, wd_fact_1, wd_fact_2, ident_number, user_prm}
 
--- the slave is to be let go, whatever Lock_Req is (IEC 61158-6-3, Set_Prm request)
+-- the slave is to be released, whatever Lock_Req is (IEC 61158-6-3, Set_Prm request)
 pub record IsUnlocking (octets : List ℕ) : Type 0 where
   pub whole : 7 ≤ length octets
   pub unlock : unlock_req octets ≡ true

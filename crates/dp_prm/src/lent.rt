@@ -1,4 +1,4 @@
-//! What a parameter telegram means, with its user parameters lent where they lie.
+//! What a parameter telegram means, with its user parameters lent in place.
 
 ghost use Rattle.std.specs.Prelude.{◌≡◌, ◌≤◌, length};
 ghost use Rattle.dp_prm.specs.Meaning.{most_user_parameters};
@@ -7,35 +7,35 @@ ghost use Rattle.dp_prm.specs.Lent.{prm_lent};
 use crate::prm::Prm;
 use arrayvec::ArrayVec;
 
-/// The parameters that an accepted locking request sets, as [`Prm`] has them; the user parameters
-/// are lent.
+/// The parameters that an accepted locking request sets, with the user parameters lent. See
+/// [`Prm`].
 #[derive(Clone, Copy, Debug, PartialEq, Eq)]
 pub struct PrmLent<'a> {
-    /// As [`Prm::watchdog`].
+    /// See [`Prm::watchdog`].
     pub watchdog: Option<u32>,
-    /// As [`Prm::sync_req`].
+    /// See [`Prm::sync_req`].
     pub sync_req: bool,
-    /// As [`Prm::freeze_req`].
+    /// See [`Prm::freeze_req`].
     pub freeze_req: bool,
-    /// As [`Prm::min_tsdr`].
+    /// See [`Prm::min_tsdr`].
     pub min_tsdr: u8,
-    /// As [`Prm::group`].
+    /// See [`Prm::group`].
     pub group: u8,
-    /// As [`Prm::user`]: the octets of the telegram behind its first seven.
+    /// The octets of the telegram after its first seven. See [`Prm::user`].
     pub user: &'a [u8],
 }
 
-/// What a parameter telegram means, as [`PrmVerdict`](crate::PrmVerdict) tells it; the user
-/// parameters of a lock are lent.
+/// What a parameter telegram means, with the user parameters of a lock lent. See
+/// [`PrmVerdict`](crate::PrmVerdict).
 #[derive(Clone, Copy, Debug, PartialEq, Eq)]
 pub enum PrmVerdictLent<'a> {
-    /// As [`PrmVerdict::MinTsdr`](crate::PrmVerdict::MinTsdr).
+    /// See [`PrmVerdict::MinTsdr`](crate::PrmVerdict::MinTsdr).
     MinTsdr(u8),
-    /// As [`PrmVerdict::Unlock`](crate::PrmVerdict::Unlock).
+    /// See [`PrmVerdict::Unlock`](crate::PrmVerdict::Unlock).
     Unlock,
-    /// As [`PrmVerdict::Lock`](crate::PrmVerdict::Lock).
+    /// See [`PrmVerdict::Lock`](crate::PrmVerdict::Lock).
     Lock(PrmLent<'a>),
-    /// As [`PrmVerdict::Fault`](crate::PrmVerdict::Fault).
+    /// See [`PrmVerdict::Fault`](crate::PrmVerdict::Fault).
     Fault {
         /// It is a locking request for Sync or Freeze, which the slave does not support.
         not_supported: bool,
@@ -43,7 +43,8 @@ pub enum PrmVerdictLent<'a> {
 }
 
 impl PrmLent<'_> {
-    /// The same parameters, to be kept. The user parameters are at most 237 octets.
+    /// Returns the same parameters with a copy of the user parameters, which are at most 237
+    /// octets.
     pub fn kept(&self) -> Prm
         requires { length self.now.user.now ≤ most_user_parameters }
         ensures { result ≡ prm_lent self.now }
@@ -60,7 +61,8 @@ impl PrmLent<'_> {
         prm
     }
 
-    /// Puts the same parameters where others lie, as [`PrmLent::kept`] answers them.
+    /// Stores the same parameters in `prm`. The user parameters are at most 237 octets. See
+    /// [`PrmLent::kept`].
     pub fn keep_in(&self, prm: &mut Prm)
         requires { length self.now.user.now ≤ most_user_parameters }
         ensures { prm.new ≡ prm_lent self.now }

@@ -1,9 +1,9 @@
 //! Parameter telegrams of PROFIBUS DP (IEC 61158-6-3, Set_Prm request): what the octets ask of a
-//! slave, and whether it takes them.
+//! slave, and whether the slave accepts them.
 //!
-//! [`read`] tells the [`PrmVerdict`] of the octets under the [`Limits`] of a slave; an accepted
-//! locking request has the parameters as a [`Prm`]. [`read_lent`] tells the same as a
-//! [`PrmVerdictLent`], whose user parameters are those of the octets.
+//! [`read`] returns the [`PrmVerdict`] of the octets under the [`Limits`] of a slave. An accepted
+//! locking request gives the parameters as a [`Prm`]. [`read_lent`] returns the same verdict as a
+//! [`PrmVerdictLent`], which lends the user parameters from the octets.
 #![tactic(auto)]
 
 pub mod laws;

@@ -1,6 +1,6 @@
-//! What a slave takes of parameters.
+//! The parameters that a slave accepts.
 
-/// What a slave takes of parameters (IEC 61158-6-3, Set_Prm request).
+/// The limits of the parameters that a slave accepts (IEC 61158-6-3, Set_Prm request).
 #[derive(Clone, Copy, Debug, PartialEq, Eq)]
 pub struct Limits {
     /// The slave's ident number.
@@ -9,6 +9,6 @@ pub struct Limits {
     pub sync: bool,
     /// The slave supports Freeze.
     pub freeze: bool,
-    /// The most octets of user parameters. Telegrams have room for 237 of them.
+    /// The greatest number of octets of user parameters. A telegram has room for 237 of them.
     pub user_max: u8,
 }

@@ -20,7 +20,7 @@ nothing_at_first (master ∷ masters) sender = elim (cases_Bool (eqb master send
   | inr e ↦ rw e (nothing_at_first masters sender)
 ]
 
--- another's request leaves what is remembered
+-- another sender's request leaves what is remembered unchanged
 pub of_another : (memory : List MasterMemory) (sender other fc : ℕ) (reply : List ℕ) → other ≢ sender
     → remembered_of (with_remembered memory other fc reply) sender ≡ remembered_of memory sender
 of_another [] sender other fc reply differ = refl
@@ -42,7 +42,7 @@ known_after (m ∷ memory) sender other fc reply = elim (cases_Bool (eqb m.maste
   | inr e ↦ rw e (elim (cases_Bool (eqb m.master sender)) [ inl here ↦ rw here refl | inr there ↦ rw there (known_after memory sender other fc reply) ])
 ]
 
--- one's own request leaves what it says, where one is a master
+-- the sender's own request leaves what its definition says, if the sender is a master
 pub of_itself : (memory : List MasterMemory) (sender fc : ℕ) (reply : List ℕ)
     → remembered_of (with_remembered memory sender fc reply) sender ≡ (if is_some (entry sender memory) then last_after fc reply (remembered_of memory sender) else None)
 of_itself [] sender fc reply = refl
@@ -76,7 +76,7 @@ pub own_requests : (memory : List MasterMemory) (requests : List JudgedRequest) 
     → remembered_of (memory_after memory requests) sender ≡ remembered_of (memory_after memory (filter (λ request. eqb request.sender sender) requests)) sender
 own_requests memory requests sender = agree_after requests memory memory sender refl refl
 
--- what is remembered is a repeat of itself
+-- a repeat gets the reply that is remembered
 remembered_is : (memory : List MasterMemory) (sender fc : ℕ) (reply : List ℕ) → is_some (entry sender memory) ≡ true → asks_srd (function_of fc) ≡ true
     → (frame_count_is_valid fc || frame_count_bit fc) ≡ true
     → remembered_of (with_remembered memory sender fc reply) sender ≡ Some (record { fcb = frame_count_bit fc; reply = reply })

@@ -1,4 +1,4 @@
--- The first row that applies, and what comes of a request by its rule.
+-- The first row that applies, and the result for a request by its rule.
 use Rattle.std.proofs.Common.{◌≡◌, ◌≢◌, ℕ, Bool, true, false, ◌&&◌, cond, List, [], ◌∷◌, ◌++◌, Option, Some, None, inl, inr, refl, sym, ap, ◌∙◌}
 use Rattle.std.specs.Prelude.{◌↔◌, if◌then◌else◌, is_some, IfSome}
 use Rattle.std.specs.List.{AllByRecursion, list_any}
@@ -50,7 +50,7 @@ done_applies [] all done = refl
 done_applies (row ∷ rows) all done =
     let (here, later) = done_by row.0 row.1 (first_row rows) all.0 done in rw here (done_applies rows all.1 later)
 
--- by another rule than Done nothing passes
+-- with another rule than Done nothing passes
 refused : (sdn : Bool) (rule : Rule) (function : ℕ) → (if sdn then verdicts.Silent rule else verdicts.Refuse function rule) ≢ verdicts.Pass
 refused true rule function e = absurd cc
 refused false rule function e = absurd cc

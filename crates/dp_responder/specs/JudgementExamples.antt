@@ -35,7 +35,7 @@ pub stranger_repeats :
     ≡ Repeat (record { items = 0x10 ∷ 0x02 ∷ 0x05 ∷ 0x03 ∷ 0x0A ∷ 0x16 ∷ [] })
 stranger_repeats = refl
 
--- of the other master nothing is remembered by that
+-- nothing is remembered of the other master by that
 pub others_memory_stays : remembered_of (with_remembered no_requests 2 0x6D (0xE5 ∷ [])) 1 ≡ None
 others_memory_stays = refl
 
@@ -56,12 +56,12 @@ point_is_off = refl
 pub other_service : judgement exchanging None 1 0x7D (request_to global_control (0 ∷ 0 ∷ [])) ≡ Refuse not_activated rules.NoService
 other_service = refl
 
--- the same by SDN: nothing is replied
+-- a point of SRD, by SDN: no reply
 pub unacknowledged : judgement exchanging None 1 0x46 (request_to slave_diag []) ≡ Silent rules.NoService
 unacknowledged = refl
 
--- a slave that master 1 alone may lock, and that nobody but its holder may read: the other's Set_Prm is refused by the list before the
--- lock, and behind it since another holds the slave; by SDN it is refused in silence; the holder reads
+-- a slave that only master 1 may lock and only its holder may read: another master's Set_Prm is refused by the list if nobody holds the slave, and by
+-- NotHolder if master 1 does; an SDN is refused in silence; the holder reads
 abbrev pub one_locker : Lists
 one_locker = record { lockers = Some (record { items = 1 ∷ [] }); readers = Some (record { items = [] }) }
 
@@ -84,7 +84,7 @@ holder_may_read = refl
 pub off_comes_before_the_list : judgement (unmarked WaitPrm None 2 false one_locker) None 2 0x6D (request_to rd_inp []) ≡ Refuse not_activated rules.NotActive
 off_comes_before_the_list = refl
 
--- where the default point takes two octets or none: none, two, and one
+-- if the default point takes two octets or none: none, two, and one
 pub empty_passes : judgement (unmarked DataExch (Some 1) 2 true no_lists) None 1 0x7D (request_to data_exchange []) ≡ Pass
 empty_passes = refl
 
@@ -94,11 +94,11 @@ whole_passes = refl
 pub one_is_a_wrong_length : judgement (unmarked DataExch (Some 1) 2 true no_lists) None 1 0x7D (request_to data_exchange (0x12 ∷ [])) ≡ Refuse user_error rules.Length
 one_is_a_wrong_length = refl
 
--- and an empty one else
+-- otherwise no octets are a wrong length
 pub empty_is_a_wrong_length : judgement exchanging None 1 0x7D (request_to data_exchange []) ≡ Refuse user_error rules.Length
 empty_is_a_wrong_length = refl
 
--- SRD with FCV 0 and FCB 1 is remembered; with FCV 0 and FCB 0 it empties the memory; SDN leaves it alone
+-- SRD with FCV 0 and FCB 1 is remembered; with FCV 0 and FCB 0 it empties the memory; SDN leaves it unchanged
 pub first_is_remembered : remembered_of (with_remembered no_requests 1 0x6D (0xE5 ∷ [])) 1 ≡ Some (record { fcb = true; reply = 0xE5 ∷ [] })
 first_is_remembered = refl
 

@@ -2,7 +2,7 @@
 use Rattle.std.specs.Prelude.{ℕ, Bool, true, false, not, ◌&&◌, ◌||◌, ◌==◌, if◌then◌else◌, List, [], ◌∷◌, map, find, Option, Some, None, option_and_then}
 use Rattle.dp_telegram.specs.FunctionCode.{function_of, asks_srd, frame_count_bit, frame_count_is_valid}
 
--- the last SRD of a master that was judged anew with FCV 1 or FCB 1: its FCB, and the octets of the reply to it
+-- the last SRD of a master with FCV 1 or FCB 1 that was judged and was no repeat: its FCB, and the octets of the reply to it
 pub record Remembered : Type 0 where
   pub fcb : Bool
   pub reply : List ℕ
@@ -20,8 +20,8 @@ no_memory masters = map (λ master. record { master = master; last = None }) mas
 abbrev pub remembered_of : List MasterMemory → ℕ → Option Remembered
 remembered_of memory sender = option_and_then (λ m. m.last) (find (λ m. m.master == sender) memory)
 
--- what a request that was judged anew leaves of its sender's memory: an SRD is remembered with FCV 1, or with FCV 0 and FCB 1; with
--- FCV 0 and FCB 0 it empties the memory; SDN and every other function leave it alone
+-- what a request that was judged and was no repeat leaves of its sender's memory: an SRD is remembered with FCV 1, or with FCV 0 and FCB 1; with FCV
+-- 0 and FCB 0 it empties the memory; SDN and every other function leave it unchanged
 abbrev pub last_after : ℕ → List ℕ → Option Remembered → Option Remembered
 last_after fc reply last =
     if not (asks_srd (function_of fc)) then last
@@ -35,7 +35,7 @@ master_after sender fc reply m = if m.master == sender then record m { last = la
 abbrev pub with_remembered : List MasterMemory → ℕ → ℕ → List ℕ → List MasterMemory
 with_remembered memory sender fc reply = map (master_after sender fc reply) memory
 
--- requests that were judged anew, one after another, with the replies to them
+-- requests that were judged and were no repeats, one after another, with the replies to them
 pub record JudgedRequest : Type 0 where
   pub sender : ℕ
   pub fc : ℕ
@@ -45,7 +45,7 @@ abbrev pub memory_after : List MasterMemory → List JudgedRequest → List Mast
 memory_after memory [] = memory
 memory_after memory (request ∷ requests) = memory_after (with_remembered memory request.sender request.fc request.reply) requests
 
--- two bits are alike
+-- two bits are equal
 abbrev pub same_bit : Bool → Bool → Bool
 same_bit true bit = bit
 same_bit false bit = not bit
@@ -55,7 +55,7 @@ abbrev pub is_repeat : Option Remembered → ℕ → Bool
 is_repeat None fc = false
 is_repeat (Some last) fc = asks_srd (function_of fc) && frame_count_is_valid fc && same_bit last.fcb (frame_count_bit fc)
 
--- the reply that is kept; no octets where nothing is remembered
+-- the stored reply; no octets if nothing is remembered
 abbrev pub kept_reply : Option Remembered → List ℕ
 kept_reply None = []
 kept_reply (Some last) = last.reply

@@ -1,9 +1,9 @@
--- The rules: their numbers and names, and which rule the rows of a verdict give (own).
+-- The rules: their numbers and names, and the rule that the rows of a verdict give (own).
 use Rattle.std.specs.Prelude.{ℕ, codes, Bool, true, false, ◌==◌, if◌then◌else◌, List, [], ◌∷◌, Option, Some, None}
 use Rattle.dp_responder.specs.declared.rule.Rule.{Rule}
 use Rattle.dp_responder.specs.declared.rule.Rule.TheVariants as rules
 
--- the rules in the order of the verdict; the number of NotListed, which stands behind NotHolder there, came last
+-- the rules in the order of the verdict, except NotListed, which comes after NotHolder there and has the last number
 abbrev pub rule_code : Rule → ℕ
 rule_code rules.Halted = 1
 rule_code rules.NoFrame = 2
@@ -87,7 +87,7 @@ is_refusal rules.Length = true
 is_refusal rules.NotSelected = true
 is_refusal rules.Done = false
 
--- the rule of the first row whose condition holds, and Done where there is none
+-- the rule of the first row whose condition holds; Done if there is none
 abbrev pub first_row : List (Bool × Rule) → Rule
 first_row [] = rules.Done
 first_row (row ∷ rows) = if row.0 then row.1 else first_row rows

@@ -1,4 +1,4 @@
-//! What comes of a request, before it is served.
+//! The judgement of a request, before it is served.
 
 ghost use Rattle.std.specs.Prelude.{◌≡◌, ◌≢◌, Option, Some, length, true};
 ghost use Rattle.dp_telegram.specs.FunctionCode.{asks_sdn, function_of};
@@ -16,37 +16,37 @@ use dp_sap::{Access, Point, Points, Service};
 use dp_telegram::function_code::{self, Function, RR, RS, UE};
 use dp_telegram::{Octets, Parts, PartsLent};
 
-/// What comes of a request, before it is served.
+/// The result for a request, before it is served.
 #[derive(Clone, Debug, Drop, PartialEq, Eq)]
 pub enum Judged {
-    /// No row refuses it: the service of its point is to be done.
+    /// No row refuses it: the service of its point is to be executed.
     Pass,
-    /// It is a repeat: it is answered by these octets again, 0 to 255 of them, and not executed.
+    /// It is a repeat: it gets these octets again, 0 to 255 of them, and is not executed.
     Repeat(Octets),
-    /// It is refused by a reply without data, of this function: RS, RR or UE.
+    /// It is refused with a reply without data, which has this function: RS, RR or UE.
     Refuse(u8, Rule),
-    /// It is an SDN and is refused, so nothing is replied.
+    /// It is an SDN and is refused, so it gets no reply.
     Silent(Rule),
 }
 
-/// What comes of a request, as [`Judged`] tells it; the octets of a repeat are lent.
+/// The result for a request, with the octets of a repeat lent. See [`Judged`].
 #[derive(Clone, Copy, Debug, PartialEq, Eq)]
 pub enum JudgedLent<'a> {
-    /// As [`Judged::Pass`].
+    /// See [`Judged::Pass`].
     Pass,
-    /// As [`Judged::Repeat`]: these octets are what the slave remembers.
+    /// The octets are those that the slave remembers. See [`Judged::Repeat`].
     Repeat(&'a Octets),
-    /// As [`Judged::Refuse`].
+    /// See [`Judged::Refuse`].
     Refuse(u8, Rule),
-    /// As [`Judged::Silent`].
+    /// See [`Judged::Silent`].
     Silent(Rule),
 }
 
 /// Judges a request by the rows of the verdict from the repeat to the length (own order): repeat,
 /// point off, sender not admitted, sender not listed, another service, point busy, length.
 ///
-/// `sender` is a master of the line, `fc` the function code of an SRD or an SDN, 0 to 255, and `parts`
-/// what the request says. The first row that applies decides.
+/// `sender` is a master of the line, `fc` the function code of an SRD or an SDN, 0 to 255, and
+/// `parts` the access points and the payload of the request. The first row that applies decides.
 pub fn judge(points: &Points, memory: &FrameMemory, sender: u8, fc: u8, parts: &Parts) -> Judged
     ensures { result ≡ judgement points.now (remembered_of memory.now sender) sender fc parts.now }
 {
@@ -58,7 +58,8 @@ pub fn judge(points: &Points, memory: &FrameMemory, sender: u8, fc: u8, parts: &
     }
 }
 
-/// Like [`judge`], but lends the octets of a repeat, and so spares room for them where there is none.
+/// Judges a request as [`judge`] does, but lends the octets of a repeat. The result needs no room
+/// for them.
 pub fn judge_lent<'a>(
     points: &Points,
     memory: &'a FrameMemory,
@@ -81,8 +82,8 @@ fn judge_anew<'a>(points: &Points, sender: u8, fc: u8, parts: &PartsLent<'_>) ->
     by_rule(refusal(points, sender, fc, parts), fc)
 }
 
-/// Judges an SDN, which is no repeat and gets no reply, by the same rows: the rule that refuses it;
-/// [`Rule::Done`] where it passes.
+/// Judges an SDN, which is no repeat and gets no reply, by the same rows. Returns the rule that
+/// refuses it; [`Rule::Done`] if it passes.
 pub fn judge_sdn(points: &Points, sender: u8, fc: u8, parts: &PartsLent<'_>) -> Rule
     requires { asks_sdn (function_of fc) ≡ true }
     ensures { (last : Option Remembered) → judgement points.now last sender fc parts.now ≡ judged_in_silence result }
@@ -90,14 +91,14 @@ pub fn judge_sdn(points: &Points, sender: u8, fc: u8, parts: &PartsLent<'_>) -> 
     refusal(points, sender, fc, parts)
 }
 
-/// An SRD with FCV 1 whose FCB is the remembered one.
+/// Returns whether the request is an SRD with FCV 1 whose FCB is the remembered one.
 fn is_repeat(last: &Last, fc: u8) -> bool
     ensures { result ≡ is_repeated (Some last.now) fc }
 {
     Function::from_fc(fc).is_srd() && function_code::fcv(fc) && last.fcb == function_code::fcb(fc)
 }
 
-/// The reply that is remembered, once more.
+/// Returns the remembered reply again.
 fn repeated(reply: &Octets) -> Judged
     ensures { result ≡ verdicts.Repeat reply.now }
 {
@@ -106,7 +107,7 @@ fn repeated(reply: &Octets) -> Judged
     Judged::Repeat(octets)
 }
 
-/// The rule that refuses a request which is no repeat; [`Rule::Done`] where none does.
+/// Returns the rule that refuses a request which is no repeat; [`Rule::Done`] if none does.
 fn refusal(points: &Points, sender: u8, fc: u8, parts: &PartsLent<'_>) -> Rule
     ensures rule { result ≡ first_row (refusal_rows (access_row points.now parts.now.dsap) (is_listed points.now parts.now.dsap sender) sender fc parts.now.payload.items) }
     ensures repeat { result ≢ rules.Repeat }
@@ -118,7 +119,7 @@ fn refusal(points: &Points, sender: u8, fc: u8, parts: &PartsLent<'_>) -> Rule
     refusal_at(points, &point, sender, fc, parts)
 }
 
-/// The rule that refuses a request at this point, which is on; [`Rule::Done`] where none does.
+/// Returns the rule that refuses a request at this point, which is on; [`Rule::Done`] if none does.
 fn refusal_at(points: &Points, point: &Point, sender: u8, fc: u8, parts: &PartsLent<'_>) -> Rule
     ensures rule { result ≡ first_row (refusal_rows (Some point.now) (is_listed points.now parts.now.dsap sender) sender fc parts.now.payload.items) }
     ensures repeat { result ≢ rules.Repeat }
@@ -141,7 +142,8 @@ fn refusal_at(points: &Points, point: &Point, sender: u8, fc: u8, parts: &PartsL
     Rule::Done
 }
 
-/// What comes of a request that is no repeat, by its rule; an SDN that is refused gets no reply.
+/// Returns the result for a request that is no repeat, by its rule. An SDN that is refused gets no
+/// reply.
 fn by_rule<'a>(rule: Rule, fc: u8) -> JudgedLent<'a>
     requires { rule ≢ rules.Repeat }
     ensures { (last : Option Remembered) → judged_lent result ≡ judged_by last fc rule }
@@ -153,7 +155,7 @@ fn by_rule<'a>(rule: Rule, fc: u8) -> JudgedLent<'a>
     }
 }
 
-/// The function of the reply without data by which a rule refuses an SRD.
+/// Returns the function of the reply without data by which a rule refuses an SRD.
 fn refusal_function(rule: Rule) -> u8
     ensures { result ≡ function_by rule }
 {
@@ -164,7 +166,7 @@ fn refusal_function(rule: Rule) -> u8
     }
 }
 
-/// The point takes requests of the sender.
+/// Returns whether the point takes requests of the sender.
 fn admits(access: Access, sender: u8) -> bool
     ensures { result ≡ is_admitted sender access }
 {
@@ -174,7 +176,7 @@ fn admits(access: Access, sender: u8) -> bool
     }
 }
 
-/// The function uses the service.
+/// Returns whether the function uses the service.
 fn uses(fc: u8, service: Service) -> bool
     ensures { result ≡ is_used fc service }
 {
@@ -184,7 +186,7 @@ fn uses(fc: u8, service: Service) -> bool
     }
 }
 
-/// The point takes so many octets.
+/// Returns whether the point takes `count` octets.
 fn takes_length(point: &Point, count: usize) -> bool
     ensures { result ≡ is_taken count point.now }
 {

@@ -1,4 +1,4 @@
-//! Laws of frame memories and of the judgement: each is what an empty function ensures.
+//! Laws of frame memories and of the judgement: each is the contract of an empty function.
 
 ghost use Rattle.std.specs.Prelude.{◌≡◌, ◌≢◌, ◌↔◌, ◌==◌, ◌||◌, ℕ, Bool, true, false, List, ◌∷◌, ◌++◌, Option, None, IsSome, filter, find};
 ghost use Rattle.std.specs.List.{list_any};
@@ -11,7 +11,7 @@ ghost use Rattle.dp_responder.specs.Memory.{JudgedRequest, MasterMemory, Remembe
 ghost use Rattle.dp_responder.specs.Rules.{first_row};
 ghost use Rattle.dp_responder.specs.Judgement.{judgement, judgement_rows};
 
-/// The first row that applies decides, and a request passes exactly where none does.
+/// The first row that applies decides. A request passes exactly if no row applies.
 pub fn the_first_row_that_applies_decides()
     ensures first { (before behind : List (Bool × Rule)) (row : Bool × Rule)
         → list_any (λ r. r.0) before ≡ false
@@ -22,8 +22,8 @@ pub fn the_first_row_that_applies_decides()
         ↔ (list_any (λ row. row.0) (judgement_rows points last sender fc parts) ≡ false) }
 {}
 
-/// A repeat gets the reply that was remembered for its sender last: an SRD with FCV 1 and the same
-/// FCB, whatever else it holds, and whatever the points are by then.
+/// A repeat gets the reply that was last remembered for its sender. It is an SRD with FCV 1 and the
+/// same FCB, whatever else it holds, and whatever the points are by then.
 pub fn a_repeat_gets_the_last_reply()
     ensures { (memory : List MasterMemory) (sender fc again : ℕ) (reply : List ℕ) (points : PointsView) (parts : Parts)
         → IsSome (find (λ m. m.master == sender) memory)
@@ -36,7 +36,7 @@ pub fn a_repeat_gets_the_last_reply()
         ≡ Judged.Repeat (record { items = reply }) }
 {}
 
-/// What is remembered of a master depends on its own requests alone: after any requests it is as if
+/// What is remembered of a master depends only on its own requests: after any requests it is as if
 /// the other masters had sent none.
 pub fn a_memory_depends_on_own_requests_alone()
     ensures { (memory : List MasterMemory) (requests : List JudgedRequest) (sender : ℕ)
@@ -49,7 +49,7 @@ pub fn with_fcv_0_nothing_is_a_repeat()
     ensures { (last : Option Remembered) (fc : ℕ) → frame_count_is_valid fc ≡ false → is_repeat last fc ≡ false }
 {}
 
-/// Before any request nothing is remembered, of whomever.
+/// Before any request nothing is remembered of any sender.
 pub fn at_first_nothing_is_remembered()
     ensures { (masters : List ℕ) (sender : ℕ) → remembered_of (no_memory masters) sender ≡ None }
 {}

@@ -1,10 +1,11 @@
 //! How a DP slave judges a request before it serves it (IEC 61158-4-3, FDL procedures): what it
-//! remembers of each master, so that a repeated request is answered and not executed again, and the
-//! rows of the verdict from the repeat to the length.
+//! remembers of each master, so that it answers a repeated request without executing it again, and
+//! the rows of the verdict from the repeat to the length.
 //!
-//! [`judge`] tells what comes of a request under the slave's points and its [`FrameMemory`], and
-//! [`judge_sdn`] what comes of one that is never replied to; [`judge_lent`] lends what [`judge`] copies.
-//! [`FrameMemory::remember`] keeps the reply. [`Rule`] names every row of the verdict.
+//! [`judge`] returns the result for a request under the slave's points and its [`FrameMemory`].
+//! [`judge_sdn`] returns the rule for an SDN, which never gets a reply. [`judge_lent`] lends what
+//! [`judge`] copies. [`FrameMemory::remember`] stores the reply. [`Rule`] names every row of the
+//! verdict.
 #![tactic(auto)]
 
 mod judgement;

@@ -10,7 +10,7 @@ use dp_telegram::Octets;
 use dp_telegram::function_code::{self, Function};
 use std::marker::Model;
 
-/// The last SRD of a master that was judged anew with FCV 1 or FCB 1.
+/// The last SRD of a master with FCV 1 or FCB 1 that was judged and was no repeat.
 #[derive(Debug, Drop)]
 pub(crate) struct Last {
     /// Its frame count bit.
@@ -42,9 +42,9 @@ impl Model for Entry {
     ghost view = { λ e. record { master = e.master; last = e.last } };
 }
 
-/// What a slave remembers of each master of its line: the frame count bit of the last SRD that was
-/// judged anew with FCV 1 or FCB 1, and the reply to it (own). Contracts see the masters in their order, and what is
-/// remembered of each.
+/// What a slave remembers of each master of its line: the frame count bit of the last SRD with FCV
+/// 1 or FCB 1 that was judged and was no repeat, and the reply to it (own). Contracts see the
+/// masters in their order, and what is remembered of each.
 #[derive(Debug, Drop)]
 pub struct FrameMemory {
     entries: ArrayVec<Entry, MOST_MASTERS>,
@@ -60,7 +60,7 @@ impl Model for FrameMemory {
 }
 
 impl FrameMemory {
-    /// Nothing is remembered of these masters, which are the line's.
+    /// Returns a memory of these masters, those of the line, in which nothing is remembered.
     pub fn new(masters: &ArrayVec<u8, MOST_MASTERS>) -> FrameMemory
         ensures { result ≡ no_memory masters.now.items }
     {
@@ -74,19 +74,20 @@ impl FrameMemory {
         FrameMemory { entries }
     }
 
-    /// Keeps what a request of the sender that was judged anew leaves: `fc` is its function code, 0
-    /// to 255, and `reply` are the octets that were answered.
+    /// Stores what a request of the sender leaves, for a request that was judged and was no repeat.
+    /// `fc` is its function code, 0 to 255, and `reply` are the octets of the answer.
     ///
-    /// Of an SRD, FCB and reply are remembered with FCV 1, and with FCV 0 and FCB 1; with FCV 0 and
-    /// FCB 0 the memory of the sender is emptied. SDN and every other function leave it alone, and so
-    /// does an address that is no master of the line. Other masters' memories stay (own).
+    /// An SRD with FCV 1, or with FCV 0 and FCB 1, leaves its FCB and the reply. An SRD with FCV 0
+    /// and FCB 0 empties the memory of the sender. SDN and every other function leave the memory
+    /// unchanged, and so does an address that is no master of the line. The memories of other
+    /// masters stay (own).
     pub fn remember(&mut self, sender: u8, fc: u8, reply: &Octets)
         ensures { self.new ≡ with_remembered self.old sender fc reply.now.items }
     {
         remember_in(self.entries.as_mut_slice(), sender, fc, reply);
     }
 
-    /// What is remembered of the sender.
+    /// Returns what is remembered of the sender.
     pub(crate) fn last_of(&self, sender: u8) -> Option<&Last>
         ensures { option_copied result ≡ remembered_of self.now sender }
     {
@@ -97,14 +98,14 @@ impl FrameMemory {
     }
 }
 
-/// The entry of the sender, if it is a master.
+/// Returns the entry of the sender, if it is a master.
 fn entry_of(entries: &[Entry], sender: u8) -> Option<&Entry>
     ensures { option_copied result ≡ find (λ m. m.master == sender) entries.now }
 {
     entries.iter().find(|entry| entry.master == sender)
 }
 
-/// Keeps what a request leaves in the sender's entry.
+/// Stores what a request leaves in the sender's entry.
 fn remember_in(entries: &mut [Entry], sender: u8, fc: u8, reply: &[u8])
     requires { length reply.now ≤ 255 }
     ensures { entries.new ≡ map (master_after sender fc reply.now) entries.old }
@@ -115,14 +116,14 @@ fn remember_in(entries: &mut [Entry], sender: u8, fc: u8, reply: &[u8])
 }
 
 impl Entry {
-    /// What is remembered of the master.
+    /// Returns what is remembered of the master.
     fn last(&self) -> Option<&Last>
         ensures { option_copied result ≡ self.now.last }
     {
         self.last.as_ref()
     }
 
-    /// Keeps what a request of the sender leaves, where it is this master.
+    /// Stores what a request leaves, if its sender is this master.
     fn remember(&mut self, sender: u8, fc: u8, reply: &[u8])
         requires { length reply.now ≤ 255 }
         ensures { self.new ≡ master_after sender fc reply.now self.old }
@@ -139,7 +140,7 @@ impl Entry {
     }
 }
 
-/// Remembers a request in the place of the one before it, whose room the reply takes.
+/// Remembers a request in place of the one before it, whose buffer it reuses for the reply.
 fn keep(last: &mut Option<Last>, fcb: bool, reply: &[u8])
     requires { length reply.now ≤ 255 }
     ensures { last.new ≡ Some (record { fcb = fcb; reply = reply.now }) }

@@ -1,19 +1,19 @@
 //! The rules of the verdict.
 
 ghost use Rattle.std.specs.Prelude.{◌≡◌, Some};
-ghost use Rattle.dp_responder.specs.Rules.{all_rules, is_refusal, rule_code, rule_name, rule_of};
+ghost use Rattle.dp_responder.specs.Rules.{is_refusal, rule_code, rule_name, rule_of};
 
-/// Why a request is answered as it is: the row of the verdict that decided (own order).
+/// The reason for the answer to a request: the row of the verdict that decided (own order).
 ///
 /// Its default, the first rule, only fills the free cells of an `ArrayVec`.
 #[derive(Clone, Copy, Debug, Default, PartialEq, Eq)]
 pub enum Rule {
-    /// The line is halted, or only the place of the halt is left: silence.
+    /// The line is halted, or its journal has only the place for the halt left: silence.
     #[default]
     Halted,
     /// The octets are no single frame: silence.
     NoFrame,
-    /// The event's master is none of the line's: silence.
+    /// The event's master is not a master of the line: silence.
     NoMaster,
     /// The frame's source address isn't the event's master: silence.
     ForeignSender,
@@ -25,14 +25,14 @@ pub enum Rule {
     BadFunction,
     /// An announced extension octet is missing or not plain: silence.
     BadExtension,
-    /// A telegram to all stations that is no SDN to the point of Global_Control: silence.
+    /// A telegram to all stations that is not an SDN to the point of Global_Control: silence.
     BadBroadcast,
     /// No slave has the destination address: silence.
     NoStation,
     /// FDL status is answered.
     Status,
-    /// SDA, ident or LSAP status, at any point, or SRD and SDN at a point of the other: RS to all but
-    /// SDN, and silence to that.
+    /// SDA, ident or LSAP status at any point, SRD at a point of SDN, or SDN at a point of SRD:
+    /// silence to an SDN, RS to all others.
     NoService,
     /// A repeated request: the stored reply.
     Repeat,
@@ -48,8 +48,8 @@ pub enum Rule {
     NotSelected,
     /// The service is done.
     Done,
-    /// The slave's lists don't let the sender use the access point: RS to an SRD, silence to an SDN. It
-    /// stands behind [`Rule::NotHolder`] in the verdict.
+    /// The slave's lists don't let the sender use the access point: RS to an SRD, silence to an
+    /// SDN. In the verdict it comes after [`Rule::NotHolder`].
     NotListed,
 }
 
@@ -133,7 +133,8 @@ impl Rule {
         }
     }
 
-    /// The number of the rule, 1 to 20 (own): up to 19 in the order of the verdict.
+    /// Returns the number of the rule, 1 to 20 (own). The numbers up to 19 are in the order of the
+    /// verdict.
     #[tactic(auto, unfolding(crate::specs::Rules::rule_of))]
     pub const fn code(self) -> u8
         ensures number { result ≡ rule_code self }
@@ -163,7 +164,7 @@ impl Rule {
         }
     }
 
-    /// Its name in texts (own).
+    /// Returns its name in texts (own).
     pub const fn name(self) -> &'static str
         ensures { result.now ≡ rule_name self }
     {

@@ -1,4 +1,4 @@
--- The access table of a slave, which point it opens in a state, and the busy marks of its rows.
+-- The access table of a slave, the points that it opens in a state, and the busy marks of its rows.
 use Rattle.std.specs.Prelude.{ℕ, Bool, true, false, ◌&&◌, ◌||◌, ◌==◌, nat_eq, is_some, if◌then◌else◌, List, [], ◌∷◌, find, Option, Some, None}
 use Rattle.std.specs.List.{list_any}
 use Rattle.std.specs.Option.{option_eq, option_map, option_map_or, option_and_then}
@@ -11,13 +11,13 @@ use Rattle.dp_sap.specs.declared.point.Service.TheVariants.{Srd, Sdn}
 use Rattle.dp_sap.specs.declared.point.Point.{Point}
 use Rattle.dp_sap.specs.declared.lists.Lists.{Lists}
 
--- whom a row admits in one state: nobody, the holder alone, or every master (own)
+-- whom a row admits in one state: nobody, only the holder, or every master (own)
 pub data Column : Type 0 where
   off : Column
   holder : Column
   all : Column
 
--- a row of the table: the point, its service, whom it admits in each state, and the least and the most data octets of a request (own)
+-- a row of the table: the point, its service, whom it admits in each state, and the least and the greatest number of data octets of a request (own)
 pub record Row : Type 0 where
   pub point : Option ℕ
   pub service : Service
@@ -64,7 +64,7 @@ set_prm = Some 61
 abbrev pub chk_cfg : Option ℕ
 chk_cfg = Some 62
 
--- the most data octets of a service (IEC 61158-6-3, data unit)
+-- the greatest number of data octets of a service (IEC 61158-6-3, data unit)
 abbrev pub most_data : ℕ
 most_data = 244
 
@@ -93,8 +93,8 @@ pub record BusyMarks : Type 0 where
   pub set_prm : Bool
   pub chk_cfg : Bool
 
--- the points of a slave: its state, its holder, its output length, whether Data_Exchange may be empty too, its busy marks and its lists of
--- masters (own)
+-- the points of a slave: its state, its holder, its output length, whether Data_Exchange may also be empty, its busy marks and its lists of masters
+-- (own)
 pub record PointsView : Type 0 where
   pub state : State
   pub holder : Option ℕ
@@ -115,7 +115,7 @@ row_of out_len number = find (λ row. same_point number row.point) (access_table
 abbrev pub is_in_table : Option ℕ → Bool
 is_in_table number = is_some (row_of 0 number)
 
--- the marks of points of which none is busy (own)
+-- the marks with no point busy (own)
 abbrev pub no_marks : BusyMarks
 no_marks = record {
   data_exchange = false;
@@ -145,7 +145,7 @@ marked_points marks =
 abbrev pub is_busy : BusyMarks → Option ℕ → Bool
 is_busy marks number = option_map_or (λ row. row.1) (find (λ row. same_point number row.0) (marked_points marks)) false
 
--- the marks with that of one point set or taken away; a point outside the table has none (own)
+-- the marks with that of one point set or cleared; a point outside the table has none (own)
 abbrev pub with_mark : BusyMarks → Option ℕ → Bool → BusyMarks
 with_mark marks number busy = record {
   data_exchange = if same_point number data_exchange then busy else marks.data_exchange;
@@ -158,7 +158,7 @@ with_mark marks number busy = record {
   chk_cfg = if same_point number chk_cfg then busy else marks.chk_cfg;
 }
 
--- the points of a slave none of which is busy (own)
+-- the points of a slave, none of them busy (own)
 abbrev pub unmarked : State → Option ℕ → ℕ → Bool → Lists → PointsView
 unmarked state master out_len empty lists = record {
   state = state;
@@ -175,13 +175,13 @@ column_in WaitPrm row = row.wait_prm
 column_in WaitCfg row = row.wait_cfg
 column_in DataExch row = row.data_exch
 
--- whom a column admits under a holder; nobody where it asks for a holder and there is none (own)
+-- whom a column admits under a holder; nobody if it requires a holder and there is none (own)
 abbrev pub admitted : Column → Option ℕ → Option Access
 admitted off master = None
 admitted holder master = option_map (λ address. Only address) master
 admitted all master = Some All
 
--- the point that a row is, where it is on; the default point alone may be empty: it takes either the octets of its row or none (own)
+-- the point of a row that is on; only the default point may be empty: it takes either the octets of its row or none (own)
 abbrev pub point_of : PointsView → Row → Access → Point
 point_of points row access = record {
   active = true;
@@ -193,29 +193,29 @@ point_of points row access = record {
   busy = is_busy points.busy row.point;
 }
 
--- the point that a row is in the state; none where it is off (own)
+-- the point of a row in the state; None if it is off (own)
 abbrev pub opened : PointsView → Row → Option Point
 opened points row = option_map (point_of points row) (admitted (column_in points.state row) points.holder)
 
--- the point of a number, as the access table has it in the state; none where it is off, and outside the table (own)
+-- the point of a number, as the access table has it in the state; None if it is off or outside the table (own)
 abbrev pub access_row : PointsView → Option ℕ → Option Point
 access_row points number = option_and_then (opened points) (row_of points.out_len number)
 
--- a slave without lists: every master may do what the points let it (own)
+-- a slave without lists: every master may do what the points allow (own)
 abbrev pub no_lists : Lists
 no_lists = record { lockers = None; readers = None }
 
--- by the lists the sender may use Set_Prm: every master where there is no list of lockers, and those on it where there is one (own)
+-- by the lists the sender may use Set_Prm: every master if there is no list of lockers, and those on it if there is one (own)
 abbrev pub may_lock : Lists → ℕ → Bool
 may_lock lists sender = option_map_or (λ masters. list_any (λ master. master == sender) masters.items) lists.lockers true
 
--- by the lists the sender may read inputs and outputs without holding the slave: every master where there is no list of readers, and those
--- on it where there is one (own)
+-- by the lists the sender may read inputs and outputs without holding the slave: every master if there is no list of readers, and those on it if
+-- there is one (own)
 abbrev pub may_read : Lists → ℕ → Bool
 may_read lists sender = option_map_or (λ masters. list_any (λ master. master == sender) masters.items) lists.readers true
 
--- the lists of the slave let the sender use the point: Set_Prm where it may lock; RD_Inp and RD_Outp where it may read or is the holder;
--- each other point always (own)
+-- the lists of the slave let the sender use the point: Set_Prm if it may lock; RD_Inp and RD_Outp if it may read or is the holder; each other point
+-- always (own)
 abbrev pub is_listed : PointsView → Option ℕ → ℕ → Bool
 is_listed points number sender =
     if same_point number set_prm then may_lock points.lists sender

@@ -1,4 +1,4 @@
--- Rows of the access table, worked.
+-- Examples of rows of the access table.
 use Rattle.std.specs.Prelude.{◌≡◌, ℕ, Bool, true, false, [], ◌∷◌, Option, Some, None, refl}
 use Rattle.dp_sap.specs.declared.lists.Lists.{Lists}
 use Rattle.dp_sap.specs.AccessTable.{BusyMarks, PointsView, access_row, chk_cfg, data_exchange, get_cfg, global_control, is_busy, is_listed, no_lists, no_marks, rd_inp, rd_outp, set_prm, slave_diag, unmarked, with_mark}
@@ -53,7 +53,7 @@ below_the_table = refl
 pub above_the_table : access_row exchanging (Some 63) ≡ None
 above_the_table = refl
 
--- after Clear_Data on a fail-safe slave, none or both of its octets
+-- after Clear_Data a fail-safe slave takes both of its octets or none
 pub cleared_takes_none_too :
     access_row (unmarked DataExch (Some 1) 2 true no_lists) data_exchange
     ≡ Some (record { active = true; access = Only 1; service = Srd; least = 2; most = 2; empty = true; busy = false })
@@ -63,7 +63,7 @@ cleared_takes_none_too = refl
 pub cleared_is_controlled : access_row (unmarked DataExch (Some 1) 2 true no_lists) global_control ≡ idle_point (Only 1) Sdn 2 2
 cleared_is_controlled = refl
 
--- a slave that master 1 alone may lock, and that nobody but its holder may read
+-- a slave that only master 1 may lock, and that only its holder may read
 abbrev pub one_locker : Lists
 one_locker = record { lockers = Some (record { items = 1 ∷ [] }); readers = Some (record { items = [] }) }
 
@@ -79,7 +79,7 @@ another_is_no_reader = refl
 pub holder_reads_always : is_listed (unmarked DataExch (Some 1) 2 false one_locker) rd_outp 1 ≡ true
 holder_reads_always = refl
 
--- a reader reads without holding the slave, and every master locks where there is no list of lockers
+-- a reader reads without holding the slave, and every master locks if there is no list of lockers
 abbrev pub one_reader : Lists
 one_reader = record { lockers = None; readers = Some (record { items = 2 ∷ 2 ∷ [] }) }
 

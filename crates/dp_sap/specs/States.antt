@@ -1,4 +1,4 @@
--- Words on the state of a slave.
+-- Conditions on the state of a slave.
 use Rattle.std.specs.Prelude.{Bool, true, false}
 use Rattle.dp_sap.specs.declared.state.State.{State}
 use Rattle.dp_sap.specs.declared.state.State.TheVariants.{WaitPrm, WaitCfg, DataExch}

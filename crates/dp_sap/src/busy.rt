@@ -37,7 +37,7 @@ impl Model for BusyMarks {
 }
 
 impl BusyMarks {
-    /// No point is busy.
+    /// Returns the marks with no point busy.
     pub(crate) fn none() -> BusyMarks
         ensures { result ≡ no_marks }
     {
@@ -53,7 +53,7 @@ impl BusyMarks {
         }
     }
 
-    /// Whether the point is busy; one outside the table never is.
+    /// Returns whether the point is busy. A point outside the table never is.
     pub(crate) fn is_busy(&self, number: Option<u8>) -> bool
         ensures { result ≡ is_busy self.now number }
     {
@@ -70,7 +70,7 @@ impl BusyMarks {
         }
     }
 
-    /// Sets or takes away the mark of the point. Whether the table has the point; where it has
+    /// Sets or clears the mark of the point. Returns whether the table has the point; if it has
     /// not, nothing changes.
     pub(crate) fn set(&mut self, number: Option<u8>, busy: bool) -> bool
         ensures known { result ≡ is_in_table number }

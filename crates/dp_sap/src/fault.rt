@@ -1,4 +1,4 @@
-//! Why a busy mark is refused.
+//! Faults of busy marks.
 
 ghost use Rattle.std.specs.Prelude.{◌≡◌};
 ghost use Rattle.dp_sap.specs.Names.{sap_fault_name};
@@ -6,7 +6,7 @@ ghost use Rattle.dp_sap.specs.SapFault.{fault_code};
 
 use thiserror::Error;
 
-/// Why a busy mark is refused.
+/// The reason why a busy mark is refused.
 #[derive(Clone, Copy, Debug, PartialEq, Eq, Error)]
 #[error("{}", self.name())]
 pub enum SapFault {
@@ -15,7 +15,7 @@ pub enum SapFault {
 }
 
 impl SapFault {
-    /// The number of the fault (own).
+    /// Returns the number of the fault (own).
     pub const fn code(self) -> u8
         ensures { result ≡ fault_code self }
     {
@@ -24,7 +24,7 @@ impl SapFault {
         }
     }
 
-    /// Its name in texts (own).
+    /// Returns its name in texts (own).
     pub const fn name(self) -> &'static str
         ensures { result.now ≡ sap_fault_name self }
     {

@@ -1,10 +1,10 @@
-//! What follows from the access table.
+//! Laws of the access table: each is the contract of an empty function.
 
 ghost use Rattle.std.specs.Prelude.{◌≡◌, ◌≢◌, ◌≤◌, ◌↔◌, ℕ, Option, Some, None, Bool, true, false, [], ◌∷◌, All, Contains, IsSome};
 ghost use Rattle.dp_sap.specs.AccessTable.{BusyMarks, PointsView, Row, access_row, access_table, column_in, get_cfg, holder, is_busy, is_in_table, row_of, set_prm, slave_diag, with_mark};
 ghost use Rattle.dp_sap.specs.declared.state.State.{State};
 
-/// A point that its row opens to the holder alone is off while there is no holder, in each state.
+/// A point that its row opens only to the holder is off while there is no holder, in each state.
 pub fn no_holder_is_off()
     ensures { (points : PointsView) (number : Option ℕ) (row : Row)
         → row_of points.out_len number ≡ Some row
@@ -20,7 +20,7 @@ pub fn wait_prm_opens_three()
         → IsSome (access_row points number) ↔ Contains (get_cfg ∷ slave_diag ∷ set_prm ∷ []) number }
 {}
 
-/// No row asks for more data octets at least than at most.
+/// No row has a least number of data octets that is above its greatest.
 pub fn least_is_at_most_most()
     ensures { (out_len : ℕ) → All (λ row. row.least ≤ row.most) (access_table out_len) }
 {}
@@ -35,7 +35,7 @@ pub fn outside_the_table_is_off()
         → is_busy marks number ≡ false }
 {}
 
-/// A mark that is set or taken away is that of its own point, and no other point's.
+/// Setting or clearing the mark of a point takes effect for this point and changes no other mark.
 pub fn a_mark_is_of_one_point()
     ensures own { (marks : BusyMarks) (number : Option ℕ) (busy : Bool)
         → is_in_table number ≡ true

@@ -2,10 +2,10 @@
 //! service and with how many data octets (IEC 61158-6-3, service access points), and which points
 //! are marked busy.
 //!
-//! [`Points`] holds what decides this: the slave's [`State`], its holder, its output length, whether
-//! Data_Exchange may be empty too, the busy marks and the [`Lists`] of masters. [`Points::find`]
-//! tells the [`Point`] of a number, such as [`SLAVE_DIAG`], and [`Points::listed`] whom the lists
-//! let use it.
+//! [`Points`] holds what decides this: the slave's [`State`], its holder, its output length,
+//! whether Data_Exchange may also be empty, the busy marks and the [`Lists`] of masters.
+//! [`Points::find`] returns the [`Point`] of a number, such as [`SLAVE_DIAG`], and
+//! [`Points::listed`] returns whether the lists let a master use it.
 #![tactic(auto)]
 
 mod busy;

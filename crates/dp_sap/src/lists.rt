@@ -7,29 +7,29 @@ ghost use Rattle.dp_sap.specs.AccessTable.{may_lock, may_read};
 
 use arrayvec::ArrayVec;
 
-/// The most masters of a list, as many as a line has.
+/// The greatest number of masters of a list, as many as a line has.
 pub const MOST_LISTED: usize = 16;
 
-/// Which masters may set a slave's parameters, and which may read its inputs and outputs (own). A
-/// list that is there and empty names nobody.
+/// The masters that may set a slave's parameters, and those that may read its inputs and outputs
+/// (own). An empty list names nobody.
 #[derive(Clone, Debug, Drop, PartialEq, Eq)]
 pub struct Lists {
-    /// The addresses of those that may use Set_Prm; every master where there is no list.
+    /// The addresses of the masters that may use Set_Prm; `None` admits every master.
     pub lockers: Option<ArrayVec<u8, MOST_LISTED>>,
-    /// The addresses of those that may use RD_Inp and RD_Outp, as the holder always may; every
-    /// master where there is no list.
+    /// The addresses of the masters that may use RD_Inp and RD_Outp; `None` admits every master.
+    /// The holder always may.
     pub readers: Option<ArrayVec<u8, MOST_LISTED>>,
 }
 
 impl Lists {
-    /// By the lists the sender may use Set_Prm.
+    /// Returns whether the lists let the sender use Set_Prm.
     pub(crate) fn let_lock(&self, sender: u8) -> bool
         ensures { result ≡ may_lock self.now sender }
     {
         names(&self.lockers, sender)
     }
 
-    /// By the lists the sender may use RD_Inp and RD_Outp without holding the slave.
+    /// Returns whether the lists let the sender use RD_Inp and RD_Outp without holding the slave.
     pub(crate) fn let_read(&self, sender: u8) -> bool
         ensures { result ≡ may_read self.now sender }
     {
@@ -37,7 +37,7 @@ impl Lists {
     }
 }
 
-/// The master is on the list; every master is where there is none.
+/// Returns whether the master is on the list; true if there is no list.
 fn names(list: &Option<ArrayVec<u8, MOST_LISTED>>, sender: u8) -> bool
     ensures { result ≡ option_map_or (λ masters. list_any (λ master. master == sender) masters.items) list.now true }
 {

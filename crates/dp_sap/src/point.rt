@@ -26,15 +26,15 @@ pub const SET_PRM: u8 = 61;
 /// The point Chk_Cfg: a configuration is sent (IEC 61158-6-3, service access points).
 pub const CHK_CFG: u8 = 62;
 
-/// The most data octets of a service (IEC 61158-6-3, data unit).
+/// The greatest number of data octets of a service (IEC 61158-6-3, data unit).
 pub const MOST_DATA: usize = 244;
 
-/// Whose requests a point takes (own).
+/// The masters whose requests a point takes (own).
 #[derive(Clone, Copy, Debug, PartialEq, Eq)]
 pub enum Access {
-    /// Those of every master.
+    /// Every master.
     All,
-    /// Those of the master with this address, 0 to 126, alone.
+    /// Only the master with this address, 0 to 126.
     Only(u8),
 }
 
@@ -52,7 +52,7 @@ pub enum Service {
 pub struct Point {
     /// The point is on.
     pub active: bool,
-    /// Whose requests it takes.
+    /// The masters whose requests it takes.
     pub access: Access,
     /// The service by which it is used.
     pub service: Service,
@@ -60,13 +60,13 @@ pub struct Point {
     pub least: u8,
     /// The greatest number of data octets of a request, 0 to 244.
     pub most: u8,
-    /// It takes a request without data octets too, whatever the least number is.
+    /// It also takes a request without data octets, whatever the least number is.
     pub empty: bool,
     /// The point is marked busy.
     pub busy: bool,
 }
 
-/// The point is in the access table; `None` is the default point (own).
+/// Returns whether the point is in the access table; `None` is the default point (own).
 pub const fn is_point(number: Option<u8>) -> bool
     ensures { result ≡ is_in_table number }
 {

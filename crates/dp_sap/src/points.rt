@@ -15,8 +15,8 @@ use crate::state::State;
 use std::marker::Model;
 
 /// The service access points of a slave: its state, its holder and its output length, which decide
-/// what is on and of how many octets; whether Data_Exchange may be empty too; a busy mark for each
-/// point of the access table; and the lists of masters (own).
+/// which points are on and how many octets they take; whether Data_Exchange may also be empty; a
+/// busy mark for each point of the access table; and the lists of masters (own).
 #[derive(Debug, Drop)]
 pub struct Points {
     state: State,
@@ -43,10 +43,10 @@ impl Model for Points {
 }
 
 impl Points {
-    /// The points of a slave in this state, none of them busy. `holder` is the address of the
-    /// master that holds it, 0 to 126, and `None` where nobody does; `out_len` is its output
-    /// length, 0 to 244 octets; with `empty` the default point takes either these or no octets. The
-    /// lists are copied.
+    /// Returns the points of a slave in this state, none of them busy. `holder` is the address of
+    /// the master that holds it, 0 to 126, or `None` if nobody does. `out_len` is its output
+    /// length, 0 to 244 octets. With `empty` the default point takes either that number of octets
+    /// or none. The lists are copied.
     pub fn at_state(
         state: State,
         holder: Option<u8>,
@@ -66,9 +66,9 @@ impl Points {
         }
     }
 
-    /// The slave is in this state now, with this holder, 0 to 126 or `None`, and this output
-    /// length, 0 to 244 octets; with `empty` the default point takes either these or no octets. The
-    /// busy marks and the lists stay.
+    /// Sets the slave's state, its holder, 0 to 126 or `None`, and its output length, 0 to 244
+    /// octets. With `empty` the default point takes either that number of octets or none. The busy
+    /// marks and the lists stay.
     pub fn move_to(&mut self, state: State, holder: Option<u8>, out_len: u8, empty: bool)
         ensures { self.new ≡ record self.old { state = state; holder = holder; out_len = out_len; empty = empty } }
     {
@@ -78,38 +78,40 @@ impl Points {
         self.empty = empty;
     }
 
-    /// The slave's state.
+    /// Returns the slave's state.
     pub const fn state(&self) -> State
         ensures { result ≡ self.now.state }
     {
         self.state
     }
 
-    /// The address of the master that holds the slave, 0 to 126; `None` where nobody does.
+    /// Returns the address of the master that holds the slave, 0 to 126; `None` if nobody does.
     pub const fn holder(&self) -> Option<u8>
         ensures { result ≡ self.now.holder }
     {
         self.holder
     }
 
-    /// The slave's output length, 0 to 244 octets.
+    /// Returns the slave's output length, 0 to 244 octets.
     pub const fn out_len(&self) -> u8
         ensures { result ≡ self.now.out_len }
     {
         self.out_len
     }
 
-    /// The default point takes either as many octets as the output length or none.
+    /// Returns whether the default point takes either as many octets as the output length or none.
     pub const fn empty(&self) -> bool
         ensures { result ≡ self.now.empty }
     {
         self.empty
     }
 
-    /// The lists of the slave let the sender, 0 to 126, use the point of this number, which may be
-    /// any octet, `None` being the default point. False exactly at Set_Prm for a sender that a list
-    /// of lockers lacks, and at RD_Inp and RD_Outp for one that a list of readers lacks and that
-    /// isn't the holder; whether the point is on doesn't matter.
+    /// Returns whether the lists of the slave let the sender, 0 to 126, use the point of this
+    /// number, which is any octet or `None` for the default point.
+    ///
+    /// False exactly in two cases: at Set_Prm, if the sender is not on the list of lockers; and at
+    /// RD_Inp and RD_Outp, if it is neither on the list of readers nor the holder. A list that is
+    /// `None` excludes nobody. Whether the point is on does not matter.
     pub fn listed(&self, number: Option<u8>, sender: u8) -> bool
         ensures { result ≡ is_listed self.now number sender }
     {
@@ -120,11 +122,11 @@ impl Points {
         }
     }
 
-    /// The point of this number, which may be any octet, `None` being the default point: its row
-    /// of the access table with its busy mark, and whether it may be empty. A number outside the
-    /// table gives a point that is off and not busy.
+    /// Returns the point of this number, which is any octet or `None` for the default point: its
+    /// row of the access table with its busy mark, and whether it may be empty. A number outside
+    /// the table gives a point that is off and not busy.
     ///
-    /// Of a point that is off only `active` and `busy` mean anything.
+    /// If a point is off, only `active` and `busy` have a meaning.
     pub fn find(&self, number: Option<u8>) -> Point
         ensures on { IfSome (access_row self.now number) (λ point. result ≡ point) }
         ensures active { result.active ≡ is_some (access_row self.now number) }
@@ -143,9 +145,9 @@ impl Points {
         }
     }
 
-    /// Marks the point of this number, which may be any octet, as busy or as not busy, `None` being
-    /// the default point: in each state, also where the point is off. `UnknownPoint` exactly for a
-    /// number that is not in the access table, and then nothing changes.
+    /// Marks the point of this number as busy or as not busy, in each state and also if the point
+    /// is off. The number is any octet or `None` for the default point. Returns `UnknownPoint`
+    /// exactly for a number that is not in the access table; then nothing changes.
     pub fn set_busy(&mut self, number: Option<u8>, busy: bool) -> Result<(), SapFault>
         ensures known { is_ok result ≡ is_in_table number }
         ensures unknown { IfErr result (λ fault. fault ≡ SapFault.UnknownPoint) }
@@ -160,7 +162,7 @@ impl Points {
     }
 }
 
-/// Whom the point takes requests of, `None` where it is off.
+/// Returns the masters whose requests the point takes; `None` if it is off.
 fn admitted_at(state: State, holder: Option<u8>, number: Option<u8>) -> Option<Access>
     ensures { (out_len : ℕ)
         → result ≡ option_and_then (λ row. admitted (column_in state row) holder) (row_of out_len number) }
@@ -175,7 +177,7 @@ fn admitted_at(state: State, holder: Option<u8>, number: Option<u8>) -> Option<A
     }
 }
 
-/// The service of the point, and the least and the greatest number of data octets.
+/// Returns the service of the point, and the least and the greatest number of data octets.
 fn request_at(number: Option<u8>, out_len: u8) -> (Service, u8, u8)
     ensures { IfSome (row_of out_len number) (λ row. result ≡ (row.service, row.least, row.most)) }
 {

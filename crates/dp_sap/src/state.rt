@@ -15,7 +15,7 @@ pub enum State {
 }
 
 impl State {
-    /// Its name in texts (own).
+    /// Returns its name in texts (own).
     pub const fn name(self) -> &'static str
         ensures { result.now ≡ state_name self }
     {

@@ -1,4 +1,4 @@
--- Octets with something behind a frame, and octets that can't be judged yet.
+-- Octets with more after a frame, and octets that can't be judged yet.
 use Rattle.std.proofs.Common.{◌≡◌, ◌≢◌, ℕ, ◌<◌, List, [], ◌++◌, length, take, drop, Option, Some, None, refl, ap, subst, arith}
 use Rattle.std.specs.Prelude.{◌↔◌}
 use Rattle.std.proofs.lemmas.List.{length-drop}

@@ -1,4 +1,4 @@
--- What each fault says of the front of a stream, and what stands there whatever follows.
+-- What each fault means for the front of a stream, whatever follows.
 use Rattle.std.proofs.Common.{◌≡◌, ℕ, ◌-◌, ◌≤◌, ◌<◌, inl, inr, Bool, true, false, not, ◌&&◌, ◌||◌, eqb, ltb, List, [], ◌∷◌, ◌++◌, length, drop, get_or, Option, Some, None, refl, sym, ap, ◌∙◌, arith}
 use Rattle.std.specs.Prelude.{slice_range, if◌then◌else◌}
 use Rattle.std.proofs.lemmas.Grind.{common_steps}
@@ -12,7 +12,7 @@ use Rattle.dp_telegram.specs.declared.frame.Frame.TheVariants as frames
 use Rattle.dp_telegram.specs.FrameText.{sd2, sd4, sc, ed, check_sequence, fault_of, first_fault, frame_at, frame_length, head_length, head_is_right, end_is_right, is_start, delimiter, telegram_in}
 use Rattle.dp_telegram.specs.Stream.{frame_in_front, piece_by, piece_of}
 
--- lengths by the head
+-- bounds on the lengths by the head
 pub frame_length_some : (octets : List ℕ) → 1 ≤ frame_length octets
 frame_length_some octets = grind (arith, common_steps)
 
@@ -28,7 +28,7 @@ head_length_most octets = grind (arith, common_steps)
 frame_length_most : (octets : List ℕ) → head_is_right octets ≡ true → frame_length octets ≤ 255
 frame_length_most octets right = grind (arith, common_steps)
 
--- what stands within the first octets doesn't change with what follows
+-- what stands within the first octets does not depend on what follows
 range_same : (octets more : List ℕ) (i j : ℕ) → j ≤ length octets → slice_range (octets ++ more) i j ≡ slice_range octets i j
 range_same octets more i j le =
     between_is (octets ++ more) i j ∙ ap (drop i) (take-append-le j octets more le) ∙ sym (between_is octets i j)
@@ -49,7 +49,7 @@ size_same [] more there = absurd (omega arith)
 size_same (d ∷ []) more there = elim (cases_Bool (eqb d sd2)) [ inl e ↦ grind (arith, common_steps) | inr e ↦ rw e refl ]
 size_same (d ∷ a ∷ rest) more there = refl
 
--- the end of a frame, and the frame, by start delimiter, length of the head and of the frame
+-- the end of a frame, and the frame, by start delimiter, length of the head and length of the frame
 end_by : ℕ → ℕ → ℕ → List ℕ → Bool
 end_by d head size octets = not (not (eqb d sd4 || eqb d sc))
     || eqb (get_or octets (size - 2) 0) (check_sequence (slice_range octets head (size - 2))) && eqb (get_or octets (size - 1) 0) ed
@@ -65,7 +65,7 @@ end_by_same d head size octets more some le =
     ∙ ap (λ y. family (get_or octets (size - 2) 0) y (slice_range (octets ++ more) head (size - 2))) last
     ∙ ap (λ z. family (get_or octets (size - 2) 0) (get_or octets (size - 1) 0) z) body
 
--- a frame's worth of octets with a right head stands in front
+-- all octets of a frame with a right head stand in front
 pub record InFront (stream : List ℕ) : Type 0 where
   pub start : is_start (delimiter stream) ≡ true
   pub there : head_length stream ≤ length stream
@@ -155,7 +155,7 @@ pub means : (s : List ℕ) → Means s (fault_of s)
 unfolding rows
 means s = means_by s _ _ _ _ _ _ _ refl refl refl refl refl refl refl
 
--- and what means it has that fault
+-- octets with the meaning of a fault have that fault
 no_start_row : (a b c d e f g : Bool) → a ≡ false → b ≡ true → rows a b c d e f g ≡ Some NoStart
 unfolding rows
 no_start_row true b c d e f g ha hb = absurd cc

@@ -1,4 +1,4 @@
--- The piece in front: by the relation, and as it is judged.
+-- The piece in front, as a relation and as judged.
 use Rattle.std.proofs.Common.{◌≡◌, ℕ, ◌≤◌, true, false, eqb, List, [], ◌∷◌, ◌++◌, length, take, drop, Option, Some, None, refl, sym, ap, subst, ◌∙◌, arith}
 use Rattle.std.specs.Prelude.{is_none, if◌then◌else◌, option_map}
 use Rattle.std.proofs.lemmas.Grind.{common_steps}
@@ -31,7 +31,7 @@ text_is octets frame spelt =
     let meant : Means octets None = subst (Means octets) found.0 (means octets) in
     record { front = meant.0; ending = meant.1; size = meant.2; read = found.1 }
 
--- what holds of octets in front holds of what begins with them
+-- what holds for the octets in front holds for all octets that begin with them
 in_front_more : (octets more : List ℕ) → InFront octets → InFront (octets ++ more)
 in_front_more octets more front =
     let some : 1 ≤ length octets = omega (arith, front.there, head_length_some octets) in
@@ -178,6 +178,6 @@ frame_parted s front =
     let part = parted s front.room in
     sym (frame_same (take (frame_length s) s) (drop (frame_length s) s) part.there (omega (arith, part.whole))) ∙ ap frame_at (take-append-drop (frame_length s) s)
 
--- the frame in front is one
+-- the octets of the frame in front have no fault
 pub fault_parted : (s : List ℕ) → InFront s → end_is_right s ≡ true → fault_of (take (frame_length s) s) ≡ None
 fault_parted s front right = whole_fault (take (frame_length s) s) (front_parted s front) (end_parted s front ∙ right) (parted s front.room).whole

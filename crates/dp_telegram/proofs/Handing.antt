@@ -1,4 +1,4 @@
--- What is said of the piece in front, and of what follows it, in the words of a stream.
+-- The piece in front and what follows it, stated for a stream.
 use Rattle.std.proofs.Common.{◌≡◌, ℕ, zero, suc, ◌≤◌, List, ◌++◌, length, drop, Option, Some, None, refl, sym, ap, arith}
 use Rattle.std.specs.Prelude.{◌<◌, ◌↔◌, option_map, IsNone, IfSome, IfNone, OnSome}
 use Rattle.dp_telegram.specs.declared.cutter.Cut.{Cut}
@@ -55,7 +55,7 @@ handed held = handed_by held (piece_of held) refl
 pub handed_is : (held new : List ℕ) (result : Option Cut) → result ≡ piece_of held → new ≡ left_of held → IsHanded held new result
 handed_is held new result piece left = rw (piece, left) (handed held)
 
--- the same of a piece whose octets are lent
+-- what holds for a piece whose octets are lent
 pub record IsLent (held : List ℕ) (result : Option Piece) : Type 0 where
   pub left : IfSome result (λ piece. left_of held ≡ drop (cut_length (cut_lent piece)) held)
   pub piece : IfSome result (λ piece. StartsWith held (cut_lent piece) (left_of held))

@@ -1,4 +1,4 @@
--- The cut of a stream, by the relation and computed.
+-- The cut of a stream, as a relation and as computed.
 use Rattle.std.proofs.Common.{◌≡◌, ◌≢◌, ℕ, zero, suc, ◌+◌, ◌≤◌, ◌<◌, inl, inr, true, false, eqb, List, [], ◌∷◌, ◌++◌, length, take, drop, Option, Some, None, Ok, refl, sym, ap, subst, ◌∙◌, arith}
 use Rattle.std.specs.Prelude.{IfSome, sum_by}
 use Rattle.std.proofs.lemmas.Bool.{eqb-true, both_ways, cases_Bool}
@@ -16,7 +16,7 @@ use Rattle.std.proofs.lemmas.Option.{some_pair_parts}
 use Rattle.dp_telegram.proofs.Faults.{frame_length_some, head_length_some, right_same, InFront, Means, means, whole_fault}
 use Rattle.dp_telegram.proofs.Fronts.{followed, starts_first, take_front, parted, front_parted, end_parted, frame_parted}
 
--- each first cut is a piece in front, and none only where there is none
+-- each first cut is a piece in front, and there is none only if no piece is in front
 pub frame_starts : (s : List ℕ) → InFront s → end_is_right s ≡ true → StartsWith s (frame_in_front s) (drop (length (take (frame_length s) s)) s)
 frame_starts s front right =
     let octets : List ℕ = take (frame_length s) s in
@@ -175,7 +175,7 @@ one_cut s (cut ∷ a) (other ∷ b) r t one two =
     let again = one_cut two.0 a b r t (subst (λ (x : List ℕ). CutsInto x a r) same.1 one.2) two.2 in
     (cc, again.1)
 
--- the computed cut is the cut
+-- the computed cut is the cut of the relation
 up_to_by : (s : List ℕ) (most : ℕ) (first : Option (Cut × List ℕ)) → first_cut s ≡ first → ((rest : List ℕ) → length rest < length s → CutsInto rest (cut_up_to most rest).cuts (cut_up_to most rest).rest)
     → CutsInto s (cut_on first (cut_up_to most) s).cuts (cut_on first (cut_up_to most) s).rest
 up_to_by s most None e later = (refl, none_starts s e)
@@ -188,7 +188,7 @@ up_to (suc most) s few = up_to_by s most (first_cut s) refl (λ rest fewer. up_t
 pub cuts_are : (s : List ℕ) → CutsInto s (cuts_of s).cuts (cuts_of s).rest
 cuts_are s = up_to (length s) s (omega arith)
 
--- what is cut and what is cut later of the rest
+-- the pieces cut first, then those cut later from the rest
 cuts_more : (s : List ℕ) (a b : List Cut) (r t more : List ℕ) → CutsInto s a r → CutsInto (r ++ more) b t → CutsInto (s ++ more) (a ++ b) t
 cuts_more s [] b r t more one two = subst (λ (x : List ℕ). CutsInto (x ++ more) b t) (sym one.0) two
 cuts_more s (cut ∷ a) b r t more one two = (one.0 ++ more, starts_more s cut one.0 more one.1, cuts_more one.0 a b r t more one.2 two)
@@ -219,7 +219,7 @@ pub all_octets : (s : List ℕ) (cuts : List Cut) (rest : List ℕ) → CutsInto
 all_octets s [] rest into = omega (arith, ap length into.0)
 all_octets s (cut ∷ cuts) rest into = omega (arith, sum_by-cons cut_length cut cuts, length_by s cut into.0 into.1, all_octets into.0 cuts rest into.2)
 
--- what is left is what stands behind the pieces
+-- what is left is what stands after the pieces
 behind_by : (s : List ℕ) (piece : Option Cut) (cut : Cut) (rest : List ℕ) → followed s piece ≡ Some (cut, rest) → rest ≡ drop (cut_length cut) s
 behind_by s None cut rest e = absurd cc
 behind_by s (Some x) cut rest e =

@@ -87,7 +87,7 @@ verdict_ok (Some fault) x = refl
 pub result_ok-reading_of : (octets : List ℕ) → result_ok (reading_of octets) ≡ frame_of octets
 result_ok-reading_of octets = verdict_ok (fault_of octets) (frame_at octets)
 
--- what is refused is refused for the fault
+-- an error is the fault of the octets
 pub fault_is : (octets : List ℕ) (fault : FrameFault) → (reading_of octets ≡ Err fault) ↔ (fault_of octets ≡ Some fault)
 fault_is octets fault = verdict_is (fault_of octets) (frame_at octets) fault
 
@@ -216,7 +216,7 @@ found_is_read : (fault : Option FrameFault) (x y : Frame) → (if is_none fault 
 found_is_read None x y e = cc
 found_is_read (Some fault) x y e = absurd cc
 
--- the relation and the computing definition agree
+-- the relation agrees with the computed definition
 pub Spells-frame_of : (octets : List ℕ) (frame : Frame) → Spells octets frame ↔ (frame_of octets ≡ Some frame)
 Spells-frame_of octets frame = (
   λ spelt. let read = sound (fault_of octets) (frame_at octets) frame (Spells-reading octets frame spelt) in grind (arith, read.0, read.1),

@@ -20,7 +20,7 @@ window_moved buffer start end held e room =
     let same : held - 0 ≡ length (take (end - start) (drop start buffer)) = simp (length-take, length-drop) (omega arith) in
     take_at (take (end - start) (drop start buffer)) (drop (0 + (end - start)) buffer) (held - 0) (sym same)
 
--- with octets written behind
+-- with octets written after
 pub window_longer : (buffer octets : List ℕ) (start end after count : ℕ) → start ≤ end → end ≤ length buffer → after ≡ end + length octets → slice_range (put_mid end count buffer octets) start after ≡ slice_range buffer start end ++ octets
 window_longer buffer octets start end after count le room e =
     between_is (put_mid end count buffer octets) start after

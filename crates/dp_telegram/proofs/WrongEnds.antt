@@ -1,4 +1,4 @@
--- A whole frame with a wrong end, by its places and by its layout.
+-- A whole frame with a wrong end, by positions and by layout.
 use Rattle.std.proofs.Common.{◌≡◌, ◌≢◌, ℕ, ◌+◌, ◌-◌, ◌≤◌, ◌⊎◌, inl, inr, false, ◌&&◌, eqb, leb, List, [], ◌∷◌, ◌++◌, length, take, drop, get_or, refl, sym, ap, subst, ◌∙◌, arith}
 use Rattle.std.specs.Prelude.{◌↔◌, slice_range}
 use Rattle.std.proofs.lemmas.Grind.{common_steps}
@@ -10,7 +10,7 @@ use Rattle.dp_telegram.specs.FrameText.{sd1, sd2, sd3, sd4, sc, ed, check_sequen
 use Rattle.dp_telegram.specs.Stream.{IsWhole, IsHead, HasWrongEnd}
 use Rattle.dp_telegram.proofs.Texts.{is_one_of_five}
 
--- one of the two tests fails exactly where one of the two octets is another
+-- one of the two tests fails exactly if one of the two octets differs
 ends_differ : (a b c d : ℕ) → (eqb a b && eqb c d) ≡ false → (a ≢ b) ⊎ (c ≢ d)
 ends_differ a b c d e = elim (cases_eq a b) [
   | inl same ↦ inr (λ too. absurd (cc (eq-eqb a b same, eq-eqb c d too)))
@@ -106,7 +106,7 @@ whole_laid_out (d ∷ rest) whole wrong =
       | inr (inr (inr (inr e))) ↦ subst P (sym e) (λ w. sc_laid_out rest) whole wrong
     ]
 
--- a frame laid out so is whole by its places
+-- a frame with this layout is whole by positions
 IsWrong : List ℕ → Type 0
 IsWrong octets = IsWhole octets × (end_is_right octets ≡ false)
 

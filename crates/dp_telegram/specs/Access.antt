@@ -9,7 +9,7 @@ use Rattle.dp_telegram.specs.declared.frame.Frame.TheVariants as frames
 abbrev pub address_of : ℕ → ℕ
 address_of octet = octet % 128
 
--- the address of all stations together (IEC 61158-4-3, address octets)
+-- the global address, which addresses all stations (IEC 61158-4-3, address octets)
 abbrev pub global_address : ℕ
 global_address = 127
 
@@ -27,11 +27,11 @@ source_of (frames.Telegram telegram) = Some (address_of telegram.sa)
 abbrev pub announces : ℕ → Bool
 announces octet = nat_le 128 octet
 
--- an extension octet is plain where its bits 7 and 6 are 0; then it is the point's number (own)
+-- an extension octet is plain if its bits 7 and 6 are 0; then it is the point's number (own)
 abbrev pub is_plain : ℕ → Bool
 is_plain octet = nat_lt octet 64
 
--- the telegram has these points and this payload: DSAP first, then SSAP, each exactly where its address octet announces it
+-- the telegram has these points and this payload: DSAP first, then SSAP, each exactly if its address octet announces it
 pub record HasParts (telegram : Telegram) (parts : Parts) : Type 0 where
   pub octets : telegram.du.items ≡ option_to_list parts.dsap ++ option_to_list parts.ssap ++ parts.payload.items
   pub dsap : is_some parts.dsap ≡ announces telegram.da
@@ -39,7 +39,7 @@ pub record HasParts (telegram : Telegram) (parts : Parts) : Type 0 where
   pub plain_dsap : IfSome parts.dsap (λ point. is_plain point ≡ true)
   pub plain_ssap : IfSome parts.ssap (λ point. is_plain point ≡ true)
 
--- the point at the front of the octets, where one is announced, and what follows it; None where it is missing or not plain
+-- the point at the front of the octets, if one is announced, and what follows it; None if it is missing or not plain
 abbrev pub extension_of : Bool → List ℕ → Option (Option ℕ × List ℕ)
 extension_of false octets = Some (None, octets)
 extension_of true [] = None
@@ -54,7 +54,7 @@ parts_of telegram =
     (extension_of (announces telegram.sa) destination.1))
     (extension_of (announces telegram.da) telegram.du.items)
 
--- an address octet, with bit 7 where a point is announced
+-- an address octet, with bit 7 set if a point is announced
 abbrev pub address_octet : ℕ → Option ℕ → ℕ
 address_octet address point = if is_some point then address + 128 else address
 

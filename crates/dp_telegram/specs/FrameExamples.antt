@@ -1,4 +1,4 @@
--- Texts from the world of the standard, and what they are read as.
+-- Example texts, and the frames or faults that they are read as.
 use Rattle.std.specs.Prelude.{◌≡◌, [], ◌∷◌, true, false, None, Some, Ok, Err, refl}
 use Rattle.dp_telegram.specs.declared.fault.FrameFault.TheVariants.{NoStart, BadHead, BadEnd, Short, Long}
 use Rattle.dp_telegram.specs.declared.frame.Frame.{Frame}
@@ -28,7 +28,7 @@ length_3_is_no_head = refl
 pub length_250_is_no_head : reading_of (0x68 ∷ 0xFA ∷ 0xFA ∷ 0x68 ∷ []) ≡ Err BadHead
 length_250_is_no_head = refl
 
--- an FDL status request to slave 5, with a wrong check sequence, right, and with an octet too many
+-- an FDL status request to slave 5, with a wrong check sequence, right, and with one octet too many
 pub wrong_check_sequence : reading_of (0x10 ∷ 0x05 ∷ 0x01 ∷ 0x49 ∷ 0x4E ∷ 0x16 ∷ []) ≡ Err BadEnd
 wrong_check_sequence = refl
 

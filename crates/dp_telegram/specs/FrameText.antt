@@ -1,4 +1,4 @@
--- What the text of a frame is, and which fault octets have that are the text of none.
+-- The text of a frame, and the fault of octets that are not the text of a frame.
 use Rattle.std.specs.Prelude.{◌≡◌, ◌≢◌, ℕ, ◌+◌, ◌-◌, ◌%◌, ◌≤◌, ◌⊎◌, Bool, not, ◌&&◌, ◌||◌, ◌==◌, nat_lt, nat_le, if◌then◌else◌, List, [], ◌∷◌, ◌++◌, length, sum, drop, slice_index, slice_range, Option, Some, None, is_none, Result, Ok, Err}
 use Rattle.std.specs.List.{list_any}
 use Rattle.dp_telegram.specs.declared.fault.FrameFault.{FrameFault}
@@ -50,7 +50,7 @@ checked body = body ++ check_sequence body ∷ ed ∷ []
 abbrev pub sd1_text : Telegram → List ℕ
 sd1_text t = sd1 ∷ checked (body_of t)
 
--- SD2: 68 LE LEr 68 DA SA FC DU FCS 16, where LE = LEr counts DA to DU (IEC 61158-4-3, variable data field length)
+-- SD2: 68 LE LEr 68 DA SA FC DU FCS 16; LE = LEr counts DA to DU (IEC 61158-4-3, variable data field length)
 abbrev pub sd2_text : Telegram → List ℕ
 sd2_text t = sd2 ∷ length (body_of t) ∷ length (body_of t) ∷ sd2 ∷ checked (body_of t)
 
@@ -75,7 +75,7 @@ Spells octets (frames.Telegram t) =
     ⊎ ((octets ≡ sd2_text t) × (1 ≤ length t.du.items) × (length t.du.items ≤ 246))
     ⊎ ((octets ≡ sd3_text t) × (length t.du.items ≡ 8))
 
--- the text of a frame stands in front, and more octets behind it
+-- the octets begin with the text of a frame, and more octets follow
 pub record HasFrameAndMore (octets : List ℕ) : Type 0 where
   pub text : List ℕ
   pub more : List ℕ
@@ -90,7 +90,7 @@ text_of (frames.Token da sa) = sd4_text da sa
 text_of frames.Ack = sc_text
 text_of (frames.Telegram t) = if length t.du.items == 0 then sd1_text t else sd2_text t
 
--- what stands first: the start delimiter, if there is one
+-- the first octet: the start delimiter, if there is one
 abbrev pub delimiter : List ℕ → ℕ
 delimiter octets = slice_index octets 0
 
@@ -98,17 +98,17 @@ delimiter octets = slice_index octets 0
 abbrev pub is_start : ℕ → Bool
 is_start octet = list_any (λ start. octet == start) (sd1 ∷ sd2 ∷ sd3 ∷ sd4 ∷ sc ∷ [])
 
--- the octets before DA; those of SD2 are judged before the rest has come (IEC 61158-4-3, length octets)
+-- the number of octets before DA; those of SD2 are judged before the rest has arrived (IEC 61158-4-3, length octets)
 abbrev pub head_length : List ℕ → ℕ
 head_length octets = if delimiter octets == sd2 then 4 else 1
 
--- LE is 4 to 249 and stands twice, and the start delimiter stands again; only SD2 has such a head
+-- LE is 4 to 249 and is repeated, and so is the start delimiter; only SD2 has such a head
 abbrev pub head_is_right : List ℕ → Bool
 head_is_right octets = not (delimiter octets == sd2)
     || nat_le 4 (slice_index octets 1) && nat_le (slice_index octets 1) 249
     && slice_index octets 1 == slice_index octets 2 && slice_index octets 3 == sd2
 
--- the octets of the whole frame, as its head says
+-- the number of octets of the whole frame, by its head
 abbrev pub frame_length : List ℕ → ℕ
 frame_length octets =
     if delimiter octets == sd1 then 6
@@ -121,11 +121,11 @@ frame_length octets =
 abbrev pub is_checked : List ℕ → Bool
 is_checked octets = not (delimiter octets == sd4 || delimiter octets == sc)
 
--- DA to the end of the data unit, by their place
+-- DA to the end of the data unit, by position
 abbrev pub body_at : List ℕ → List ℕ
 body_at octets = slice_range octets (head_length octets) (frame_length octets - 2)
 
--- the check sequence and the end delimiter stand where they belong, in a frame that has them
+-- the check sequence and the end delimiter are right, in a frame that has them
 abbrev pub end_is_right : List ℕ → Bool
 end_is_right octets = not (is_checked octets)
     || slice_index octets (frame_length octets - 2) == check_sequence (body_at octets)
@@ -136,7 +136,7 @@ abbrev pub first_fault : List (Bool × FrameFault) → Option FrameFault
 first_fault [] = None
 first_fault (row ∷ rows) = if row.0 then Some row.1 else first_fault rows
 
--- the fault of octets that are no frame, in the order in which faults are told (own order)
+-- the fault of octets that are no frame, in the order in which faults are reported (own order)
 abbrev pub fault_of : List ℕ → Option FrameFault
 fault_of octets = first_fault (
     (nat_lt (length octets) 1, Short)
@@ -148,7 +148,7 @@ fault_of octets = first_fault (
     ∷ (nat_lt (frame_length octets) (length octets), Long)
     ∷ [])
 
--- the telegram of which these are DA, SA, FC and the data unit
+-- the telegram with these octets as DA, SA, FC and the data unit
 abbrev pub telegram_in : List ℕ → Telegram
 telegram_in body = record {
   da = slice_index body 0;
@@ -157,7 +157,7 @@ telegram_in body = record {
   du = record { items = drop 3 body };
 }
 
--- the frame whose fields stand at the places that the head says
+-- the frame with its fields at the positions that the head gives
 abbrev pub frame_at : List ℕ → Frame
 frame_at octets =
     if delimiter octets == sd4 then frames.Token (slice_index octets 1) (slice_index octets 2)

@@ -1,4 +1,4 @@
--- What the function code of a telegram says (IEC 61158-4-3, function code).
+-- The function code of a telegram (IEC 61158-4-3, function code).
 use Rattle.std.specs.Prelude.{ℕ, ◌/◌, ◌%◌, ◌^◌, ◌==◌, Bool, true, false, if◌then◌else◌, List, [], ◌∷◌}
 use Rattle.dp_telegram.specs.declared.function_code.Function.{Function}
 use Rattle.dp_telegram.specs.declared.function_code.Function.TheVariants.{SdaLow, SdnLow, SdaHigh, SdnHigh, FdlStatus, SrdLow, SrdHigh, Ident, LsapStatus, Reserved}
@@ -7,7 +7,7 @@ use Rattle.dp_telegram.specs.declared.function_code.Function.TheVariants.{SdaLow
 abbrev pub is_set : ℕ → ℕ → Bool
 is_set number octet = octet / 2 ^ number % 2 == 1
 
--- bit 6: a request, and no response; bit 7 is ignored (own)
+-- bit 6: a request, not a response; bit 7 is ignored (own)
 abbrev pub is_request : ℕ → Bool
 is_request fc = is_set 6 fc
 

@@ -1,9 +1,9 @@
--- The telegram that a reply with data is.
+-- The telegram of a reply with data.
 use Rattle.std.specs.Prelude.{◌++◌, option_to_list}
 use Rattle.dp_telegram.specs.declared.frame.Telegram.{Telegram}
 use Rattle.dp_telegram.specs.declared.encoding.DataReply.{DataReply}
 
--- the source point stands first, and then the destination point (IEC 61158-4-3, address extension)
+-- the source point comes first, then the destination point (IEC 61158-4-3, address extension)
 abbrev pub reply_telegram : DataReply → Telegram
 reply_telegram reply = record {
   da = reply.da;

@@ -1,4 +1,4 @@
--- Into which pieces a stream of octets falls.
+-- The pieces of a stream of octets.
 use Rattle.std.specs.Prelude.{◌≡◌, ◌≢◌, ◌⊎◌, ℕ, zero, suc, ◌≤◌, true, false, List, [], ◌∷◌, ◌++◌, length, take, drop, Option, Some, None, option_map}
 use Rattle.dp_telegram.specs.declared.fault.FrameFault.{FrameFault}
 use Rattle.dp_telegram.specs.declared.fault.FrameFault.TheVariants.{NoStart, BadHead, BadEnd, Short, Long}
@@ -21,7 +21,7 @@ pub record StartsNoFrame (stream : List ℕ) (count : ℕ) (rest : List ℕ) : T
   pub no_start : is_start octet ≡ false
   pub counted : count ≡ 1
 
--- the stream has a wrong SD2 head, of which the first octet is dropped, and the rest; it is judged when its four octets are there (own)
+-- the stream begins with a wrong SD2 head, whose first octet is dropped; it is judged when its four octets are there (own)
 pub record HasBadHead (stream : List ℕ) (count : ℕ) (rest : List ℕ) : Type 0 where
   pub first : stream ≡ sd2 ∷ rest
   pub there : 4 ≤ length stream
@@ -36,16 +36,16 @@ pub record HasBadEnd (stream : List ℕ) (count : ℕ) (rest : List ℕ) : Type 
   pub wrong : end_is_right octets ≡ false
   pub counted : count ≡ length octets
 
--- what stands before DA in a telegram whose check sequence covers so many octets: SD1 with DA, SA and FC alone, SD2 with the length
--- twice, SD3 with eight octets of data unit (IEC 61158-4-3, frame formats)
+-- what stands before DA in a telegram whose check sequence covers `size` octets: SD1 with only DA, SA and FC, SD2 with the length twice, SD3 with
+-- eight octets of data unit (IEC 61158-4-3, frame formats)
 abbrev pub IsHead : List ℕ → ℕ → Type 0
 IsHead head size =
     ((head ≡ sd1 ∷ []) × (size ≡ 3))
     ⊎ ((head ≡ sd2 ∷ size ∷ size ∷ sd2 ∷ []) × (4 ≤ size) × (size ≤ 249))
     ⊎ ((head ≡ sd3 ∷ []) × (size ≡ 11))
 
--- a whole frame with a wrong check sequence or end delimiter, by its layout: a head, the octets that the check sequence covers, and a
--- check octet and an end octet of which one is wrong (IEC 61158-4-3, frame formats)
+-- a whole frame with a wrong check sequence or end delimiter, by its layout: a head, the octets that the check sequence covers, and a check octet and
+-- an end octet, at least one of which is wrong (IEC 61158-4-3, frame formats)
 pub record HasWrongEnd (octets : List ℕ) : Type 0 where
   pub head : List ℕ
   pub body : List ℕ
@@ -55,7 +55,7 @@ pub record HasWrongEnd (octets : List ℕ) : Type 0 where
   pub fits : IsHead head (length body)
   pub wrong : (check ≢ check_sequence body) ⊎ (last ≢ ed)
 
--- the stream is this piece, and the rest: a frame text with its octets, or one of the three that are dropped (own)
+-- the stream is this piece and the rest: the text of a frame with its octets, or one of the three that are dropped (own)
 abbrev pub StartsWith : List ℕ → Cut → List ℕ → Type 0
 StartsWith stream (pieces.Frame frame octets) rest = (stream ≡ octets.items ++ rest) × Spells octets.items frame
 StartsWith stream (pieces.Dropped NoStart count) rest = StartsNoFrame stream count rest
@@ -73,7 +73,7 @@ abbrev pub CutsInto : List ℕ → List Cut → List ℕ → Type 0
 CutsInto stream [] rest = (stream ≡ rest) × StartsWithNone stream
 CutsInto stream (cut ∷ cuts) rest = (behind : List ℕ) × StartsWith stream cut behind × CutsInto behind cuts rest
 
--- the octets of a piece, counted
+-- the number of octets of a piece
 abbrev pub cut_length : Cut → ℕ
 cut_length (pieces.Frame frame octets) = length octets.items
 cut_length (pieces.Dropped fault count) = count
@@ -82,7 +82,7 @@ cut_length (pieces.Dropped fault count) = count
 abbrev pub frame_in_front : List ℕ → Cut
 frame_in_front stream = pieces.Frame (frame_at stream) (record { items = take (frame_length stream) stream })
 
--- the piece in front, by the fault of the octets: where octets follow a frame they are Long, and where more must come Short
+-- the piece in front, by the fault of the octets: they are Long if octets follow a frame, and Short if more must arrive
 abbrev pub piece_by : Option FrameFault → List ℕ → Option Cut
 piece_by None stream = Some (frame_in_front stream)
 piece_by (Some Long) stream = Some (frame_in_front stream)
@@ -99,7 +99,7 @@ piece_of stream = piece_by (fault_of stream) stream
 abbrev pub first_cut : List ℕ → Option (Cut × List ℕ)
 first_cut stream = option_map (λ cut. (cut, drop (cut_length cut) stream)) (piece_of stream)
 
--- what follows the piece in front; where there is none, all octets
+-- what follows the piece in front; all octets if there is none
 abbrev pub left_behind : Option Cut → List ℕ → List ℕ
 left_behind None stream = stream
 left_behind (Some cut) stream = drop (cut_length cut) stream
@@ -107,7 +107,7 @@ left_behind (Some cut) stream = drop (cut_length cut) stream
 abbrev pub left_of : List ℕ → List ℕ
 left_of stream = left_behind (piece_of stream) stream
 
--- a piece whose octets are lent is this piece: the octets of a frame say which frame it is
+-- the piece that a `Piece` stands for: the octets of a frame determine the frame
 abbrev pub cut_lent : Piece → Cut
 cut_lent (lent.Frame octets) = pieces.Frame (frame_at octets) (record { items = octets })
 cut_lent (lent.Dropped fault count) = pieces.Dropped fault count
@@ -125,7 +125,7 @@ uncut stream = record { cuts = []; rest = stream }
 abbrev pub with_cut : Cut → CutStream → CutStream
 with_cut cut stream = record { cuts = cut ∷ stream.cuts; rest = stream.rest }
 
--- the pieces with the one that was handed out, if one was
+-- the pieces, with the one that was handed out in front of them, if one was
 abbrev pub with_handed : Option Cut → CutStream → CutStream
 with_handed None stream = stream
 with_handed (Some cut) stream = with_cut cut stream
@@ -134,11 +134,11 @@ abbrev pub cut_on : Option (Cut × List ℕ) → (List ℕ → CutStream) → Li
 cut_on None cut_rest stream = uncut stream
 cut_on (Some first) cut_rest stream = with_cut first.0 (cut_rest first.1)
 
--- the first pieces, at most so many
+-- the first pieces, at most `most` of them
 abbrev pub cut_up_to : ℕ → List ℕ → CutStream
 cut_up_to zero stream = uncut stream
 cut_up_to (suc most) stream = cut_on (first_cut stream) (cut_up_to most) stream
 
--- all pieces, of which there are at most as many as octets
+-- all pieces; there are at most as many as octets
 abbrev pub cuts_of : List ℕ → CutStream
 cuts_of stream = cut_up_to (length stream) stream

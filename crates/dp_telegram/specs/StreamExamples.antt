@@ -1,4 +1,4 @@
--- Streams from the world of the standard, and what they are cut into.
+-- Example streams, and the pieces that they are cut into.
 use Rattle.std.specs.Prelude.{◌≡◌, [], ◌∷◌, None, refl}
 use Rattle.dp_telegram.specs.declared.fault.FrameFault.TheVariants.{NoStart, BadHead, BadEnd}
 use Rattle.dp_telegram.specs.declared.frame.Frame.TheVariants as frames
@@ -12,7 +12,7 @@ nothing_to_cut = refl
 pub end_has_not_come : first_cut (0x68 ∷ 0x05 ∷ 0x05 ∷ 0x68 ∷ 0x85 ∷ 0x81 ∷ 0x6D ∷ 0x3C ∷ 0x3E ∷ 0xED ∷ []) ≡ None
 end_has_not_come = refl
 
--- LE and LEr that differ: the start delimiter alone is dropped, then what starts no frame, and the other start delimiter is kept
+-- LE and LEr that differ: only the start delimiter is dropped, then what starts no frame, and the other start delimiter is the rest
 pub bad_head_drops_one : cuts_of (0x68 ∷ 0x05 ∷ 0x04 ∷ 0x68 ∷ []) ≡ record {
   cuts = pieces.Dropped BadHead 1 ∷ pieces.Dropped NoStart 1 ∷ pieces.Dropped NoStart 1 ∷ [];
   rest = 0x68 ∷ [];
@@ -28,7 +28,7 @@ pub bad_end_drops_the_frame : cuts_of (0x68 ∷ 0x05 ∷ 0x05 ∷ 0x68 ∷ 0x05 
 }
 bad_end_drops_the_frame = refl
 
--- a token, a short acknowledgement, and a token of which one octet is missing
+-- a token, a short acknowledgement, and a token that lacks one octet
 pub tokens : cuts_of (0xDC ∷ 0x02 ∷ 0x01 ∷ 0xE5 ∷ 0xDC ∷ 0x01 ∷ []) ≡ record {
   cuts = pieces.Frame (frames.Token 0x02 0x01) (record { items = 0xDC ∷ 0x02 ∷ 0x01 ∷ [] })
       ∷ pieces.Frame frames.Ack (record { items = 0xE5 ∷ [] })

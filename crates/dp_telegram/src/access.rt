@@ -19,16 +19,16 @@ const LAST_POINT: u8 = 63;
 /// A data unit taken apart (IEC 61158-4-3, address extension).
 #[derive(Clone, Debug, Drop, PartialEq, Eq)]
 pub struct Parts {
-    /// Destination service access point, 0 to 63; none is the default point.
+    /// Destination service access point, 0 to 63; `None` is the default point.
     pub dsap: Option<u8>,
     /// Source service access point, 0 to 63.
     pub ssap: Option<u8>,
-    /// The octets behind the extension octets, 0 to 246.
+    /// The octets after the extension octets, 0 to 246.
     pub payload: ArrayVec<u8, 246>,
 }
 
 impl Parts {
-    /// The same parts, whose payload is lent.
+    /// Returns the same parts with their payload lent.
     pub fn lent(&self) -> PartsLent<'_>
         ensures { result ≡ self.now }
     {
@@ -37,10 +37,10 @@ impl Parts {
 }
 
 impl Telegram {
-    /// The access points and the payload: the DSAP octet stands first where bit 7 of DA is set,
-    /// and then the SSAP octet where bit 7 of SA is set.
+    /// Returns the access points and the payload. The DSAP octet comes first if bit 7 of DA is set,
+    /// then the SSAP octet if bit 7 of SA is set.
     ///
-    /// None exactly where an announced extension octet is missing, or has bit 7 or 6 set (own).
+    /// `None` exactly if an announced extension octet is missing, or has bit 7 or 6 set (own).
     pub fn parts(&self) -> Option<Parts>
         ensures computed { result ≡ parts_of self.now }
         ensures parts { (parts : Parts) → (result ≡ Some parts) ↔ HasParts self.now parts }
@@ -51,7 +51,8 @@ impl Telegram {
     }
 }
 
-/// The point that an address octet announces at the front of the octets, and what follows it.
+/// Returns the point that an address octet announces at the front of the octets, and what follows
+/// it. `None` if the octet is missing, or has bit 7 or 6 set.
 pub(crate) fn extension(address: u8, octets: &[u8]) -> Option<(Option<u8>, &[u8])>
     ensures point { option_map (λ x. (x.0, x.1.now)) result ≡ extension_of (announces address) octets.now }
     ensures fewer { IfSome result (λ x. length x.1.now ≤ length octets.now) }
@@ -66,11 +67,12 @@ pub(crate) fn extension(address: u8, octets: &[u8]) -> Option<(Option<u8>, &[u8]
     Some((Some(*point), rest))
 }
 
-/// The frame of a request: addresses 0 to 127, any function code, points 0 to 63 or none, and a
-/// payload; points and payload have at most 246 octets together (IEC 61158-4-3, address extension).
+/// Returns the frame of a request: addresses 0 to 127, any function code, points 0 to 63 or `None`,
+/// and a payload. Points and payload have at most 246 octets together (IEC 61158-4-3, address
+/// extension).
 ///
-/// Bit 7 of its DA and of its SA announces the extension octet of its point. Addresses and parts can
-/// be read back from it.
+/// Bit 7 of its DA and of its SA announces the extension octet of its point. Addresses and parts
+/// can be read back from the frame.
 pub fn request(da: u8, sa: u8, fc: u8, dsap: Option<u8>, ssap: Option<u8>, payload: &[u8]) -> Frame
     requires da { da ≤ 127 }
     requires sa { sa ≤ 127 }
@@ -93,7 +95,7 @@ pub fn request(da: u8, sa: u8, fc: u8, dsap: Option<u8>, ssap: Option<u8>, paylo
     })
 }
 
-/// An extension octet, where there is a point.
+/// Appends the extension octet if there is a point.
 pub(crate) fn push_point<const N: usize>(octets: &mut ArrayVec<u8, N>, point: Option<u8>)
     requires { length octets.old.items < N }
     ensures { octets.new.items ≡ octets.old.items ++ option_to_list point }
@@ -103,7 +105,7 @@ pub(crate) fn push_point<const N: usize>(octets: &mut ArrayVec<u8, N>, point: Op
     }
 }
 
-/// An address with bit 7 set where a point is announced.
+/// Returns an address octet: the address, 0 to 127, with bit 7 set if a point is announced.
 fn address_octet(address: u8, point: Option<u8>) -> u8
     requires { address ≤ 127 }
     ensures { result ≡ address_octet_of address point }

@@ -7,7 +7,7 @@ ghost use Rattle.dp_telegram.specs.FunctionCode.{function_of, is_request as is_r
 use crate::frame::{Frame, Telegram};
 use crate::function_code::{self, Function};
 
-/// The global address: all stations together (IEC 61158-4-3, address octets).
+/// The global address, which addresses all stations (IEC 61158-4-3, address octets).
 pub const GLOBAL_ADDRESS: u8 = 127;
 
 /// The last address that a station may have; the first is 0 (IEC 61158-4-3, address octets).
@@ -16,7 +16,7 @@ pub const LAST_STATION: u8 = 126;
 /// The bits of an address octet that are the address (IEC 61158-4-3, address octets).
 pub const ADDRESS_BITS: u8 = 0x7F;
 
-/// A station may have this address: 0 to 126.
+/// Returns whether a station may have this address: 0 to 126.
 pub const fn is_station(address: u8) -> bool
     ensures { result ≡ is_station_address address }
 {
@@ -24,42 +24,42 @@ pub const fn is_station(address: u8) -> bool
 }
 
 impl Telegram {
-    /// The destination address, 0 to 127: bits 6 to 0 of DA.
+    /// Returns the destination address, 0 to 127: bits 6 to 0 of DA.
     pub const fn destination(&self) -> u8
         ensures { result ≡ address_of self.now.da }
     {
         self.da & ADDRESS_BITS
     }
 
-    /// The source address, 0 to 127: bits 6 to 0 of SA.
+    /// Returns the source address, 0 to 127: bits 6 to 0 of SA.
     pub const fn source(&self) -> u8
         ensures { result ≡ address_of self.now.sa }
     {
         self.sa & ADDRESS_BITS
     }
 
-    /// It is a request, and no response.
+    /// Returns whether the telegram is a request, not a response.
     pub const fn is_request(&self) -> bool
         ensures { result ≡ is_request_by self.now.fc }
     {
         function_code::is_request(self.fc)
     }
 
-    /// What it asks for, where it is a request.
+    /// Returns the function that FC names. It has a meaning only for a request.
     pub const fn function(&self) -> Function
         ensures { result ≡ function_of self.now.fc }
     {
         Function::from_fc(self.fc)
     }
 
-    /// FCB, the frame count bit, where it is a request.
+    /// Returns FCB, the frame count bit. It has a meaning only for a request.
     pub const fn fcb(&self) -> bool
         ensures { result ≡ frame_count_bit self.now.fc }
     {
         function_code::fcb(self.fc)
     }
 
-    /// FCV, the frame count bit is valid, where it is a request.
+    /// Returns FCV, whether the frame count bit is valid. It has a meaning only for a request.
     pub const fn fcv(&self) -> bool
         ensures { result ≡ frame_count_is_valid self.now.fc }
     {
@@ -68,7 +68,8 @@ impl Telegram {
 }
 
 impl Frame {
-    /// The source address, 0 to 127, of a token or a telegram; a short acknowledgement has none.
+    /// Returns the source address, 0 to 127, of a token or a telegram; `None` for a short
+    /// acknowledgement.
     pub const fn source(&self) -> Option<u8>
         ensures { result ≡ source_of self.now }
     {

@@ -12,8 +12,9 @@ use crate::lent::{WholeFrame, frame_in};
 use arrayvec::ArrayVec;
 use std::marker::Model;
 
-/// Room for as many again: the octets held, then at most 254, are moved to the front only after at
-/// least 256 were handed out, so on average no octet is moved more than once.
+/// The size of the buffer, twice the 255 octets that are held at most. The octets held, then at
+/// most 254, move to the front only after at least 256 were handed out. So on average no octet
+/// moves more than once.
 const ROOM: usize = 510;
 
 /// A piece of a stream.
@@ -21,9 +22,9 @@ const ROOM: usize = 510;
 pub enum Cut {
     /// A frame.
     Frame {
-        /// What its text says.
+        /// Its content.
         frame: Frame,
-        /// Its octets, as they came.
+        /// Its octets, as received.
         octets: Octets,
     },
     /// Octets that are no frame and are dropped (own).
@@ -31,28 +32,28 @@ pub enum Cut {
         /// `NoStart`: one octet that starts no frame. `BadHead`: the first octet of a wrong SD2
         /// head. `BadEnd`: a whole frame with a wrong check sequence or end delimiter.
         fault: FrameFault,
-        /// How many octets, 1 to 255.
+        /// The number of octets, 1 to 255.
         count: u8,
     },
 }
 
-/// A piece of a stream whose octets are lent where they lie: the same piece as a [`Cut`], with
-/// nothing copied and nothing decoded.
+/// A piece of a stream whose octets are lent in place: the same piece as a [`Cut`], with nothing
+/// copied and nothing decoded.
 #[derive(Debug, Drop)]
 pub enum Piece<'a> {
     /// A frame.
     Frame(WholeFrame<'a>),
     /// Octets that are no frame and are dropped, as in [`Cut::Dropped`].
     Dropped {
-        /// Why they are dropped.
+        /// The reason why they are dropped.
         fault: FrameFault,
-        /// How many octets, 1 to 255.
+        /// The number of octets, 1 to 255.
         count: u8,
     },
 }
 
 impl Piece<'_> {
-    /// How many octets the piece has.
+    /// Returns the number of octets of the piece.
     pub fn size(&self) -> usize
         ensures { result ≡ cut_length (cut_lent self.now) }
     {
@@ -63,8 +64,8 @@ impl Piece<'_> {
     }
 }
 
-/// Cuts a stream into frames and dropped octets, in whatever pieces it is fed. Contracts see the
-/// octets held, 0 to 255 of them.
+/// A cutter of a stream into frames and dropped octets. The stream may be fed in pieces of any
+/// size. Contracts see the octets held, 0 to 255 of them.
 #[derive(Drop)]
 pub struct Cutter {
     buffer: [u8; ROOM],
@@ -81,7 +82,7 @@ impl Model for Cutter {
 }
 
 impl Cutter {
-    /// A cutter that holds nothing.
+    /// Returns a cutter that holds nothing.
     pub fn new() -> Cutter
         ensures { result ≡ [] }
     {
@@ -92,7 +93,7 @@ impl Cutter {
         }
     }
 
-    /// Takes as many octets as fit beside those held, 255 in all, and says how many it took.
+    /// Takes as many octets as fit beside those held, 255 in all, and returns how many it took.
     pub fn feed(&mut self, octets: &[u8]) -> usize
         ensures taken { result ≡ min (length octets.now) (255 - length self.old) }
         ensures held { self.new ≡ self.old ++ take result octets.now }
@@ -117,14 +118,15 @@ impl Cutter {
         &self.buffer[self.start..self.end]
     }
 
-    /// Hands out the first piece of the octets held; it is held no longer.
+    /// Removes the first piece from the octets held and returns it.
     ///
-    /// None exactly where they begin with no piece. Then nothing changes, and `feed` has room.
+    /// Returns `None` exactly if they begin with no piece. Then nothing changes, and `feed` has
+    /// room.
     pub fn next(&mut self) -> Option<Cut>
         ensures cut { result ≡ piece_of self.old }
         ensures left { self.new ≡ left_of self.old }
 
-        // What these two equations say in the words of a stream.
+        // What these two equations mean for a stream.
         ensures piece { IfSome result (λ cut. StartsWith self.old cut self.new) }
         ensures none { IsNone result ↔ StartsWithNone self.old }
         ensures room { IfNone result (length self.new < 255) }
@@ -140,15 +142,15 @@ impl Cutter {
         first_piece(fault, &self.buffer[start..self.end])
     }
 
-    /// Lends the octets of the first piece; it stays held, until [`Cutter::pass`] lets go of as many
-    /// octets as it has.
+    /// Lends the first piece. The cutter holds its octets until [`Cutter::pass`] drops that number
+    /// of octets.
     ///
-    /// None exactly where the octets held begin with no piece. Then `feed` has room.
+    /// Returns `None` exactly if the octets held begin with no piece. Then `feed` has room.
     pub fn front(&self) -> Option<Piece<'_>>
         ensures cut { option_map cut_lent result ≡ piece_of self.now }
         ensures left { IfSome result (λ piece. left_of self.now ≡ drop (cut_length (cut_lent piece)) self.now) }
 
-        // What these two say in the words of a stream.
+        // What these two equations mean for a stream.
         ensures piece { IfSome result (λ piece. StartsWith self.now (cut_lent piece) (left_of self.now)) }
         ensures none { IsNone result ↔ StartsWithNone self.now }
         ensures room { IfNone result (length self.now < 255) }
@@ -163,7 +165,7 @@ impl Cutter {
         lent_piece(fault, octets)
     }
 
-    /// Lets go of the first `count` octets held, those of a piece that was lent.
+    /// Drops the first `count` octets held, those of a piece that was lent.
     pub fn pass(&mut self, count: usize)
         requires { count ≤ length self.old }
         ensures held { self.new ≡ drop count self.old }
@@ -173,7 +175,8 @@ impl Cutter {
     }
 }
 
-/// How many octets the first piece has, by the fault of all octets; 0 where they begin with none.
+/// Returns the number of octets of the first piece, by the fault of all octets; 0 if there is no
+/// piece.
 fn piece_size(fault: Option<FrameFault>, octets: &[u8]) -> usize
     requires { fault ≡ fault_of octets.now }
     ensures piece { IfSome (piece_of octets.now) (λ cut. result ≡ cut_length cut) }
@@ -189,9 +192,9 @@ fn piece_size(fault: Option<FrameFault>, octets: &[u8]) -> usize
     }
 }
 
-/// The first piece, by the fault of all octets, where they begin with one.
+/// Returns the first piece, by the fault of all octets; `None` if they begin with no piece.
 ///
-/// It is built where it is returned: a piece that is moved costs the copy of 530 octets.
+/// The piece is built as the result itself, because moving a piece costs a copy of 530 bytes.
 fn first_piece(fault: Option<FrameFault>, octets: &[u8]) -> Option<Cut>
     requires fault { fault ≡ fault_of octets.now }
     requires most { length octets.now ≤ 255 }
@@ -213,7 +216,7 @@ fn dropped(fault: FrameFault, count: u8) -> Option<Cut>
     Some(Cut::Dropped { fault, count })
 }
 
-/// The first piece, by the fault of all octets, where they begin with one.
+/// Lends the first piece, by the fault of all octets; `None` if they begin with no piece.
 fn lent_piece(fault: Option<FrameFault>, octets: &[u8]) -> Option<Piece<'_>>
     requires fault { fault ≡ fault_of octets.now }
     requires most { length octets.now ≤ 255 }
@@ -232,7 +235,8 @@ fn lent_piece(fault: Option<FrameFault>, octets: &[u8]) -> Option<Piece<'_>>
     }
 }
 
-/// The octets of the frame in front: its head is right, and all of its octets are there.
+/// Returns the octets of the frame in front. Its head must be right, and all of its octets must be
+/// present.
 fn lent_frame(octets: &[u8]) -> WholeFrame<'_>
     requires start { IsTrue (is_start (delimiter octets.now)) }
     requires right { IsTrue (head_is_right octets.now) }
@@ -244,7 +248,8 @@ fn lent_frame(octets: &[u8]) -> WholeFrame<'_>
     WholeFrame::new(&octets[..frame_size(octets)])
 }
 
-/// The frame in front: its head is right, and all of its octets are there.
+/// Returns the frame in front as a piece. Its head must be right, and all of its octets must be
+/// present.
 fn first_frame(octets: &[u8]) -> Option<Cut>
     requires start { IsTrue (is_start (delimiter octets.now)) }
     requires right { IsTrue (head_is_right octets.now) }

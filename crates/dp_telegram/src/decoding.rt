@@ -1,4 +1,4 @@
-//! Octets into frames.
+//! Decodes octets into frames.
 
 ghost use Rattle.std.specs.Prelude.{◌≡◌, ◌≤◌, ◌&&◌, ◌↔◌, not, length, IsTrue, Some};
 ghost use Rattle.std.specs.Result.{result_ok};
@@ -11,9 +11,11 @@ use crate::fault::FrameFault;
 use crate::frame::Frame;
 use crate::lent::frame_in;
 
-/// The frame of which the slice is the whole text; an SD3 and an SD2 may spell the same telegram.
+/// Returns the frame of which the slice is the whole text. An SD3 and an SD2 may spell the same
+/// telegram.
 ///
-/// Every slice has an answer: an error is the first fault in the order that [`FrameFault`] states.
+/// Every slice gives a frame or an error. The error is the first fault in the order that
+/// [`FrameFault`] states.
 pub fn decode(octets: &[u8]) -> Result<Frame, FrameFault>
     ensures reading { result ≡ reading_of octets.now }
     ensures found { result_ok result ≡ frame_of octets.now }
@@ -26,7 +28,7 @@ pub fn decode(octets: &[u8]) -> Result<Frame, FrameFault>
     }
 }
 
-/// The first fault of the octets. The layout is told by the start delimiter.
+/// Returns the first fault of the octets. The start delimiter determines the layout.
 pub(crate) fn fault_in(octets: &[u8]) -> Option<FrameFault>
     ensures { result ≡ fault_of octets.now }
 {
@@ -43,7 +45,8 @@ pub(crate) fn fault_in(octets: &[u8]) -> Option<FrameFault>
     }
 }
 
-/// Of a telegram whose head is judged: DA stands at `head`, and the frame has `size` octets.
+/// Returns the first fault of a telegram with a right head: DA stands at `head`, and the frame has
+/// `size` octets.
 fn telegram_fault(octets: &[u8], head: usize, size: usize) -> Option<FrameFault>
     requires start { IsTrue (is_start (delimiter octets.now) && is_checked octets.now) }
     requires head { head ≡ head_length octets.now }
@@ -65,7 +68,7 @@ fn telegram_fault(octets: &[u8], head: usize, size: usize) -> Option<FrameFault>
     None
 }
 
-/// Of an SD2 telegram: its length stands in its head.
+/// Returns the first fault of an SD2 telegram. Its length stands in its head.
 fn variable_fault(octets: &[u8]) -> Option<FrameFault>
     requires { delimiter octets.now ≡ sd2 }
     ensures { result ≡ fault_of octets.now }
@@ -79,7 +82,7 @@ fn variable_fault(octets: &[u8]) -> Option<FrameFault>
     telegram_fault(octets, 4, usize::from(*le) + 6)
 }
 
-/// Of a token or a short acknowledgement: only its size can be wrong.
+/// Returns the first fault of a token or a short acknowledgement. Only its size can be wrong.
 fn size_fault(octets: &[u8], size: usize) -> Option<FrameFault>
     requires start { IsTrue (is_start (delimiter octets.now) && not (is_checked octets.now)) }
     requires there { 1 ≤ length octets.now }
@@ -95,7 +98,7 @@ fn size_fault(octets: &[u8], size: usize) -> Option<FrameFault>
     None
 }
 
-/// How many octets the frame has whose whole head stands here.
+/// Returns the number of octets of the frame whose whole head is present.
 pub(crate) fn frame_size(octets: &[u8]) -> usize
     requires { head_length octets.now ≤ length octets.now }
     ensures { result ≡ frame_length octets.now }

@@ -16,7 +16,7 @@ pub const SC: u8 = 0xE5;
 /// End delimiter.
 pub(crate) const ED: u8 = 0x16;
 
-/// The check sequence of octets: their sum modulo 256.
+/// Returns the check sequence of at most 255 octets: their sum modulo 256.
 pub(crate) fn check_sum(octets: &[u8]) -> u8
     requires { length octets.now ≤ 255 }
     ensures { result ≡ check_sequence octets.now }

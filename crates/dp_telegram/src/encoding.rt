@@ -1,4 +1,4 @@
-//! Frames into octets.
+//! Encodes frames into octets.
 
 ghost use Rattle.std.specs.Prelude.{◌≡◌, ◌+◌, ◌≤◌, ◌++◌, [], length};
 ghost use Rattle.dp_telegram.specs.declared.frame.Frame.TheVariants as frames;
@@ -11,8 +11,8 @@ use crate::delimiter::{ED, SC, SD1, SD2, SD4, check_sum};
 use crate::frame::{Frame, Octets, Telegram};
 use arrayvec::ArrayVec;
 
-/// The text of a frame, at most 255 octets: SD1 for a telegram without a data unit, SD2 for one
-/// with a data unit. It always succeeds.
+/// Returns the text of a frame, at most 255 octets: SD1 for a telegram without a data unit, SD2 for
+/// one with a data unit. It never fails.
 pub fn encode(frame: &Frame) -> Octets
     ensures text { result.items ≡ text_of frame.now }
     ensures spells { Spells result.items frame.now }
@@ -34,9 +34,9 @@ pub fn encode(frame: &Frame) -> Octets
     text
 }
 
-/// Makes a text that of the short acknowledgement.
+/// Replaces `text` with the short acknowledgement.
 ///
-/// It does what [`encode`] does, and spares the copy of the text, 264 octets.
+/// It does what [`encode`] does, without the copy of the text, 264 bytes.
 pub fn acknowledge_into(text: &mut Octets)
     ensures { text.new.items ≡ text_of frames.Ack }
 {
@@ -45,7 +45,7 @@ pub fn acknowledge_into(text: &mut Octets)
 }
 
 impl Telegram {
-    /// Makes a text that of the telegram, as [`acknowledge_into`] does of the short acknowledgement.
+    /// Replaces `text` with the text of the telegram. See [`acknowledge_into`].
     pub fn encode_into(&self, text: &mut Octets)
         ensures { text.new.items ≡ text_of (frames.Telegram self.now) }
     {
@@ -55,7 +55,8 @@ impl Telegram {
     }
 }
 
-/// A reply with data, before it is written: nothing of it is copied (IEC 61158-4-3, response telegrams).
+/// A reply with data that is not written yet. Nothing of it is copied (IEC 61158-4-3, response
+/// telegrams).
 #[derive(Clone, Copy, Debug)]
 pub struct DataReply<'a> {
     /// Destination address octet.
@@ -64,16 +65,16 @@ pub struct DataReply<'a> {
     pub sa: u8,
     /// Function code.
     pub fc: u8,
-    /// The source point, which stands first in the data unit, where there is one.
+    /// The source point, if there is one: the first octet of the data unit.
     pub ssap: Option<u8>,
-    /// The destination point, which stands behind it.
+    /// The destination point, if there is one: it follows the source point.
     pub dsap: Option<u8>,
-    /// The octets behind the points; with them at most 246.
+    /// The octets after the points. Points and octets are at most 246 together.
     pub data: &'a [u8],
 }
 
 impl DataReply<'_> {
-    /// Makes a text that of the telegram which the reply is.
+    /// Replaces `text` with the telegram of this reply.
     pub fn encode_into(&self, text: &mut Octets)
         requires { length (reply_telegram self.now).du.items ≤ 246 }
         ensures { text.new.items ≡ text_of (frames.Telegram (reply_telegram self.now)) }
@@ -83,7 +84,7 @@ impl DataReply<'_> {
         push_reply(text, self);
     }
 
-    /// How many octets its data unit has.
+    /// Returns the number of octets of its data unit.
     fn length(&self) -> usize
         ensures { result ≡ length (reply_telegram self.now).du.items }
     {
@@ -91,7 +92,8 @@ impl DataReply<'_> {
     }
 }
 
-/// The start delimiter of a telegram, with the lengths that follow it in SD2.
+/// Writes the octets before DA: SD1 if there is no data unit, else SD2, the length twice and SD2
+/// again.
 fn push_head(text: &mut Octets, data_length: usize)
     requires empty { text.old.items ≡ [] }
     requires most { data_length ≤ 246 }
@@ -105,7 +107,7 @@ fn push_head(text: &mut Octets, data_length: usize)
     }
 }
 
-/// DA to the end of the data unit, the check sequence and the end delimiter.
+/// Appends DA to the end of the data unit, the check sequence and the end delimiter.
 fn push_checked(text: &mut Octets, telegram: &Telegram)
     requires { length text.old.items ≤ 4 }
     ensures { text.new.items ≡ text.old.items ++ checked (body_of telegram.now) }
@@ -120,7 +122,7 @@ fn push_checked(text: &mut Octets, telegram: &Telegram)
     text.push(ED);
 }
 
-/// The same of a reply.
+/// Appends the octets of a reply from DA to the end delimiter. See [`push_checked`].
 fn push_reply(text: &mut Octets, reply: &DataReply<'_>)
     requires head { length text.old.items ≤ 4 }
     requires most { length (reply_telegram reply.now).du.items ≤ 246 }

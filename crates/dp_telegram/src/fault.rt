@@ -1,4 +1,4 @@
-//! Why octets are no frame.
+//! Faults of octets that are no frame.
 
 ghost use Rattle.std.specs.Prelude.{◌≡◌};
 ghost use Rattle.dp_telegram.specs.FrameText.{fault_code};
@@ -6,9 +6,9 @@ ghost use Rattle.dp_telegram.specs.Names.{frame_fault_name};
 
 use thiserror::Error;
 
-/// Why octets are no frame. The first that applies is reported: no octet at all is `Short`; then
-/// `NoStart`, `Short` for want of a whole head, `BadHead`, `Short` for want of a whole frame,
-/// `BadEnd`, `Long`.
+/// The reason why octets are no frame. The first that applies is reported: `Short` if there is no
+/// octet; then `NoStart`, `Short` if the head is not complete, `BadHead`, `Short` if the frame is
+/// not complete, `BadEnd`, `Long`.
 #[derive(Clone, Copy, Debug, PartialEq, Eq, Error)]
 #[error("{}", self.name())]
 pub enum FrameFault {
@@ -21,12 +21,12 @@ pub enum FrameFault {
     BadEnd,
     /// The octets end before the frame does.
     Short,
-    /// Octets stand behind the frame.
+    /// Octets follow the frame.
     Long,
 }
 
 impl FrameFault {
-    /// The number of the fault, 1 to 5 (own).
+    /// Returns the number of the fault, 1 to 5 (own).
     pub const fn code(self) -> u8
         ensures { result ≡ fault_code self }
     {
@@ -39,7 +39,7 @@ impl FrameFault {
         }
     }
 
-    /// Its name in texts (own).
+    /// Returns its name in texts (own).
     pub const fn name(self) -> &'static str
         ensures { result.now ≡ frame_fault_name self }
     {

@@ -2,7 +2,7 @@
 
 use arrayvec::ArrayVec;
 
-/// The most octets of a frame: those of an SD2 telegram of the greatest length.
+/// The greatest number of octets of a frame: that of the longest SD2 telegram.
 pub const MOST_OCTETS: usize = 255;
 
 /// Octets of at most one frame, 0 to 255 of them.
@@ -22,7 +22,7 @@ pub struct Telegram {
     pub du: ArrayVec<u8, 246>,
 }
 
-/// What the text of one frame says.
+/// The content of the text of one frame.
 #[derive(Clone, Debug, Drop, PartialEq, Eq)]
 pub enum Frame {
     /// SD4: the token is passed on (IEC 61158-4-3, token telegram).
@@ -34,6 +34,6 @@ pub enum Frame {
     },
     /// SC: the short acknowledgement (IEC 61158-4-3, short acknowledgement).
     Ack,
-    /// SD1, SD2 or SD3: which of them the text was is not kept.
+    /// SD1, SD2 or SD3. Which of them the text used is not stored.
     Telegram(Telegram),
 }

@@ -18,7 +18,7 @@ pub const RS: u8 = 0x03;
 /// DL: data of low priority.
 pub const DL: u8 = 0x08;
 
-/// DH: data of high priority, by which a slave asks for its diagnosis to be read.
+/// DH: data of high priority; with it a slave asks the master to read its diagnosis.
 pub const DH: u8 = 0x0A;
 
 /// What a request asks for (IEC 61158-4-3, function code of a request).
@@ -47,7 +47,7 @@ pub enum Function {
 }
 
 impl Function {
-    /// The function of a request with this FC, 0 to 255, by bits 3 to 0.
+    /// Returns the function of a request with this FC, 0 to 255, by bits 3 to 0.
     pub const fn from_fc(fc: u8) -> Function
         ensures { result ≡ function_of fc }
     {
@@ -65,14 +65,14 @@ impl Function {
         }
     }
 
-    /// SRD of either priority.
+    /// Returns whether the function is SRD, of either priority.
     pub const fn is_srd(self) -> bool
         ensures { result ≡ asks_srd self }
     {
         matches!(self, Function::SrdLow | Function::SrdHigh)
     }
 
-    /// SDN of either priority.
+    /// Returns whether the function is SDN, of either priority.
     pub const fn is_sdn(self) -> bool
         ensures { result ≡ asks_sdn self }
     {
@@ -80,28 +80,29 @@ impl Function {
     }
 }
 
-/// A telegram with this FC, 0 to 255, is a request, and no response: bit 6. Bit 7 is ignored (own).
+/// Returns whether a telegram with this FC, 0 to 255, is a request, not a response: bit 6. Bit 7 is
+/// ignored (own).
 pub const fn is_request(fc: u8) -> bool
     ensures { result ≡ is_request_by fc }
 {
     is_set(6, fc)
 }
 
-/// FCB, the frame count bit of a request with this FC: bit 5.
+/// Returns FCB, the frame count bit of a request with this FC: bit 5.
 pub const fn fcb(fc: u8) -> bool
     ensures { result ≡ frame_count_bit fc }
 {
     is_set(5, fc)
 }
 
-/// FCV, the frame count bit of a request with this FC is valid: bit 4.
+/// Returns FCV, whether the frame count bit of a request with this FC is valid: bit 4.
 pub const fn fcv(fc: u8) -> bool
     ensures { result ≡ frame_count_is_valid fc }
 {
     is_set(4, fc)
 }
 
-/// The bit of this number is 1.
+/// Returns whether the bit of this number, 0 to 7, is 1.
 const fn is_set(number: u32, octet: u8) -> bool
     requires { number < 8 }
     ensures { result ≡ is_set_of number octet }

@@ -1,4 +1,4 @@
-//! Laws of the frame texts: each is what an empty function ensures.
+//! Laws of the frame texts: each is the contract of an empty function.
 
 ghost use Rattle.std.specs.Prelude.{◌≡◌, ◌≢◌, ◌↔◌, ℕ, List, [], ◌++◌, Some};
 ghost use Rattle.dp_telegram.specs.declared.frame.Frame.{Frame};
@@ -6,7 +6,7 @@ ghost use Rattle.dp_telegram.specs.declared.fault.FrameFault.{FrameFault};
 ghost use Rattle.dp_telegram.specs.FrameText.{Spells, frame_of, fault_of, HasFrameAndMore};
 ghost use Rattle.dp_telegram.specs.Stream.{StartsWithNone};
 
-/// The relation between octets and frames and the computing definition say the same.
+/// The relation between octets and frames agrees with the computed definition.
 pub fn relation_and_computation_agree()
     ensures { (octets : List ℕ) (frame : Frame) → Spells octets frame ↔ (frame_of octets ≡ Some frame) }
 {}
@@ -17,12 +17,12 @@ pub fn no_text_begins_another()
         Spells text frame → Spells (text ++ more) other → more ≡ [] }
 {}
 
-/// Octets are `Long` where the text of a frame stands in front and other octets behind it.
+/// Octets are `Long` exactly if they begin with the text of a frame and other octets follow.
 pub fn long_octets_begin_with_a_frame()
     ensures { (octets : List ℕ) → (fault_of octets ≡ Some FrameFault.Long) ↔ HasFrameAndMore octets }
 {}
 
-/// Octets are `Short` where nothing can be judged yet: they begin with no piece of a stream.
+/// Octets are `Short` exactly if nothing can be judged yet: they begin with no piece of a stream.
 pub fn short_octets_begin_with_nothing()
     ensures { (octets : List ℕ) → (fault_of octets ≡ Some FrameFault.Short) ↔ StartsWithNone octets }
 {}

@@ -1,4 +1,4 @@
-//! Frames, telegrams and their parts where they lie: nothing of them is copied.
+//! Frames, telegrams and their parts, read in place: nothing is copied.
 
 ghost use Rattle.std.specs.Prelude.{◌≡◌, ◌≤◌, if◌then◌else◌, is_none, length, IsTrue, None, Some};
 ghost use Rattle.dp_telegram.specs.Access.{address_of, parts_of, source_of};
@@ -16,7 +16,7 @@ use crate::function_code::{self, Function};
 use arrayvec::ArrayVec;
 use std::marker::Model;
 
-/// The octets of one whole frame, where they lie. Contracts see them.
+/// The octets of one whole frame, lent in place. Contracts see these octets.
 #[derive(Debug, Drop)]
 pub struct WholeFrame<'a> {
     octets: &'a [u8],
@@ -34,7 +34,7 @@ impl<'a> Model for WholeFrame<'a> {
 }
 
 impl<'a> WholeFrame<'a> {
-    /// The octets as a frame; None exactly where they are the text of none.
+    /// Returns the octets as a frame; `None` exactly if they are not the text of a frame.
     pub fn read(octets: &'a [u8]) -> Option<WholeFrame<'a>>
         ensures { result ≡ (if is_none (fault_of octets.now) then Some octets.now else None) }
     {
@@ -44,7 +44,7 @@ impl<'a> WholeFrame<'a> {
         Some(WholeFrame::new(octets))
     }
 
-    /// The frame of these octets, which are one.
+    /// Returns these octets as a frame. They must be the text of one.
     pub(crate) fn new(octets: &'a [u8]) -> WholeFrame<'a>
         requires { fault_of octets.now ≡ None }
         ensures { result ≡ octets.now }
@@ -52,7 +52,7 @@ impl<'a> WholeFrame<'a> {
         WholeFrame { octets }
     }
 
-    /// Its octets, 1 to 255 of them.
+    /// Returns its octets, 1 to 255 of them.
     pub fn octets(&self) -> &'a [u8]
         ensures octets { result.now ≡ self.now }
         ensures most { length result.now ≤ 255 }
@@ -60,7 +60,7 @@ impl<'a> WholeFrame<'a> {
         self.octets
     }
 
-    /// What they say.
+    /// Returns the content of the frame.
     pub fn frame(&self) -> FrameLent<'a>
         ensures { Some (frame_lent result) ≡ frame_of self.now }
     {
@@ -68,24 +68,25 @@ impl<'a> WholeFrame<'a> {
     }
 }
 
-/// What the text of one frame says: the same as a [`crate::Frame`], of which nothing is copied.
+/// The content of the text of one frame: a [`crate::Frame`] of which nothing is copied.
 #[derive(Debug, Drop)]
 pub enum FrameLent<'a> {
-    /// As [`crate::Frame::Token`].
+    /// See [`crate::Frame::Token`].
     Token {
         /// Destination address.
         da: u8,
         /// Source address.
         sa: u8,
     },
-    /// As [`crate::Frame::Ack`].
+    /// See [`crate::Frame::Ack`].
     Ack,
-    /// As [`crate::Frame::Telegram`].
+    /// See [`crate::Frame::Telegram`].
     Telegram(TelegramLent<'a>),
 }
 
 impl FrameLent<'_> {
-    /// The source address, 0 to 127, of a token or a telegram; a short acknowledgement has none.
+    /// Returns the source address, 0 to 127, of a token or a telegram; `None` for a short
+    /// acknowledgement.
     pub fn source(&self) -> Option<u8>
         ensures { result ≡ source_of (frame_lent self.now) }
     {
@@ -96,7 +97,7 @@ impl FrameLent<'_> {
         }
     }
 
-    /// The same frame, with a copy of the data unit.
+    /// Returns the same frame with a copy of the data unit.
     pub(crate) fn copied(&self) -> Frame
         ensures { result ≡ frame_lent self.now }
     {
@@ -108,7 +109,7 @@ impl FrameLent<'_> {
     }
 }
 
-/// A telegram whose data unit is lent. Contracts see the [`crate::Telegram`] that it is.
+/// A telegram whose data unit is lent. Contracts see it as a [`crate::Telegram`].
 #[derive(Debug, Drop)]
 pub struct TelegramLent<'a> {
     da: u8,
@@ -129,7 +130,7 @@ impl<'a> Model for TelegramLent<'a> {
 }
 
 impl<'a> TelegramLent<'a> {
-    /// The same telegram, whose data unit is lent.
+    /// Returns the same telegram with its data unit lent.
     pub(crate) fn new(telegram: &'a Telegram) -> TelegramLent<'a>
         ensures { result ≡ telegram.now }
     {
@@ -141,56 +142,56 @@ impl<'a> TelegramLent<'a> {
         }
     }
 
-    /// DA, the destination address octet.
+    /// Returns DA, the destination address octet.
     pub fn da(&self) -> u8
         ensures { result ≡ self.now.da }
     {
         self.da
     }
 
-    /// SA, the source address octet.
+    /// Returns SA, the source address octet.
     pub fn sa(&self) -> u8
         ensures { result ≡ self.now.sa }
     {
         self.sa
     }
 
-    /// FC, the function code.
+    /// Returns FC, the function code.
     pub fn fc(&self) -> u8
         ensures { result ≡ self.now.fc }
     {
         self.fc
     }
 
-    /// As [`crate::Telegram::destination`].
+    /// Returns the destination address. See [`crate::Telegram::destination`].
     pub fn destination(&self) -> u8
         ensures { result ≡ address_of self.now.da }
     {
         self.da & ADDRESS_BITS
     }
 
-    /// As [`crate::Telegram::source`].
+    /// Returns the source address. See [`crate::Telegram::source`].
     pub fn source(&self) -> u8
         ensures { result ≡ address_of self.now.sa }
     {
         self.sa & ADDRESS_BITS
     }
 
-    /// As [`crate::Telegram::is_request`].
+    /// Returns whether the telegram is a request. See [`crate::Telegram::is_request`].
     pub fn is_request(&self) -> bool
         ensures { result ≡ is_request_by self.now.fc }
     {
         function_code::is_request(self.fc)
     }
 
-    /// As [`crate::Telegram::function`].
+    /// Returns the function that FC names. See [`crate::Telegram::function`].
     pub fn function(&self) -> Function
         ensures { result ≡ function_of self.now.fc }
     {
         Function::from_fc(self.fc)
     }
 
-    /// The same telegram, with a copy of the data unit.
+    /// Returns the same telegram with a copy of the data unit.
     fn copied(&self) -> Telegram
         ensures { result ≡ self.now }
     {
@@ -202,7 +203,7 @@ impl<'a> TelegramLent<'a> {
         }
     }
 
-    /// As [`crate::Telegram::parts`], of which the payload is lent.
+    /// Returns the access points, and the payload lent. See [`crate::Telegram::parts`].
     pub fn parts(&self) -> Option<PartsLent<'a>>
         ensures { result ≡ parts_of self.now }
     {
@@ -216,7 +217,7 @@ impl<'a> TelegramLent<'a> {
     }
 }
 
-/// A data unit taken apart, whose payload is lent. Contracts see the [`Parts`] that it is.
+/// A data unit taken apart, whose payload is lent. Contracts see it as [`Parts`].
 #[derive(Debug, Drop)]
 pub struct PartsLent<'a> {
     dsap: Option<u8>,
@@ -236,7 +237,7 @@ impl<'a> Model for PartsLent<'a> {
 }
 
 impl<'a> PartsLent<'a> {
-    /// The same parts, whose payload is lent.
+    /// Returns the same parts with their payload lent.
     pub(crate) fn new(parts: &'a Parts) -> PartsLent<'a>
         ensures { result ≡ parts.now }
     {
@@ -247,21 +248,21 @@ impl<'a> PartsLent<'a> {
         }
     }
 
-    /// Destination service access point, 0 to 63; none is the default point.
+    /// Returns the destination service access point, 0 to 63; `None` is the default point.
     pub fn dsap(&self) -> Option<u8>
         ensures { result ≡ self.now.dsap }
     {
         self.dsap
     }
 
-    /// Source service access point, 0 to 63.
+    /// Returns the source service access point, 0 to 63.
     pub fn ssap(&self) -> Option<u8>
         ensures { result ≡ self.now.ssap }
     {
         self.ssap
     }
 
-    /// The octets behind the extension octets, 0 to 246.
+    /// Returns the octets after the extension octets, 0 to 246.
     pub fn payload(&self) -> &'a [u8]
         ensures octets { result.now ≡ self.now.payload.items }
         ensures most { length result.now ≤ 246 }
@@ -269,7 +270,7 @@ impl<'a> PartsLent<'a> {
         self.payload
     }
 
-    /// The same parts, with a copy of the payload.
+    /// Returns the same parts with a copy of the payload.
     pub(crate) fn copied(&self) -> Parts
         ensures { result ≡ self.now }
     {
@@ -281,7 +282,7 @@ impl<'a> PartsLent<'a> {
     }
 }
 
-/// The frame in front: its head is right, and all of its octets are there.
+/// Returns the frame in front. Its head must be right, and all of its octets must be present.
 pub(crate) fn frame_in(octets: &[u8]) -> FrameLent<'_>
     requires start { IsTrue (is_start (delimiter octets.now)) }
     requires right { IsTrue (head_is_right octets.now) }
@@ -300,7 +301,7 @@ pub(crate) fn frame_in(octets: &[u8]) -> FrameLent<'_>
     }
 }
 
-/// The telegram of which these are DA, SA, FC and the data unit.
+/// Returns the telegram with these octets as DA, SA, FC and the data unit.
 fn telegram_in(body: &[u8]) -> FrameLent<'_>
     requires least { 3 ≤ length body.now }
     requires most { length body.now ≤ 249 }

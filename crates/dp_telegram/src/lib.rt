@@ -1,10 +1,11 @@
-//! FDL telegrams of PROFIBUS (IEC 61158-4-3): octets into frames, frames into octets, and the
-//! service access points that the extension octets of a data unit name.
+//! FDL telegrams of PROFIBUS (IEC 61158-4-3): decodes octets into frames, encodes frames into
+//! octets, and reads the service access points that the extension octets of a data unit name.
 //!
-//! A [`Frame`] is what one text on the line says; [`decode`] reads the text of one whole frame and
-//! [`encode`] writes one. [`Telegram::parts`] takes the extension octets of a data unit apart, and
-//! [`request`] builds a telegram from its parts. A [`Cutter`] cuts a stream, fed in any pieces, into
-//! frames and dropped octets. [`WholeFrame`] and [`TelegramLent`] read frames where they lie.
+//! A [`Frame`] is the content of the text of one frame. [`decode`] reads the text of one whole
+//! frame, and [`encode`] writes one. [`Telegram::parts`] splits a data unit into access points and
+//! payload, and [`request`] builds a telegram from its parts. A [`Cutter`] cuts a stream, fed in
+//! pieces of any size, into frames and dropped octets. [`WholeFrame`] and [`TelegramLent`] read
+//! frames in place.
 #![tactic(auto)]
 
 mod access;

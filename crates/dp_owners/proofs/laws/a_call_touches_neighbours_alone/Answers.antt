@@ -10,7 +10,7 @@ use Rattle.dp_owners.proofs.Unlinks.{cleared, links_in, thread_unlink}
 use Rattle.dp_owners.proofs.Same.{same_all}
 use Rattle.dp_owners.proofs.laws.a_call_touches_neighbours_alone.Goals as goal
 
--- a change at a place and at one beside it or none
+-- a change at one place and one at a neighbour, if there is one, leave all other links unchanged
 get_twice : (one two : Links → Links) (at : ℕ) (beside : Option ℕ) (links : List Links) (x : ℕ) → at ≢ x → beside ≢ Some x → slice_get (changed_where two beside (changed_at one at links)) x ≡ slice_get links x
 get_twice one two at beside links x other apart =
     get_unchanged two beside (changed_at one at links) x apart ∙ get_unchanged one (Some at) links x (λ e. other cc)

@@ -28,7 +28,7 @@ in_without at other xs apart there = subst (λ ys. IsIn other (without at ys)) (
 in_more : (at other : ℕ) (xs : List ℕ) → IsIn other xs → IsIn other (xs ++ at ∷ [])
 in_more at other xs there = (there.0, there.1 ++ at ∷ [], ap (λ ys. ys ++ at ∷ []) there.2 ∙ append_assoc there.0 (other ∷ there.1) (at ∷ []))
 
--- where a master's list is the changed one, it is as in the second
+-- if a change of one list keeps the record there, the record stays in its list
 listed_by : (lists : ℕ → List ℕ) (m owner other : ℕ) (new : List ℕ) (b : Bool) → eqb owner m ≡ b → (IsIn other (lists m) → IsIn other new) → IsIn other (lists owner) → IsIn other (cond b new (lists owner))
 listed_by lists m owner other new true e moved there = moved (subst (λ k. IsIn other (lists k)) (eqb-true owner m e) there)
 listed_by lists m owner other new false e moved there = there

@@ -12,7 +12,7 @@ counted : (octets : List ℕ) (count : ℕ) (piece : Option Cut) → piece_of oc
 counted octets count None e some nothing = omega arith
 counted octets count (Some cut) e some nothing = omega (arith, (piece_counted octets cut e).1)
 
--- what is held behind the piece
+-- what is held after the piece
 behind : (octets buffer : List ℕ) (start end count : ℕ) (piece : Option Cut) → slice_range buffer start end ≡ octets → IfSome piece (λ cut. count ≡ cut_length cut) → IfNone piece (count ≡ 0)
     → slice_range buffer (start + count) end ≡ left_behind piece octets
 behind octets buffer start end count None view some nothing = rw (nothing, add-zero) view
