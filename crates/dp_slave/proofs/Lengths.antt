@@ -10,7 +10,7 @@ pub cut_long : (count : ℕ) (octets : List ℕ) → length (cut_or_filled count
 cut_long count octets =
     length-append (take count octets) (replicate (count - length octets) 0) ∙ omega (arith, length-take count octets, length-replicate {A = ℕ} (count - length octets) 0)
 
--- what is left is filled from zeros that lie ready
+-- the rest is filled from 244 zeros that exist already
 pub filled : (count : ℕ) (octets : List ℕ) → count ≤ 244
     → take count octets ++ take (count - length (take count octets)) (replicate 244 0) ≡ cut_or_filled count octets
 filled count octets few =

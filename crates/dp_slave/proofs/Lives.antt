@@ -24,7 +24,7 @@ pub halt_releases : (slave : SlaveRecord) → acted slave halts ≡ released sla
 unfolding acted released
 halt_releases slave = refl
 
--- the diagnosis of another than the holder, and reading
+-- Slave_Diag by a master that isn't the holder, and reading
 pub told_stranger : (slave : SlaveRecord) (sender : ℕ) → is_held_by sender slave ≡ false → acted slave (tells_diagnosis sender) ≡ slave
 unfolding acted
 told_stranger slave sender apart = rw apart refl
@@ -43,7 +43,7 @@ pub put_out : (slave : SlaveRecord) (octets : List ℕ) (control : Control) → 
 unfolding acted
 put_out slave octets control unsync clear = rw (unsync, clear) refl
 
--- a tick that lets go of nobody
+-- a tick that doesn't release the slave
 waited : (slave : SlaveRecord) (time : ℕ) → runs_out time slave.left ≡ false → acted slave (ticks time) ≡ record slave { left = option_map (λ units. units - time) slave.left }
 unfolding acted
 waited slave time stays = rw stays refl
@@ -114,7 +114,7 @@ sound_released slave s = record {
   latest_long = length-replicate _ 0;
 }
 
--- a watchdog is set to its full time, or left
+-- a watchdog is set to its full time, or doesn't change
 again_runs : (b : Bool) (left full : Option ℕ) → is_some left ≡ is_some full → is_some (if b then (if is_some left then full else None) else left) ≡ is_some full
 again_runs false left full same = same
 again_runs true None None same = refl
@@ -129,11 +129,11 @@ time_runs : (time : ℕ) (left : Option ℕ) → is_some (option_map (λ units. 
 time_runs time None = refl
 time_runs time (Some units) = refl
 
--- in Data_Exch nothing is said of what holds outside
+-- in Data_Exch, what must hold outside it needs no proof
 in_exchange : {X : Type 0} (state : State) → is_in_data_exch state ≡ true → is_in_data_exch state ≡ false → X
 in_exchange state inside outside = absurd (both_ways (is_in_data_exch state) outside inside)
 
--- who isn't in Wait_Prm is held
+-- a slave that isn't in Wait_Prm is held
 held_by : (state : State) (holder : Option ℕ) → is_in_wait_prm state ≡ is_none holder → not (is_in_wait_prm state) ≡ true → false ≡ is_none holder
 held_by WaitPrm holder held fit = absurd cc
 held_by WaitCfg holder held fit = held
@@ -147,7 +147,7 @@ chosen_long : (b : Bool) (count : ℕ) (xs ys : List ℕ) → length xs ≡ coun
 chosen_long true count xs ys one two = one
 chosen_long false count xs ys one two = two
 
--- octets of the shape in force stay where that stays, and else have the lengths of the other one
+-- octets of the shape in force stay if that stays, else they have the lengths of the other one
 kept_long : (count : ℕ → ℕ) (shape number : ℕ) (xs ys : List ℕ) (b : Bool) → eqb number shape ≡ b → length xs ≡ count shape → length ys ≡ count number → length (if b then xs else ys) ≡ count number
 kept_long count shape number xs ys true e one two = one ∙ ap count (sym (eqb-true number shape e))
 kept_long count shape number xs ys false e one two = two
@@ -157,7 +157,7 @@ kept_zero : (description : SlaveSpec) (shape number : ℕ) (octets : List ℕ) (
 kept_zero description shape number octets true e zero = zero ∙ ap (λ (n : ℕ). zeros (outputs_of description n)) (sym (eqb-true number shape e))
 kept_zero description shape number octets false e zero = refl
 
--- what a cleared slave has is zero
+-- the data of a cleared slave are zero
 chosen_zero : (b : Bool) (count : ℕ) (xs ys : List ℕ) → xs ≡ zeros count → ys ≡ zeros count → (if b then xs else ys) ≡ zeros count
 chosen_zero true count xs ys one two = one
 chosen_zero false count xs ys one two = two
@@ -172,7 +172,7 @@ failsafe_by clear true cleared on was = refl
 failsafe_by true false cleared on was = was on
 failsafe_by false false cleared on was = was on
 
--- time lets go of the slave, or runs the watchdog down
+-- time releases the slave, or runs the watchdog down
 let_go : (slave : SlaveRecord) (time : ℕ) → runs_out time slave.left ≡ true → acted slave (ticks time) ≡ released slave
 unfolding acted released
 let_go slave time out = rw out refl
@@ -455,7 +455,7 @@ sound_after (act ∷ acts) slave s fit =
     let parts = and_parts (fits slave act) (all_fit (acted slave act) acts) fit in
     sound_after acts (acted slave act) (sound_act slave act s parts.0) parts.1
 
--- the shape changes by a configuration alone
+-- only a configuration changes the shape
 pub shape_changed : (slave : SlaveRecord) (act : Act) → (acted slave act).shape ≢ slave.shape → (number : ℕ) × (act ≡ configures number) × ((acted slave act).shape ≡ number)
 unfolding acted
 shape_changed slave (configures number) changed = (number, refl, refl)

@@ -4,7 +4,7 @@ use Rattle.std.specs.Option.{option_map_or}
 use Rattle.dp_prm.specs.declared.prm.Prm.{Prm}
 use Rattle.dp_slave.specs.SlaveRecord.{SlaveRecord, is_held_by}
 
--- the bits of a Global_Control that are looked at (IEC 61158-6-3, Global_Control request)
+-- the bits of a Global_Control that a slave reads (IEC 61158-6-3, Global_Control request)
 pub record Control : Type 0 where
   pub clear_data : Bool
   pub unfreeze : Bool
@@ -13,7 +13,7 @@ pub record Control : Type 0 where
   pub sync : Bool
 
 pub data Act : Type 0 where
-  -- Set_Prm, in its four forms: the sender locks with these parameters, in an event of this place; a fault; an unlock; and min TSDR alone
+  -- Set_Prm, in its four forms: the sender locks with these parameters, in an event of this place; a fault; an unlock; and only min TSDR
   locks : (sender place : ℕ) (prm : Prm) → Act
   faults : (not_supported : Bool) → Act
   unlocks : Act
@@ -21,7 +21,7 @@ pub data Act : Type 0 where
   -- Chk_Cfg: the octets are the configuration of this number, or no configuration of the slave
   configures : (number : ℕ) → Act
   misconfigures : Act
-  -- Data_Exchange, of the whole length, and an empty one of a cleared slave
+  -- Data_Exchange, of the whole length, and an empty one to a cleared slave
   exchanges : (octets : List ℕ) → Act
   exchanges_none : Act
   -- Slave_Diag
@@ -39,11 +39,11 @@ pub data Act : Type 0 where
   -- the line halts
   halts : Act
 
--- its watchdog runs, and has no more than this left (IEC 61158-6-3, slave state machine, watchdog)
+-- its watchdog runs, and has no more than this time left (IEC 61158-6-3, slave state machine, watchdog)
 abbrev pub runs_out : ℕ → Option ℕ → Bool
 runs_out time left = option_map_or (λ units. nat_le units time) left false
 
--- the act lets go of the slave: wrong parameters or a wrong configuration, an unlock, a watchdog that runs out, a halt (own)
+-- the act releases the slave: wrong parameters or a wrong configuration, an unlock, a watchdog that runs out, a halt (own)
 abbrev pub releases : SlaveRecord → Act → Bool
 releases slave (faults not_supported) = true
 releases slave unlocks = true
@@ -52,9 +52,8 @@ releases slave (ticks time) = runs_out time slave.left
 releases slave halts = true
 releases slave act = false
 
--- the act sets a watchdog that runs to its full time again: Set_Prm that only sets min TSDR and Slave_Diag, each of the holder, a good
--- Chk_Cfg, Data_Exchange and a Global_Control that selects the slave, which the holder alone can send. A lock starts its own watchdog;
--- reading doesn't retrigger (own)
+-- the act sets a running watchdog to its full time again: the holder's Slave_Diag, or its Set_Prm of only min TSDR; a good Chk_Cfg; Data_Exchange;
+-- a Global_Control that selects the slave, which only the holder can send. A lock starts its own watchdog; reading doesn't retrigger (own)
 abbrev pub retriggers : SlaveRecord → Act → Bool
 retriggers slave (sets_min_tsdr sender octet) = is_held_by sender slave
 retriggers slave (configures number) = true

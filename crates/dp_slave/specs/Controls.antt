@@ -1,4 +1,4 @@
--- The parts of a Global_Control, each by itself (IEC 61158-6-3, Global_Control request).
+-- The parts of a Global_Control, each on its own (IEC 61158-6-3, Global_Control request).
 use Rattle.std.specs.Prelude.{true, false, ◌||◌, if◌then◌else◌}
 use Rattle.dp_slave.specs.SlaveRecord.{SlaveRecord, output_length, zeros}
 use Rattle.dp_slave.specs.Fields.{freeze_is_asked, left_again, sync_is_asked}
@@ -15,7 +15,7 @@ emptied slave = record slave {
 abbrev pub unsynced : SlaveRecord → SlaveRecord
 unsynced slave = record slave { sync_mode = false; outputs = slave.latest }
 
--- Sync puts the latest data out and starts sync mode, where the parameters asked for it
+-- Sync puts the latest data out and starts sync mode, if the parameters asked for it
 abbrev pub synced : SlaveRecord → SlaveRecord
 synced slave = if sync_is_asked slave then record slave { sync_mode = true; outputs = slave.latest } else slave
 
@@ -23,7 +23,7 @@ synced slave = if sync_is_asked slave then record slave { sync_mode = true; outp
 abbrev pub unfrozen : SlaveRecord → SlaveRecord
 unfrozen slave = record slave { freeze_mode = false }
 
--- Freeze copies the inputs and starts freeze mode, where the parameters asked for it
+-- Freeze copies the inputs and starts freeze mode, if the parameters asked for it
 abbrev pub frozen : SlaveRecord → SlaveRecord
 frozen slave = if freeze_is_asked slave then record slave { freeze_mode = true; copy = slave.inputs } else slave
 

@@ -1,6 +1,5 @@
--- What an act leaves of each field of a slave: one equation for a field, by cases on the act. The last case of each is that of all
--- other acts: there the field stays, but an act that releases the slave leaves what released slaves have, and one that retriggers the
--- watchdog leaves it its full time.
+-- What an act leaves of each field of a slave: one equation for each field, by cases on the act. The last case is for all other acts: the field
+-- stays, but a released slave gets what released slaves have, and a retriggered watchdog its full time.
 use Rattle.std.specs.Prelude.{ℕ, ◌-◌, ◌==◌, ◌&&◌, ◌||◌, not, Bool, true, false, if◌then◌else◌, List, Option, Some, None, is_some, option_map}
 use Rattle.std.specs.Option.{option_map_or}
 use Rattle.dp_sap.specs.declared.state.State.{State}
@@ -18,21 +17,21 @@ state_after slave (locks sender place prm) = WaitCfg
 state_after slave (configures number) = DataExch
 state_after slave act = if releases slave act then WaitPrm else slave.state
 
--- who locks is the holder (IEC 61158-6-3, Set_Prm request)
+-- the master that locks is the holder (IEC 61158-6-3, Set_Prm request)
 abbrev pub holder_after : SlaveRecord → Act → Option ℕ
 holder_after slave (locks sender place prm) = Some sender
 holder_after slave act = if releases slave act then None else slave.holder
 
--- who locks again keeps its place (own)
+-- a master that locks again keeps its place (own)
 abbrev pub since_after : SlaveRecord → Act → ℕ
 since_after slave (locks sender place prm) = if is_held_by sender slave then slave.since else place
 since_after slave act = if releases slave act then 0 else slave.since
 
--- min TSDR 0 leaves it (IEC 61158-6-3, Set_Prm request)
+-- min TSDR 0 leaves the value unchanged (IEC 61158-6-3, Set_Prm request)
 abbrev pub unless_zero : ℕ → ℕ → ℕ
 unless_zero octet min_tsdr = if octet == 0 then min_tsdr else octet
 
--- a lock and a request for it alone set min TSDR; it outlasts a release (own)
+-- a lock sets min TSDR, and so does a request for only min TSDR; a release doesn't change it (own)
 abbrev pub min_tsdr_after : SlaveRecord → Act → ℕ
 min_tsdr_after slave (locks sender place prm) = unless_zero prm.min_tsdr slave.min_tsdr
 min_tsdr_after slave (sets_min_tsdr sender octet) = unless_zero octet slave.min_tsdr
@@ -43,16 +42,16 @@ abbrev pub prm_after : SlaveRecord → Act → Option Prm
 prm_after slave (locks sender place prm) = Some prm
 prm_after slave act = if releases slave act then None else slave.prm
 
--- a good configuration is of the shape in force; each other one changes the shape, and with it lengths and data (own)
+-- a good configuration of the shape in force keeps the shape; any other one changes it, and with it lengths and data (own)
 abbrev pub keeps_shape : SlaveRecord → ℕ → Bool
 keeps_shape slave number = number == slave.shape
 
--- a good configuration alone changes the shape: releases and locks keep it (own)
+-- only a good configuration changes the shape: releases and locks keep it (own)
 abbrev pub shape_after : SlaveRecord → Act → ℕ
 shape_after slave (configures number) = number
 shape_after slave act = slave.shape
 
--- a lock has no configuration yet, and a good one is that of its number (IEC 61158-6-3, Chk_Cfg request)
+-- after a lock there is no configuration yet, and after a good Chk_Cfg it is the one of this number (IEC 61158-6-3, Chk_Cfg request)
 abbrev pub cfg_after : SlaveRecord → Act → Option ℕ
 cfg_after slave (locks sender place prm) = None
 cfg_after slave (configures number) = Some number
@@ -65,7 +64,7 @@ inputs_after slave (configures number) =
     if keeps_shape slave number then slave.inputs else cut_or_filled (inputs_of slave.description number) slave.inputs
 inputs_after slave act = slave.inputs
 
--- Sync_Req or Freeze_Req was set by the parameters in force (IEC 61158-6-3, Set_Prm request)
+-- the parameters in force set Sync_Req or Freeze_Req (IEC 61158-6-3, Set_Prm request)
 abbrev pub sync_is_asked : SlaveRecord → Bool
 sync_is_asked slave = option_map_or (λ prm. prm.sync_req) slave.prm false
 
@@ -113,9 +112,8 @@ latest_after slave exchanges_none = zeros (output_length slave)
 latest_after slave (is_controlled control) = cleared_by slave control slave.latest
 latest_after slave act = if releases slave act then zeros (output_length slave) else slave.latest
 
--- a good configuration of the shape in force leaves outputs as they are: zero after a lock, and in data exchange what they were; one of
--- another number makes them zeros of its length (own). In sync mode data wait until Sync or Unsync puts them out (IEC 61158-6-3,
--- Global_Control request)
+-- a good configuration of the shape in force keeps the outputs: zero after a lock, and in data exchange what they were; one of another number
+-- makes them zeros of its length (own). In sync mode data wait until Sync or Unsync puts them out (IEC 61158-6-3, Global_Control request)
 abbrev pub outputs_after : SlaveRecord → Act → List ℕ
 outputs_after slave (locks sender place prm) = zeros (output_length slave)
 outputs_after slave (configures number) = if keeps_shape slave number then slave.outputs else zeros (outputs_of slave.description number)
@@ -125,8 +123,8 @@ outputs_after slave (is_controlled control) =
     if control.unsync || is_synced_by slave control then cleared_by slave control slave.latest else cleared_by slave control slave.outputs
 outputs_after slave act = if releases slave act then zeros (output_length slave) else slave.outputs
 
--- Clear_Data makes a fail-safe slave cleared. A Data_Exchange of the whole length, which is an empty one where there are no outputs, a lock,
--- a release and a configuration of another number end that; every other empty Data_Exchange leaves it (own)
+-- Clear_Data makes a fail-safe slave cleared. A Data_Exchange of the whole length (without outputs an empty one), a lock, a release or a
+-- configuration of another number ends that; any other empty Data_Exchange doesn't (own)
 abbrev pub cleared_after : SlaveRecord → Act → Bool
 cleared_after slave (locks sender place prm) = false
 cleared_after slave (configures number) = keeps_shape slave number && slave.cleared
@@ -145,8 +143,8 @@ left_after slave (locks sender place prm) = prm.watchdog
 left_after slave (ticks time) = if releases slave (ticks time) then None else option_map (λ units. units - time) slave.left
 left_after slave act = if releases slave act then None else if retriggers slave act then left_again slave else slave.left
 
--- the three faults of the diagnosis: a lock clears them; a parameter fault sets Prm_Fault, clears Cfg_Fault, and tells in Not_Supported
--- whether it was for an unsupported request; a configuration sets or clears Cfg_Fault (IEC 61158-6-3, Slave_Diag response; own in detail)
+-- the three faults of the diagnosis: a lock clears them; a parameter fault sets Prm_Fault, clears Cfg_Fault, and shows in Not_Supported whether
+-- it was for an unsupported request; a configuration sets or clears Cfg_Fault (IEC 61158-6-3, Slave_Diag response; own in detail)
 abbrev pub prm_fault_after : SlaveRecord → Act → Bool
 prm_fault_after slave (locks sender place prm) = false
 prm_fault_after slave (faults not_supported) = true
@@ -164,7 +162,7 @@ not_supported_after slave (locks sender place prm) = false
 not_supported_after slave (faults not_supported) = not_supported
 not_supported_after slave act = slave.diag.not_supported
 
--- the holder has read the diagnosis (own)
+-- a report is unread until the holder reads the diagnosis (own)
 abbrev pub unread_after : SlaveRecord → Act → Bool
 unread_after slave (reports ext stat overflow octets) = true
 unread_after slave (tells_diagnosis sender) = not (is_held_by sender slave) && slave.diag.unread

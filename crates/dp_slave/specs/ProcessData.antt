@@ -5,7 +5,7 @@ use Rattle.dp_prm.specs.declared.prm.Prm.{Prm}
 use Rattle.dp_diag.specs.declared.diag.Diag.{Diag}
 use Rattle.dp_slave.specs.SlaveRecord.{SlaveRecord}
 
--- all that services and operators change of a slave, but for the place of its lock, its busy marks and its frame memories (own)
+-- all that services and operators change of a slave, except the place of its lock, its busy marks and its frame memories (own)
 pub record ProcessData : Type 0 where
   pub state : State
   pub holder : Option ℕ

@@ -21,8 +21,8 @@ prm_act sender place (prm.Fault not_supported) = faults not_supported
 abbrev pub set_prm_act : SlaveRecord → ℕ → ℕ → List ℕ → Act
 set_prm_act slave sender place octets = prm_act sender place (meaning_of octets (limits_of slave))
 
--- Chk_Cfg is good where its octets are those of a configuration of the slave, and of several equal ones the first counts (IEC 61158-6-3,
--- Chk_Cfg request; own in detail)
+-- Chk_Cfg is good if its octets are those of a configuration of the slave; of several equal ones the first counts (IEC 61158-6-3, Chk_Cfg
+-- request; own in detail)
 abbrev pub cfg_act : Option ℕ → Act
 cfg_act (Some number) = configures number
 cfg_act None = misconfigures
@@ -30,8 +30,8 @@ cfg_act None = misconfigures
 abbrev pub chk_cfg_act : SlaveRecord → List ℕ → Act
 chk_cfg_act slave octets = cfg_act (chosen (configurations slave.description) octets)
 
--- Data_Exchange of the whole length; each other one that comes is the empty one of a cleared slave, since the verdict refuses any other
--- length (IEC 61158-6-3, Data_Exchange request; own in detail)
+-- Data_Exchange of the whole length; any other one that comes is the empty one to a cleared slave, because the verdict refuses all other lengths
+-- (IEC 61158-6-3, Data_Exchange request; own in detail)
 abbrev pub exchange_act : SlaveRecord → List ℕ → Act
 exchange_act slave octets = if length octets == output_length slave then exchanges octets else exchanges_none
 
@@ -46,8 +46,8 @@ control_of octets = record {
   sync = is_set 5 (slice_index octets 0);
 }
 
--- which act a request is, by the point that its DSAP names: RD_Inp, RD_Outp and Get_Cfg only read, and a point outside the table is off,
--- so that no request to it is done (own)
+-- the act of a request, by the point that its DSAP names: RD_Inp, RD_Outp and Get_Cfg only read; a point outside the table is off, so no request
+-- to it is done (own)
 abbrev pub service_act : SlaveRecord → ℕ → ℕ → Option ℕ → List ℕ → Act
 service_act slave sender place point octets =
     if same_point point data_exchange then exchange_act slave octets
@@ -65,8 +65,8 @@ pub record ServiceAnswer : Type 0 where
 abbrev pub low : List ℕ → ServiceAnswer
 low octets = record { high = false; octets = octets }
 
--- what is answered, by the point, of the slave before the request: Data_Exchange with the shown inputs, of high priority while a
--- diagnosis is due; the reading services with what they read; Set_Prm and Chk_Cfg without data. A Global_Control is never answered
+-- the answer by the point, from the slave before the request: Data_Exchange with the shown inputs, of high priority while a diagnosis is due;
+-- the reading services with what they read; Set_Prm and Chk_Cfg without data. A Global_Control is never answered
 abbrev pub service_answer : SlaveRecord → Option ℕ → ServiceAnswer
 service_answer slave point =
     if same_point point data_exchange then record { high = is_due_high slave.diag; octets = shown_inputs slave }

@@ -1,4 +1,4 @@
--- Slave 5 of a line with masters 1 and 2, or with master 1 alone: ident number 80A1, two octets of outputs and two of inputs, with Sync and Freeze.
+-- Slave 5 of a line with masters 1 and 2, or with only master 1: ident number 80A1, two octets of outputs and two of inputs, with Sync and Freeze.
 use Rattle.std.specs.Prelude.{◌≡◌, ℕ, List, [], ◌∷◌, true, false, Option, Some, None, refl}
 use Rattle.dp_telegram.specs.declared.access.Parts.{Parts}
 use Rattle.dp_telegram.specs.FunctionCode.{user_error}
@@ -73,7 +73,7 @@ pub chk_cfg_good : configured.state ≡ DataExch
 unfolding configured locked requested fed acted
 chk_cfg_good = refl
 
--- data 12 34 come, and the inputs are answered
+-- data 12 34 come, and the reply has the inputs
 unfoldable pub exchanged : SlaveRecord
 exchanged = requested 1 4 data_exchange (0x12 ∷ 0x34 ∷ []) configured
 
@@ -85,13 +85,13 @@ pub data_exchange_answers : service_answer configured data_exchange ≡ low (0xA
 unfolding configured locked requested fed acted
 data_exchange_answers = refl
 
--- three octets are refused with UE, so that the outputs stay
+-- three octets are refused with UE, so the outputs stay
 pub wrong_length_keeps_outputs :
     judgement (points_of exchanged) None 1 0x7D (record { dsap = None; ssap = None; payload = record { items = 0x12 ∷ 0x34 ∷ 0x56 ∷ [] } }) ≡ Refuse user_error Length
 unfolding exchanged configured locked requested fed acted
 wrong_length_keeps_outputs = refl
 
--- with Sync_Req, Sync, data 56 78 that wait, and Unsync that puts them out
+-- with Sync_Req: Sync, then data 56 78, which wait, then Unsync, which puts them out
 unfoldable pub synced_slave : SlaveRecord
 synced_slave =
     requested 1 6 global_control (0x20 ∷ 0x00 ∷ [])
@@ -110,7 +110,7 @@ pub unsync_puts_out : service_answer (requested 1 8 global_control (0x10 ∷ 0x0
 unfolding waiting synced_slave requested fed acted
 unsync_puts_out = refl
 
--- 10 units let go of it, 9 leave one
+-- 10 units release it, 9 leave one
 pub watchdog_releases : releases exchanged (ticks 10) ≡ true
 unfolding exchanged configured locked requested fed acted
 watchdog_releases = refl
@@ -123,19 +123,19 @@ pub one_unit_is_left : (acted exchanged (ticks 9)).left ≡ Some 1
 unfolding exchanged configured locked requested fed acted
 one_unit_is_left = refl
 
--- another ident number: the diagnosis tells the fault, and the slave is let go
+-- another ident number: the diagnosis shows the fault, and the slave is released
 pub wrong_ident_faults :
     diagnosis_text (diag_facts (requested 1 6 set_prm (0x88 ∷ 0x02 ∷ 0x05 ∷ 0x0B ∷ 0x80 ∷ 0xA2 ∷ 0x01 ∷ []) exchanged))
     ≡ 0x42 ∷ 0x05 ∷ 0x00 ∷ 0xFF ∷ 0x80 ∷ 0xA1 ∷ []
 unfolding exchanged configured locked requested fed acted
 wrong_ident_faults = refl
 
--- an unlock lets go of it
+-- an unlock releases it
 pub unlock_releases : requested 1 6 set_prm (0x40 ∷ 0 ∷ 0 ∷ 0 ∷ 0 ∷ 0 ∷ 0 ∷ []) exchanged ≡ released exchanged
 unfolding exchanged configured locked requested fed acted released
 unlock_releases = refl
 
--- a wrong configuration: Cfg_Fault, and the slave is let go
+-- a wrong configuration: Cfg_Fault, and the slave is released
 pub wrong_configuration_faults :
     diagnosis_text (diag_facts (requested 1 5 chk_cfg (0x21 ∷ 0x00 ∷ []) configured)) ≡ 0x06 ∷ 0x05 ∷ 0x00 ∷ 0xFF ∷ 0x80 ∷ 0xA1 ∷ []
 unfolding configured locked requested fed acted
@@ -161,7 +161,7 @@ pub holders_reading_ends_it : service_answer (requested 1 6 slave_diag [] report
 unfolding reporting exchanged configured locked requested fed acted
 holders_reading_ends_it = refl
 
--- a slave with two configurations, of two octets each way and of one
+-- a slave with two configurations: two octets each way, and one octet each way
 abbrev pub slave_5_of_two : SlaveSpec
 slave_5_of_two = record slave_5 {
   cfgs = record { items = record { items = 0x21 ∷ 0x11 ∷ [] } ∷ record { items = 0x20 ∷ 0x10 ∷ [] } ∷ [] };
@@ -201,7 +201,7 @@ pub get_cfg_follows : service_answer second_chosen get_cfg ≡ low (0x20 ∷ 0x1
 unfolding second_chosen locked_of_two requested acted
 get_cfg_follows = refl
 
--- the slave keeps that shape when it is released, and a good configuration of the first fills the inputs with a zero
+-- the slave keeps that shape when it is released; a good configuration of the first then fills the inputs with a zero
 pub shape_outlasts_a_release : (released second_chosen).shape ≡ 1
 unfolding second_chosen locked_of_two requested acted released
 shape_outlasts_a_release = refl
@@ -210,7 +210,7 @@ pub inputs_are_filled : (requested 1 4 chk_cfg (0x21 ∷ 0x11 ∷ []) second_cho
 unfolding second_chosen locked_of_two requested acted
 inputs_are_filled = refl
 
--- in sync mode another configuration ends the mode, and the same one leaves it with its outputs
+-- in sync mode another configuration ends the mode; the same one keeps the mode and the outputs
 unfoldable pub synced_of_two : SlaveRecord
 synced_of_two =
     requested 1 6 global_control (0x20 ∷ 0x00 ∷ [])
@@ -259,7 +259,7 @@ pub cleared_takes_none : judgement (points_of cleared_slave) None 1 0x7D empty_r
 unfolding cleared_slave exchanged_safely requested acted
 cleared_takes_none = refl
 
--- it stays cleared by that, and zeros are put out
+-- after an empty request it stays cleared, and zeros are put out
 pub none_stand_for_zeros : (requested 1 6 data_exchange [] (record cleared_slave { outputs = 0x12 ∷ 0x34 ∷ [] })).outputs ≡ 0 ∷ 0 ∷ []
 unfolding cleared_slave exchanged_safely requested acted
 none_stand_for_zeros = refl
@@ -268,7 +268,7 @@ pub none_leave_it_cleared : (requested 1 6 data_exchange [] cleared_slave).clear
 unfolding cleared_slave exchanged_safely requested acted
 none_leave_it_cleared = refl
 
--- data end it
+-- after data it is no longer cleared
 pub data_end_it : (requested 1 6 data_exchange (0x12 ∷ 0x34 ∷ []) cleared_slave).cleared ≡ false
 unfolding cleared_slave exchanged_safely requested acted
 data_end_it = refl
@@ -282,7 +282,7 @@ pub others_are_not_cleared : judgement (points_of (requested 1 5 global_control 
 unfolding exchanged configured locked requested fed acted
 others_are_not_cleared = refl
 
--- a good configuration of the same number leaves it cleared, a release ends it
+-- a good configuration of the same number leaves it cleared; a release doesn't
 pub same_configuration_leaves_it_cleared : (requested 1 6 chk_cfg (0x21 ∷ 0x11 ∷ []) cleared_slave).cleared ≡ true
 unfolding cleared_slave exchanged_safely requested acted
 same_configuration_leaves_it_cleared = refl
@@ -291,7 +291,7 @@ pub release_ends_it : (released cleared_slave).cleared ≡ false
 unfolding cleared_slave exchanged_safely requested acted released
 release_ends_it = refl
 
--- without outputs an empty Data_Exchange has the whole length, and ends it
+-- without outputs an empty Data_Exchange has the whole length, and the slave is no longer cleared after it
 abbrev pub failsafe_without_outputs : SlaveSpec
 failsafe_without_outputs = record failsafe_5 { cfgs = record { items = record { items = 0x11 ∷ [] } ∷ [] } }
 
@@ -309,7 +309,7 @@ pub whole_length_of_none_ends_it : (requested 1 5 data_exchange [] cleared_witho
 unfolding cleared_without_outputs requested acted
 whole_length_of_none_ends_it = refl
 
--- a lock ends it, and so does time that lets go of the slave
+-- after a lock it is no longer cleared, nor after time that releases the slave
 pub lock_ends_it : (requested 1 6 set_prm (0x88 ∷ 0x02 ∷ 0x05 ∷ 0x0B ∷ 0x80 ∷ 0xA1 ∷ 0x01 ∷ []) cleared_slave).cleared ≡ false
 unfolding cleared_slave exchanged_safely requested acted
 lock_ends_it = refl
@@ -318,7 +318,7 @@ pub time_ends_it : (acted cleared_slave (ticks 10)).cleared ≡ false
 unfolding cleared_slave exchanged_safely requested acted
 time_ends_it = refl
 
--- in sync mode an empty one changes the latest data alone
+-- in sync mode an empty Data_Exchange changes only the latest data
 unfoldable pub cleared_in_sync : SlaveRecord
 cleared_in_sync =
     requested 1 6 global_control (0x22 ∷ 0x00 ∷ [])

@@ -1,4 +1,4 @@
--- Of how many octets a slave's data are. No public clause cites this module.
+-- How many octets a slave's data have. No public clause cites this module.
 use Rattle.std.specs.Prelude.{◌≡◌, ℕ, List, length}
 use Rattle.dp_slave.specs.declared.description.SlaveSpec.{SlaveSpec}
 use Rattle.dp_slave.specs.SlaveRecord.{inputs_of, outputs_of}

@@ -17,7 +17,7 @@ use Rattle.dp_slave.specs.declared.description.SlaveSpec.{SlaveSpec}
 pub record SlaveRecord : Type 0 where
   pub description : SlaveSpec
   pub state : State
-  -- the master that holds it, and the place of the event by which its present holding began; 0 where nobody holds it
+  -- the master that holds it, and the place of the event that began its present hold; 0 if nobody holds it
   pub holder : Option ℕ
   pub since : ℕ
   -- the shortest time to a reply, in bit times
@@ -37,13 +37,13 @@ pub record SlaveRecord : Type 0 where
   pub freeze_mode : Bool
   -- it is fail-safe and its data were cleared, so that it takes an empty Data_Exchange too
   pub cleared : Bool
-  -- the watchdog's remaining time in units of 10 ms, None where it is off
+  -- the watchdog's remaining time in units of 10 ms, None if it is off
   pub left : Option ℕ
   pub diag : Diag
   pub busy : BusyMarks
   pub memory : List MasterMemory
 
--- the octets of the configurations that are described, and of the one of a number, none where there is none of it
+-- the octets of the described configurations, and of the one of a number; none if there is no such configuration
 abbrev pub configurations : SlaveSpec → List (List ℕ)
 configurations description = map (λ configuration. configuration.items) description.cfgs.items
 
@@ -68,7 +68,7 @@ input_length slave = inputs_of slave.description slave.shape
 abbrev pub output_length : SlaveRecord → ℕ
 output_length slave = outputs_of slave.description slave.shape
 
--- so many octets of zero (own)
+-- this number of zero octets (own)
 abbrev pub zeros : ℕ → List ℕ
 zeros count = replicate count 0
 
@@ -76,8 +76,8 @@ zeros count = replicate count 0
 abbrev pub cut_or_filled : ℕ → List ℕ → List ℕ
 cut_or_filled count octets = take count octets ++ zeros (count - length octets)
 
--- its points: state, holder and output length, which decide what is on and of how many octets; whether Data_Exchange may be empty too; the
--- busy marks; and the lists (own)
+-- its points: state, holder and output length, which decide which points are on and for how many octets; whether Data_Exchange may be empty too;
+-- the busy marks; and the lists (own)
 abbrev pub points_of : SlaveRecord → PointsView
 points_of slave = record {
   state = slave.state;
@@ -88,7 +88,7 @@ points_of slave = record {
   lists = slave.description.lists;
 }
 
--- what it takes of parameters (IEC 61158-6-3, Set_Prm request)
+-- the limits of the parameters that it takes (IEC 61158-6-3, Set_Prm request)
 abbrev pub limits_of : SlaveRecord → Limits
 limits_of slave = record {
   ident = slave.description.ident;
@@ -108,7 +108,7 @@ is_held_by master slave = option_map_or (λ holder. holder == master) slave.hold
 abbrev pub is_held : SlaveRecord → Bool
 is_held slave = is_some slave.holder
 
--- the full time of its watchdog, None where the parameters have none (IEC 61158-6-3, Set_Prm request, WD_Fact_1 and WD_Fact_2)
+-- the full time of its watchdog, None if the parameters have none (IEC 61158-6-3, Set_Prm request, WD_Fact_1 and WD_Fact_2)
 abbrev pub full_time : SlaveRecord → Option ℕ
 full_time slave = option_and_then (λ prm. prm.watchdog) slave.prm
 
@@ -116,7 +116,7 @@ full_time slave = option_and_then (λ prm. prm.watchdog) slave.prm
 abbrev pub group_of : SlaveRecord → ℕ
 group_of slave = option_map_or (λ prm. prm.group) slave.prm 0
 
--- what its diagnosis tells (IEC 61158-6-3, Slave_Diag response)
+-- what its diagnosis reports (IEC 61158-6-3, Slave_Diag response)
 abbrev pub diag_facts : SlaveRecord → DiagFacts
 diag_facts slave = record {
   state = slave.state;
@@ -153,7 +153,8 @@ IsReleased slave = released slave ≡ slave
 abbrev pub first_min_tsdr : ℕ
 first_min_tsdr = 11
 
--- a slave starts released, in the shape of its first configuration, with inputs of zero, no diagnosis, no busy mark and nothing remembered of the line's masters (own)
+-- a slave starts released, in the shape of its first configuration, with inputs of zero, no diagnosis, no busy mark and nothing remembered of
+-- the line's masters (own)
 abbrev pub starting_slave : List ℕ → SlaveSpec → SlaveRecord
 starting_slave masters description = record {
   description = description;

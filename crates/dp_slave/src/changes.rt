@@ -15,8 +15,8 @@ use dp_diag::MOST_EXTENDED;
 use dp_sap::SapFault;
 
 impl Slave {
-    /// The device sets the inputs. `WrongLength` exactly where the octets are not as many as the
-    /// slave has inputs, and then nothing changes.
+    /// Sets the inputs, as the device does. Returns `WrongLength` exactly if the number of octets
+    /// isn't the slave's number of inputs, and then nothing changes.
     #[tactic(auto, unfolding(crate::specs::Fields::acted))]
     pub fn input(&mut self, octets: &[u8]) -> Result<(), InputFault>
         ensures fits { IsOk result ↔ (length octets.now ≡ input_length self.old.slave) }
@@ -31,8 +31,8 @@ impl Slave {
         Ok(())
     }
 
-    /// The application reports Ext_Diag, Stat_Diag, Ext_Diag_Overflow and 0 to 238 extended octets,
-    /// as [`dp_diag::Diag::update`] does.
+    /// Updates the diagnosis with what the application reports: Ext_Diag, Stat_Diag,
+    /// Ext_Diag_Overflow and 0 to 238 extended octets. See [`dp_diag::Diag::update`].
     #[tactic(auto, unfolding(crate::specs::Fields::acted))]
     pub fn update_diag(
         &mut self,
@@ -46,8 +46,8 @@ impl Slave {
         self.diag.update(ext, stat, overflow, octets);
     }
 
-    /// Marks a point as busy or as not busy, `None` being the default point. `UnknownPoint` exactly
-    /// for a point that is not in the access table, and then nothing changes.
+    /// Marks a point as busy or as not busy; `None` is the default point. Returns `UnknownPoint`
+    /// exactly for a point that is not in the access table, and then nothing changes.
     #[tactic(auto, unfolding(crate::specs::Fields::acted))]
     pub fn set_busy(&mut self, point: Option<u8>, busy: bool) -> Result<(), SapFault>
         ensures known { is_ok result ≡ is_in_table point }
@@ -58,8 +58,8 @@ impl Slave {
         self.points.set_busy(point, busy)
     }
 
-    /// So many units of 10 ms pass: a watchdog with no more than these left lets go of the slave, and
-    /// each other one loses them. True where the slave was let go.
+    /// Advances time, in units of 10 ms. If its watchdog has no more than this time left, the slave
+    /// is released; a watchdog with more loses this time. Returns true if the slave was released.
     #[tactic(auto, unfolding(crate::specs::Fields::acted, crate::specs::SlaveRecord::released))]
     pub fn tick(&mut self, time: u32) -> bool
         ensures slave { self.new ≡ with_slave self.old (acted self.old.slave (ticks time)) }

@@ -7,7 +7,7 @@ ghost use Rattle.dp_slave.specs.Controls.{emptied, frozen, retriggered, synced, 
 use crate::slave::Slave;
 
 impl Slave {
-    /// Clear_Data: outputs and latest data are zero, and a fail-safe slave takes an empty
+    /// Does Clear_Data: sets outputs and latest data to zero. A fail-safe slave takes an empty
     /// Data_Exchange from now on.
     pub fn clear_data(&mut self)
         ensures { self.new ≡ with_slave self.old (emptied self.old.slave) }
@@ -19,7 +19,7 @@ impl Slave {
         }
     }
 
-    /// Unsync: sync mode ends, and the latest data are put out.
+    /// Does Unsync: ends sync mode, and puts out the latest data.
     pub fn unsync(&mut self)
         ensures { self.new ≡ with_slave self.old (unsynced self.old.slave) }
     {
@@ -27,7 +27,7 @@ impl Slave {
         self.outputs.set(self.latest.as_slice());
     }
 
-    /// Sync: the latest data are put out, and sync mode starts, where the parameters asked for Sync.
+    /// Does Sync, if the parameters asked for Sync: puts out the latest data, and starts sync mode.
     pub fn sync(&mut self)
         ensures { self.new ≡ with_slave self.old (synced self.old.slave) }
     {
@@ -37,14 +37,14 @@ impl Slave {
         }
     }
 
-    /// Unfreeze: freeze mode ends.
+    /// Does Unfreeze: ends freeze mode.
     pub fn unfreeze(&mut self)
         ensures { self.new ≡ with_slave self.old (unfrozen self.old.slave) }
     {
         self.freeze_mode = false;
     }
 
-    /// Freeze: the inputs are copied, and freeze mode starts, where the parameters asked for Freeze.
+    /// Does Freeze, if the parameters asked for Freeze: copies the inputs, and starts freeze mode.
     pub fn freeze(&mut self)
         ensures { self.new ≡ with_slave self.old (frozen self.old.slave) }
     {
@@ -54,7 +54,7 @@ impl Slave {
         }
     }
 
-    /// A watchdog that runs has its full time again.
+    /// Sets the watchdog, if it runs, to its full time again.
     pub fn retrigger(&mut self)
         ensures { self.new ≡ with_slave self.old (retriggered self.old.slave) }
     {

@@ -23,7 +23,7 @@ impl Model for DataOctets {
 }
 
 impl DataOctets {
-    /// So many octets of zero.
+    /// Returns `count` octets of zero, 0 to 244.
     pub(crate) fn zeros(count: u8) -> DataOctets
         requires { count ≤ most_data }
         ensures { result ≡ zeros count }
@@ -41,7 +41,7 @@ impl DataOctets {
         self.octets.as_mut_slice().fill(0);
     }
 
-    /// Sets the octets to others, of which there are as many.
+    /// Replaces the octets with the same number of others.
     pub(crate) fn set(&mut self, octets: &[u8])
         requires { length octets.now ≡ length self.old }
         ensures { self.new ≡ octets.now }
@@ -49,7 +49,7 @@ impl DataOctets {
         self.octets.as_mut_slice().copy_from_slice(octets);
     }
 
-    /// Cuts the octets, or fills them with zeros at the end, to so many.
+    /// Cuts the octets to `count`, 0 to 244, or fills them up with zeros at the end.
     pub(crate) fn resize(&mut self, count: u8)
         requires { count ≤ most_data }
         ensures { self.new ≡ cut_or_filled count self.old }
@@ -60,7 +60,7 @@ impl DataOctets {
         self.octets.try_extend_from_slice(&zeros[..more]).unwrap();
     }
 
-    /// The octets.
+    /// Returns the octets.
     pub(crate) fn as_slice(&self) -> &[u8]
         ensures value { result.now ≡ self.now }
         ensures most { length result.now ≤ most_data }
@@ -68,7 +68,7 @@ impl DataOctets {
         self.octets.as_slice()
     }
 
-    /// A copy of the octets, to be shown.
+    /// Returns a copy of the octets, to be shown.
     pub(crate) fn copied(&self) -> ArrayVec<u8, MOST_DATA>
         ensures { result.items ≡ self.now }
     {

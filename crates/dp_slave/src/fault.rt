@@ -6,7 +6,7 @@ ghost use Rattle.dp_slave.specs.Names.{input_fault_name};
 
 use thiserror::Error;
 
-/// Why inputs are refused.
+/// The reason why inputs are refused.
 #[derive(Clone, Copy, Debug, PartialEq, Eq, Error)]
 #[error("{}", self.name())]
 pub enum InputFault {
@@ -15,7 +15,7 @@ pub enum InputFault {
 }
 
 impl InputFault {
-    /// The number of the fault (own).
+    /// Returns the number of the fault (own).
     pub const fn code(self) -> u8
         ensures { result ≡ input_fault_code self }
     {
@@ -24,7 +24,7 @@ impl InputFault {
         }
     }
 
-    /// Its name in texts (own).
+    /// Returns its name in texts (own).
     pub const fn name(self) -> &'static str
         ensures { result.now ≡ input_fault_name self }
     {

@@ -1,4 +1,4 @@
-//! Laws of a slave: each is what an empty function ensures.
+//! Laws of a slave: each is what a function that does nothing ensures.
 
 ghost use Rattle.std.specs.Prelude.{◌≡◌, ◌≢◌, ◌+◌, ℕ, List, not, true, false};
 ghost use Rattle.dp_prm.specs.Requests.{AsksUnsupported, IsLocking};
@@ -9,26 +9,26 @@ ghost use Rattle.dp_slave.specs.Fields.{acted};
 ghost use Rattle.dp_slave.specs.Services.{set_prm_act};
 ghost use Rattle.dp_slave.specs.Soundness.{acts_after, all_fit, ends_clearing, fits, IsSound};
 
-/// A released slave stays as it is when it is released again, and a halt releases.
+/// A release changes nothing of a released slave, and a halt releases.
 pub fn released_is_a_fixed_point()
     ensures again { (slave : SlaveRecord) → released (released slave) ≡ released slave }
     ensures halt { (slave : SlaveRecord) → acted slave halts ≡ released slave }
 {}
 
-/// After any acts from the start, each of which the verdict or the line lets through: outside
-/// Data_Exch outputs and latest data are zero and neither mode is on; the slave is in Wait_Prm
-/// exactly where nobody holds it, and a watchdog runs exactly where the holder's parameters ask for
-/// one; inputs, their copy, outputs and latest data have the lengths of the shape in force, which is
-/// that of a configuration of the slave, where it has any; a slave that is cleared is fail-safe, in Data_Exch, and its
-/// outputs and latest data are zero.
+/// A slave is sound after any acts from the start, each of which the verdict or the line lets
+/// through. Outside Data_Exch its outputs and latest data are zero and neither mode is on. It is in
+/// Wait_Prm exactly when nobody holds it. A watchdog runs exactly when the holder's parameters ask
+/// for one. Inputs, their copy, outputs and latest data have the lengths of the shape in force,
+/// which is that of a configuration of the slave if it has any. A slave that is cleared is
+/// fail-safe and in Data_Exch, and its outputs and latest data are zero.
 pub fn a_slave_stays_sound()
     ensures { (masters : List ℕ) (description : SlaveSpec) (acts : List Act)
         → all_fit (starting_slave masters description) acts ≡ true
         → IsSound (acts_after (starting_slave masters description) acts) }
 {}
 
-/// A locking request for an unsupported Sync or Freeze is reported as Not_Supported beside the
-/// parameter fault, whatever else is wrong with it, as another ident number.
+/// A locking request for an unsupported Sync or Freeze is reported as Not_Supported in addition to
+/// the parameter fault. It doesn't matter what else is wrong with it, such as a wrong ident number.
 pub fn an_unsupported_request_is_reported()
     ensures fault { (slave : SlaveRecord) (sender place : ℕ) (octets : List ℕ)
         → IsLocking octets
@@ -42,7 +42,7 @@ pub fn an_unsupported_request_is_reported()
     dp_prm::laws::not_supported_is_sync_or_freeze();
 }
 
-/// In sync mode data leave the outputs, and Unsync puts the latest data out.
+/// In sync mode data don't change the outputs. Unsync without Clear_Data puts out the latest data.
 pub fn sync_waits_for_unsync()
     ensures waits { (slave : SlaveRecord) (octets : List ℕ)
         → slave.sync_mode ≡ true
@@ -53,8 +53,8 @@ pub fn sync_waits_for_unsync()
         → (acted (acted slave (exchanges octets)) (is_controlled control)).outputs ≡ octets }
 {}
 
-/// A master that does not hold the slave changes nothing of it by Slave_Diag, and no master does by
-/// reading inputs, outputs or the configuration.
+/// A master that does not hold the slave changes nothing of it by Slave_Diag. No master changes
+/// anything by reading inputs, outputs or the configuration.
 pub fn a_stranger_changes_nothing()
     ensures diagnosis { (slave : SlaveRecord) (sender : ℕ)
         → is_held_by sender slave ≡ false
@@ -62,17 +62,16 @@ pub fn a_stranger_changes_nothing()
     ensures read { (slave : SlaveRecord) → acted slave is_read ≡ slave }
 {}
 
-/// Nothing but a good Chk_Cfg changes the shape in force, and then it is that of the configuration that
-/// came.
+/// Only a good Chk_Cfg changes the shape in force. The new shape is the configuration that was sent.
 pub fn the_shape_changes_by_chk_cfg_alone()
     ensures { (slave : SlaveRecord) (act : Act)
         → (acted slave act).shape ≢ slave.shape
         → (number : ℕ) × (act ≡ configures number) × ((acted slave act).shape ≡ number) }
 {}
 
-/// A fail-safe slave is cleared by Clear_Data, until a Data_Exchange of the whole length, a lock, a
-/// release or a configuration of another number; and until such a Data_Exchange its outputs and latest
-/// data are zeros, as many as the shape in force has.
+/// Clear_Data makes a fail-safe slave cleared. This ends with a Data_Exchange of the whole length,
+/// a lock, a release or a configuration of another number. Until such a Data_Exchange the outputs
+/// and latest data are zeros, as many as the shape in force has.
 pub fn a_cleared_slave_waits_for_data()
     ensures begins { (slave : SlaveRecord) (control : Control)
         → slave.description.failsafe ≡ true
@@ -90,7 +89,7 @@ pub fn a_cleared_slave_waits_for_data()
         × ((acted slave act).latest ≡ zeros (output_length (acted slave act))) }
 {}
 
-/// Where no time lets go of the slave, time passes as a whole as in parts.
+/// Time that doesn't release the slave has the same effect as a whole and in parts.
 pub fn time_adds_up()
     ensures { (slave : SlaveRecord) (time more : ℕ)
         → releases slave (ticks (time + more)) ≡ false

@@ -22,9 +22,9 @@ use dp_prm::{Limits, PrmLent, PrmVerdictLent, read_lent};
 use dp_sap::{MOST_DATA, State};
 
 impl Slave {
-    /// Set_Prm by the sender, a master 0 to 126, at this place of the journal, with 0 to 244 octets:
-    /// by their meaning the sender locks the slave or keeps it, it is let go, or only min TSDR is
-    /// set. It is always answered without data.
+    /// Executes Set_Prm by the sender, a master 0 to 126, at this place of the journal, with 0 to
+    /// 244 octets. Depending on their meaning, the sender locks the slave or stays its holder, the
+    /// slave is released, or only min TSDR is set. The request is always answered without data.
     pub fn set_prm(&mut self, sender: u8, number: u32, octets: &[u8])
         requires { length octets.now ≤ most_parameters }
         ensures { self.new ≡ with_slave self.old (acted self.old.slave (set_prm_act self.old.slave sender number octets.now)) }
@@ -37,7 +37,7 @@ impl Slave {
         }
     }
 
-    /// What the slave takes of parameters.
+    /// Returns the limits of the parameters that the slave takes.
     fn limits(&self) -> Limits
         ensures { result ≡ limits_of self.now.slave }
     {
@@ -49,7 +49,8 @@ impl Slave {
         }
     }
 
-    /// A lock by the sender, at this place of the journal; who holds the slave already keeps its place.
+    /// Locks the slave for the sender, at this place of the journal. A master that holds the slave
+    /// already keeps its place.
     #[tactic(auto, unfolding(crate::specs::Fields::acted))]
     fn lock(&mut self, sender: u8, number: u32, prm: &PrmLent<'_>)
         requires { length prm.now.user.now ≤ most_user_parameters }
@@ -76,7 +77,7 @@ impl Slave {
         self.diag.not_supported = false;
     }
 
-    /// The parameters are kept, where those of before lie if there are any.
+    /// Stores the parameters. If there are parameters already, they are overwritten in place.
     fn keep_parameters(&mut self, prm: &PrmLent<'_>)
         requires { length prm.now.user.now ≤ most_user_parameters }
         ensures { self.new ≡ with_slave self.old (record self.old.slave { prm = Some (prm_lent prm.now) }) }
@@ -87,7 +88,7 @@ impl Slave {
         }
     }
 
-    /// The parameters are kept, where none lie.
+    /// Stores the parameters of a slave that has none.
     fn keep_first_parameters(&mut self, prm: &PrmLent<'_>)
         requires { length prm.now.user.now ≤ most_user_parameters }
         ensures { self.new ≡ with_slave self.old (record self.old.slave { prm = Some (prm_lent prm.now) }) }
@@ -95,7 +96,7 @@ impl Slave {
         self.prm = Some(prm.kept());
     }
 
-    /// Parameters that are refused: the slave is let go with the fault.
+    /// Refuses parameters: releases the slave, and reports the fault in its diagnosis.
     #[tactic(auto, unfolding(crate::specs::Fields::acted, crate::specs::SlaveRecord::released))]
     fn refuse_parameters(&mut self, not_supported: bool)
         ensures { self.new ≡ with_slave self.old (acted self.old.slave (faults not_supported)) }
@@ -106,7 +107,7 @@ impl Slave {
         self.diag.not_supported = not_supported;
     }
 
-    /// An unlock: the slave is let go.
+    /// Unlocks the slave, which releases it.
     #[tactic(auto, unfolding(crate::specs::Fields::acted, crate::specs::SlaveRecord::released))]
     fn unlock(&mut self)
         ensures { self.new ≡ with_slave self.old (acted self.old.slave unlocks) }
@@ -114,7 +115,8 @@ impl Slave {
         self.make_safe();
     }
 
-    /// Min TSDR alone, of which 0 leaves it.
+    /// Sets only min TSDR, which 0 leaves unchanged. If the sender holds the slave, the watchdog
+    /// gets its full time again.
     #[tactic(auto, unfolding(crate::specs::Fields::acted))]
     fn set_min_tsdr(&mut self, sender: u8, min_tsdr: u8)
         ensures { self.new ≡ with_slave self.old (acted self.old.slave (sets_min_tsdr sender min_tsdr)) }
@@ -127,9 +129,9 @@ impl Slave {
         }
     }
 
-    /// Chk_Cfg with these octets: data exchange where they are a configuration of the slave, whose
-    /// lengths are in force then, and else the slave is let go with the fault. It is always answered
-    /// without data.
+    /// Executes Chk_Cfg with these octets. If they are a configuration of the slave, data exchange
+    /// begins, and the lengths of this configuration are in force. Else the slave is released with
+    /// the fault. The request is always answered without data.
     pub fn chk_cfg(&mut self, octets: &[u8])
         ensures { self.new ≡ with_slave self.old (acted self.old.slave (chk_cfg_act self.old.slave octets.now)) }
     {
@@ -139,7 +141,7 @@ impl Slave {
         }
     }
 
-    /// The configuration of this number is good: data are exchanged from now on.
+    /// Puts the good configuration of this number in force: data are exchanged from now on.
     #[tactic(auto, unfolding(crate::specs::Fields::acted))]
     fn configure(&mut self, number: u8)
         ensures { self.new ≡ with_slave self.old (acted self.old.slave (configures number)) }
@@ -156,8 +158,8 @@ impl Slave {
         self.left = self.left_again();
     }
 
-    /// The shape of this number is in force: the inputs and their copy are cut or filled with zeros,
-    /// outputs and latest data are zeros, both modes end, and the slave isn't cleared.
+    /// Puts the shape of this number in force: cuts the inputs and their copy or fills them with zeros,
+    /// sets outputs and latest data to zeros, ends both modes, and marks the slave as not cleared.
     fn reshape(&mut self, number: u8)
         ensures { self.new ≡ with_slave self.old (reshaped self.old.slave number) }
     {
@@ -173,7 +175,7 @@ impl Slave {
         self.freeze_mode = false;
     }
 
-    /// The configuration is none of the slave's: it is let go with the fault.
+    /// Refuses a configuration that the slave doesn't have: releases the slave with the fault.
     #[tactic(auto, unfolding(crate::specs::Fields::acted, crate::specs::SlaveRecord::released))]
     fn refuse_configuration(&mut self)
         ensures { self.new ≡ with_slave self.old (acted self.old.slave misconfigures) }
@@ -182,10 +184,10 @@ impl Slave {
         self.diag.cfg_fault = true;
     }
 
-    /// Data_Exchange with as many octets as the slave has outputs: they are put out, or wait in sync
-    /// mode; or with none to a cleared slave, which stand for zeros. Octets of another number never
-    /// arrive: the verdict refuses them. The reply has the inputs of `rd_inp`; true where it is of high
-    /// priority, since a diagnosis is due.
+    /// Executes Data_Exchange with as many octets as the slave has outputs: they are put out, or
+    /// wait in sync mode. A cleared slave also takes an empty request, which stands for zeros. Any
+    /// other length never arrives, because the verdict refuses it. The reply has the inputs of
+    /// `rd_inp`. Returns true if the reply is of high priority, because a diagnosis is due.
     pub fn data_exchange(&mut self, octets: &[u8]) -> bool
         ensures slave { self.new ≡ with_slave self.old (acted self.old.slave (exchange_act self.old.slave octets.now)) }
         ensures high { result ≡ is_due_high self.old.slave.diag }
@@ -199,7 +201,7 @@ impl Slave {
         high
     }
 
-    /// Data of the whole length.
+    /// Takes data of the whole length.
     #[tactic(auto, unfolding(crate::specs::Fields::acted))]
     fn exchange(&mut self, octets: &[u8])
         requires { length octets.now ≡ output_length self.old.slave }
@@ -215,7 +217,7 @@ impl Slave {
         self.left = self.left_again();
     }
 
-    /// No data, which stand for zeros.
+    /// Takes an empty request, which stands for zeros.
     #[tactic(auto, unfolding(crate::specs::Fields::acted))]
     fn exchange_none(&mut self)
         ensures { self.new ≡ with_slave self.old (acted self.old.slave exchanges_none) }
@@ -227,7 +229,7 @@ impl Slave {
         self.left = self.left_again();
     }
 
-    /// The slave is cleared from now on, and takes an empty Data_Exchange too, or it isn't.
+    /// Marks the slave as cleared, so that it also takes an empty Data_Exchange, or as not cleared.
     pub(crate) fn mark_cleared(&mut self, cleared: bool)
         ensures { self.new ≡ with_slave self.old (record self.old.slave { cleared = cleared }) }
     {
@@ -239,8 +241,9 @@ impl Slave {
         self.points.move_to(state, holder, out_len, cleared);
     }
 
-    /// Slave_Diag by the sender: the 6 to 244 octets of the diagnosis. The holder has read it then,
-    /// and its watchdog is set to the full time; another master changes nothing.
+    /// Executes Slave_Diag by the sender: returns the 6 to 244 octets of the diagnosis. If the
+    /// sender holds the slave, the diagnosis is read then, and the watchdog gets its full time
+    /// again. Another master changes nothing.
     pub fn slave_diag(&mut self, sender: u8) -> ArrayVec<u8, MOST_DATA>
         ensures slave { self.new ≡ with_slave self.old (acted self.old.slave (tells_diagnosis sender)) }
         ensures octets { result.items ≡ diagnosis_text (diag_facts self.old.slave) }
@@ -250,7 +253,7 @@ impl Slave {
         octets
     }
 
-    /// Slave_Diag that puts its octets where octets lie, as [`Slave::slave_diag`] answers them.
+    /// Executes Slave_Diag, and writes its octets to `octets`. See [`Slave::slave_diag`].
     #[tactic(auto, unfolding(crate::specs::Fields::acted))]
     pub fn slave_diag_into(&mut self, sender: u8, octets: &mut ArrayVec<u8, MOST_DATA>)
         ensures slave { self.new ≡ with_slave self.old (acted self.old.slave (tells_diagnosis sender)) }
@@ -272,14 +275,14 @@ impl Slave {
         }
     }
 
-    /// The master holds the slave.
+    /// Returns true if the master holds the slave.
     pub(crate) fn is_held_by(&self, master: u8) -> bool
         ensures { result ≡ is_held_by_master master self.now.slave }
     {
         self.points.holder() == Some(master)
     }
 
-    /// The full time of its watchdog, in units of 10 ms, where it runs.
+    /// Returns the full time of its watchdog, in units of 10 ms, if it runs.
     pub(crate) fn left_again(&self) -> Option<u32>
         ensures { result ≡ left_again_of self.now.slave }
     {
@@ -289,7 +292,7 @@ impl Slave {
         }
     }
 
-    /// The slave is let go: the state Released, whatever it was.
+    /// Releases the slave, whatever its state.
     #[tactic(auto, unfolding(crate::specs::SlaveRecord::released))]
     pub fn make_safe(&mut self)
         ensures { self.new ≡ with_slave self.old (released self.old.slave) }

@@ -87,7 +87,8 @@ impl Model for Slave {
 }
 
 impl Slave {
-    /// A slave at its start, on a line with these masters. Each of its configurations can be parsed.
+    /// Returns a slave at its start, on a line with these masters. Requires that each of its
+    /// configurations can be parsed.
     pub fn open(description: &SlaveSpec, masters: &ArrayVec<u8, MOST_MASTERS>) -> Slave
         requires { list_all can_be_parsed (configurations_of description.now) ≡ true }
         ensures slave { result.slave ≡ starting_slave masters.now.items description.now }
@@ -126,37 +127,37 @@ impl Slave {
         }
     }
 
-    /// Its station address, 0 to 126.
+    /// Returns its station address, 0 to 126.
     pub fn address(&self) -> u8
         ensures { result ≡ self.now.slave.description.address }
     {
         self.description.address
     }
 
-    /// Its service access points, which have its state, its holder, its output length, whether it takes
-    /// an empty Data_Exchange, its busy marks and its lists.
+    /// Returns its service access points. They have its state, its holder, its output length, its busy
+    /// marks and its lists, and whether it takes an empty Data_Exchange.
     pub fn points(&self) -> &Points
         ensures { result.now ≡ points_of self.now.slave }
     {
         &self.points
     }
 
-    /// What it remembers of each master.
+    /// Returns what it remembers of each master.
     pub fn memory(&self) -> &FrameMemory
         ensures { result.now ≡ self.now.slave.memory }
     {
         &self.memory
     }
 
-    /// Keeps what a request of the sender that was judged anew leaves, as
-    /// [`FrameMemory::remember`] does.
+    /// Stores what a request of the sender leaves, if it isn't a repeat. See
+    /// [`FrameMemory::remember`].
     pub fn remember(&mut self, sender: u8, fc: u8, reply: &Octets)
         ensures { self.new ≡ with_slave self.old (record self.old.slave { memory = with_remembered self.old.slave.memory sender fc reply.now.items }) }
     {
         self.memory.remember(sender, fc, reply);
     }
 
-    /// The inputs that a master sees, 0 to 244 octets: in freeze mode the copy that Freeze made.
+    /// Returns the inputs that a master sees, 0 to 244 octets: in freeze mode the copy that Freeze made.
     pub fn rd_inp(&self) -> &[u8]
         ensures inputs { result.now ≡ shown_inputs self.now.slave }
         ensures long { length result.now ≡ input_length self.now.slave }
@@ -165,7 +166,7 @@ impl Slave {
         self.shown().as_slice()
     }
 
-    /// The inputs, or in freeze mode their copy.
+    /// Returns the inputs, or in freeze mode their copy.
     pub(crate) fn shown(&self) -> &DataOctets
         ensures inputs { result.now ≡ shown_inputs self.now.slave }
         ensures long { length result.now ≡ input_length self.now.slave }
@@ -177,7 +178,7 @@ impl Slave {
         }
     }
 
-    /// The outputs, 0 to 244 octets.
+    /// Returns the outputs, 0 to 244 octets.
     pub fn rd_outp(&self) -> &[u8]
         ensures outputs { result.now ≡ self.now.slave.outputs }
         ensures long { length result.now ≡ output_length self.now.slave }
@@ -186,7 +187,7 @@ impl Slave {
         self.outputs.as_slice()
     }
 
-    /// The octets of the configuration of the shape in force, 0 to 244 of them.
+    /// Returns the octets of the configuration of the shape in force, 0 to 244 of them.
     pub fn get_cfg(&self) -> &[u8]
         ensures octets { result.now ≡ configuration_of self.now.slave.description self.now.slave.shape }
         ensures most { length result.now ≤ most_data }
@@ -197,8 +198,8 @@ impl Slave {
         }
     }
 
-    /// The groups that it belongs to, a bit for each, as its holder's parameters say; 0 where it has
-    /// no parameters (IEC 61158-6-3, Set_Prm request, Group_Ident).
+    /// Returns the groups that it belongs to, one bit each, as its holder's parameters say; 0 if it
+    /// has no parameters (IEC 61158-6-3, Set_Prm request, Group_Ident).
     pub fn group(&self) -> u8
         ensures { result ≡ group_of self.now.slave }
     {
@@ -209,7 +210,7 @@ impl Slave {
     }
 }
 
-/// The configurations of these octets, each of which can be parsed.
+/// Parses these configurations. Requires that each of them can be parsed.
 fn parsed(cfgs: &[Configuration]) -> ArrayVec<CfgIds, MOST_CONFIGURATIONS>
     requires read { list_all can_be_parsed (map (λ cfg. cfg.items) cfgs.now) ≡ true }
     requires few { length cfgs.now ≤ 4 }
@@ -222,8 +223,8 @@ fn parsed(cfgs: &[Configuration]) -> ArrayVec<CfgIds, MOST_CONFIGURATIONS>
     configurations
 }
 
-/// The inputs and the outputs of the configuration of this number, 0 to 244 octets each; none where
-/// there is no configuration of it.
+/// Returns the number of input octets and of output octets, 0 to 244 each, of the configuration of
+/// this number; zeros if there is no such configuration.
 pub(crate) fn data_lengths(configurations: &[CfgIds], number: u8) -> (u8, u8)
     ensures inputs { result.0 ≡ input_octets (unwrap_or (slice_get configurations.now number) []) }
     ensures outputs { result.1 ≡ output_octets (unwrap_or (slice_get configurations.now number) []) }

@@ -19,7 +19,7 @@ pub struct SlaveView {
     pub state: State,
     /// The address of the master that holds it, 0 to 126, if one does.
     pub holder: Option<u8>,
-    /// The place of the event by which its holder's hold began; 0 where nobody holds it.
+    /// The place of the event that began its holder's hold; 0 if nobody holds it.
     pub since: u32,
     /// Min TSDR in bit times.
     pub min_tsdr: u8,
@@ -27,7 +27,7 @@ pub struct SlaveView {
     pub prm: Option<Prm>,
     /// The number of the configuration that its holder sent.
     pub cfg: Option<u8>,
-    /// The number of the configuration whose lengths are in force, also where nobody has sent one.
+    /// The number of the configuration whose lengths are in force, also while no master has sent one.
     pub shape: u8,
     /// The inputs of its device, 0 to 244 octets.
     pub inputs: ArrayVec<u8, MOST_DATA>,
@@ -44,14 +44,14 @@ pub struct SlaveView {
     /// It is fail-safe and its data were cleared: it takes an empty Data_Exchange until data come, a
     /// master locks it or sends a configuration of another number, or it is released.
     pub cleared: bool,
-    /// What its watchdog has left, in units of 10 ms; `None` where it is off.
+    /// The time that its watchdog has left, in units of 10 ms; `None` if it is off.
     pub left: Option<u32>,
     /// Its diagnosis.
     pub diag: Diag,
 }
 
 impl Slave {
-    /// All that is shown of the slave.
+    /// Returns all that is shown of the slave.
     pub fn view(&self) -> SlaveView
         ensures { result ≡ view_of self.now.slave }
     {
