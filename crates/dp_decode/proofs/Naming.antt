@@ -1,10 +1,10 @@
--- Names with separators before them are names with commas between.
+-- Names with separators before them are the names joined by commas.
 use Rattle.std.proofs.Common.{◌≡◌, codes, ℕ, Bool, true, false, List, [], ◌∷◌, ◌++◌, refl, ap, sym, ◌∙◌, append_assoc}
 use Rattle.std.specs.List.{flat_map}
 use Rattle.dp_decode.specs.Words.{names_of, listed}
 use Rattle.dp_decode.specs.PrivateWords.{names_behind}
 
--- each behind a comma
+-- each name after a comma
 abbrev with_commas : List (List ℕ) → List ℕ
 with_commas names = flat_map (λ name. codes ", " ++ name) names
 

@@ -10,17 +10,17 @@ use Rattle.dp_cfg.specs.Reading.{with_maker, first_identifier, special_at, empty
 use Rattle.dp_decode.specs.Configurations.{identifier_text, identifiers_within, identifiers_of, configuration_text, cut_text}
 use Rattle.dp_decode.specs.PrivateWords.{each_behind, rest_behind}
 
--- the octets are those of an identifier, one at least, and the rest
+-- the octets are those of an identifier, at least one octet, and the rest
 pub record Stands (octets : List ℕ) (first : Identifier × List ℕ) : Type 0 where
   pub joined : octets ≡ first.0.octets ++ first.1
   pub some : 0 < length first.0.octets
 
--- where a row applies or those behind it do
+-- if a row applies, or the rows after it do
 either_stands : (octets : List ℕ) (b : Bool) (here there : Option (Identifier × List ℕ)) → IfSome here (Stands octets) → IfSome there (Stands octets) → IfSome (if b then here else there) (Stands octets)
 either_stands octets true here there p q = p
 either_stands octets false here there p q = q
 
--- what is found with its maker's octets stands there
+-- what is found with its manufacturer's octets is at the front
 maker_stands : (front : List ℕ) (own : Identifier) (count : ℕ) (rest : List ℕ) → 0 < length own.octets → own.octets ≡ front ++ take count rest → Stands (front ++ rest) (own, drop count rest)
 maker_stands front own count rest some octets = record {
   joined = ap (λ all. front ++ all) (sym (take-append-drop count rest)) ∙ sym (append_assoc front (take count rest) (drop count rest)) ∙ ap (λ these. these ++ drop count rest) (sym octets);
@@ -64,7 +64,7 @@ special_stands head rest =
     let others = either_stands (head ∷ rest) (bits_7_6 head == 1) (inputs_at head rest) (outputs_or_both head rest) (inputs_stand head rest) last in
     either_stands (head ∷ rest) (bits_7_6 head == 0) (empty_at head rest) (not_empty_at head rest) (empty_stands head rest) others
 
--- an identifier of the general format stands first
+-- an identifier of the general format is at the front
 abbrev general_at : ℕ → List ℕ → ℕ → ℕ → Option (Identifier × List ℕ)
 general_at head rest inputs outputs = Some (identifier (head ∷ []) inputs outputs, rest)
 
@@ -78,7 +78,7 @@ both_or_special head rest = if bits_5_4 head == 3 then general_at head rest (gen
 abbrev no_inputs_at : ℕ → List ℕ → Option (Identifier × List ℕ)
 no_inputs_at head rest = if bits_5_4 head == 2 then general_at head rest 0 (general_octets head) else both_or_special head rest
 
--- what is found first stands first
+-- what is found first is at the front
 pub first_stands : (octets : List ℕ) → IfSome (first_identifier octets) (Stands octets)
 first_stands [] = tt
 first_stands (head ∷ rest) =
@@ -87,13 +87,13 @@ first_stands (head ∷ rest) =
     let others = either_stands (head ∷ rest) (bits_5_4 head == 2) (general_at head rest 0 length_there) (both_or_special head rest) (general_stands head rest 0 length_there) last in
     either_stands (head ∷ rest) (bits_5_4 head == 1) (general_at head rest length_there 0) (no_inputs_at head rest) (general_stands head rest length_there 0) others
 
--- fewer octets stand behind an identifier
+-- fewer octets follow an identifier
 pub first_shortens : (octets : List ℕ) → IfSome (first_identifier octets) (λ first. length first.1 < length octets)
 first_shortens octets = IfSome_then (first_identifier octets) (first_stands octets) (λ first stands.
     let some : 0 < length first.0.octets = stands.some in
     omega (arith, ap length stands.joined, length-append first.0.octets first.1))
 
--- the identifiers with the first; octets that are cut
+-- the first identifier and the others; or octets that are cut
 abbrev with_first : (List ℕ → List (List ℕ)) → List ℕ → Option (Identifier × List ℕ) → List (List ℕ)
 with_first others octets first = option_map_or (λ first. identifier_text first.0.octets ∷ others first.1) first (cut_text octets ∷ [])
 
@@ -101,7 +101,7 @@ same_with_first : (these those : List ℕ → List (List ℕ)) (octets : List �
 same_with_first these those octets bound None short same = refl
 same_with_first these those octets bound (Some first) short same = ap (λ others. identifier_text first.0.octets ∷ others) (same first.1 short)
 
--- any bound on the length serves
+-- every bound on the length gives the same identifiers
 within_any : (m n : ℕ) (octets : List ℕ) → length octets ≤ m → length octets ≤ n → identifiers_within m octets ≡ identifiers_within n octets
 within_any zero zero octets p q = refl
 within_any (suc m) zero [] p q = refl
@@ -114,7 +114,7 @@ within_any (suc m) (suc n) (head ∷ rest) p q =
     (IfSome_then (first_identifier (head ∷ rest)) (first_shortens (head ∷ rest)) (λ first short. omega arith))
     (λ octets short. within_any m n octets (omega arith) (omega arith))
 
--- the identifiers, by the one that stands first
+-- the identifiers, by the first one
 pub identifiers_step : (octets : List ℕ) → 0 < length octets → identifiers_of octets ≡ with_first identifiers_of octets (first_identifier octets)
 unfolding identifiers_of
 identifiers_step [] some = absurd (omega arith)
@@ -123,13 +123,13 @@ identifiers_step (head ∷ rest) some =
     (IfSome_then (first_identifier (head ∷ rest)) (first_shortens (head ∷ rest)) (λ first short. omega arith))
     (λ octets short. within_any (length rest) (length octets) octets short (omega arith))
 
--- no octets have none
+-- no octets have no identifiers
 pub no_identifiers : (octets : List ℕ) → length octets ≡ 0 → identifiers_of octets ≡ []
 unfolding identifiers_of
 no_identifiers [] none = refl
 no_identifiers (head ∷ rest) none = absurd (omega arith)
 
--- the first one has the octets that aren't behind it
+-- the first one has the octets that aren't after it
 own_octets : (octets : List ℕ) (first : Identifier × List ℕ) → Stands octets first → take (length octets - length first.1) octets ≡ first.0.octets
 own_octets octets first stands =
     ap (λ all. take (length all - length first.1) all) stands.joined
@@ -143,7 +143,7 @@ more_from octets behind (Some first) some e found =
     identifiers_step octets some ∙ ap (with_first identifiers_of octets) e
     ∙ sym (rw same (ap (λ own. identifier_text own ∷ identifiers_of first.1) (own_octets octets first stands)))
 
--- the first one and those of the octets behind it
+-- the first one, and those of the octets after it
 pub identifiers_more : (octets behind : List ℕ) → 0 < length octets → Some behind ≡ option_map (λ first. first.1) (first_identifier octets) → identifiers_of octets ≡ identifier_text (take (length octets - length behind) octets) ∷ identifiers_of behind
 identifiers_more octets behind some found = more_from octets behind (first_identifier octets) some refl found
 
@@ -179,7 +179,7 @@ pub behind_is_joined : (octets : List ℕ) → each_behind [] (identifiers_of oc
 unfolding configuration_text
 behind_is_joined octets = each_is_joined (identifiers_of octets)
 
--- ---- what is behind a special identifier; a pattern lends the octets behind as so many of them
+-- ---- what follows a special identifier; a pattern matches the octets after it by their number
 
 cond_behind : (b : Bool) (first : Identifier × List ℕ) → option_map (λ found. found.1) (if b then None else Some first) ≡ (if b then None else Some first.1)
 cond_behind true first = refl

@@ -1,4 +1,4 @@
--- What a Global_Control asks for, in words (IEC 61158-6-3, Global_Control request).
+-- Global_Control in words (IEC 61158-6-3, Global_Control request).
 use Rattle.std.specs.Prelude.{codes, ℕ, Bool, List, [], ◌∷◌, ◌++◌}
 use Rattle.dp_globalctl.specs.declared.command.Command.{Command}
 use Rattle.dp_globalctl.specs.Command.{command_of}
@@ -14,7 +14,7 @@ control_rows command =
     ∷ (command.sync, codes "Sync")
     ∷ []
 
--- what is asked for, and of whom: Group_Select 0 is for every slave
+-- what the command asks for, and of which slaves: Group_Select 0 is for every slave
 unfoldable pub asked_of : Command → List ℕ
 asked_of command = listed (codes "nothing") [] (control_rows command) ++ codes "; " ++ groups_text (codes "every slave") command.group
 

@@ -7,7 +7,7 @@ use Rattle.dp_cfg.specs.Identifiers.{bits_3_0, bits_5_0, bits_5_4, bits_7_6, bit
 use Rattle.dp_cfg.specs.Reading.{first_identifier}
 use Rattle.dp_decode.specs.Words.{hex_text}
 
--- so many octets, or words of two octets where bit 6 is 1
+-- a number of octets, or of words of two octets each if bit 6 is 1
 abbrev pub unit_text : ℕ → ℕ → List ℕ
 unit_text words count =
     if words == 1 then (if count == 1 then codes " word" else codes " words")
@@ -16,19 +16,19 @@ unit_text words count =
 unfoldable pub amount_text : ℕ → ℕ → List ℕ
 amount_text words count = decimal count ++ unit_text words count
 
--- the general format has the length less one in bits 3 to 0, a length octet has it in bits 5 to 0
+-- the general format has the length less one in bits 3 to 0; a length octet has it in bits 5 to 0
 abbrev pub general_amount : ℕ → List ℕ
 general_amount head = amount_text (bit_6 head) (bits_3_0 head + 1)
 
 abbrev pub announced_amount : ℕ → List ℕ
 announced_amount octet = amount_text (bit_6 octet) (bits_5_0 octet + 1)
 
--- the maker's octets, where there are any
+-- the manufacturer's octets, if there are any
 abbrev pub maker_text : List ℕ → List ℕ
 maker_text [] = []
 maker_text (octet ∷ octets) = codes ", vendor " ++ hex_text (octet ∷ octets)
 
--- the special format behind its head: one length octet; one for outputs and then one for inputs
+-- the special format after its head: one length octet; or one for outputs and then one for inputs
 abbrev pub with_one : List ℕ → List ℕ → List ℕ
 with_one label [] = []
 with_one label (octet ∷ maker) = label ++ announced_amount octet ++ maker_text maker
@@ -58,12 +58,12 @@ abbrev pub labelled_text : Option (List ℕ) → ℕ → List ℕ → List ℕ
 labelled_text None head rest = special_text head rest
 labelled_text (Some label) head rest = label ++ general_amount head
 
--- what an identifier is
+-- the meaning of an identifier
 unfoldable pub meaning_text : List ℕ → List ℕ
 meaning_text [] = []
 meaning_text (head ∷ rest) = labelled_text (general_label head) head rest
 
--- the octets of an identifier, and what it is
+-- the octets of an identifier, and their meaning
 abbrev pub identifier_text : List ℕ → List ℕ
 identifier_text octets = hex_text octets ++ codes " " ++ meaning_text octets
 
@@ -71,7 +71,7 @@ identifier_text octets = hex_text octets ++ codes " " ++ meaning_text octets
 abbrev pub cut_text : List ℕ → List ℕ
 cut_text octets = hex_text octets ++ codes " ends within an identifier"
 
--- the identifiers of octets of at most this length, one after another; where the last one is cut, that is told instead of what it is
+-- the identifiers in octets, of at most this length, one after another; if the last one is cut, the text says so
 abbrev pub identifiers_within : ℕ → List ℕ → List (List ℕ)
 identifiers_within most [] = []
 identifiers_within zero (head ∷ rest) = []
@@ -82,6 +82,6 @@ identifiers_within (suc most) (head ∷ rest) =
 unfoldable pub identifiers_of : List ℕ → List (List ℕ)
 identifiers_of octets = identifiers_within (length octets) octets
 
--- the octets of a configuration, identifier by identifier
+-- the octets of a configuration, one identifier after another
 unfoldable pub configuration_text : List ℕ → List ℕ
 configuration_text octets = join_by (λ text. text) (codes "; ") (identifiers_of octets)

@@ -1,4 +1,4 @@
--- What is in the data of a request, as one row with its label (IEC 61158-6-3, service access points).
+-- The data of a request in words, as one row with its label (IEC 61158-6-3, service access points).
 use Rattle.std.specs.Prelude.{codes, ℕ, ◌==◌, ◌&&◌, if◌then◌else◌, List, [], ◌∷◌, ◌++◌, length, Option, Some, None, option_and_then}
 use Rattle.dp_telegram.specs.declared.access.Parts.{Parts}
 use Rattle.dp_telegram.specs.declared.frame.Frame.{Frame}
@@ -16,7 +16,7 @@ use Rattle.dp_decode.specs.Commands.{command_text}
 use Rattle.dp_decode.specs.declared.contents.Subject.{Subject}
 use Rattle.dp_decode.specs.declared.contents.Subject.TheVariants as subjects
 
--- what the octets are that come to a point
+-- the meaning of octets that are sent to a point
 abbrev pub subject_at : Option ℕ → Subject
 subject_at point =
     if same_point point data_exchange then subjects.Outputs
@@ -25,11 +25,11 @@ subject_at point =
     else if same_point point global_control then subjects.Command
     else subjects.Octets
 
--- a Global_Control has two octets; any other number of them is told as it is
+-- a Global_Control has two octets; any other number of octets is shown in hex
 abbrev pub control_row : List ℕ → List ℕ
 control_row octets = if length octets == 2 then codes "command     " ++ command_text octets else codes "data        " ++ hex_text octets
 
--- octets in words behind their label, which has 12 columns
+-- octets in words after their label, which has 12 columns
 abbrev pub row_text : Subject → List ℕ → List ℕ
 row_text subjects.Parameters octets = codes "parameters  " ++ parameters_text octets
 row_text subjects.Configuration octets = codes "configured  " ++ configuration_text octets
@@ -37,17 +37,17 @@ row_text subjects.Command octets = control_row octets
 row_text subjects.Outputs octets = codes "outputs     " ++ hex_text octets
 row_text subjects.Octets octets = codes "data        " ++ hex_text octets
 
--- the row of octets, where there are any
+-- the row of octets; None if there are none
 abbrev pub row_where_any : Subject → List ℕ → Option (List ℕ)
 row_where_any subject [] = None
 row_where_any subject (octet ∷ octets) = Some (row_text subject (octet ∷ octets))
 
--- what the octets behind the access points are; those of a telegram that is of no point are told as they are
+-- the meaning of the octets after the access points; those of a function without access points are shown in hex
 abbrev pub subject_of : ℕ → Parts → Subject
 subject_of fc parts =
     if is_request fc && is_of_point (function_of fc) then subject_at parts.dsap else subjects.Octets
 
--- the row of a telegram; where it has no parts, of its whole data unit
+-- the row of a telegram; if its access points cannot be read, the row of its whole data unit
 abbrev pub telegram_row : Telegram → Option Parts → Option (List ℕ)
 telegram_row telegram None = row_where_any subjects.Octets telegram.du.items
 telegram_row telegram (Some parts) = row_where_any (subject_of telegram.fc parts) parts.payload.items
@@ -58,6 +58,6 @@ frame_row (frames.Token da sa) = None
 frame_row frames.Ack = None
 frame_row (frames.Telegram telegram) = telegram_row telegram (parts_of telegram)
 
--- what is in the data of octets; None where they have none
+-- the data of octets; None if they have none
 unfoldable pub contents_text : List ℕ → Option (List ℕ)
 contents_text octets = option_and_then frame_row (frame_of octets)

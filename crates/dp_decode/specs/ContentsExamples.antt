@@ -1,4 +1,4 @@
--- Octets, and what is in their data.
+-- Examples of octets, and of the text of their data.
 use Rattle.std.specs.Prelude.{◌≡◌, codes, [], ◌∷◌, Some, None, refl}
 use Rattle.std.specs.Fmt.{digits}
 use Rattle.dp_decode.specs.Words.{groups_text, is_one_group, listed}
@@ -22,17 +22,17 @@ pub longest_time : parameters_text (0x88 ∷ 0xFF ∷ 0xFF ∷ 0x00 ∷ 0x80 ∷
 unfolding contents_text parameters_text locking_text requests_text configuration_text identifiers_of meaning_text special_text amount_text asked_of groups_text is_one_group listed digits
 longest_time = refl
 
--- what is too short has no bits
+-- a Set_Prm that is too short shows no bits
 pub too_short : parameters_text (0xC0 ∷ 0x0A ∷ 0x01 ∷ []) ≡ codes "too short: 3 of at least 7 octets"
 unfolding contents_text parameters_text locking_text requests_text configuration_text identifiers_of meaning_text special_text amount_text asked_of groups_text is_one_group listed digits
 too_short = refl
 
--- Unlock_Req goes before Lock_Req
+-- Unlock_Req takes precedence over Lock_Req
 pub unlock : parameters_text (0xC0 ∷ 0x0A ∷ 0x01 ∷ 0x0B ∷ 0x80 ∷ 0xA1 ∷ 0x00 ∷ []) ≡ codes "Unlock_Req"
 unfolding contents_text parameters_text locking_text requests_text configuration_text identifiers_of meaning_text special_text amount_text asked_of groups_text is_one_group listed digits
 unlock = refl
 
--- neither of them
+-- neither Unlock_Req nor Lock_Req
 pub min_tsdr_alone : parameters_text (0x08 ∷ 0x0A ∷ 0x01 ∷ 0x14 ∷ 0x80 ∷ 0xA1 ∷ 0x00 ∷ []) ≡ codes "min TSDR 20 alone"
 unfolding contents_text parameters_text locking_text requests_text configuration_text identifiers_of meaning_text special_text amount_text asked_of groups_text is_one_group listed digits
 min_tsdr_alone = refl
@@ -50,12 +50,12 @@ pub one_word_each : configuration_text (0x70 ∷ []) ≡ codes "70 inputs and ou
 unfolding contents_text parameters_text locking_text requests_text configuration_text identifiers_of meaning_text special_text amount_text asked_of groups_text is_one_group listed digits
 one_word_each = refl
 
--- consistency is not told
+-- consistency is not shown
 pub consistent : configuration_text (0xB0 ∷ []) ≡ codes "b0 inputs and outputs 1 octet"
 unfolding contents_text parameters_text locking_text requests_text configuration_text identifiers_of meaning_text special_text amount_text asked_of groups_text is_one_group listed digits
 consistent = refl
 
--- the special format, without and with the maker's octets
+-- the special format, without and with the manufacturer's octets
 pub words_of_inputs : configuration_text (0x40 ∷ 0xC3 ∷ []) ≡ codes "40 c3 inputs 4 words"
 unfolding contents_text parameters_text locking_text requests_text configuration_text identifiers_of meaning_text special_text amount_text asked_of groups_text is_one_group listed digits
 words_of_inputs = refl
@@ -72,7 +72,7 @@ pub empty_slots : configuration_text (0x00 ∷ 0x02 ∷ 0xAA ∷ 0xBB ∷ []) �
 unfolding contents_text parameters_text locking_text requests_text configuration_text identifiers_of meaning_text special_text amount_text asked_of groups_text is_one_group listed digits
 empty_slots = refl
 
--- 15 octets of the maker are none
+-- 15 in the low half of the head stands for no manufacturer's octets
 pub no_octets_of_the_maker : configuration_text (0x4F ∷ 0x00 ∷ []) ≡ codes "4f 00 inputs 1 octet"
 unfolding contents_text parameters_text locking_text requests_text configuration_text identifiers_of meaning_text special_text amount_text asked_of groups_text is_one_group listed digits
 no_octets_of_the_maker = refl
@@ -122,7 +122,7 @@ pub data_of_another_point : contents_text (0x68 ∷ 0x06 ∷ 0x06 ∷ 0x68 ∷ 0
 unfolding contents_text parameters_text locking_text requests_text configuration_text identifiers_of meaning_text special_text amount_text asked_of groups_text is_one_group listed digits
 data_of_another_point = refl
 
--- a function that is of no point
+-- a function without access points
 pub data_of_no_point : contents_text (0x68 ∷ 0x04 ∷ 0x04 ∷ 0x68 ∷ 0x05 ∷ 0x01 ∷ 0x49 ∷ 0x07 ∷ 0x56 ∷ 0x16 ∷ []) ≡ Some (codes "data        07")
 unfolding contents_text parameters_text locking_text requests_text configuration_text identifiers_of meaning_text special_text amount_text asked_of groups_text is_one_group listed digits
 data_of_no_point = refl
@@ -132,7 +132,7 @@ pub whole_data_unit : contents_text (0x68 ∷ 0x05 ∷ 0x05 ∷ 0x68 ∷ 0x85 �
 unfolding contents_text parameters_text locking_text requests_text configuration_text identifiers_of meaning_text special_text amount_text asked_of groups_text is_one_group listed digits
 whole_data_unit = refl
 
--- nothing behind the access points, and no telegram
+-- nothing after the access points, and no telegram
 pub no_data : contents_text (0x68 ∷ 0x05 ∷ 0x05 ∷ 0x68 ∷ 0x85 ∷ 0x81 ∷ 0x6D ∷ 0x3C ∷ 0x3E ∷ 0xED ∷ 0x16 ∷ []) ≡ None
 unfolding contents_text parameters_text locking_text requests_text configuration_text identifiers_of meaning_text special_text amount_text asked_of groups_text is_one_group listed digits
 no_data = refl

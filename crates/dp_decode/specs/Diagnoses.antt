@@ -1,11 +1,11 @@
--- What a diagnosis tells, in words (IEC 61158-6-3, Slave_Diag response).
+-- Diagnoses in words (IEC 61158-6-3, Slave_Diag response).
 use Rattle.std.specs.Prelude.{codes, ℕ, ◌==◌, nat_lt, Bool, if◌then◌else◌, List, [], ◌∷◌, ◌++◌, drop, length, slice_index}
 use Rattle.std.specs.Fmt.{decimal}
 use Rattle.dp_telegram.specs.FunctionCode.{is_set}
 use Rattle.dp_diag.specs.DiagnosisText.{no_master}
 use Rattle.dp_decode.specs.Words.{hex_text, ident_text, listed}
 
--- Station_status_1 by its bits that a slave sets
+-- Station_status_1: the bits that a slave sets
 abbrev pub status_1_rows : ℕ → List (Bool × List ℕ)
 status_1_rows octet =
     (is_set 1 octet, codes "Station_Not_Ready")
@@ -15,7 +15,7 @@ status_1_rows octet =
     ∷ (is_set 6 octet, codes "Prm_Fault")
     ∷ []
 
--- Station_status_2, but for bit 2, which is always 1
+-- Station_status_2, except bit 2, which is always 1
 abbrev pub status_2_rows : ℕ → List (Bool × List ℕ)
 status_2_rows octet =
     (is_set 0 octet, codes "Prm_Req")
@@ -29,7 +29,7 @@ status_2_rows octet =
 abbrev pub status_3_rows : ℕ → List (Bool × List ℕ)
 status_3_rows octet = (is_set 7 octet, codes "Ext_Diag_Overflow") ∷ []
 
--- the bits of an octet that are set, and a semicolon behind them
+-- the names of the bits that are set, and a semicolon after them
 abbrev pub status_text : List (Bool × List ℕ) → List ℕ
 status_text rows = listed [] (codes "; ") rows
 
@@ -40,7 +40,7 @@ abbrev pub extended_text : List ℕ → List ℕ
 extended_text [] = []
 extended_text (octet ∷ octets) = codes "; extended diagnosis " ++ hex_text (octet ∷ octets)
 
--- a diagnosis of at least six octets: the bits of three, Master_Add, Ident_Number, the extended octets
+-- a diagnosis of at least six octets: three octets of bits, Master_Add, Ident_Number, the extended octets
 unfoldable pub whole_text : List ℕ → List ℕ
 whole_text octets =
     status_text (status_1_rows (slice_index octets 0))
@@ -50,6 +50,6 @@ whole_text octets =
     ++ codes "; " ++ ident_text (slice_index octets 4) (slice_index octets 5)
     ++ extended_text (drop 6 octets)
 
--- the octets of a diagnosis
+-- a diagnosis; fewer than six octets are shown in hex
 unfoldable pub diagnosis_words : List ℕ → List ℕ
 diagnosis_words octets = if nat_lt (length octets) 6 then codes "data " ++ hex_text octets else whole_text octets

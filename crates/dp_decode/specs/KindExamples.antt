@@ -1,4 +1,4 @@
--- Octets, what they are and to whom they are sent.
+-- Examples of octets, and of the texts of their kind and their receiver.
 use Rattle.std.specs.Prelude.{◌≡◌, codes, [], ◌∷◌, refl}
 use Rattle.std.specs.Fmt.{digits}
 use Rattle.dp_decode.specs.Kinds.{asked_text, kind_text, telegram_text}
@@ -33,7 +33,7 @@ pub point_of_no_service : kind_text (0x68 ∷ 0x04 ∷ 0x04 ∷ 0x68 ∷ 0x85 �
 unfolding kind_text telegram_text asked_text addressed_text digits
 point_of_no_service = refl
 
--- what is of no point
+-- functions without access points
 pub fdl_status : kind_text (0x10 ∷ 0x05 ∷ 0x01 ∷ 0x49 ∷ 0x4F ∷ 0x16 ∷ []) ≡ codes "SD1 FDL status"
 unfolding kind_text telegram_text asked_text addressed_text digits
 fdl_status = refl
@@ -54,7 +54,7 @@ pub sda : kind_text (0x10 ∷ 0x05 ∷ 0x01 ∷ 0x73 ∷ 0x79 ∷ 0x16 ∷ []) �
 unfolding kind_text telegram_text asked_text addressed_text digits
 sda = refl
 
--- DSAP is announced, and missing; it is there, and not plain
+-- DSAP is announced and missing; DSAP is present and not plain
 pub no_extension : kind_text (0x10 ∷ 0x85 ∷ 0x01 ∷ 0x6C ∷ 0xF2 ∷ 0x16 ∷ []) ≡ codes "SD1 SRD low FCB 1 FCV 0  extension missing or not plain"
 unfolding kind_text telegram_text asked_text addressed_text digits
 no_extension = refl
@@ -83,7 +83,7 @@ pub bad_end : kind_text (0x10 ∷ 0x05 ∷ 0x01 ∷ 0x49 ∷ 0x4E ∷ 0x16 ∷ [
 unfolding kind_text telegram_text asked_text addressed_text digits
 bad_end = refl
 
--- to whom they are sent
+-- receivers
 pub to_a_slave : addressed_text (0x68 ∷ 0x05 ∷ 0x05 ∷ 0x68 ∷ 0x85 ∷ 0x81 ∷ 0x6D ∷ 0x3C ∷ 0x3E ∷ 0xED ∷ 0x16 ∷ []) ≡ codes "slave 5"
 unfolding kind_text telegram_text asked_text addressed_text digits
 to_a_slave = refl

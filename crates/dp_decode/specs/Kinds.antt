@@ -1,4 +1,4 @@
--- What octets are: the frame, what it asks for, and of which point (IEC 61158-4-3, frame formats and function code).
+-- The kind of octets, in words: the frame, the function, and the access point (IEC 61158-4-3, frame formats and function code).
 use Rattle.std.specs.Prelude.{codes, ℕ, ◌%◌, ◌==◌, Bool, true, false, if◌then◌else◌, List, [], ◌++◌, Option, Some, None, Result, Ok, Err}
 use Rattle.std.specs.Fmt.{decimal}
 use Rattle.dp_telegram.specs.declared.access.Parts.{Parts}
@@ -28,12 +28,12 @@ function_name Ident = Some (codes "ident")
 function_name LsapStatus = Some (codes "LSAP status")
 function_name Reserved = None
 
--- a function by its name, or by its number: bits 3 to 0 of FC
+-- a function by its name; a reserved one by its number, bits 3 to 0 of FC
 abbrev pub function_text : Option (List ℕ) → ℕ → List ℕ
 function_text (Some name) fc = name
 function_text None fc = codes "reserved function " ++ decimal (fc % 16)
 
--- SRD, SDN and SDA are of a point, and have a frame count bit
+-- SRD, SDN and SDA use access points and the frame count bit
 abbrev pub is_of_point : Function → Bool
 is_of_point FdlStatus = false
 is_of_point Ident = false
@@ -48,11 +48,11 @@ bit_text true = codes "1"
 abbrev pub count_text : ℕ → List ℕ
 count_text fc = codes " FCB " ++ bit_text (frame_count_bit fc) ++ codes " FCV " ++ bit_text (frame_count_is_valid fc)
 
--- the function of a request, and FCB and FCV where it has them
+-- the function of a request, with FCB and FCV if it uses them
 unfoldable pub asked_text : ℕ → List ℕ
 asked_text fc = function_text (function_name (function_of fc)) fc ++ (if is_of_point (function_of fc) then count_text fc else [])
 
--- the service of a request of a point, and the sender's point; extension octets that are announced have to be there
+-- the access points of a request and of its sender; extension octets that are announced must be present
 abbrev pub service_text : Bool → Option Parts → List ℕ
 service_text of_point None = codes "  extension missing or not plain"
 service_text of_point (Some parts) = if of_point then codes "  " ++ point_text parts.dsap ++ source_text parts.ssap else []
@@ -66,7 +66,7 @@ telegram_text telegram =
 abbrev pub format_text : ℕ → List ℕ
 format_text start = if start == sd1 then codes "SD1" else if start == sd2 then codes "SD2" else codes "SD3"
 
--- a frame, of a telegram with this start delimiter
+-- a frame; a telegram has this start delimiter
 abbrev pub frame_text : ℕ → Frame → List ℕ
 frame_text start (frames.Token da sa) = codes "SD4 token to " ++ decimal (address_of da) ++ codes " from " ++ decimal (address_of sa)
 frame_text start frames.Ack = codes "SC short acknowledgement"
@@ -88,6 +88,6 @@ abbrev pub reading_text : ℕ → Result Frame FrameFault → List ℕ
 reading_text start (Ok frame) = frame_text start frame
 reading_text start (Err fault) = codes "no telegram: " ++ fault_text fault
 
--- what octets are
+-- the kind of octets
 unfoldable pub kind_text : List ℕ → List ℕ
 kind_text octets = reading_text (delimiter octets) (reading_of octets)

@@ -1,19 +1,19 @@
--- What a Set_Prm asks for, in words (IEC 61158-6-3, Set_Prm request).
+-- Set_Prm in words (IEC 61158-6-3, Set_Prm request).
 use Rattle.std.specs.Prelude.{codes, ℕ, ◌*◌, ◌==◌, Bool, true, not, if◌then◌else◌, List, [], ◌∷◌, ◌++◌, length, slice_index, Option, Some, None}
 use Rattle.std.specs.Fmt.{decimal}
 use Rattle.dp_prm.specs.Meaning.{is_short, lock_req, unlock_req, sync_req, freeze_req, watchdog_time, min_tsdr, group_ident, user_prm}
 use Rattle.dp_decode.specs.Words.{hex_text, ident_text, listed, groups_text}
 
--- what is asked for besides the watchdog: whether Sync is to be used, and whether Freeze is
+-- the requests of a locking Set_Prm apart from the watchdog: whether it asks for Sync and for Freeze
 unfoldable pub requests_text : Bool → Bool → List ℕ
 requests_text sync freeze = listed [] [] ((true, codes "Lock_Req") ∷ (sync, codes "Sync_Req") ∷ (freeze, codes "Freeze_Req") ∷ [])
 
--- the watchdog time in units of 10 ms, where a watchdog is to run
+-- the watchdog time in units of 10 ms; None if the watchdog is off
 abbrev pub watchdog_text : Option ℕ → List ℕ
 watchdog_text None = codes "watchdog off"
 watchdog_text (Some units) = if units == 0 then codes "watchdog time 0" else codes "watchdog " ++ decimal (units * 10) ++ codes " ms"
 
--- min TSDR in bit times; 0 leaves the slave's
+-- min TSDR in bit times; 0 leaves the slave's value unchanged
 abbrev pub min_tsdr_text : ℕ → List ℕ
 min_tsdr_text octet = if octet == 0 then codes "min TSDR unchanged" else codes "min TSDR " ++ decimal octet
 
@@ -21,7 +21,7 @@ abbrev pub user_text : List ℕ → List ℕ
 user_text [] = codes "user parameters none"
 user_text (octet ∷ octets) = codes "user parameters " ++ hex_text (octet ∷ octets)
 
--- all that locks a slave, one part after another
+-- a Set_Prm that locks a slave, one part after another
 unfoldable pub locking_text : List ℕ → List ℕ
 locking_text octets =
     requests_text (sync_req octets) (freeze_req octets)
@@ -31,11 +31,11 @@ locking_text octets =
     ++ codes "; " ++ groups_text (codes "groups none") (group_ident octets)
     ++ codes "; " ++ user_text (user_prm octets)
 
--- min TSDR alone is set
+-- only min TSDR is set; 0 sets nothing
 abbrev pub min_tsdr_alone : ℕ → List ℕ
 min_tsdr_alone octet = if octet == 0 then codes "nothing is set" else codes "min TSDR " ++ decimal octet ++ codes " alone"
 
--- the octets of a Set_Prm, by its forms: too short, unlock, min TSDR alone, lock; what a form ignores is not told
+-- the octets of a Set_Prm, by its forms: too short, unlock, only min TSDR, lock; what a form ignores is not shown
 unfoldable pub parameters_text : List ℕ → List ℕ
 parameters_text octets =
     if is_short octets then codes "too short: " ++ decimal (length octets) ++ codes " of at least 7 octets"

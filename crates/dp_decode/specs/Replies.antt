@@ -1,4 +1,4 @@
--- What a reply says, as one row with its label (IEC 61158-4-3, response telegrams).
+-- A reply in words, as one row with its label (IEC 61158-4-3, response telegrams).
 use Rattle.std.specs.Prelude.{codes, ℕ, ◌==◌, not, Bool, false, if◌then◌else◌, List, [], ◌∷◌, ◌++◌, Option, Some, None, option_and_then, unwrap_or}
 use Rattle.dp_telegram.specs.declared.access.Parts.{Parts}
 use Rattle.dp_telegram.specs.declared.frame.Frame.{Frame}
@@ -13,7 +13,7 @@ use Rattle.dp_decode.specs.Points.{point_text}
 use Rattle.dp_decode.specs.Configurations.{configuration_text}
 use Rattle.dp_decode.specs.Diagnoses.{diagnosis_words}
 
--- what stands before octets that are told as they are, by the point that sends them
+-- the label of data that are shown in hex, by the point that sends them
 abbrev pub label_from : Option ℕ → List ℕ
 label_from point =
     if same_point point data_exchange then codes "inputs "
@@ -32,7 +32,7 @@ abbrev pub data_text : Option ℕ → List ℕ → List ℕ
 data_text point [] = codes "no data"
 data_text point (octet ∷ octets) = answer_text point (octet ∷ octets)
 
--- a reply comes from the point that was asked; a remembered one may come from another, which was asked before (own)
+-- a reply comes from the point that was asked; a remembered one may come from another point, which an earlier request asked (own)
 abbrev pub is_earlier : Option Parts → Option Parts → Bool
 is_earlier None sent = false
 is_earlier (Some asked) None = false
@@ -41,12 +41,12 @@ is_earlier (Some asked) (Some sent) = not (same_point asked.dsap sent.ssap)
 abbrev pub earlier_text : Bool → Option ℕ → List ℕ
 earlier_text earlier point = if earlier then codes "to an earlier " ++ point_text point ++ codes ": " else []
 
--- the data behind the access points; the point that sends them is the SSAP
+-- the data after the access points; the SSAP is the point that sends them
 unfoldable pub sent_text : Bool → Option Parts → List ℕ
 sent_text earlier None = codes "extension missing or not plain"
 sent_text earlier (Some sent) = earlier_text earlier sent.ssap ++ data_text sent.ssap sent.payload.items
 
--- what a response without data says, by its function code
+-- a response without data, by its function code
 abbrev pub plain_text : ℕ → Option (List ℕ)
 plain_text fc =
     if fc == ok then Some (codes "OK")
@@ -55,11 +55,11 @@ plain_text fc =
     else if fc == not_activated then Some (codes "RS, not activated")
     else None
 
--- what stands before the data of a response, by its function code: those of high priority say that a diagnosis is due
+-- the words before the data of a response, by its function code: high priority means that a diagnosis is due
 abbrev pub data_front : ℕ → Option (List ℕ)
 data_front fc = if fc == data_low then Some [] else if fc == data_high then Some (codes "a diagnosis is due; ") else None
 
--- a response with data; one with another function code is told by that
+-- a response with data; one with another function code is shown as that code
 abbrev pub with_data : Option (List ℕ) → Bool → Telegram → List ℕ
 with_data (Some front) earlier telegram = front ++ sent_text earlier (parts_of telegram)
 with_data None earlier telegram = codes "FC " ++ hex_pair telegram.fc
@@ -76,17 +76,17 @@ frame_parts (frames.Telegram telegram) = parts_of telegram
 unfoldable pub parts_in : List ℕ → Option Parts
 parts_in octets = option_and_then frame_parts (frame_of octets)
 
--- the row of a reply: a telegram, or a short acknowledgement where there is none (IEC 61158-4-3, short acknowledgement)
+-- the row of a reply: a telegram, or a short acknowledgement if it is None (IEC 61158-4-3, short acknowledgement)
 abbrev pub reply_row : Bool → Option Telegram → List ℕ
 reply_row earlier None = codes "reply       SC, short acknowledgement"
 reply_row earlier (Some telegram) = codes "reply       " ++ response_text earlier telegram
 
--- a reply to what was asked; a token is none
+-- a frame as a reply to a request; a token is none
 abbrev pub frame_reply : Option Parts → Frame → Option (List ℕ)
 frame_reply asked (frames.Token da sa) = None
 frame_reply asked frames.Ack = Some (reply_row false None)
 frame_reply asked (frames.Telegram telegram) = Some (reply_row (is_earlier asked (parts_of telegram)) (Some telegram))
 
--- what a reply to a request says
+-- a reply to a request
 unfoldable pub reply_text : List ℕ → List ℕ → Option (List ℕ)
 reply_text request reply = option_and_then (frame_reply (parts_in request)) (frame_of reply)

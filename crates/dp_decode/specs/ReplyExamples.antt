@@ -1,4 +1,4 @@
--- Requests, replies to them, and what these say.
+-- Examples of requests and replies, and of the texts of the replies.
 use Rattle.std.specs.Prelude.{◌≡◌, codes, [], ◌∷◌, Some, None, refl}
 use Rattle.std.specs.Fmt.{digits}
 use Rattle.dp_decode.specs.Words.{listed}
@@ -56,7 +56,7 @@ pub configuration_is_read : reply_text (0x68 ∷ 0x05 ∷ 0x05 ∷ 0x68 ∷ 0x85
 unfolding reply_text parts_in response_text sent_text diagnosis_words whole_text configuration_text identifiers_of meaning_text amount_text listed digits
 configuration_is_read = refl
 
--- a repeat by another point gets the reply that is remembered
+-- a repeat that asks another point gets the remembered reply
 pub remembered_of_another_point : reply_text (0x68 ∷ 0x05 ∷ 0x05 ∷ 0x68 ∷ 0x85 ∷ 0x81 ∷ 0x7D ∷ 0x38 ∷ 0x3E ∷ 0xF9 ∷ 0x16 ∷ []) (0x68 ∷ 0x0B ∷ 0x0B ∷ 0x68 ∷ 0x81 ∷ 0x85 ∷ 0x08 ∷ 0x3E ∷ 0x3C ∷ 0x02 ∷ 0x05 ∷ 0x00 ∷ 0xFF ∷ 0x80 ∷ 0xA1 ∷ 0xAF ∷ 0x16 ∷ []) ≡ Some (codes "reply       to an earlier Slave_Diag (60): Station_Not_Ready; Prm_Req; held by nobody; ident 80A1")
 unfolding reply_text parts_in response_text sent_text diagnosis_words whole_text configuration_text identifiers_of meaning_text amount_text listed digits
 remembered_of_another_point = refl
@@ -86,7 +86,7 @@ pub another_code : reply_text (0x68 ∷ 0x05 ∷ 0x05 ∷ 0x68 ∷ 0x85 ∷ 0x81
 unfolding reply_text parts_in response_text sent_text diagnosis_words whole_text configuration_text identifiers_of meaning_text amount_text listed digits
 another_code = refl
 
--- a short acknowledgement, and what is no frame
+-- a short acknowledgement, and octets that are no frame
 pub acknowledged : reply_text (0x68 ∷ 0x07 ∷ 0x07 ∷ 0x68 ∷ 0x85 ∷ 0x81 ∷ 0x5D ∷ 0x3E ∷ 0x3E ∷ 0x21 ∷ 0x11 ∷ 0x11 ∷ 0x16 ∷ []) (0xE5 ∷ []) ≡ Some (codes "reply       SC, short acknowledgement")
 unfolding reply_text parts_in response_text sent_text diagnosis_words whole_text configuration_text identifiers_of meaning_text amount_text listed digits
 acknowledged = refl

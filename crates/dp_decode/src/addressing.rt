@@ -1,4 +1,4 @@
-//! To whom octets are sent.
+//! The receiver of a telegram, in words.
 
 ghost use Rattle.std.specs.Prelude.{◌≡◌, Some};
 ghost use Rattle.dp_decode.specs.Addressed.{frame_receiver};
@@ -7,10 +7,10 @@ use dp_telegram::{ADDRESS_BITS, Frame, GLOBAL_ADDRESS, decode};
 use std::fmt;
 use std::marker::Model;
 
-/// To whom octets are sent (IEC 61158-4-3, address octets).
+/// The receiver of octets, in words (IEC 61158-4-3, address octets).
 ///
-/// Contracts see the text that its `Display` writes: `slave 5`, `all slaves`, of a token `station 3`, and `nobody`
-/// of a short acknowledgement and of octets that are no frame.
+/// Contracts see the text that its `Display` writes: `slave 5`, `all slaves`, `station 3` for a token, and `nobody`
+/// for a short acknowledgement and for octets that are no frame.
 #[derive(Drop)]
 pub struct Addressed<'a> {
     octets: &'a [u8],
@@ -28,7 +28,7 @@ impl<'a> Model for Addressed<'a> {
 impl<'a> Addressed<'a> {
     ghost use Rattle.dp_decode.specs.Addressed.{addressed_text};
 
-    /// To whom any octets are sent.
+    /// Returns the receiver of any octets.
     pub fn from_octets(octets: &'a [u8]) -> Addressed<'a>
         ensures { result ≡ addressed_text octets.now }
     {
@@ -51,7 +51,7 @@ impl<'a> fmt::Display for Addressed<'a> {
     }
 }
 
-/// To whom a frame is sent.
+/// The receiver of a frame, in words.
 #[derive(Drop)]
 struct Receiver<'a>(&'a Frame);
 

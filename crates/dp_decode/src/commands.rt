@@ -7,7 +7,7 @@ use crate::words::{Flag, Groups, Names};
 use dp_globalctl::Command;
 use std::fmt;
 
-/// A Global_Control.
+/// A Global_Control, in words.
 #[derive(Drop)]
 pub(crate) struct Asked<'a>(pub(crate) &'a Command);
 

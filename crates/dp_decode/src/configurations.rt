@@ -10,7 +10,7 @@ ghost use Rattle.dp_decode.specs.PrivateWords.{each_behind, rest_behind};
 use crate::words::Hex;
 use std::fmt;
 
-/// The octets of a configuration.
+/// The octets of a configuration, in words.
 #[derive(Drop)]
 pub(crate) struct Configuration<'a>(pub(crate) &'a [u8]);
 
@@ -23,7 +23,7 @@ impl<'a> fmt::Display for Configuration<'a> {
     }
 }
 
-/// Writes the identifiers of octets, the first one behind this separator.
+/// Writes the identifiers that the octets hold, the first one after this separator.
 fn write_identifiers<W: fmt::Write>(
     f: &mut fmt::Formatter<W>,
     octets: &[u8],
@@ -43,7 +43,7 @@ fn write_identifiers<W: fmt::Write>(
     write_identifiers(f, others, "; ")
 }
 
-/// The octets of the identifier that stands first, and those behind it; None where it is cut.
+/// Splits off the first identifier: returns its octets and those after it; None if it is cut.
 fn first_identifier(octets: &[u8]) -> Option<(&[u8], &[u8])>
     requires { 0 < length octets.now }
     ensures value { MatchOption result (identifiers_of octets.now ≡ cut_text octets.now ∷ [])
@@ -55,7 +55,7 @@ fn first_identifier(octets: &[u8]) -> Option<(&[u8], &[u8])>
     Some((&octets[..size], behind))
 }
 
-/// The octets behind the identifier that stands first; None where it is cut.
+/// Returns the octets after the first identifier; None if it is cut.
 fn behind_first(octets: &[u8]) -> Option<&[u8]>
     ensures { option_map (λ rest. rest.now) result ≡ option_map (λ first. first.1) (first_of octets.now) }
 {
@@ -66,7 +66,7 @@ fn behind_first(octets: &[u8]) -> Option<&[u8]>
     }
 }
 
-/// The octets behind an identifier of the special format; `rest` is what follows its head.
+/// Returns the octets after an identifier of the special format; `rest` is what follows its head. None if it is cut.
 fn behind_special(head: u8, rest: &[u8]) -> Option<&[u8]>
     ensures { option_map (λ rest. rest.now) result ≡ option_map (λ first. first.1) (special_at head rest.now) }
 {
@@ -79,14 +79,14 @@ fn behind_special(head: u8, rest: &[u8]) -> Option<&[u8]>
     }
 }
 
-/// The octets behind those of the maker; None where these are too few.
+/// Returns the octets after the manufacturer's octets; None if there are too few.
 fn behind_maker(head: u8, octets: &[u8]) -> Option<&[u8]>
     ensures { option_map (λ rest. rest.now) result ≡ rest_behind (maker_of head) octets.now }
 {
     octets.get(maker_count(head)..)
 }
 
-/// The maker's octets of a special identifier, where 15 means none.
+/// Returns how many manufacturer's octets a special identifier has; 15 in the low half of its head stands for none.
 fn maker_count(head: u8) -> usize
     ensures { result ≡ maker_of head }
 {
@@ -96,7 +96,7 @@ fn maker_count(head: u8) -> usize
     }
 }
 
-/// The octets of one identifier.
+/// One identifier: its octets and their meaning.
 #[derive(Drop)]
 struct OneIdentifier<'a>(&'a [u8]);
 
@@ -110,7 +110,7 @@ impl<'a> fmt::Display for OneIdentifier<'a> {
     }
 }
 
-/// What the octets of one identifier say.
+/// The meaning of the octets of one identifier.
 #[derive(Drop)]
 struct Meaning<'a>(&'a [u8]);
 
@@ -131,7 +131,7 @@ impl<'a> fmt::Display for Meaning<'a> {
     }
 }
 
-/// What an identifier of the general format is; None where its head is of the special format.
+/// Returns the name of an identifier of the general format; None if its head is of the special format.
 fn label(head: u8) -> Option<&'static str>
     ensures { option_map (λ label. label.now) result ≡ general_label head }
 {
@@ -143,7 +143,7 @@ fn label(head: u8) -> Option<&'static str>
     }
 }
 
-/// An identifier of the special format.
+/// The meaning of an identifier of the special format.
 #[derive(Drop)]
 struct Special<'a> {
     head: u8,
@@ -167,7 +167,7 @@ impl<'a> fmt::Display for Special<'a> {
     }
 }
 
-/// Writes what one length octet says, and the maker's octets.
+/// Writes the meaning of one length octet, and the manufacturer's octets.
 fn write_one<W: fmt::Write>(f: &mut fmt::Formatter<W>, label: &str, rest: &[u8]) -> fmt::Result
     ensures { WritesOnOk W.Write.write_str_gives f.old result (with_one label.now rest.now) f.new }
 {
@@ -179,7 +179,7 @@ fn write_one<W: fmt::Write>(f: &mut fmt::Formatter<W>, label: &str, rest: &[u8])
     write!(f, "{label}{amount}{maker}")
 }
 
-/// Writes what two length octets say, and the maker's octets.
+/// Writes the meaning of two length octets, and the manufacturer's octets.
 fn write_both<W: fmt::Write>(f: &mut fmt::Formatter<W>, rest: &[u8]) -> fmt::Result
     ensures { WritesOnOk W.Write.write_str_gives f.old result (with_both rest.now) f.new }
 {
@@ -192,7 +192,7 @@ fn write_both<W: fmt::Write>(f: &mut fmt::Formatter<W>, rest: &[u8]) -> fmt::Res
     write!(f, "outputs {outputs}, inputs {inputs}{maker}")
 }
 
-/// So many octets, or words of two octets.
+/// A number of octets, or of words of two octets each.
 #[derive(Clone, Copy)]
 struct Amount {
     words: u8,
@@ -200,7 +200,7 @@ struct Amount {
 }
 
 impl Amount {
-    /// That of a head of the general format: bits 3 to 0 are the length less one.
+    /// Reads the amount from a head of the general format: bits 3 to 0 are the length less one.
     fn general(head: u8) -> Amount
         ensures { amount_text result.words result.count ≡ general_amount head }
     {
@@ -210,7 +210,7 @@ impl Amount {
         }
     }
 
-    /// That of a length octet: bits 5 to 0 are the length less one.
+    /// Reads the amount from a length octet: bits 5 to 0 are the length less one.
     fn announced(octet: u8) -> Amount
         ensures { amount_text result.words result.count ≡ announced_amount octet }
     {
@@ -220,7 +220,7 @@ impl Amount {
         }
     }
 
-    /// What is counted.
+    /// Returns the unit, singular or plural.
     fn unit(self) -> &'static str
         ensures { result.now ≡ unit_text self.words self.count }
     {
@@ -244,7 +244,7 @@ impl fmt::Display for Amount {
     }
 }
 
-/// The octets of the maker, where there are any.
+/// The manufacturer's octets; writes nothing if there are none.
 #[derive(Drop)]
 struct Maker<'a>(&'a [u8]);
 

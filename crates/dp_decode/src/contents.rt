@@ -1,4 +1,4 @@
-//! What is in the data of a request.
+//! The data of a request, in words.
 
 ghost use Rattle.std.specs.Prelude.{◌≡◌, ◌≤◌, Some, length};
 ghost use Rattle.dp_telegram.specs.Access.{parts_of};
@@ -16,22 +16,22 @@ use dp_telegram::{Frame, Parts, Telegram, decode};
 use std::fmt;
 use std::marker::Model;
 
-/// What the data of a request are (IEC 61158-6-3, service access points).
+/// The meaning of the data of a request (IEC 61158-6-3, service access points).
 #[derive(Clone, Copy)]
 pub(crate) enum Subject {
-    /// Those of a Set_Prm.
+    /// The parameters of a Set_Prm.
     Parameters,
-    /// Those of a Chk_Cfg.
+    /// The configuration of a Chk_Cfg.
     Configuration,
     /// The two octets of a Global_Control.
     Command,
     /// The outputs of a Data_Exchange.
     Outputs,
-    /// Octets that are told as they are.
+    /// Octets that are only shown in hex.
     Octets,
 }
 
-/// What the octets are that come to a point.
+/// Returns the meaning of the octets that are sent to a point.
 fn subject_for(point: Option<u8>) -> Subject
     ensures { result ≡ subject_at point }
 {
@@ -44,9 +44,9 @@ fn subject_for(point: Option<u8>) -> Subject
     }
 }
 
-/// What is in the data of a request, as one row with its label (IEC 61158-6-3, service access points).
+/// The data of a request, as one row with its label (IEC 61158-6-3, service access points).
 ///
-/// Contracts see the text that its `Display` writes, as `outputs     01 02`; its label has 12 columns.
+/// Contracts see the text that its `Display` writes, such as `outputs     01 02`; its label has 12 columns.
 #[derive(Drop)]
 pub struct Contents {
     subject: Subject,
@@ -65,7 +65,7 @@ impl Model for Contents {
 impl Contents {
     ghost use Rattle.dp_decode.specs.Contents.{contents_text};
 
-    /// That of any octets; None where they are no telegram with data.
+    /// Returns the data of any octets; None if they are not a telegram with data.
     #[tactic(auto, unfolding(crate::specs::Contents::contents_text))]
     pub fn from_octets(octets: &[u8]) -> Option<Contents>
         ensures { result ≡ contents_text octets.now }
@@ -76,7 +76,7 @@ impl Contents {
         }
     }
 
-    /// That of a frame.
+    /// Returns the data of a frame; None if it is not a telegram with data.
     fn of_frame(frame: &Frame) -> Option<Contents>
         ensures { result ≡ frame_row frame.now }
     {
@@ -87,7 +87,8 @@ impl Contents {
         }
     }
 
-    /// That of a telegram: of the octets behind its access points, or of its whole data unit where it has no parts.
+    /// Returns the data of a telegram: the octets after its access points, or its whole data unit if the access points
+    /// cannot be read. None if there are no octets.
     fn of_telegram(telegram: &Telegram) -> Option<Contents>
         ensures { result ≡ telegram_row telegram.now (parts_of telegram.now) }
     {
@@ -100,7 +101,7 @@ impl Contents {
         }
     }
 
-    /// Octets, where there are any.
+    /// Returns these octets as a row; None if there are none.
     fn where_any(subject: Subject, octets: &[u8]) -> Option<Contents>
         requires { length octets.now ≤ 246 }
         ensures { result ≡ row_where_any subject octets.now }
@@ -115,7 +116,7 @@ impl Contents {
     }
 }
 
-/// What the octets behind the access points of a telegram are.
+/// Returns the meaning of the octets after the access points of a telegram.
 fn subject_of(telegram: &Telegram, parts: &Parts) -> Subject
     ensures { result ≡ subject_by telegram.now.fc parts.now }
 {
@@ -156,7 +157,7 @@ impl fmt::Display for Contents {
     }
 }
 
-/// The octets of a Global_Control, which has two.
+/// The data of a Global_Control: two octets in words, any other number of them in hex.
 #[derive(Drop)]
 struct Control<'a>(&'a [u8]);
 

@@ -8,10 +8,10 @@ use crate::words::{Flag, Hex, Ident, Names};
 use dp_diag::NO_MASTER;
 use std::fmt;
 
-/// The octets before the extended ones.
+/// The number of octets before the extended diagnosis.
 const HEAD: usize = 6;
 
-/// The octets of a diagnosis.
+/// The octets of a diagnosis, in words.
 #[derive(Drop)]
 pub(crate) struct Diagnosis<'a>(pub(crate) &'a [u8]);
 
@@ -28,7 +28,7 @@ impl<'a> fmt::Display for Diagnosis<'a> {
     }
 }
 
-/// Writes what at least six octets tell.
+/// Writes a diagnosis of at least six octets.
 #[tactic(auto, unfolding(crate::specs::Diagnoses::whole_text))]
 fn write_whole<W: fmt::Write>(f: &mut fmt::Formatter<W>, octets: &[u8]) -> fmt::Result
     requires { 6 ≤ length octets.now }
@@ -46,7 +46,7 @@ fn write_whole<W: fmt::Write>(f: &mut fmt::Formatter<W>, octets: &[u8]) -> fmt::
     )
 }
 
-/// The extended octets of at least six.
+/// Returns the octets of the extended diagnosis: those after the first six.
 fn behind_head(octets: &[u8]) -> &[u8]
     requires { 6 ≤ length octets.now }
     ensures { result.now ≡ drop 6 octets.now }
@@ -54,7 +54,7 @@ fn behind_head(octets: &[u8]) -> &[u8]
     &octets[HEAD..]
 }
 
-/// Station_status_1.
+/// Station_status_1, in words.
 #[derive(Clone, Copy)]
 struct Status1(u8);
 
@@ -78,7 +78,7 @@ impl fmt::Display for Status1 {
     }
 }
 
-/// Station_status_2.
+/// Station_status_2, in words.
 #[derive(Clone, Copy)]
 struct Status2(u8);
 
@@ -102,7 +102,7 @@ impl fmt::Display for Status2 {
     }
 }
 
-/// Station_status_3.
+/// Station_status_3, in words.
 #[derive(Clone, Copy)]
 struct Status3(u8);
 
@@ -120,7 +120,7 @@ impl fmt::Display for Status3 {
     }
 }
 
-/// Master_Add.
+/// Master_Add, in words.
 #[derive(Clone, Copy)]
 struct Holder(u8);
 
@@ -135,7 +135,7 @@ impl fmt::Display for Holder {
     }
 }
 
-/// The extended octets, where there are any.
+/// The octets of the extended diagnosis; writes nothing if there are none.
 #[derive(Drop)]
 struct Extended<'a>(&'a [u8]);
 

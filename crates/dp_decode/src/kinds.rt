@@ -1,4 +1,4 @@
-//! What octets are.
+//! The kind of a telegram, in words.
 
 ghost use Rattle.std.specs.Prelude.{◌≡◌, Some, option_map};
 ghost use Rattle.dp_telegram.specs.FrameText.{delimiter};
@@ -15,10 +15,11 @@ const SD1: u8 = 0x10;
 
 const SD2: u8 = 0x68;
 
-/// What octets are: the frame, what it asks for, and of which point (IEC 61158-4-3, frame formats and function code).
+/// The kind of octets: the frame, the function, and the access point (IEC 61158-4-3, frame formats and function code).
 ///
 /// Contracts see the text that its `Display` writes: `SD2 SRD low FCB 1 FCV 0  Slave_Diag (60) from 62`,
-/// `SD1 FDL status`, `SD4 token to 3 from 2`, `SC short acknowledgement` or `no telegram: Long, octets follow the frame`.
+/// `SD1 FDL status`, `SD4 token to 3 from 2`, `SC short acknowledgement`, or
+/// `no telegram: Long, octets follow the frame`.
 #[derive(Drop)]
 pub struct Kind<'a> {
     octets: &'a [u8],
@@ -36,7 +37,7 @@ impl<'a> Model for Kind<'a> {
 impl<'a> Kind<'a> {
     ghost use Rattle.dp_decode.specs.Kinds.{kind_text};
 
-    /// That of any octets.
+    /// Returns the kind of any octets.
     pub fn from_octets(octets: &'a [u8]) -> Kind<'a>
         ensures { result ≡ kind_text octets.now }
     {
@@ -65,7 +66,7 @@ impl<'a> fmt::Display for Kind<'a> {
     }
 }
 
-/// The name of a fault, and what is wrong.
+/// The name of a frame fault, and what is wrong.
 #[derive(Clone, Copy)]
 struct Faulty(FrameFault);
 
@@ -79,7 +80,7 @@ impl fmt::Display for Faulty {
     }
 }
 
-/// What is wrong with octets that are no frame.
+/// Returns what is wrong with octets that are no frame.
 fn wrong(fault: FrameFault) -> &'static str
     ensures { result.now ≡ frame_fault_words fault }
 {
@@ -92,7 +93,7 @@ fn wrong(fault: FrameFault) -> &'static str
     }
 }
 
-/// A frame, and the octets that it is read from.
+/// A frame, and the octets that it was read from.
 #[derive(Drop)]
 struct Framed<'a> {
     octets: &'a [u8],
@@ -119,7 +120,7 @@ impl<'a> fmt::Display for Framed<'a> {
     }
 }
 
-/// The format of a telegram, by its start delimiter.
+/// Returns the name of the format of a telegram, by its start delimiter.
 fn format(octets: &[u8]) -> &'static str
     ensures { result.now ≡ format_text (delimiter octets.now) }
 {
@@ -130,7 +131,7 @@ fn format(octets: &[u8]) -> &'static str
     }
 }
 
-/// What a telegram says without its data.
+/// A telegram without its data, in words.
 #[derive(Drop)]
 struct Said<'a>(&'a Telegram);
 
@@ -152,7 +153,7 @@ impl<'a> fmt::Display for Said<'a> {
     }
 }
 
-/// The point of a request, where it is of one, and that of its sender.
+/// The access points of a request and of its sender, if its function uses access points.
 #[derive(Drop)]
 struct Service<'a> {
     of_point: bool,
@@ -175,7 +176,7 @@ impl<'a> fmt::Display for Service<'a> {
     }
 }
 
-/// The function of a request with this FC, and FCB and FCV where it has them.
+/// The function of a request with this FC, with FCB and FCV if it uses them.
 #[derive(Clone, Copy)]
 struct Asked(u8);
 
@@ -194,7 +195,7 @@ impl fmt::Display for Asked {
     }
 }
 
-/// SRD, SDN and SDA are of a point, and have a frame count bit.
+/// Returns whether a function uses access points and the frame count bit, as SRD, SDN and SDA do.
 pub(crate) fn is_of_point(function: Function) -> bool
     ensures { result ≡ is_of_point_by function }
 {
@@ -212,7 +213,7 @@ pub(crate) fn is_of_point(function: Function) -> bool
     }
 }
 
-/// The function of a request with this FC.
+/// The function of a request with this FC, by its name or, if it is reserved, by its number.
 #[derive(Clone, Copy)]
 struct Words(u8);
 
@@ -230,7 +231,7 @@ impl fmt::Display for Words {
     }
 }
 
-/// The name of a function that isn't reserved.
+/// Returns the name of a function; None if it is reserved.
 fn name(function: Function) -> Option<&'static str>
     ensures { option_map (λ name. name.now) result ≡ function_name function }
 {
@@ -248,7 +249,7 @@ fn name(function: Function) -> Option<&'static str>
     }
 }
 
-/// FCB and FCV of an FC.
+/// The FCB and FCV of an FC.
 #[derive(Clone, Copy)]
 struct Count(u8);
 
@@ -262,7 +263,7 @@ impl fmt::Display for Count {
     }
 }
 
-/// A bit.
+/// Returns a bit as a digit.
 fn bit(is_set: bool) -> &'static str
     ensures { result.now ≡ bit_text is_set }
 {

@@ -1,8 +1,8 @@
-//! What a telegram of PROFIBUS DP says, in words, from its octets alone (IEC 61158-4-3 and IEC 61158-6-3).
+//! PROFIBUS DP telegrams in words, read only from their octets (IEC 61158-4-3 and IEC 61158-6-3).
 //!
-//! Of the octets of a request [`Kind`] tells the frame and what it asks for, [`Addressed`] to whom it is sent, and
-//! [`Contents`] what its data are; [`Reply`] tells what is in a reply. The words that these are made of are there for
-//! other texts of telegrams. Contracts see the text that each of them displays, and nothing here takes memory.
+//! For the octets of a request, [`Kind`] shows the frame and its function, [`Addressed`] the receiver, and [`Contents`]
+//! the data. [`Reply`] shows the data of a reply. The parts of these texts, such as [`Hex`], are public for other texts
+//! about telegrams. Contracts see the text that each of them displays. Nothing here allocates memory.
 #![tactic(auto)]
 
 mod addressing;

@@ -9,10 +9,10 @@ use crate::words::{Flag, Groups, Hex, Ident, Names, is_set};
 use dp_prm::{FREEZE_REQ, LOCK_REQ, SYNC_REQ, UNLOCK_REQ, WD_ON};
 use std::fmt;
 
-/// The octets before the user parameters.
+/// The number of octets before the user parameters.
 const HEAD: usize = 7;
 
-/// The octets of a Set_Prm.
+/// The octets of a Set_Prm, in words.
 #[derive(Drop)]
 pub(crate) struct Parameters<'a>(pub(crate) &'a [u8]);
 
@@ -37,7 +37,7 @@ impl<'a> fmt::Display for Parameters<'a> {
     }
 }
 
-/// Writes all that locks a slave.
+/// Writes the octets of a Set_Prm that locks a slave.
 #[tactic(auto, unfolding(crate::specs::Parameters::locking_text))]
 fn write_locking<W: fmt::Write>(f: &mut fmt::Formatter<W>, octets: &[u8]) -> fmt::Result
     requires { 7 ≤ length octets.now }
@@ -64,7 +64,7 @@ fn write_locking<W: fmt::Write>(f: &mut fmt::Formatter<W>, octets: &[u8]) -> fmt
     )
 }
 
-/// The user parameters of octets that have the seven before them.
+/// Returns the user parameters: the octets after the first seven.
 fn user_parameters(octets: &[u8]) -> &[u8]
     requires { 7 ≤ length octets.now }
     ensures { result.now ≡ user_prm octets.now }
@@ -72,7 +72,7 @@ fn user_parameters(octets: &[u8]) -> &[u8]
     &octets[HEAD..]
 }
 
-/// What is asked for besides the watchdog.
+/// The requests of a locking Set_Prm, apart from the watchdog.
 #[derive(Clone, Copy)]
 struct Requests {
     sync: bool,
@@ -98,7 +98,7 @@ impl fmt::Display for Requests {
     }
 }
 
-/// The watchdog: whether one is to run, and the factors of its time in units of 10 ms.
+/// The watchdog: whether it is to run, and the two factors of its time in units of 10 ms.
 #[derive(Clone, Copy)]
 struct Watchdog {
     is_on: bool,
@@ -121,7 +121,7 @@ impl fmt::Display for Watchdog {
     }
 }
 
-/// Min TSDR in bit times; 0 leaves the slave's.
+/// Min TSDR in bit times; 0 leaves the slave's value unchanged.
 #[derive(Clone, Copy)]
 struct MinTsdr(u8);
 
@@ -137,7 +137,7 @@ impl fmt::Display for MinTsdr {
     }
 }
 
-/// Min TSDR where nothing else is set.
+/// Min TSDR in bit times, when nothing else is set; 0 sets nothing.
 #[derive(Clone, Copy)]
 struct MinTsdrAlone(u8);
 
@@ -153,7 +153,7 @@ impl fmt::Display for MinTsdrAlone {
     }
 }
 
-/// The user parameters.
+/// The user parameters, in words.
 #[derive(Drop)]
 struct User<'a>(&'a [u8]);
 

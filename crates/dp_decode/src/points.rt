@@ -1,4 +1,4 @@
-//! The service access points in words.
+//! Service access points in words.
 
 ghost use Rattle.std.specs.Prelude.{◌≡◌, Some, option_map};
 ghost use Rattle.dp_decode.specs.Points.{point_text, points, service_in, source_text};
@@ -24,7 +24,7 @@ impl fmt::Display for Point {
     }
 }
 
-/// The service of the point of this number, by its name in the standard; None where no service has it.
+/// Returns the standard's name of the service at the point of this number; None if there is none.
 pub fn service(number: u8) -> Option<&'static str>
     ensures { option_map (λ name. name.now) result ≡ service_in points number }
 {
@@ -40,7 +40,7 @@ pub fn service(number: u8) -> Option<&'static str>
     }
 }
 
-/// The point of a sender, where there is one.
+/// The sender's access point; writes nothing if it has none.
 #[derive(Clone, Copy)]
 pub(crate) struct Source(pub(crate) Option<u8>);
 

@@ -1,4 +1,4 @@
-//! What a reply says.
+//! Replies in words.
 
 ghost use Rattle.std.specs.Prelude.{◌≡◌, Some, option_map};
 ghost use Rattle.dp_telegram.specs.Access.{parts_of};
@@ -14,9 +14,9 @@ use dp_telegram::{Frame, Parts, Telegram, decode};
 use std::fmt;
 use std::marker::Model;
 
-/// What a reply to a request says, as one row with its label (IEC 61158-4-3, response telegrams).
+/// A reply to a request, as one row with its label (IEC 61158-4-3, response telegrams).
 ///
-/// Contracts see the text that its `Display` writes, as `reply       inputs 01 02`; its label has 12 columns.
+/// Contracts see the text that its `Display` writes, such as `reply       inputs 01 02`; its label has 12 columns.
 #[derive(Drop)]
 pub struct Reply {
     is_earlier: bool,
@@ -36,8 +36,8 @@ impl Model for Reply {
 impl Reply {
     ghost use Rattle.dp_decode.specs.Replies.{reply_text};
 
-    /// That of any octets that came back to these of a request; None where they are neither a telegram nor a short
-    /// acknowledgement.
+    /// Returns the reply that these octets hold; `request` are the octets of the request. None if they are neither a
+    /// telegram nor a short acknowledgement.
     #[tactic(auto, unfolding(crate::specs::Replies::reply_text))]
     pub fn from_octets(request: &[u8], reply: &[u8]) -> Option<Reply>
         ensures { result ≡ reply_text request.now reply.now }
@@ -48,7 +48,7 @@ impl Reply {
         }
     }
 
-    /// That of a frame.
+    /// Returns the reply that a frame holds; None if it is a token.
     fn of_frame(asked: &Option<Parts>, frame: Frame) -> Option<Reply>
         ensures { result ≡ frame_reply asked.now frame }
     {
@@ -69,7 +69,7 @@ impl Reply {
     }
 }
 
-/// Access points and data of octets that are a telegram.
+/// Returns the access points and data of octets; None if they are no telegram, or the access points cannot be read.
 #[tactic(auto, unfolding(crate::specs::Replies::parts_in))]
 fn parts_of_octets(octets: &[u8]) -> Option<Parts>
     ensures { result ≡ parts_in octets.now }
@@ -80,7 +80,7 @@ fn parts_of_octets(octets: &[u8]) -> Option<Parts>
     }
 }
 
-/// Access points and data of a frame that is a telegram.
+/// Returns the access points and data of a frame; None if it is no telegram, or the access points cannot be read.
 fn parts_of_frame(frame: &Frame) -> Option<Parts>
     ensures { result ≡ frame_parts frame.now }
 {
@@ -91,7 +91,7 @@ fn parts_of_frame(frame: &Frame) -> Option<Parts>
     }
 }
 
-/// A reply comes from another point than the one that was asked.
+/// Returns whether a reply comes from another point than the request asked.
 fn is_from_another(asked: &Option<Parts>, sent: &Option<Parts>) -> bool
     ensures { result ≡ is_earlier_by asked.now sent.now }
 {
@@ -118,7 +118,7 @@ impl fmt::Display for Reply {
     }
 }
 
-/// What a response says.
+/// A response, in words.
 #[derive(Drop)]
 struct Response<'a> {
     is_earlier: bool,
@@ -145,7 +145,7 @@ impl<'a> fmt::Display for Response<'a> {
     }
 }
 
-/// What a response without data says.
+/// Returns the name of a response without data; None for any other function code.
 fn plain(fc: u8) -> Option<&'static str>
     ensures { option_map (λ said. said.now) result ≡ plain_text fc }
 {
@@ -158,7 +158,7 @@ fn plain(fc: u8) -> Option<&'static str>
     }
 }
 
-/// What stands before the data of a response.
+/// Returns the words before the data of a response; None if the function code is not one with data.
 fn front(fc: u8) -> Option<&'static str>
     ensures { option_map (λ front. front.now) result ≡ data_front fc }
 {
@@ -196,7 +196,7 @@ impl<'a> fmt::Display for Sent<'a> {
     }
 }
 
-/// The point of an earlier request, where a reply is to that.
+/// The point of an earlier request; writes nothing if the reply is to the current request.
 #[derive(Clone, Copy)]
 struct Earlier {
     is_earlier: bool,
@@ -216,7 +216,7 @@ impl fmt::Display for Earlier {
     }
 }
 
-/// What stands before octets that are told as they are.
+/// Returns the label of data that is shown in hex, by the point that sends it.
 fn label(point: Option<u8>) -> &'static str
     ensures { result.now ≡ label_from point }
 {
@@ -228,7 +228,7 @@ fn label(point: Option<u8>) -> &'static str
     }
 }
 
-/// The data that a point sends.
+/// The data that a point sends, in words.
 #[derive(Drop)]
 struct Data<'a> {
     point: Option<u8>,

@@ -1,4 +1,4 @@
-//! What the texts of octets and bits are made of.
+//! The parts that the texts of octets and bits are made of.
 
 ghost use Rattle.std.specs.Prelude.{◌≡◌, ◌<◌, Some};
 ghost use Rattle.std.specs.Fmt.{WritesOnOk};
@@ -35,7 +35,7 @@ impl fmt::Display for CapitalPair {
     }
 }
 
-/// Octets as pairs of hex digits with spaces between.
+/// Octets as pairs of hex digits, separated by spaces.
 #[derive(Drop)]
 pub struct Hex<'a>(pub &'a [u8]);
 
@@ -55,7 +55,7 @@ impl<'a> fmt::Display for Hex<'a> {
     }
 }
 
-/// An ident number by its octets, the high one first.
+/// An ident number by its two octets, high octet first.
 #[derive(Clone, Copy)]
 pub(crate) struct Ident(pub(crate) u8, pub(crate) u8);
 
@@ -69,7 +69,7 @@ impl fmt::Display for Ident {
     }
 }
 
-/// The bit of this number is 1; bit 0 is the lowest.
+/// Returns whether the bit of this number is 1; bit 0 is the lowest.
 pub(crate) const fn is_set(number: u32, octet: u8) -> bool
     requires { number < 8 }
     ensures { result ≡ is_set_of number octet }
@@ -77,7 +77,7 @@ pub(crate) const fn is_set(number: u32, octet: u8) -> bool
     octet >> number & 1 == 1
 }
 
-/// A name that is told where it is set.
+/// A name that is written only if its flag is set.
 #[derive(Drop)]
 pub struct Flag {
     is_set: bool,
@@ -93,14 +93,14 @@ impl Model for Flag {
 }
 
 impl Flag {
-    /// The name, where it is set.
+    /// Returns a flag with this name.
     pub fn new(is_set: bool, name: &'static str) -> Flag
         ensures { result ≡ (is_set, name.entry.now) }
     {
         Flag { is_set, name }
     }
 
-    /// The name of the bit of this number of an octet, where the bit is 1.
+    /// Returns a flag with this name that is set if the bit of this number of the octet is 1.
     pub(crate) fn of_bit(number: u32, octet: u8, name: &'static str) -> Flag
         requires { number < 8 }
         ensures { result ≡ (is_set_of number octet, name.entry.now) }
@@ -109,13 +109,13 @@ impl Flag {
     }
 }
 
-/// The names of flags that are set, and what stands behind them; another text where none is set.
+/// The names of the flags that are set, and a text after them; another text if none is set.
 #[derive(Drop)]
 pub struct Names<'a> {
     pub flags: &'a [Flag],
-    /// What is told where none is set.
+    /// The text if none is set.
     pub none: &'static str,
-    /// What stands behind the names.
+    /// The text after the names.
     pub behind: &'static str,
 }
 
@@ -128,8 +128,8 @@ impl<'a> fmt::Display for Names<'a> {
     }
 }
 
-/// Writes the names of flags that are set, the first one behind this separator, and what stands behind them; where
-/// none is set, another text.
+/// Writes the names of the flags that are set, the first one after this separator, and then `behind`. If none is set,
+/// writes `none` instead.
 fn write_names<W: fmt::Write>(
     f: &mut fmt::Formatter<W>,
     flags: &[Flag],
@@ -150,11 +150,11 @@ fn write_names<W: fmt::Write>(
     write_names(f, others, ", ", behind, behind)
 }
 
-/// The groups of an octet, by their bits; another text for none.
+/// The groups of an octet, one for each bit that is set; another text if none is set.
 #[derive(Drop)]
 pub struct Groups {
     pub octet: u8,
-    /// What is told where there is none.
+    /// The text if no group is set.
     pub none: &'static str,
 }
 
@@ -186,7 +186,7 @@ impl fmt::Display for Groups {
     }
 }
 
-/// What stands before the groups of an octet that has some.
+/// Returns the word before the groups of an octet that has some.
 fn groups_word(octet: u8) -> &'static str
     ensures { result.now ≡ groups_word octet }
 {
@@ -197,7 +197,7 @@ fn groups_word(octet: u8) -> &'static str
     }
 }
 
-/// One bit alone is set.
+/// Returns whether exactly one bit is set.
 #[tactic(auto, unfolding(crate::specs::Words::is_one_group))]
 fn is_one_group(octet: u8) -> bool
     ensures { result ≡ is_one_group octet }

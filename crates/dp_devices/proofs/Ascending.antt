@@ -1,4 +1,4 @@
--- The slaves that devices drive, by one address after another.
+-- The slaves that devices drive, address by address.
 use Rattle.std.proofs.Common.{◌≡◌, ℕ, zero, suc, ◌+◌, List, [], ◌∷◌, ◌++◌, ap, ◌∙◌, arith}
 use Rattle.std.specs.List.{filter_map, range_with_len}
 use Rattle.std.proofs.lemmas.List.Elements.{filter_map-append}
@@ -12,7 +12,7 @@ range-push a (suc n) =
     let same : a + 1 + n ≡ a + suc n = omega arith in
     ap (λ (l : List ℕ). a ∷ l) (range-push (a + 1) n ∙ ap (λ k. range_with_len (a + 1) n ++ k ∷ []) same)
 
--- those below one more address
+-- the slaves below one more address
 pub driven_more : (slaves : List SlaveSpec) (n : ℕ)
     → filter_map (driven_at slaves) (range_with_len 0 (n + 1)) ≡ filter_map (driven_at slaves) (range_with_len 0 n) ++ filter_map (driven_at slaves) (n ∷ [])
 driven_more slaves n =

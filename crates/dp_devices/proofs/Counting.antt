@@ -35,7 +35,7 @@ mod_by_low number k =
     ∙ ap (λ n. n % (256 * P)) parts
     ∙ mod-mul-add q (256 * P) (r * 256 + low) small
 
--- what goes past so many octets doesn't count
+-- digits beyond this number of octets don't count
 in_octets_mod : (k number : ℕ) → in_octets k (number % 256 ^ k) ≡ in_octets k number
 in_octets_mod zero number = refl
 in_octets_mod (suc k) number =
@@ -59,7 +59,7 @@ number_in (suc k) number =
     ∙ ap (λ n. n * 256 + number % 256) (number_in k (number / 256))
     ∙ sym (mod_by_low number k)
 
--- the number of octets has these octets
+-- the octets of the number of some octets are these octets
 first_octets : (octets : List ℕ) → AreOctets octets → (k : ℕ) → k ≤ length octets → in_octets k (number_from_digits 256 (take k octets)) ≡ take k octets
 first_octets octets are zero within = refl
 first_octets octets are (suc k) within =
@@ -101,7 +101,7 @@ carried octets =
     ∙ ap (λ n. in_octets (length octets) (number + 1) ++ n ∷ []) (mod-mul-add (number + 1) 256 0 (omega arith))
     ∙ ap (λ xs. xs ++ 0 ∷ []) (sym (counted_is octets))
 
--- any other low octet is counted up alone
+-- any other low octet is counted up, and only this octet changes
 counted_alone : (octets : List ℕ) (octet : ℕ) → in_octets (length octets) (number_from_digits 256 octets) ≡ octets → octet < 255
     → counted (octets ++ octet ∷ []) ≡ octets ++ (octet + 1) ∷ []
 counted_alone octets octet back small =
@@ -115,9 +115,9 @@ counted_alone octets octet back small =
     ∙ ap (λ n. in_octets (length octets) number ++ n ∷ []) (mod-mul-add number 256 (octet + 1) (omega arith))
     ∙ ap (λ xs. xs ++ (octet + 1) ∷ []) back
 
--- ---- from the low octet on
+-- ---- starting at the low octet
 
--- 1 is to be added to so many of the first octets
+-- 1 is still to be added to the first `index` octets
 abbrev pub to_count : ℕ → List ℕ → List ℕ
 to_count index octets = counted (take index octets) ++ drop index octets
 
@@ -222,7 +222,7 @@ lengths_stay Still inputs outputs = refl
 lengths_stay Counter inputs outputs = length-in_octets (length inputs) ((number_from_digits 256 inputs + 1) % 256 ^ length inputs)
 lengths_stay Mirror inputs outputs = length_cut_or_filled (length inputs) outputs
 
--- so many zeros at most, cut to what is missing
+-- at most 244 zeros, cut to the number that is missing
 pub cut_and_filled : (count : ℕ) (octets : List ℕ) → count ≤ 244
     → take (min count (length octets)) octets ++ take (count - min count (length octets)) (replicate 244 0) ≡ cut_or_filled count octets
 cut_and_filled count octets few = elim (cases_lt (length octets) count) [

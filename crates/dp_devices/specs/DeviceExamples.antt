@@ -1,4 +1,4 @@
--- Inputs that devices feed next.
+-- Examples of the next inputs that devices set.
 use Rattle.std.specs.Prelude.{◌≡◌, [], ◌∷◌, refl}
 use Rattle.dp_slave.specs.declared.description.Device.TheVariants.{Still, Counter, Mirror}
 use Rattle.dp_devices.specs.Devices.{next_inputs}

@@ -1,4 +1,4 @@
-//! The inputs that a device feeds next.
+//! The next inputs that a device sets.
 
 ghost use Rattle.std.specs.Prelude.{◌≡◌, ◌≤◌, ◌<◌, length, take};
 ghost use Rattle.dp_sap.specs.AccessTable.{most_data};
@@ -9,11 +9,11 @@ use arrayvec::ArrayVec;
 use dp_line::Device;
 use dp_sap::MOST_DATA;
 
-/// Returns the next inputs of a slave with this device: as many octets as it has inputs now (own). A slave has at most 244
-/// octets of inputs; of more the first 244 are its inputs.
+/// Returns the next inputs of a slave with this device: as many octets as it has inputs now (own). A slave has at most
+/// 244 octets of inputs; if there are more, the first 244 are its inputs.
 ///
-/// A still device leaves them. A counter adds 1 to them as one number, high octet first; all ones become
-/// zero. A mirror returns the outputs, cut to the inputs' length or filled with zeros.
+/// A still device leaves the inputs unchanged. A counter adds 1 to them as one number, high octet first; all ones
+/// become zero. A mirror returns the outputs, cut to the length of the inputs or filled with zeros.
 pub fn next_inputs(device: Device, inputs: &[u8], outputs: &[u8]) -> ArrayVec<u8, MOST_DATA>
     ensures all { length inputs.now ≤ most_data → result.items ≡ inputs_next device inputs.now outputs.now }
     ensures first { most_data < length inputs.now → result.items ≡ inputs_next device (take most_data inputs.now) outputs.now }
@@ -37,7 +37,7 @@ fn next_of(device: Device, inputs: &[u8], outputs: &[u8]) -> ArrayVec<u8, MOST_D
     }
 }
 
-/// The octets with 1 added to them as one number.
+/// Returns the octets with 1 added to them as one number, high octet first.
 fn counted_up(inputs: &[u8]) -> ArrayVec<u8, MOST_DATA>
     requires { length inputs.now ≤ most_data }
     ensures { result.items ≡ counted inputs.now }
@@ -47,7 +47,7 @@ fn counted_up(inputs: &[u8]) -> ArrayVec<u8, MOST_DATA>
     octets
 }
 
-/// Adds 1 to the octets as one number, high octet first.
+/// Adds 1 to the octets as one number, high octet first; all ones become zero.
 fn count_up(octets: &mut [u8])
     requires { AreOctets octets.old }
     ensures { octets.new ≡ counted octets.old }
@@ -63,7 +63,7 @@ fn count_up(octets: &mut [u8])
     }
 }
 
-/// The outputs, cut to so many octets or filled with zeros.
+/// Returns the first `count` outputs, filled with zeros if there are fewer.
 fn mirrored(count: usize, outputs: &[u8]) -> ArrayVec<u8, MOST_DATA>
     requires { count ≤ most_data }
     ensures { result.items ≡ cut_or_filled count outputs.now }

@@ -1,4 +1,4 @@
-//! The slaves that devices drive.
+//! The slaves whose inputs devices update.
 
 ghost use Rattle.std.specs.Prelude.{◌≡◌, Bool, Option};
 ghost use Rattle.std.specs.Option.{option_copied};
@@ -11,15 +11,15 @@ use arrayvec::ArrayVec;
 use dp_line::{Device, LineSpec, Op, SlaveSpec, SlaveView, described};
 use dp_telegram::{GLOBAL_ADDRESS, LAST_STATION};
 
-/// The most slaves that a list of them has: one for each station address.
+/// The largest number of slaves in a list of them: one for each station address.
 pub const MOST_DRIVEN: usize = GLOBAL_ADDRESS as usize;
 
-/// A slave whose device feeds its inputs by itself.
+/// A slave whose inputs a device updates at each step.
 #[derive(Clone, Copy, Debug, PartialEq, Eq)]
 pub struct DrivenSlave {
-    /// The slave's address, 0 to 126.
+    /// The address of the slave, 0 to 126.
     pub address: u8,
-    /// Its device, which isn't still.
+    /// The device, which isn't still.
     pub device: Device,
 }
 
@@ -33,8 +33,8 @@ impl Default for DrivenSlave {
 }
 
 impl DrivenSlave {
-    /// What the device does next to the slave, which is seen like this: an Input of as many octets as the
-    /// slave has inputs, of none where it has none.
+    /// Returns the next event of the device, for a slave in this state: an Input with as many octets as the slave has
+    /// inputs, which may be none.
     pub fn next_input(self, slave: &SlaveView) -> Op
         ensures { result ≡ input_next self slave.now }
     {
@@ -49,8 +49,8 @@ impl DrivenSlave {
     }
 }
 
-/// The slaves of a line that devices drive, in ascending order of address: those whose device isn't
-/// still, with inputs or without.
+/// Returns the slaves of a line that devices drive, in ascending order of address: those whose device isn't still, with
+/// or without inputs.
 pub fn driven_slaves(line: &LineSpec) -> ArrayVec<DrivenSlave, MOST_DRIVEN>
     ensures { result.items ≡ all_driven line.now.slaves.items }
 {
@@ -63,7 +63,7 @@ pub fn driven_slaves(line: &LineSpec) -> ArrayVec<DrivenSlave, MOST_DRIVEN>
     driven
 }
 
-/// The slave at an address, where a device drives it.
+/// Returns the slave at an address if a device drives it, else None.
 fn driven_at(slaves: &[SlaveSpec], address: u8) -> Option<DrivenSlave>
     ensures { result ≡ driven_among slaves.now address }
 {

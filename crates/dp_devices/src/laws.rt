@@ -1,4 +1,4 @@
-//! Laws of devices: each is what an empty function ensures.
+//! Laws of devices: each is the contract of an empty function.
 
 ghost use Rattle.std.specs.Prelude.{◌≡◌, ◌≢◌, ◌+◌, ◌%◌, ◌^◌, ◌<◌, ℕ, List, length};
 ghost use Rattle.std.specs.Int.Digits.{number_from_digits};
@@ -11,24 +11,24 @@ pub fn inputs_keep_their_length()
     ensures { (device : Device) (inputs outputs : List ℕ) → length (next_inputs device inputs outputs) ≡ length inputs }
 {}
 
-/// After so many steps a counter has come on by so many, from zero on again after all ones.
+/// After a number of steps a counter has counted on by that number; after all ones it starts again at zero.
 pub fn a_counter_counts_steps()
     ensures { (steps : ℕ) (inputs : List ℕ) → AreOctets inputs
         → number_from_digits 256 (counted_for steps inputs) ≡ (number_from_digits 256 inputs + steps) % 256 ^ length inputs }
 {}
 
-/// A counter of n octets has come round after 256 to the power of n steps.
+/// A counter of n octets is back at its first value after 256 to the power of n steps.
 pub fn a_counter_comes_round()
     ensures { (inputs : List ℕ) → AreOctets inputs → counted_for (256 ^ length inputs) inputs ≡ inputs }
 {}
 
-/// It doesn't come round before.
+/// A counter of n octets isn't back at its first value after fewer steps, except after none.
 pub fn a_counter_does_not_come_round_before()
     ensures { (inputs : List ℕ) (steps : ℕ) → AreOctets inputs → 0 < steps → steps < 256 ^ length inputs
         → counted_for steps inputs ≢ inputs }
 {}
 
-/// A mirror of as many outputs as inputs feeds the outputs.
+/// A mirror with as many outputs as inputs sets the inputs to the outputs.
 pub fn a_mirror_of_equal_length_feeds_the_outputs()
     ensures { (inputs outputs : List ℕ) → length outputs ≡ length inputs → next_inputs devices.Mirror inputs outputs ≡ outputs }
 {}

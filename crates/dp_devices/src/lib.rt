@@ -1,7 +1,7 @@
-//! Devices: the slaves of a line that they drive ([`driven_slaves`]), and the inputs that they feed next
+//! Simulated devices: the slaves of a line that they drive ([`driven_slaves`]), and the next inputs that they set
 //! ([`next_inputs`]).
 //!
-//! Nothing here takes memory.
+//! Nothing here allocates memory.
 #![tactic(auto)]
 
 mod devices;

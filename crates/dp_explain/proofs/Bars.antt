@@ -1,4 +1,4 @@
--- Where a text has its first bar.
+-- The place of the first bar in a text.
 use Rattle.std.proofs.Common.{◌≡◌, ℕ, zero, suc, ◌+◌, ◌==◌, Bool, true, false, ◌&&◌, get_or, inl, inr, List, [], ◌∷◌, length, take, drop, Option, Some, None, refl, sym, ap, ◌∙◌, arith}
 use Rattle.std.specs.Prelude.{option_map}
 use Rattle.std.proofs.lemmas.Bool.{cases_Bool, false≢true, cond-true, cond-false, and_parts, and_from, le-leb}
@@ -73,7 +73,7 @@ nowhere (octet ∷ text) none =
     cond-false (begins (octet ∷ text)) (Some ([], drop 2 text)) (in_front octet (parted text)) (not_begun (octet ∷ text) (none 0 (omega arith) (omega arith)))
     ∙ ap (in_front octet) (nowhere text (λ j low high at. none (suc j) (omega arith) (omega arith) (later octet text j at)))
 
--- what stands before the first bar
+-- the text before the first bar
 pub front_found : (text : List ℕ) (k : ℕ) → NoneBefore (OccursAt text bar) 0 (length text + 1) k × OccursAt text bar k
     → option_map (λ parts. parts.0) (parted text) ≡ Some (take k text)
 front_found text k first = ap (option_map (λ (parts : List ℕ × List ℕ). parts.0)) (found text k first)

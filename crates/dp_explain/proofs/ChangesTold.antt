@@ -1,4 +1,4 @@
--- The rows of changes that are told are those of all slaves.
+-- The rows of changes that are written are those of all slaves.
 use Rattle.std.proofs.Common.{◌≡◌, ℕ, Bool, true, false, cond, eqb, List, [], ◌∷◌, ◌++◌, map, Option, Some, None, refl, sym, ap, subst, ◌∙◌, arith}
 use Rattle.std.specs.Prelude.{is_none, option_map}
 use Rattle.std.specs.List.{AllByRecursion, filter, flat_map, list_any}
@@ -27,7 +27,7 @@ use Rattle.dp_sentences.specs.Changes.{asked_addresses, change_of, change_row, c
 use Rattle.dp_explain.proofs.Reached.{at_after}
 use Rattle.dp_explain.proofs.Standings.{Ways, LinesHave, found_is, halt_standing, is_touched, journal_line, last_of, row_of_same, stays_without_row, tick_standing, untouched_world}
 
--- ---- the rows that are told
+-- ---- the rows that are written
 
 none_rows : (f : ℕ → List ℕ) (slaves : List SlaveRecord) → AllByRecursion (λ slave. f (address_of_slave slave) ≡ []) slaves → flat_map f (map address_of_slave slaves) ≡ []
 none_rows f [] none = refl
@@ -78,7 +78,7 @@ none_found : (first : SlaveRecord) (address : ℕ) (found : Option SlaveRecord) 
 none_found first address found true e none = absurd cc
 none_found first address found false e none = none
 
--- of one address alone
+-- only the row of one address
 one_row : (f : ℕ → List ℕ) (address : ℕ) (slaves : List SlaveRecord) → Ascend slaves → (slave_among slaves address ≡ None → f address ≡ [])
     → AllByRecursion (λ slave. eqb (address_of_slave slave) address ≡ false → f (address_of_slave slave) ≡ []) slaves → flat_map f (map address_of_slave slaves) ≡ f address
 one_row f address [] ascend absent none = sym (absent refl)
@@ -87,7 +87,7 @@ one_row f address (first ∷ slaves) ascend absent none =
     one_by f address first slaves b refl ascend.0 none.0 none.1
     (λ other. one_row f address slaves ascend.1 (λ gone. absent (none_found first address (slave_among slaves address) b other gone)) none.1)
 
--- a slave of a line in ascending order is the one that its address finds
+-- a slave of a line in ascending order is the one that is found by its address
 behind_self : (first : SlaveRecord) (all others : List SlaveRecord) → AreAbove (address_of_slave first) others → AllByRecursion (λ slave. slave_among all (address_of_slave slave) ≡ Some slave) others
     → AllByRecursion (λ slave. slave_among (first ∷ all) (address_of_slave slave) ≡ Some slave) others
 behind_self first all [] above found = tt
@@ -116,7 +116,7 @@ every P (slave ∷ slaves) each = (each slave, every P slaves each)
 abbrev rows_of : World → Entry → ℕ → List ℕ
 rows_of world entry = change_of world (after_entry world entry)
 
--- what an event can't touch has no row
+-- a slave that an event can't change has no row
 no_row_there : (world : World) (entry : Entry) (address : ℕ) → IsOfALine world → Follows world entry → is_touched address entry.event entry.outcome ≡ false → rows_of world entry address ≡ []
 no_row_there world entry address line follows out = stays_without_row world entry address (untouched_world world entry address line follows out)
 

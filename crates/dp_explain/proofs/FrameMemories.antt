@@ -1,4 +1,4 @@
--- What a slave remembers of a master after an entry.
+-- What a slave remembers for a master after an entry.
 use Rattle.std.proofs.Common.{◌≡◌, ℕ, ◌+◌, Bool, true, false, cond, eqb, List, [], ◌∷◌, Option, Some, None, refl, sym, ap, subst, ◌∙◌}
 use Rattle.std.specs.Prelude.{◌||◌, ◌&&◌, find, option_map}
 use Rattle.std.specs.Option.{option_and_then, option_map_or}
@@ -59,7 +59,7 @@ memory_is : (test : MasterMemory → Bool) (memory : List MasterMemory) (m : Mas
 memory_is test [] m here = absurd cc
 memory_is test (first ∷ memory) m here = first_is test first m (find test memory) (test first) refl (memory_is test memory m) here
 
--- of another master, or by what is no SRD, it stays
+-- the memory for another master is unchanged, and so is any memory if the request is no SRD
 last_by : (sender fc : ℕ) (reply : List ℕ) (m : MasterMemory) (b : Bool) → (b ≡ true → last_after fc reply m.last ≡ m.last) → (cond b (record m { last = last_after fc reply m.last }) m).last ≡ m.last
 last_by sender fc reply m true same = same refl
 last_by sender fc reply m false same = refl
@@ -88,7 +88,7 @@ pub no_srd_stays : (memory : List MasterMemory) (sender fc : ℕ) (reply : List 
     → remembered_of (with_remembered memory sender fc reply) master ≡ remembered_of memory master
 no_srd_stays memory sender fc reply master none = remembered_stays memory sender fc reply master (λ m mine its. rw none refl)
 
--- of the sender of an SRD it is that SRD and its reply, where anything is remembered
+-- the memory for the sender of an SRD is that SRD and its reply, if anything is remembered
 pub record IsNew (fc : ℕ) (reply : List ℕ) (last : Remembered) : Type 0 where
   pub bit : frame_count_bit fc ≡ last.fcb
   pub text : reply ≡ last.reply
@@ -152,7 +152,7 @@ no_srd SdnLow sdn srd = absurd cc
 no_srd SdnHigh sdn srd = absurd cc
 no_srd other sdn srd = absurd cc
 
--- an SRD that reaches the slave, is judged anew and replied to is told so
+-- an SRD that reaches the slave and is judged and replied to, other than by a repeat, gets such an outcome
 told_anew : (world : World) (event : Event) (outcome : Outcome) (slave : SlaveRecord) (address master : ℕ) (octets : ArrayVec ℕ) (telegram : Telegram) (parts : Parts) (text : List ℕ) (all : Bool)
     → is_to_all telegram ≡ all → event ≡ Request master octets → outcome ≡ outcome_of world event → slave_at world address ≡ Some slave
     → IsConcerned (heard world master octets.items) telegram parts → is_for telegram slave ≡ true → asks_srd (function_of telegram.fc) ≡ true

@@ -1,4 +1,4 @@
--- What is known behind an event.
+-- What is known after an event.
 use Rattle.std.proofs.Common.{◌≡◌, ℕ, ◌+◌, List, refl}
 use Rattle.dp_line.specs.declared.event.Event.{Event}
 use Rattle.dp_line.specs.declared.event.Outcome.{Outcome}
@@ -18,7 +18,7 @@ pub known_is : (k : KnownView) (event : Event) (description : Description) (worl
     → known_of description world notes tally ≡ known_after k event
 known_is k event description world notes tally described left noted counted = rw (described, left, noted, counted) refl
 
--- the notes and the tally behind an event, of equal parts
+-- the notes and the tally after an event, from equal parts
 pub noted_is : (left notes others : List Noted) (place other : ℕ) (event : Event) (outcome answer : Outcome) → notes ≡ others → place ≡ other → outcome ≡ answer
     → left ≡ notes_after notes place event outcome → left ≡ notes_after others other event answer
 noted_is left notes others place other event outcome answer same at came is = rw (← same, ← at, ← came) is

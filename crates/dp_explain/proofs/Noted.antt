@@ -1,4 +1,4 @@
--- The places that are noted of slaves and masters.
+-- The places that are noted for slaves and masters.
 use Rattle.std.proofs.Common.{◌≡◌, ℕ, Bool, true, false, cond, eqb, List, [], ◌∷◌, map, Option, Some, None, refl, sym, ap, ◌∙◌}
 use Rattle.std.specs.Prelude.{◌||◌, ◌&&◌, find, is_some, option_map}
 use Rattle.std.specs.Option.{option_map_or}
@@ -28,11 +28,11 @@ is_of slave master noted = eqb noted.slave slave && eqb noted.master master
 abbrev note_of : List Noted → ℕ → ℕ → Option Noted
 note_of notes slave master = find (is_of slave master) notes
 
--- there is a note of the slave and the master
+-- there is a note for the slave and the master
 abbrev pub has_note : List Noted → ℕ → ℕ → Bool
 has_note notes slave master = is_some (note_of notes slave master)
 
--- ---- an event changes places alone
+-- ---- an event changes only places
 
 found_by : (f : Noted → Noted) (first : Noted) (b : Bool) (found later : Option Noted) → later ≡ option_map f found → cond b (Some (f first)) later ≡ option_map f (cond b (Some first) found)
 found_by f first true found later same = refl
@@ -151,7 +151,7 @@ place_given slave master place notes octets reply rule telegram spelt srd anew t
     ∙ ap (λ (a : ℕ). place_noted (map (noted_at a master place) notes) slave master) to
     ∙ place_new slave master place notes there
 
--- ---- at first each slave that is described has a note for each master
+-- ---- at first each described slave has a note for each master
 
 some_by : (test : Noted → Bool) (first : Noted) (found : Option Noted) (b : Bool) (others : Bool) → (others ≡ true → is_some found ≡ true) → (b || others) ≡ true → is_some (cond b (Some first) found) ≡ true
 some_by test first found true others more is = refl

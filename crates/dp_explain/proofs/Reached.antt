@@ -1,4 +1,4 @@
--- A slave that an event reaches, and what is answered to a request that reaches one slave.
+-- A slave that an event reaches, and the outcome of a request that reaches one slave.
 use Rattle.std.proofs.Common.{◌≡◌, ◌≢◌, ℕ, ◌+◌, Bool, true, false, not, cond, eqb, List, [], ◌∷◌, map, Option, Some, None, refl, sym, ap, subst, ◌∙◌}
 use Rattle.std.specs.Prelude.{◌&&◌, is_none, option_map, is_some}
 use Rattle.std.specs.Option.{option_and_then, option_map_or}
@@ -29,9 +29,10 @@ use Rattle.dp_line.specs.ReplyText.{reply_text, short_reply, unless_sdn}
 use Rattle.dp_line.specs.Served.{answered, executed, served}
 use Rattle.dp_line.specs.Effects.{effect, is_for, outcome_heard, outcome_of, outcome_of_one, outcome_spread, reply_where_known, served_where_asked, slave_after}
 
--- ---- what concerns a slave
+-- ---- a request that concerns a slave
 
--- it is a telegram that is a request, from a master of the line; it has parts; for all stations it is a Global_Control, and else the line has the slave; and then the slave's rows decide
+-- it is a telegram and a request, from a master of the line, and its access points can be read. If it is for all stations it is a
+-- Global_Control, otherwise the line has the slave. Then the rules of the slave decide
 pub record IsHeard (hearing : Hearing) : Type 0 where
   pub framed : is_none hearing.frame ≡ false
   pub request : frame_has is_no_request hearing ≡ false
@@ -68,7 +69,7 @@ heard_by_slaves hearing concerns =
       verdict = over.1 ∙ framed.1 ∙ master.1 ∙ own.1 ∙ token.1 ∙ request.1 ∙ function.1 ∙ extension.1 ∙ control.1 ∙ there.1;
     }
 
--- it has a telegram
+-- the frame is a telegram
 telegram_by : (frame : Option Frame) → is_none frame ≡ false → option_map_or is_no_request frame false ≡ false → is_some (option_and_then telegram_of_frame frame) ≡ true
 telegram_by None framed request = absurd cc
 telegram_by (Some (frames.Token da sa)) framed request = absurd cc
@@ -110,9 +111,9 @@ reached_rule hearing telegram parts slave concerned found =
     ∙ ap (λ p. first_row (rows_where_known hearing.sender (Some telegram) p hearing.slave)) concerned.read
     ∙ ap (λ s. first_row (rows_where_known hearing.sender (Some telegram) (Some parts) s)) found
 
--- ---- what is answered
+-- ---- the outcome
 
--- to a request for one slave
+-- the outcome of a request for one slave
 pub outcome_one : (hearing : Hearing) (telegram : Telegram) (parts : Parts) (slave : SlaveRecord) → IsConcerned hearing telegram parts → is_to_all telegram ≡ false → hearing.slave ≡ Some slave
     → outcome_heard hearing ≡ answered (rule_at hearing.sender telegram parts slave) (reply_text slave hearing.sender telegram parts (rule_at hearing.sender telegram parts slave))
 outcome_one hearing telegram parts slave concerned to_all found =
@@ -123,7 +124,7 @@ outcome_one hearing telegram parts slave concerned to_all found =
     let known : outcome_of_one hearing ≡ answered (verdict_of hearing) (reply_text slave hearing.sender telegram parts (verdict_of hearing)) = rw (spelt, read, found) refl in
     alone ∙ known ∙ ap (λ (rule : Rule). answered rule (reply_text slave hearing.sender telegram parts rule)) (reached_rule hearing telegram parts slave concerned found)
 
--- by a rule of the line nobody replies
+-- if a rule of the line applies, nobody replies
 silent_text : (rule : Rule) (slave : SlaveRecord) (sender : ℕ) (telegram : Telegram) (parts : Parts) → concerns_a_slave rule ≡ false → reply_text slave sender telegram parts rule ≡ None
 unfolding reply_text
 silent_text rules.Status slave sender telegram parts e = absurd cc
@@ -151,7 +152,7 @@ replied_by hearing reply rule false silent told =
     let outcome : outcome_heard hearing ≡ answered (verdict_of hearing) None = rw (silent, none) refl in
     absurd (no_reply (verdict_of hearing) reply rule (sym outcome ∙ told))
 
--- what is replied to concerns a slave
+-- a request that gets a reply concerns a slave
 pub replied_concerns : (hearing : Hearing) (reply : ArrayVec ℕ) (rule : Rule) → outcome_heard hearing ≡ Reply reply rule → concerns_a_slave (verdict_of hearing) ≡ true
 replied_concerns hearing reply rule = replied_by hearing reply rule (concerns_a_slave (verdict_of hearing)) refl
 
@@ -165,13 +166,13 @@ alone_by hearing telegram reply rule true to_all concerns spelt told =
     let spread : outcome_heard hearing ≡ outcome_spread hearing = rw (concerns, spelt, to_all) refl in
     absurd (no_spread hearing reply rule (sym spread ∙ told))
 
--- and is for one slave
+-- a request that gets a reply is for one slave
 pub replied_alone : (hearing : Hearing) (telegram : Telegram) (reply : ArrayVec ℕ) (rule : Rule) → option_and_then telegram_of_frame hearing.frame ≡ Some telegram → outcome_heard hearing ≡ Reply reply rule
     → is_to_all telegram ≡ false
 replied_alone hearing telegram reply rule spelt told =
     alone_by hearing telegram reply rule (is_to_all telegram) refl (replied_concerns hearing reply rule told) spelt told
 
--- ---- what was heard
+-- ---- the request as it was heard
 
 pub heard_sender : (world : World) (master : ℕ) (octets : List ℕ) → (heard world master octets).sender ≡ master
 unfolding heard
@@ -195,7 +196,7 @@ pub outcome_is : (world : World) (master : ℕ) (octets : ArrayVec ℕ) → outc
 unfolding outcome_of
 outcome_is world master octets = refl
 
--- ---- the ways of an event with one slave: it leaves the slave, a request reaches it, or the operator does something to it
+-- ---- the effects of an event on one slave: it leaves the slave unchanged, a request reaches it, or an event of the operator changes it
 
 pub data IsWay (world : World) (event : Event) (slave after : SlaveRecord) : Type 0 where
   leaves : after ≡ slave → IsWay world event slave after
@@ -240,7 +241,7 @@ way world (Request master octets) slave =
     (concerned_way world (Request master octets) slave master octets (concerns_a_slave (verdict_of hearing)) refl refl)
 way world (Operator op) slave = done_way world op slave (is_done_to op slave)
 
--- ---- the slave of an address, before and after
+-- ---- the slave at an address, before and after
 
 executed_description : (slave : SlaveRecord) (sender place : ℕ) (parts : Parts) (rule : Rule) → (executed slave sender place parts rule).description ≡ slave.description
 unfolding acted

@@ -1,4 +1,4 @@
--- The place that is told of a repeat is that of the request whose reply is given again.
+-- The place that is named for a repeat is that of the request whose reply is sent again.
 use Rattle.std.proofs.Common.{◌≡◌, ℕ, ◌+◌, Bool, true, false, cond, eqb, List, [], ◌∷◌, ◌++◌, map, Option, Some, None, refl, sym, ap, subst, ◌∙◌, append_assoc, codes}
 use Rattle.std.specs.Prelude.{◌&&◌, find, is_some, option_map}
 use Rattle.std.specs.Option.{option_and_then}
@@ -45,7 +45,7 @@ use Rattle.dp_explain.proofs.Standings.{found_is, last_of}
 use Rattle.dp_explain.proofs.FrameMemories.{new_remembered, anew_memory, served_memory, slave_served, either_one, way_memory}
 use Rattle.dp_explain.proofs.Replies.{IsAnew, anew_parts, IsMet, met}
 
--- ---- so it is behind every entry
+-- ---- this holds after every entry
 
 abbrev place_of : KnownView → ℕ → ℕ → ℕ
 place_of known slave master = place_noted known.scene.notes slave master
@@ -143,7 +143,7 @@ replies_by line done known entry address master slave last false none kept follo
     (sym (place_left address master entry.place known.scene.notes entry.event entry.outcome none)) none
     (kept.replies address master slave last here (sym same ∙ remembered))
 
--- the slave of an address before an entry
+-- the slave at an address before an entry
 record IsBefore (world : World) (event : Event) (address : ℕ) (after : SlaveRecord) : Type 0 where
   slave : SlaveRecord
   here : slave_at world address ≡ Some slave
@@ -273,7 +273,7 @@ own_row : (b : Bool) (rest : Rule) → is_again rest ≡ false → is_again (con
 own_row true rest none is = refl
 own_row false rest none is = absurd (both_ways (is_again rest) none is)
 
--- the rows of a slave behind the repeat
+-- the rules of a slave that are checked after the repeat
 abbrev refusals : ℕ → Telegram → Parts → SlaveRecord → List (Bool × Rule)
 refusals sender telegram parts slave =
     refusal_rows (access_row (points_of slave) parts.dsap) (is_listed (points_of slave) parts.dsap sender) sender telegram.fc parts.payload.items ++ (is_not_selected parts slave, rules.NotSelected) ∷ []
@@ -309,7 +309,7 @@ kept_text slave sender telegram parts = refl
 some_parts : {A : Type 0} (a b : A) → Some a ≡ Some b → a ≡ b
 some_parts a b is = cc
 
--- what is known where an entry is told, and what its request has met
+-- what is known before an entry, and the slave that its request reached
 record IsTold (line : Description) (places : ℕ) (before : List Entry) (entry : Entry) (master : ℕ) (octets reply : ArrayVec ℕ) (telegram : Telegram) : Type 0 where
   kept : IsKept line before (known_behind_entries (first_known line places) before)
   met_there : IsMet (known_behind_entries (first_known line places) before).scene.world master octets reply rules.Repeat telegram
@@ -326,7 +326,7 @@ told_there line places before entry master octets reply telegram legal request s
       met_there = met world master octets reply rules.Repeat telegram spelt (ap (outcome_of world) (sym request) ∙ sym follows.outcome ∙ told);
     }
 
--- what is replied to is a telegram
+-- a request that gets a reply is a telegram
 pub replied_telegram : (line : Description) (places : ℕ) (before : List Entry) (entry : Entry) (master : ℕ) (octets reply : ArrayVec ℕ) (rule : Rule) → IsLegal (start_of (record line { capacity = places })) (before ++ entry ∷ [])
     → entry.event ≡ Request master octets → entry.outcome ≡ Reply reply rule → is_some (telegram_spelt octets.items) ≡ true
 replied_telegram line places before entry master octets reply rule legal request told =
@@ -351,7 +351,7 @@ repeats line places before entry master octets reply telegram legal request spel
     (subst (λ (b : Bool). IsLastReplied before (address_of telegram.da) master (place_of known (address_of telegram.da) master) b again.last.reply) again.bit
     (there.kept.replies (address_of telegram.da) master m.slave again.last m.here again.is))
 
--- ---- and so says the row
+-- ---- the row names this place
 
 record IsDescribed (found : Option SlaveSpec) : Type 0 where
   description : SlaveSpec

@@ -1,4 +1,4 @@
--- An entry that tells a reply, and what its request has met.
+-- An entry with a reply, and the slave that its request reached.
 use Rattle.std.proofs.Common.{◌≡◌, ℕ, Bool, true, false, not, eqb, List, Option, Some, None, refl, sym, ap, subst, ◌∙◌}
 use Rattle.std.specs.Prelude.{◌&&◌, is_none}
 use Rattle.std.specs.Option.{option_and_then, option_map_or}
@@ -61,7 +61,7 @@ pub anew_parts : (slave master : ℕ) (event : Event) (outcome : Outcome) → is
 anew_parts slave master (Request sender octets) (Reply reply rule) is = anew_by slave master sender octets reply rule (telegram_spelt octets.items) refl is
 anew_parts slave master event outcome is = absurd cc
 
--- ---- what the request of a reply has met
+-- ---- the slave that a request with a reply reached
 
 record HasParts (parts : Option Parts) : Type 0 where
   read : Parts
@@ -79,7 +79,7 @@ slave_there : (slave : Option SlaveRecord) → is_none slave ≡ false → HasSl
 slave_there None there = absurd cc
 slave_there (Some slave) there = record { found = slave; is = refl }
 
--- what an answer with a reply is made of
+-- the parts of an answer with a reply
 record IsAnswer (answer : Option (List ℕ)) (rule : Rule) (reply : ArrayVec ℕ) (told : Rule) : Type 0 where
   text : answer ≡ Some reply.items
   same : rule ≡ told
@@ -91,7 +91,7 @@ answer_by rule (Some text) reply told is =
     let octets : record { items = text } ≡ reply = cc in
     record { text = ap (λ (r : ArrayVec ℕ). Some r.items) octets; same = cc }
 
--- a reply to a telegram, told in this world
+-- a reply to a telegram, in this world
 pub record IsMet (world : World) (master : ℕ) (octets reply : ArrayVec ℕ) (rule : Rule) (telegram : Telegram) : Type 0 where
   pub parts : Parts
   pub slave : SlaveRecord

@@ -1,4 +1,4 @@
--- The rows of a legal text tell what its entries do.
+-- The lines of a legal text give the explanation of its entries.
 use Rattle.std.proofs.Common.{◌≡◌, ℕ, ◌+◌, true, false, List, [], ◌∷◌, ◌++◌, map, Option, Some, None, Result, Ok, refl, sym, ap, ◌∙◌, codes}
 use Rattle.std.specs.List.{AllByRecursion, flat_map}
 use Rattle.std.proofs.lemmas.List.Concat.{flat_map-cons}
@@ -32,7 +32,7 @@ use Rattle.dp_explain.specs.Explained.{event_of_row, explained_by, holds_of, kno
 use Rattle.dp_explain.specs.JournalTold.{IsToldByItsEntries, holds_of_entries, known_behind_entries, known_behind_entry, told_entries}
 use Rattle.dp_explain.proofs.Rows.{places_are, row_is_read, rows_are}
 
--- ---- an event that is recorded is taken as its entry says
+-- ---- taking a recorded event has the result that its entry states
 
 pub record IsTaken (world : World) (entry : Entry) : Type 0 where
   pub left : (step world entry.event).world ≡ after_entry world entry

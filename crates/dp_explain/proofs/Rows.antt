@@ -1,4 +1,4 @@
--- The rows of a legal text are those of its entries, and each is read as its event.
+-- The lines of a legal text are those of its entries, and each is read as its event.
 use Rattle.std.proofs.Common.{◌≡◌, ℕ, suc, Bool, true, false, cond, List, [], ◌∷◌, length, take, drop, map, Option, Some, None, refl, sym, ap, ◌∙◌, arith}
 use Rattle.std.specs.Prelude.{is_none, option_map, option_and_then}
 use Rattle.dp_line.specs.declared.event.Event.{Event}
@@ -11,7 +11,7 @@ use Rattle.dp_audit.proofs.Headers.{accepted_has_no_lf}
 use Rattle.dp_audit.proofs.Texts.{audit_lines, entry_lines}
 use Rattle.dp_explain.specs.Explained.{event_of_row}
 
--- ---- a row that is judged right is read as its event
+-- ---- a line that is judged right is read as its event
 
 event_is : (test : Bool) (found event : Event) → cond test (right found) not_the_policy ≡ right event → ◌≡◌ {A = Option Event} (Some found) (Some event)
 event_is true found event e = cc
@@ -40,7 +40,7 @@ by_first world event (Some parts) e = by_second world parts.0 event (parted part
 pub row_is_read : (world : World) (row : List ℕ) (event : Event) → judged_line world row ≡ right event → event_of_row row ≡ Some event
 row_is_read world row event e = by_first world event (parted row) e
 
--- ---- the rows behind the header
+-- ---- the lines after the header
 
 one_more : (entry : Entry) (entries : List Entry) → length (entry ∷ entries) ≡ suc (length entries)
 one_more entry entries = omega arith
@@ -57,6 +57,6 @@ rows_are line text count audit =
     ∙ ap (λ (n : ℕ). take n (entry_lines audit.entries)) (sym audit.counted)
     ∙ entry_rows audit.entries
 
--- the line on which the text is judged has the places that its header is for
+-- the line on which the text is judged has the number of places that its header stands for
 pub places_are : (line : Description) (text : List ℕ) (count : ℕ) (audit : IsAuditOf line text count) → places_of_lines line (lines_of text) ≡ places_of_header line audit.header
 places_are line text count audit = ap (places_of_lines line) (ap lines_of audit.written ∙ audit_lines audit.header audit.entries (accepted_has_no_lf line audit.header audit.headed))

@@ -1,4 +1,4 @@
--- What the rows of changes leave out stays as it is.
+-- What has no row of changes is unchanged.
 use Rattle.std.proofs.Common.{◌≡◌, ◌≢◌, ℕ, ◌+◌, Bool, true, false, cond, eqb, List, [], ◌∷◌, ◌++◌, map, Option, Some, None, refl, sym, ap, subst, ◌∙◌}
 use Rattle.std.specs.Prelude.{◌&&◌, is_none, is_some, option_map}
 use Rattle.std.specs.Option.{option_and_then}
@@ -47,13 +47,13 @@ use Rattle.dp_explain.specs.Standing.{standing_at}
 use Rattle.dp_explain.proofs.Reached.{IsConcerned, IsWay, leaves, reaches, operates, asks_it, at_after, found_address, heard_frame, telegram_frame, to_all_controls, way}
 use Rattle.dp_explain.proofs.Retold.{taken_by}
 
--- the rows of changes can tell of the slave of an address
+-- the rows of changes can show the slave at an address
 abbrev pub is_touched : ℕ → Event → Outcome → Bool
 is_touched address event outcome = list_any (λ other. eqb other address) (touched event outcome)
 
 -- ---- requests
 
--- a Global_Control changes neither
+-- a Global_Control changes neither state nor holder
 control_act : (slave : SlaveRecord) (sender place : ℕ) (point : Option ℕ) (octets : List ℕ) → same_point point global_control ≡ true
     → service_act slave sender place point octets ≡ is_controlled (control_of octets)
 control_act slave sender place None octets is = absurd cc
@@ -71,7 +71,7 @@ served_controlled : (slave : SlaveRecord) (sender place : ℕ) (telegram : Teleg
 unfolding served
 served_controlled slave sender place telegram parts is = executed_controlled slave sender place parts _ is
 
--- a request for one slave touches it
+-- a request for one slave can change it
 one_touched : (da address : ℕ) → da ≡ address → list_any (λ other. eqb other address) (da ∷ []) ≡ true
 one_touched da address same = let is = eq-eqb da address same in rw is refl
 
@@ -96,7 +96,7 @@ reached_standing world event outcome slave master octets telegram parts false to
     let outside = subst (λ (e : Event). is_touched (address_of_slave slave) e outcome ≡ false) is out in
     absurd (both_ways (is_touched (address_of_slave slave) (Request master octets) outcome) outside inside)
 
--- ---- what an operator does
+-- ---- events of the operator
 
 later_by : (b : Bool) (first : SlaveRecord) (address : ℕ) (others : List SlaveRecord) → eqb (address_of_slave first) address ≡ false
     → list_any (λ other. eqb other address) (map address_of_slave others) ≡ true → list_any (λ other. eqb other address) (map address_of_slave (cond b (first ∷ others) others)) ≡ true
@@ -113,7 +113,7 @@ touched_by holds first slave address found others true e held here more =
     rw is (rw e refl)
 touched_by holds first slave address found others false e held here more = later_by (holds first) first address (filter holds others) e (more here)
 
--- who is found is among those of which this is true
+-- the slave that is found is among those for which this is true
 among_where : (holds : SlaveRecord → Bool) (slaves : List SlaveRecord) (address : ℕ) (slave : SlaveRecord) → slave_among slaves address ≡ Some slave → holds slave ≡ true
     → list_any (λ other. eqb other address) (map address_of_slave (filter holds slaves)) ≡ true
 among_where holds [] address slave here held = absurd cc
@@ -178,7 +178,7 @@ found_by : (P : SlaveRecord → Type 0) (first slave : SlaveRecord) (found : Opt
 found_by P first slave found true one others here = let same : first ≡ slave = cc in subst P same one
 found_by P first slave found false one others here = others here
 
--- what is true of each slave is true of the one that an address finds
+-- what is true of each slave is true of the one that is found by an address
 pub found_is : (P : SlaveRecord → Type 0) (slaves : List SlaveRecord) (address : ℕ) (slave : SlaveRecord) → AllByRecursion P slaves → slave_among slaves address ≡ Some slave → P slave
 found_is P [] address slave all here = absurd cc
 found_is P (first ∷ slaves) address slave all here =
@@ -199,7 +199,7 @@ pub untouched_world : (world : World) (entry : Entry) (address : ℕ) → IsOfAL
 untouched_world world entry address line follows out =
     ap (option_map state_and_holder) (at_after world entry.event address) ∙ standing_by world entry address (slave_at world address) refl line follows out
 
--- ---- a slave that has no row
+-- ---- a slave without a row
 
 same_states : (before after : State) → same_state before after ≡ true → before ≡ after
 same_states WaitPrm WaitPrm is = refl
@@ -247,7 +247,7 @@ no_row_world world entry address none =
     ∙ no_row_by (slave_after world entry.event) address (slave_at world address)
     (subst (λ (found : Option SlaveRecord). change_row address (shown_at world address) (option_map view_of found) ≡ []) at none)
 
--- ---- the rows that are told are those of all slaves
+-- ---- the rows that are written are those of all slaves
 
 states_same : (state : State) → same_state state state ≡ true
 states_same WaitPrm = refl
@@ -300,7 +300,7 @@ played ways world (entry ∷ entries) legal =
 pub journal_line : Ways → LinesHave → (line : Description) (entries : List Entry) → IsLegal (start_of line) entries → IsOfALine (after_entries (start_of line) entries)
 journal_line ways have line entries legal = subst IsOfALine (played ways (start_of line) entries legal) (have line (events_of entries))
 
--- a journal and its last entry
+-- a journal, and an entry that follows it
 pub record IsLastOf (world : World) (before : List Entry) (entry : Entry) : Type 0 where
   pub legal : IsLegal world before
   pub follows : Follows (after_entries world before) entry

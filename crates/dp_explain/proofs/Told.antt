@@ -1,4 +1,4 @@
--- Rows of an audit text, told so far.
+-- The part of an explanation that is written so far.
 use Rattle.std.proofs.Common.{◌≡◌, ℕ, suc, ◌+◌, ◌-◌, ◌<◌, List, [], ◌∷◌, ◌++◌, take, drop, Option, Result, refl, sym, ap, subst, ◌∙◌, append_assoc, arith}
 use Rattle.std.specs.Io.KnownBytes.{Appends}
 use Rattle.std.specs.List.{flat_map}
@@ -12,7 +12,7 @@ use Rattle.dp_explain.specs.Known.{KnownView, first_known}
 use Rattle.dp_explain.specs.Explained.{event_of_row, known_behind, told_row, told_rows, last_known, Leaves}
 use Rattle.dp_explain.proofs.Writing.{appends_none, appends_more, more_prefix, then_leaves, front_cut}
 
--- so much is written, and the rows that are left would complete it
+-- this text is written, and the text of the remaining lines would complete it
 pub record SoFar (part : Part) (all : List ℕ) (old new : Option (List ℕ)) (known : KnownView) (rows : List (List ℕ)) : Type 0 where
   pub text : List ℕ
   pub written : Appends old new text
@@ -44,7 +44,7 @@ cut_short part all old new newer known row rows s cut =
 
 -- ---- the holds of slaves, one after another
 
--- so much is written, and the slaves that are left would complete it
+-- this text is written, and the holds of the remaining slaves would complete it
 pub record HoldsSoFar (holds : ℕ → List ℕ) (all : List ℕ) (old new : Option (List ℕ)) (addresses : List ℕ) : Type 0 where
   pub text : List ℕ
   pub written : Appends old new text
@@ -73,9 +73,9 @@ holds_cut holds all old new newer address addresses s cut =
     more_prefix old new newer s.text (holds address) (flat_map holds addresses) all s.written cut
     (ap (λ (t : List ℕ). s.text ++ t) (sym (flat_map-cons holds address addresses)) ∙ s.left)
 
--- ---- a pass, and what comes behind it
+-- ---- a pass, and the text after it
 
--- the rows are told in a pass, and then what is known behind them
+-- the text of a pass is written, and then a text by what is known after it
 pub pass_then : (part : Part) (line : Description) (places count : ℕ) (lines rows : List (List ℕ)) (known last : KnownView) (behind : KnownView → List ℕ) (old new newer : Option (List ℕ)) (result : Result (Unit {0}) ExplainFault)
     → known ≡ first_known line places → rows ≡ drop 1 lines → Appends old new (told_rows part known (take count rows)) → last ≡ last_known known (take count rows) → Leaves (behind last) new newer result
     → Leaves (told_rows part (first_known line places) (take count (drop 1 lines)) ++ behind (last_known (first_known line places) (take count (drop 1 lines)))) old newer result
@@ -96,7 +96,7 @@ pass_cut part line places count lines rows known behind old new first behind_hea
     ap (λ (s : KnownView). told_rows part s (take count rows)) first ∙ ap (λ (r : List (List ℕ)). told_rows part (first_known line places) (take count r)) behind_header in
     front_cut old new (told_rows part (first_known line places) (take count (drop 1 lines))) behind (subst (WritesPrefix old new) text cut)
 
--- the next of the rows that are left
+-- the next of the remaining lines
 pub take_next : (count index : ℕ) (row : List ℕ) (rows : List (List ℕ)) → index < count → take (count - index) (row ∷ rows) ≡ row ∷ take (count - (index + 1)) rows
 take_next count index row rows within =
     let e : count - index ≡ suc (count - (index + 1)) = omega arith in

@@ -1,4 +1,4 @@
--- What a writer has after some writes.
+-- The contents of a writer after some writes.
 use Rattle.std.proofs.Common.{◌≡◌, ℕ, Bool, true, false, cond, List, [], ◌++◌, Option, Some, None, Result, Ok, Err, ◌⊎◌, inl, inr, subst, refl, sym, ap, ◌∙◌, append_assoc}
 use Rattle.std.specs.Io.KnownBytes.{Appends}
 use Rattle.std.proofs.lemmas.List.{append-nil}
@@ -52,13 +52,13 @@ then_explains verdict old new newer text more (Ok status) written others = (othe
 then_explains verdict old new newer text more (Err fault) written others =
     more_prefix old new newer text more [] (text ++ more) written others (ap (λ (m : List ℕ). text ++ m) (append-nil more))
 
--- a text that is written where something holds
+-- a text that is written only if something holds
 pub leaves_where : (text : List ℕ) (holds : Bool) (old new : Option (List ℕ)) (result : Result (Unit {0}) ExplainFault) → holds ≡ true → Leaves text old new result
     → Leaves (cond holds text []) old new result
 leaves_where text true old new result is leaves = leaves
 leaves_where text false old new result is leaves = absurd (false≢true is)
 
--- what a check has found, unless memory is out, is what the text is found to be
+-- what a check has found, unless memory ran out, is the verdict on the text
 pub found_explains : (found known : Result ℕ AuditFault) (line : Description) (text : List ℕ) (choice : Choice) (old new : Option (List ℕ)) (result : Result ℕ ExplainFault)
     → (found ≡ Err OutOfMemory → ⊥) → (found ≡ Err OutOfMemory) ⊎ (found ≡ known) → Explains found (explained_by found line text choice) old new result → Explains known (explained_by known line text choice) old new result
 found_explains found known line text choice old new result never is explains = elim is [

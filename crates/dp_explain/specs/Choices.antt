@@ -1,4 +1,4 @@
--- Which entries are told (own).
+-- The choice of the entries that are explained (own).
 use Rattle.std.specs.Prelude.{ℕ, ◌==◌, ◌&&◌, ◌||◌, not, nat_le, Bool, true, false, Option, Some, None}
 use Rattle.std.specs.List.{list_any}
 use Rattle.dp_line.specs.declared.event.Event.{Event}
@@ -11,7 +11,7 @@ use Rattle.dp_sentences.specs.declared.who.Who.{Who}
 use Rattle.dp_sentences.specs.declared.who.Who.TheVariants as senders
 use Rattle.dp_sentences.specs.Heads.{who_of}
 
--- a place is not before the first that is asked for, and not behind the last
+-- a place is not before the first chosen one, and not after the last
 abbrev pub is_from : Option ℕ → ℕ → Bool
 is_from None place = true
 is_from (Some first) place = nat_le first place
@@ -20,13 +20,13 @@ abbrev pub is_to : Option ℕ → ℕ → Bool
 is_to None place = true
 is_to (Some last) place = nat_le place last
 
--- an event goes to this slave alone
+-- an event goes only to this slave
 abbrev pub goes_to : ℕ → Who → Bool
 goes_to address (senders.Master master (Slave other)) = other == address
 goes_to address (senders.Operator (Some other)) = other == address
 goes_to address who = false
 
--- an entry is about a slave: its event goes to it, or the slave is let go or told of by it
+-- an entry is about a slave: its event goes to the slave, releases it, or reaches it as a request to all slaves
 abbrev pub is_about : ℕ → Who → Outcome → Bool
 is_about address who (Spread pairs) = list_any (λ pair. pair.0 == address) pairs.items
 is_about address who (Released addresses) = list_any (λ other. other == address) addresses.items
@@ -36,7 +36,7 @@ abbrev pub is_of_slave : Option ℕ → Who → Outcome → Bool
 is_of_slave None who outcome = true
 is_of_slave (Some address) who outcome = is_about address who outcome
 
--- a master sent it
+-- a master sent the request
 abbrev pub comes_from : ℕ → Who → Bool
 comes_from master (senders.Master sender whom) = sender == master
 comes_from master (senders.Operator address) = false
@@ -45,7 +45,7 @@ abbrev pub is_of_master : Option ℕ → Who → Bool
 is_of_master None who = true
 is_of_master (Some master) who = comes_from master who
 
--- an entry that all parts of the choice let through
+-- the entry passes every field of the choice
 abbrev pub is_chosen : Choice → ℕ → Event → Outcome → Bool
 is_chosen choice place event outcome =
     is_from choice.from place

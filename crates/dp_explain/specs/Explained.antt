@@ -1,4 +1,4 @@
--- An audit text, explained (own).
+-- The explanation of an audit text (own).
 use Rattle.std.specs.Prelude.{codes, ◌≡◌, ℕ, ◌+◌, ◌-◌, if◌then◌else◌, List, [], ◌∷◌, ◌++◌, take, drop, Option, Some, None, option_map, option_and_then, Result, Ok, Err}
 use Rattle.std.specs.Io.KnownBytes.{Appends}
 use Rattle.std.specs.Fmt.{decimal}
@@ -26,11 +26,11 @@ use Rattle.dp_explain.specs.Known.{KnownView, first_known, known_after, outcome_
 
 -- ---- the entries
 
--- the event of a row, which stands behind the place and before the first bar
+-- the event of a text line, which stands between the place and the first bar
 abbrev pub event_of_row : List ℕ → Option Event
 event_of_row row = option_and_then (λ parts. option_map (λ placed. placed.event) (placed_of parts.0)) (parted row)
 
--- what is told of an event in one pass over the text, by what came of it: its rows, where it is chosen; or the hold of a slave that it ended
+-- what one pass over the text writes of an event, by its outcome: its rows, if it is chosen; or the hold of a slave that it ended
 abbrev pub moment_text : Part → SceneView → World → ℕ → Event → Outcome → List ℕ
 moment_text (parts.Entries choice) scene after place event outcome =
     if is_chosen choice place event outcome then block_text scene after place event outcome else []
@@ -50,7 +50,7 @@ abbrev pub known_behind : KnownView → Option Event → KnownView
 known_behind known None = known
 known_behind known (Some event) = known_after known event
 
--- what is told of the rows of an audit text, one after another, and what is known behind the last
+-- what is written of the lines of an audit text, one after another, and what is known after the last
 abbrev pub told_rows : Part → KnownView → List (List ℕ) → List ℕ
 told_rows part known [] = []
 told_rows part known (row ∷ rows) = told_row part known (event_of_row row) ++ told_rows part (known_behind known (event_of_row row)) rows
@@ -61,30 +61,30 @@ last_known known (row ∷ rows) = last_known (known_behind known (event_of_row r
 
 -- ---- the text
 
--- how many entries stand before what is wrong: row 1 is the header, and row 2 the first entry
+-- how many entries there are before the first wrong one: line 1 is the header, and line 2 the first entry
 abbrev pub right_entries : Result ℕ AuditFault → ℕ
 right_entries (Ok count) = count
 right_entries (Err faults.OutOfMemory) = 0
 right_entries (Err (faults.BadLine row)) = row - 2
 right_entries (Err (faults.NotThePolicy row)) = row - 2
 
--- what an audit text is found to be, in the words of a check; that memory is out isn't written
+-- the verdict on an audit text, in the words of a check; nothing is written if memory ran out
 abbrev pub verdict_text : Result ℕ AuditFault → List ℕ
 verdict_text (Ok count) = codes "legal " ++ decimal count ++ codes "\n"
 verdict_text (Err faults.OutOfMemory) = []
 verdict_text (Err (faults.BadLine row)) = codes "bad line " ++ decimal row ++ codes "\n"
 verdict_text (Err (faults.NotThePolicy row)) = codes "not the policy " ++ decimal row ++ codes "\n"
 
--- 0 where it is legal
+-- 0 if the text is legal
 abbrev pub verdict_status : Result ℕ AuditFault → ℕ
 verdict_status (Ok count) = 0
 verdict_status (Err fault) = 1
 
--- the rows of the entries that are right
+-- the text lines of the right entries
 abbrev pub right_rows : Result ℕ AuditFault → List ℕ → List (List ℕ)
 right_rows verdict text = take (right_entries verdict) (drop 1 (lines_of text))
 
--- the holds of a slave of a line with this number of places, in the order in which they began, the last of which may last to the end
+-- the holds of a slave of a line with this number of places, in the order in which they began; the last one may last to the end
 abbrev pub holds_of : Description → ℕ → List (List ℕ) → ℕ → List ℕ
 holds_of line places rows address =
     told_rows (parts.HoldsOf address) (first_known line places) rows
@@ -97,26 +97,26 @@ holds_text line places rows = codes "holds\n" ++ flat_map (holds_of line places 
 abbrev pub summary_text : Description → ℕ → List (List ℕ) → List ℕ
 summary_text line places rows = holds_text line places rows ++ tally_text (last_known (first_known line places) rows).tally
 
--- the entries and the summary
+-- the rows of the entries, and the summary
 abbrev pub told_text : Description → ℕ → List (List ℕ) → Choice → List ℕ
 told_text line places rows choice = told_rows (parts.Entries choice) (first_known line places) rows ++ summary_text line places rows
 
--- and what the text is found to be
+-- the rows, the summary and the verdict
 abbrev pub explained_by : Result ℕ AuditFault → Description → List ℕ → Choice → List ℕ
 explained_by verdict line text choice = told_text line (places_of_lines line (lines_of text)) (right_rows verdict text) choice ++ verdict_text verdict
 
--- an audit text of a line, explained
+-- the explanation of an audit text of a line
 abbrev pub explained : Description → List ℕ → Choice → List ℕ
 explained line text choice = explained_by (checked line text) line text choice
 
 -- ---- what a call leaves on its writer
 
--- the whole text, or a prefix of it where it ended early
+-- the whole text, or a prefix of it if the call ended early
 abbrev pub Leaves : List ℕ → Option (List ℕ) → Option (List ℕ) → Result (Unit {0}) ExplainFault → Type 0
 Leaves text old new (Ok done) = Appends old new text
 Leaves text old new (Err fault) = WritesPrefix old new text
 
--- the explanation, with its exit status
+-- the explanation and its exit status
 abbrev pub Explains : Result ℕ AuditFault → List ℕ → Option (List ℕ) → Option (List ℕ) → Result ℕ ExplainFault → Type 0
 Explains verdict text old new (Ok status) = (status ≡ verdict_status verdict) × Appends old new text
 Explains verdict text old new (Err fault) = WritesPrefix old new text

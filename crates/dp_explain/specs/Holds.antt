@@ -1,4 +1,4 @@
--- Who held a slave, from which place to which, and how that ended (own).
+-- The holds of slaves: by which master, from which place to which, and how each ended (own).
 use Rattle.std.specs.Prelude.{codes, ℕ, if◌then◌else◌, List, [], ◌++◌, Option, Some, None}
 use Rattle.std.specs.Fmt.{decimal}
 use Rattle.dp_slave.specs.declared.view.SlaveView.{SlaveView}
@@ -9,7 +9,7 @@ use Rattle.dp_sentences.specs.Words.{at_left}
 use Rattle.dp_sentences.specs.Changes.{same_holder}
 use Rattle.dp_sentences.specs.Endings.{ending_by, ending_text}
 
--- from a place to another
+-- the places of a hold: from one to another, or from one on
 abbrev pub places_words : ℕ → Option ℕ → List ℕ
 places_words since None = codes "place " ++ decimal since ++ codes " on"
 places_words since (Some place) = codes "places " ++ decimal since ++ codes " to " ++ decimal place
@@ -22,7 +22,7 @@ hold_row address master since place ending =
     codes "  " ++ station_column (codes "slave ") address ++ station_column (codes "master ") master
     ++ at_left 24 (places_words since place) ++ ending_text ending ++ codes "\n"
 
--- of a slave that somebody held
+-- the hold of a slave that somebody held
 abbrev pub ended_of : ℕ → Event → ℕ → ℕ → Option ℕ → List ℕ
 ended_of place event address since None = []
 ended_of place event address since (Some master) = hold_row address master since (Some place) (ending_by event)
@@ -31,7 +31,7 @@ abbrev pub lasting_of : ℕ → ℕ → Option ℕ → List ℕ
 lasting_of address since None = []
 lasting_of address since (Some master) = hold_row address master since None endings.Lasts
 
--- a hold that an event of this place ended: the holder is another one than before
+-- a hold that an event at this place ended: the holder differs from before
 abbrev pub hold_ended : ℕ → Event → ℕ → Option SlaveView → Option SlaveView → List ℕ
 hold_ended place event address None after = []
 hold_ended place event address (Some before) None = []

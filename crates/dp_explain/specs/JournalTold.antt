@@ -1,4 +1,4 @@
--- What is told of a legal journal, by its entries alone: no row is read, and no event is played (own).
+-- The explanation of a legal journal, defined only by its entries: no text is read, and no event is replayed (own).
 use Rattle.std.specs.Prelude.{codes, ◌≡◌, ℕ, List, [], ◌∷◌, ◌++◌, length, None, Ok}
 use Rattle.std.specs.List.{flat_map}
 use Rattle.dp_line.specs.World.{Description, opening_fault}
@@ -14,11 +14,11 @@ use Rattle.dp_explain.specs.Holds.{hold_lasts}
 use Rattle.dp_explain.specs.Known.{KnownView, first_known, known_with, slave_addresses}
 use Rattle.dp_explain.specs.Explained.{explained, moment_text, verdict_text}
 
--- what is known behind an entry
+-- what is known after an entry
 abbrev pub known_behind_entry : KnownView → Entry → KnownView
 known_behind_entry known entry = known_with known (after_entry known.scene.world entry) entry.place entry.event entry.outcome
 
--- what is told of the entries one after another, each with the place, the event and the outcome that are recorded
+-- what is written of the entries, one after another, each with the recorded place, event and outcome
 abbrev pub told_entries : Part → KnownView → List Entry → List ℕ
 told_entries part known [] = []
 told_entries part known (entry ∷ entries) =
@@ -39,13 +39,13 @@ summary_of_entries line places entries =
     (codes "holds\n" ++ flat_map (holds_of_entries line places entries) (slave_addresses line))
     ++ tally_text (known_behind_entries (first_known line places) entries).tally
 
--- of a line with this number of places: the entries that are chosen, the summary, and that the text is legal
+-- for a line with this number of places: the chosen entries, the summary, and that the text is legal
 abbrev pub journal_told : Description → ℕ → List Entry → Choice → List ℕ
 journal_told line places entries choice =
     (told_entries (parts.Entries choice) (first_known line places) entries ++ summary_of_entries line places entries)
     ++ verdict_text (Ok (length entries))
 
--- the explanation of a legal text of a line that can be opened is that of its entries
+-- the explanation of a legal text of a line that can be opened is the explanation of its entries
 abbrev pub IsToldByItsEntries : Type 0
 IsToldByItsEntries =
     (line : Description) (text : List ℕ) (count : ℕ) (choice : Choice) → opening_fault line ≡ None → (audit : IsAuditOf line text count)

@@ -1,4 +1,4 @@
--- What is known where an event is told: the scene and the tally (own).
+-- What is known before an event: the scene and the tally (own).
 use Rattle.std.specs.Prelude.{ℕ, ◌+◌, List, map, Option, Some, None}
 use Rattle.arrayvec.specs.ArrayVec.{ArrayVec}
 use Rattle.dp_line.specs.declared.event.Event.{Event}
@@ -25,16 +25,16 @@ first_known line places = record {
   tally = first_tally line.masters;
 }
 
--- behind an event of this place, by what came of it and the line that it left
+-- after an event at this place, by its outcome and the line after it
 abbrev pub known_with : KnownView → World → ℕ → Event → Outcome → KnownView
 known_with known after place event outcome = record {
   scene = record { description = known.scene.description; world = after; notes = notes_after known.scene.notes place event outcome };
   tally = tally_after known.tally event outcome;
 }
 
--- ---- from the line alone
+-- ---- by the state of the line
 
--- the outcome that an entry tells: where the event met the last place, that of the halt, which is recorded in its stead
+-- the outcome of an entry; if the event reached the last place, that of the halt, which is recorded instead
 abbrev pub outcome_with : Outcome → Option (ArrayVec ℕ) → Outcome
 outcome_with outcome None = outcome
 outcome_with outcome (Some addresses) = Released addresses

@@ -1,4 +1,4 @@
--- The request that a repeat repeats, among the entries before it (own).
+-- The request that a repeat repeats, found among the entries before it (own).
 use Rattle.std.specs.Prelude.{◌≡◌, ℕ, ◌==◌, ◌&&◌, Bool, true, false, List, ◌∷◌, ◌++◌, Some}
 use Rattle.std.specs.List.{AllByRecursion}
 use Rattle.std.specs.Option.{option_map_or}
@@ -15,12 +15,12 @@ use Rattle.dp_line.specs.Hearing.{telegram_spelt}
 use Rattle.dp_audit.specs.declared.entry.Entry.{Entry}
 use Rattle.dp_sentences.specs.Notes.{is_judged_anew}
 
--- a telegram is an SRD to the slave
+-- a telegram that is an SRD to the slave
 abbrev pub is_srd_to : ℕ → Telegram → Bool
 is_srd_to slave telegram = asks_srd (function_of telegram.fc) && address_of telegram.da == slave
 
--- an SRD of the master to the slave, which the slave judged anew and replied to: it leaves its reply, and a repeat doesn't
--- (IEC 61158-4-3, frame count bit; own in detail)
+-- an SRD of the master to the slave, which the slave judged and replied to, other than by a repeat: it leaves its reply, and a repeat
+-- doesn't (IEC 61158-4-3, frame count bit; own in detail)
 abbrev pub is_replied_anew : ℕ → ℕ → Event → Outcome → Bool
 is_replied_anew slave master (Request sender octets) (Reply reply rule) =
     sender == master && is_judged_anew rule && option_map_or (is_srd_to slave) (telegram_spelt octets.items) false
@@ -29,7 +29,7 @@ is_replied_anew slave master event outcome = false
 abbrev pub leaves_a_reply : ℕ → ℕ → Entry → Bool
 leaves_a_reply slave master entry = is_replied_anew slave master entry.event entry.outcome
 
--- the last of the entries that left a reply of the slave to the master has this place: its telegram has this FCB, and its reply is this one
+-- the last entry that left a reply of the slave to the master has this place; its telegram has this FCB, and its reply is this one
 pub record IsLastReplied (entries : List Entry) (slave master place : ℕ) (fcb : Bool) (reply : List ℕ) : Type 0 where
   pub front : List Entry
   pub asked : Entry

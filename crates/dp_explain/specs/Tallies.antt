@@ -1,4 +1,4 @@
--- How many requests of each master were answered by each rule (own). A sender that is no master of the line is told as one of the others.
+-- How many requests of each master were answered by each rule (own). A sender that is no master of the line counts as one of the others.
 use Rattle.std.specs.Prelude.{codes, ℕ, ◌+◌, ◌-◌, ◌^◌, ◌==◌, ◌&&◌, not, min, if◌then◌else◌, Bool, true, false, List, [], ◌∷◌, ◌++◌, map, Option, Some, None}
 use Rattle.std.specs.List.{flat_map, list_any}
 use Rattle.std.specs.Option.{option_map_or}
@@ -17,7 +17,7 @@ use Rattle.dp_sentences.specs.Changes.{same_holder}
 
 -- ---- counting
 
--- what is counted of a sender: by each rule, and the requests to all that no slave was told of
+-- what is counted for a sender: its requests by each rule, and its requests to all slaves that reached no slave
 abbrev pub all_ways : List (Option Rule)
 all_ways = map Some all_rules ++ None ∷ []
 
@@ -27,7 +27,7 @@ uncounted sender way = record { sender = sender; way = way; count = 0 }
 abbrev pub uncounted_of : Option ℕ → List Counted
 uncounted_of sender = map (uncounted sender) all_ways
 
--- at first, of each master and of the others
+-- the counts before the first event: 0 for each master and for the others
 abbrev pub masters_tally : List ℕ → List Counted
 masters_tally masters = flat_map (λ master. uncounted_of (Some master)) masters
 
@@ -42,7 +42,7 @@ same_way None None = true
 same_way (Some rule) (Some other) = same_rule rule other
 same_way way other = false
 
--- a master of the line by its address, and any other sender as none
+-- a master of the line as its address; None for any other sender
 abbrev pub counts_of : ℕ → Counted → Bool
 counts_of master counted = option_map_or (λ sender. sender == master) counted.sender false
 
@@ -57,7 +57,7 @@ abbrev pub counted_at : Option ℕ → Option Rule → Counted → Counted
 counted_at sender way counted =
     if same_holder counted.sender sender && same_way counted.way way then record counted { count = added counted.count 1 } else counted
 
--- a request counts once, and one to all once for each slave that it is told of, or once where that is none
+-- a request counts once; one to all slaves counts once for each slave that it reached, or once if it reached none
 abbrev pub tally_with : List Counted → Option ℕ → List (ℕ × Rule) → List Counted
 tally_with tally sender [] = tally
 tally_with tally sender (pair ∷ pairs) = tally_with (map (counted_at sender (Some pair.1)) tally) sender pairs
@@ -95,7 +95,7 @@ counted_row counted =
     if counted.count == 0 then []
     else codes "  " ++ at_left 12 (sender_words counted.sender) ++ count_columns counted.way counted.count
 
--- of all senders together
+-- the requests of all senders that a rule answered
 abbrev pub total : List Counted → Rule → ℕ
 total [] rule = 0
 total (counted ∷ others) rule = if same_way counted.way (Some rule) then added (total others rule) counted.count else total others rule

@@ -1,4 +1,4 @@
-//! Which entries are told.
+//! The choice of the entries that are explained.
 
 ghost use Rattle.std.specs.Prelude.{◌≡◌, ◌==◌};
 ghost use Rattle.std.specs.List.{list_any};
@@ -8,24 +8,24 @@ use dp_line::{Event, Outcome};
 use dp_responder::Rule;
 use dp_sentences::{Who, Whom};
 
-/// Which entries are told: those that each part lets through.
+/// A choice of entries: those that pass every field.
 #[derive(Clone, Copy)]
 pub struct Choice {
-    /// The first place, from 1; None is the first of the text.
+    /// The first place, from 1; None starts at the first entry of the text.
     pub from: Option<u32>,
-    /// The last place; None is the last of the text.
+    /// The last place; None ends at the last entry of the text.
     pub to: Option<u32>,
-    /// The slave, by its address, that an entry is about; None is each.
+    /// The address of the slave that the entry is about; None chooses the entries of every slave and of the line.
     pub slave: Option<u8>,
-    /// The master, by its address, that sent it; None is each, and the operator.
+    /// The address of the master that sent the request; None chooses every master, and the operator.
     pub master: Option<u8>,
-    /// Only requests that were refused.
+    /// Chooses only requests that were refused; a request to all slaves if any of them refused it.
     pub refused: bool,
-    /// No entry at all: the summary alone.
+    /// Chooses no entry at all: only the summary is written.
     pub summary: bool,
 }
 
-/// The choice lets the entry through.
+/// Returns whether the choice includes the entry.
 pub(crate) fn is_chosen(choice: &Choice, place: u64, event: &Event, outcome: &Outcome) -> bool
     ensures { result ≡ is_chosen choice.now place event.now outcome.now }
 {
@@ -56,7 +56,7 @@ fn is_to(last: Option<u32>, place: u64) -> bool
     }
 }
 
-/// The event goes to this slave alone.
+/// Returns whether the event goes only to this slave.
 fn goes_to(address: u8, who: Who) -> bool
     ensures { result ≡ goes_to address who }
 {
@@ -79,7 +79,7 @@ fn is_of_slave(slave: Option<u8>, who: Who, outcome: &Outcome) -> bool
     }
 }
 
-/// The entry is about this slave.
+/// Returns whether the entry is about this slave.
 fn is_about(address: u8, who: Who, outcome: &Outcome) -> bool
     ensures { result ≡ is_about address who outcome.now }
 {

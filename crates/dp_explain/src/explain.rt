@@ -1,4 +1,4 @@
-//! An audit text, explained.
+//! The explanation of an audit text.
 
 ghost use Rattle.std.specs.Prelude.{◌≡◌, ◌++◌, None, take, drop};
 ghost use Rattle.std.specs.List.{flat_map};
@@ -19,12 +19,12 @@ use dp_text::{Lines, Text, write_whole};
 use std::alloc::Global;
 use std::io::Write;
 
-/// Explains an audit text of a line, which can be opened: writes the rows of each entry that is chosen, up to the
-/// first row that isn't what the line would have written, and then what the text is found to be: `legal N`,
-/// `bad line N` or `not the policy N`, as a check tells it. The answer is the exit status: 0 where it is legal, else 1.
+/// Explains an audit text of a line that can be opened. Writes the rows of each chosen entry, up to the first line of
+/// the text that differs from what the line would have written, then a summary, and then the verdict, as a check writes
+/// it: `legal N`, `bad line N` or `not the policy N`. Returns the exit status: 0 if the text is legal, else 1.
 ///
-/// It takes the memory of two lines and of the rows of one entry, however long the text is. `OutOfMemory` where that
-/// was refused, `WriteFault` where a write failed: either leaves a prefix.
+/// It takes memory for two passes, each with two lines and with the rows of one entry, however long the text is.
+/// Returns `OutOfMemory` if memory runs out, `WriteFault` if a write fails; either leaves a prefix of the output.
 pub fn explain_text<W: Write>(
     alloc: Global,
     line: &LineSpec,
@@ -62,7 +62,7 @@ pub fn explain_text<W: Write>(
     }
 }
 
-/// Explains an audit text that was found to be this.
+/// Explains an audit text that has this verdict.
 fn explain_by<W: Write>(
     alloc: Global,
     verdict: Result<u32, AuditFault>,
@@ -82,7 +82,7 @@ fn explain_by<W: Write>(
     }
 }
 
-/// Tells so many entries of an audit text, and the summary.
+/// Writes the first `count` entries of an audit text, and the summary.
 fn tell_text<W: Write>(
     alloc: Global,
     line: &LineSpec,
@@ -105,7 +105,7 @@ fn tell_text<W: Write>(
     }
 }
 
-/// Tells the summary of a text; the line has been told whole.
+/// Writes the summary of a text, after a pass over the whole text.
 fn tell_summary<W: Write>(
     telling: &mut Telling<'_>,
     alloc: Global,
@@ -124,7 +124,7 @@ fn tell_summary<W: Write>(
     }
 }
 
-/// Tells the holds of all slaves of the line behind their title.
+/// Writes a title, and the holds of all slaves of the line.
 fn tell_all_holds<W: Write>(
     alloc: Global,
     line: &LineSpec,
@@ -142,7 +142,7 @@ fn tell_all_holds<W: Write>(
     }
 }
 
-/// Tells the holds of each slave of the line.
+/// Writes the holds of each slave of the line.
 fn tell_holds<W: Write>(
     alloc: Global,
     line: &LineSpec,
@@ -163,7 +163,7 @@ fn tell_holds<W: Write>(
     Ok(())
 }
 
-/// Tells the holds of the slave of an address, in a pass over the text of its own.
+/// Writes the holds of the slave with this address, in a separate pass over the text.
 fn tell_holds_of<W: Write>(
     alloc: Global,
     line: &LineSpec,
@@ -186,7 +186,7 @@ fn tell_holds_of<W: Write>(
     }
 }
 
-/// The rows of an audit text behind its header.
+/// Returns the lines of an audit text after its header.
 fn rows_of(text: &str) -> Lines<'_>
     ensures { result ≡ drop 1 (lines_of text.now) }
 {
@@ -195,7 +195,7 @@ fn rows_of(text: &str) -> Lines<'_>
     rows
 }
 
-/// How many entries stand before what is wrong.
+/// Returns how many entries there are before the first wrong one.
 fn right_entries(verdict: Result<u32, AuditFault>) -> u64
     ensures { result ≡ right_entries verdict }
 {
@@ -207,7 +207,7 @@ fn right_entries(verdict: Result<u32, AuditFault>) -> u64
     }
 }
 
-/// Writes what an audit text is found to be, and answers the exit status.
+/// Writes the verdict on an audit text, and returns the exit status: 0 if it is legal, else 1.
 fn tell_verdict<W: Write>(
     verdict: Result<u32, AuditFault>,
     writer: &mut W,
@@ -231,8 +231,8 @@ fn status_of(verdict: Result<u32, AuditFault>) -> u8
     }
 }
 
-/// Makes the text what is written of an audit text: `legal N`, `bad line N` or `not the policy N`, with its LF; nothing
-/// where memory was refused.
+/// Sets the text to the verdict on an audit text: `legal N`, `bad line N` or `not the policy N`, with its LF. Leaves it
+/// empty if the verdict is that memory ran out.
 pub fn set_verdict(text: &mut Text, verdict: Result<u32, AuditFault>)
     ensures { text.new ≡ verdict_text verdict }
 {

@@ -1,22 +1,22 @@
-//! Why an explanation ended early.
+//! The reasons why an explanation ends early.
 
 ghost use Rattle.std.specs.Prelude.{◌≡◌};
 ghost use Rattle.dp_explain.specs.Names.{explain_fault_name};
 
 use thiserror::Error;
 
-/// Why an explanation ended early. What was written before stays written.
+/// A reason why an explanation ends early. What was written before stays written.
 #[derive(Clone, Copy, Debug, Error)]
 #[error("{}", self.name())]
 pub enum ExplainFault {
-    /// Memory was refused.
+    /// Memory ran out.
     OutOfMemory,
-    /// A write failed, or took no octet.
+    /// A write failed, or took no bytes.
     WriteFault,
 }
 
 impl ExplainFault {
-    /// Its text.
+    /// Returns its text.
     pub const fn name(self) -> &'static str
         ensures { result.now ≡ explain_fault_name self }
     {

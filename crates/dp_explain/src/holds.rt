@@ -1,4 +1,4 @@
-//! Who held a slave, from which place to which, and how that ended.
+//! The holds of slaves: by which master, from which place to which, and how each ended.
 
 ghost use Rattle.std.specs.Prelude.{◌≡◌, ◌≤◌, length, Some};
 ghost use Rattle.dp_sentences.specs.Results.{shown_at};
@@ -8,16 +8,16 @@ use dp_line::{Event, LineState};
 use dp_sentences::{Ending, Spaces, digits_of, digits_of_long, same_holder};
 use std::fmt;
 
-/// The columns of a slave, of a master and of places.
+/// The widths of the columns of a slave or a master, and of places.
 const STATION_COLUMNS: usize = 12;
 
 const PLACES_COLUMNS: usize = 24;
 
-/// The places of a hold.
+/// The places at which a hold began and ended.
 #[derive(Clone, Copy)]
 struct Places {
     since: u32,
-    /// The place of the event that ended it; None where it lasts.
+    /// The place of the event that ended the hold; None if it lasts.
     place: Option<u64>,
 }
 
@@ -34,7 +34,7 @@ impl fmt::Display for Places {
 }
 
 impl Places {
-    /// How many letters its text has.
+    /// Returns the number of characters of its text.
     fn width(self) -> usize
         ensures width { result ≡ length (places_words self.since self.place) }
         ensures few { result ≤ 51 }
@@ -47,7 +47,7 @@ impl Places {
     }
 }
 
-/// A hold, in a row.
+/// A hold, as a row.
 #[derive(Clone, Copy)]
 struct HoldRow {
     address: u8,
@@ -94,12 +94,12 @@ impl<'a> fmt::Display for StationColumn<'a> {
     }
 }
 
-/// The hold of a slave that an event ended, in a row where it did.
+/// The hold of a slave that an event ended, as a row; writes nothing if the event ended no hold of the slave.
 #[derive(Clone, Copy)]
 pub(crate) struct HoldEnded<'a> {
     pub(crate) place: u64,
     pub(crate) event: &'a Event,
-    /// The slave.
+    /// The address of the slave.
     pub(crate) address: u8,
     /// The line before and after the event.
     pub(crate) before: &'a LineState,
@@ -137,7 +137,7 @@ impl<'a> fmt::Display for HoldEnded<'a> {
     }
 }
 
-/// The hold of a slave that lasts, in a row where somebody holds it.
+/// The hold of a slave that lasts, as a row; writes nothing if nobody holds the slave.
 #[derive(Clone, Copy)]
 pub(crate) struct HoldLasts<'a> {
     pub(crate) address: u8,

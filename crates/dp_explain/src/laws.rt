@@ -1,4 +1,4 @@
-//! Laws of explanations: each is what a function that does nothing ensures.
+//! Laws of explanations: each is the contract of a function that does nothing.
 
 ghost use Rattle.std.specs.Prelude.{codes, ◌≡◌, ◌==◌, ◌++◌, ℕ, true, false, List, [], ◌∷◌, map, Some, is_some};
 ghost use Rattle.std.specs.List.{flat_map, list_any};
@@ -22,8 +22,8 @@ ghost use Rattle.dp_explain.specs.Known.{first_known};
 ghost use Rattle.dp_explain.specs.Repeats.{IsLastReplied};
 ghost use Rattle.dp_explain.specs.Standing.{standing_at};
 
-/// The explanation of a legal audit text is that of its journal: of each entry that is chosen, in their order, the rows
-/// of the place, the event and the outcome that are recorded, and the holds and counts of all entries.
+/// The explanation of a legal audit text is that of its journal: for each chosen entry, in their order, the rows of the
+/// recorded place, event and outcome, and then the holds and counts of all entries.
 pub fn a_legal_text_is_told_by_its_entries()
     ensures { IsToldByItsEntries }
 {
@@ -33,9 +33,9 @@ pub fn a_legal_text_is_told_by_its_entries()
     dp_audit::text_laws::every_legal_text_is_accepted();
 }
 
-/// What the rows of changes leave out is as it was, at each entry of a legal journal since the line was opened: a slave
-/// that the entry's event can't change has the state and the holder that it had before, and so has one that has no row.
-/// The rows that are told are those of all slaves of the line, in the order of their addresses.
+/// What has no row of changes is unchanged, at each entry of a legal journal since the line was opened. A slave that
+/// the entry's event can't change has the same state and holder as before, and so has a slave without a row. The rows
+/// that are written are those of all slaves of the line, in the order of their addresses.
 pub fn a_slave_without_a_row_is_as_it_was()
     ensures untouched { (line : Description) (before : List Entry) (entry : Entry) (address : ℕ)
         → IsLegal (start_of line) (before ++ entry ∷ [])
@@ -55,11 +55,11 @@ pub fn a_slave_without_a_row_is_as_it_was()
     dp_line::laws::every_line_has();
 }
 
-/// The place that is told of a repeat is that of the request whose reply is given again, at each entry of a legal
-/// journal since the line was opened: of the entries before it the last SRD of the same master to the same slave that the
-/// slave judged anew and replied to has this place, the FCB of the repeat, and the very reply; and the row of the repeat
-/// names this place. What is replied to, as a repeat is, always is a telegram. The line may have any number of places, as an
-/// endless line has.
+/// The place that is named for a repeat is that of the request whose reply is sent again, at each entry of a legal
+/// journal since the line was opened. This request is the last SRD before the repeat from the same master to the same
+/// slave that the slave judged and replied to, other than by a repeat. It has this place and the FCB of the repeat, and
+/// its reply is the one that is sent again. The row of the repeat names this place. A request that gets a reply, as a
+/// repeat does, always is a telegram. The line may have any number of places, as an endless line has.
 pub fn a_repeat_is_told_by_the_place_of_its_request()
     ensures telegram { (line : Description) (places : ℕ) (before : List Entry) (entry : Entry) (master : ℕ) (octets reply : ArrayVec ℕ) (rule : Rule)
         → IsLegal (start_of (record line { capacity = places })) (before ++ entry ∷ [])

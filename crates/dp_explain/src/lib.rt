@@ -1,8 +1,9 @@
-//! An audit text, explained to a person: what each entry is, what came of it and why, and what it changed, in the rows of
-//! [`dp_sentences`]; who held which slave, and how many requests were answered by each rule.
+//! Explanations of audit texts for a person: what each entry is, its result and the reason, and what it changed, in the
+//! rows of [`dp_sentences`]; then who held which slave, and how many requests were answered by each rule.
 //!
-//! [`explain_text`] writes to any writer. It takes the memory of two lines, which it plays the events on, one behind the
-//! other by an event, and of the rows of one entry.
+//! [`explain_text`] writes to any writer. A pass over the text replays the events on two lines, one of which is one
+//! event behind the other. At most two passes are open at a time, so it takes memory for four lines, and for the rows
+//! of one entry in each pass.
 #![tactic(auto)]
 
 mod choice;

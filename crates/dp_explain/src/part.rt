@@ -1,12 +1,12 @@
-//! What is told in one pass over an audit text.
+//! The parts of an explanation that one pass over an audit text writes.
 
 use crate::choice::Choice;
 
-/// What is told in one pass over an audit text.
+/// The part of an explanation that one pass over an audit text writes.
 #[derive(Clone, Copy)]
 pub(crate) enum Part {
-    /// The entries that are chosen.
+    /// The chosen entries.
     Entries(Choice),
-    /// The holds of the slave of this address.
+    /// The holds of the slave with this address.
     HoldsOf(u8),
 }

@@ -1,4 +1,4 @@
-//! Reading the event of a row of an audit text.
+//! Reads the event in a line of an audit text.
 
 ghost use Rattle.std.specs.Prelude.{◌≡◌, None, Some, option_map};
 ghost use Rattle.dp_audit.specs.Check.{parted, placed_of};
@@ -8,10 +8,10 @@ use dp_line::Event;
 use dp_text::{Words, event_in, number_in};
 use memchr::memmem;
 
-/// What separates the parts of a row.
+/// The separator of the parts of a text line.
 const BAR: [u8; 3] = *b" | ";
 
-/// The event of a row, which stands behind the place and before the first bar.
+/// Reads the event of a text line, which stands between the place and the first bar; None if there is none.
 pub(crate) fn event_of_row(row: &[u8]) -> Option<Event>
     ensures { result ≡ event_of_row row.now }
 {
@@ -21,7 +21,7 @@ pub(crate) fn event_of_row(row: &[u8]) -> Option<Event>
     }
 }
 
-/// What stands before the first bar; None where there is no bar.
+/// Returns the text before the first bar; None if there is no bar.
 fn before_bar(text: &[u8]) -> Option<&[u8]>
     ensures { option_map (λ front. front.now) result ≡ option_map (λ parts. parts.0) (parted text.now) }
 {
@@ -31,7 +31,7 @@ fn before_bar(text: &[u8]) -> Option<&[u8]>
     }
 }
 
-/// The event of `PLACE EVENT`.
+/// Reads the event of a text `PLACE EVENT`; None if the text isn't of this form.
 fn event_in_placed(text: &[u8]) -> Option<Event>
     ensures { result ≡ option_map (λ placed. placed.event) (placed_of text.now) }
 {

@@ -1,4 +1,4 @@
-//! How many requests of each master were answered by each rule.
+//! The number of requests of each master that were answered by each rule.
 
 ghost use Rattle.std.specs.Prelude.{◌≡◌, [], ◌∷◌, ◌++◌, length, map, IfOk, OnOk, Some};
 ghost use Rattle.std.specs.List.{flat_map, list_any};
@@ -11,26 +11,26 @@ use dp_sentences::{Spaces, digits_of, digits_of_long, same_holder};
 use std::alloc::{AllocError, Global};
 use std::fmt;
 
-/// The columns of a sender, of a way and of a count.
+/// The widths of the columns of a sender, of a way and of a count.
 const SENDER_COLUMNS: usize = 12;
 
 const WAY_COLUMNS: usize = 14;
 
 const COUNT_COLUMNS: usize = 8;
 
-/// How many requests of a sender were answered in one way.
+/// The number of requests of one sender that were answered in one way.
 #[derive(Drop)]
 pub(crate) struct Counted {
-    /// A master of the line, 0 to 126; None is every other sender.
+    /// A master of the line, 0 to 126; None stands for all other senders.
     pub(crate) sender: Option<u8>,
-    /// A rule; None is a request to all that no slave was told of.
+    /// A rule; None stands for a request to all slaves that reached no slave.
     pub(crate) way: Option<Rule>,
-    /// The number, which stops at the largest one of 64 bits.
+    /// The number, which stops at the largest number of 64 bits.
     pub(crate) count: u64,
 }
 
 impl Counted {
-    /// Counts a request where it is of this sender and was answered in this way.
+    /// Counts a request if it is from this sender and was answered in this way.
     fn add(&mut self, sender: Option<u8>, way: Option<Rule>)
         ensures { self.new ≡ counted_at sender way self.old }
     {
@@ -39,7 +39,7 @@ impl Counted {
         }
     }
 
-    /// It counts requests of this master.
+    /// Returns whether it counts requests of this master.
     fn counts(&self, master: u8) -> bool
         ensures { result ≡ counts_of master self.now }
     {
@@ -61,7 +61,7 @@ fn same_way(way: Option<Rule>, other: Option<Rule>) -> bool
     }
 }
 
-/// A master of the line by its address, and any other sender as none.
+/// Returns a master of the line as its address; None for any other sender.
 fn sender_in(tally: &[Counted], master: u8) -> Option<u8>
     ensures { result ≡ sender_in tally.now master }
 {
@@ -72,7 +72,7 @@ fn sender_in(tally: &[Counted], master: u8) -> Option<u8>
     }
 }
 
-/// Requests of this master are counted by its address.
+/// Returns whether requests of this master are counted separately.
 fn has_sender(tally: &[Counted], master: u8) -> bool
     ensures { result ≡ list_any (counts_of master) tally.now }
 {
@@ -88,7 +88,7 @@ fn count(tally: &mut [Counted], sender: Option<u8>, way: Option<Rule>)
     }
 }
 
-/// Counts a request to all once for each slave that it is told of.
+/// Counts a request to all slaves once for each slave that it reached.
 fn count_each(tally: &mut [Counted], sender: Option<u8>, pairs: &[(u8, Rule)])
     ensures { tally.new ≡ tally_with tally.old sender pairs.now }
 {
@@ -99,7 +99,7 @@ fn count_each(tally: &mut [Counted], sender: Option<u8>, pairs: &[(u8, Rule)])
     }
 }
 
-/// Counts a request to all, also one that no slave is told of.
+/// Counts a request to all slaves, also one that reached no slave.
 fn count_spread(tally: &mut [Counted], sender: Option<u8>, pairs: &[(u8, Rule)])
     ensures { tally.new ≡ tally_spread tally.old sender pairs.now }
 {
@@ -109,14 +109,14 @@ fn count_spread(tally: &mut [Counted], sender: Option<u8>, pairs: &[(u8, Rule)])
     }
 }
 
-/// Counts the requests that an event is, by what came of it.
+/// Counts an event that is a request, by its outcome.
 pub(crate) fn count_event(tally: &mut Vec<Counted>, event: &Event, outcome: &Outcome)
     ensures { tally.new.items ≡ tally_after tally.old.items event.now outcome.now }
 {
     count_in(tally.as_mut_slice(), event, outcome);
 }
 
-/// Counts the requests that an event is in this tally.
+/// Counts an event in this slice of counts. See [`count_event`].
 fn count_in(tally: &mut [Counted], event: &Event, outcome: &Outcome)
     ensures { tally.new ≡ tally_after tally.old event.now outcome.now }
 {
@@ -129,7 +129,7 @@ fn count_in(tally: &mut [Counted], event: &Event, outcome: &Outcome)
     }
 }
 
-/// Counts a request by its answer.
+/// Counts a request by its outcome.
 fn count_answer(tally: &mut [Counted], sender: Option<u8>, outcome: &Outcome)
     ensures { tally.new ≡ tally_answer tally.old sender outcome.now }
 {
@@ -143,7 +143,8 @@ fn count_answer(tally: &mut [Counted], sender: Option<u8>, outcome: &Outcome)
     }
 }
 
-/// At first nothing is counted of each master and of the others.
+/// Returns the counts before the first event: 0 for each master, for the other senders, and for each way. `AllocError`
+/// if memory runs out.
 pub(crate) fn first_tally(alloc: Global, masters: &[u8]) -> Result<Vec<Counted>, AllocError>
     ensures { IfOk result (λ tally. tally.items ≡ first_tally masters.now) }
 {
@@ -155,7 +156,7 @@ pub(crate) fn first_tally(alloc: Global, masters: &[u8]) -> Result<Vec<Counted>,
     Ok(tally)
 }
 
-/// Puts a sender with each way behind the others.
+/// Appends a sender with each way, counted 0. `AllocError` if memory runs out.
 fn push_sender(tally: &mut Vec<Counted>, sender: Option<u8>) -> Result<(), AllocError>
     ensures { OnOk result (tally.new.items ≡ tally.old.items ++ uncounted_of sender) }
 {
@@ -163,7 +164,7 @@ fn push_sender(tally: &mut Vec<Counted>, sender: Option<u8>) -> Result<(), Alloc
     push_way(tally, sender, None)
 }
 
-/// Puts a sender with each of these rules behind the others.
+/// Appends a sender with each of these rules, counted 0. `AllocError` if memory runs out.
 fn push_rules(
     tally: &mut Vec<Counted>,
     sender: Option<u8>,
@@ -177,7 +178,7 @@ fn push_rules(
     Ok(())
 }
 
-/// Puts a sender with a way behind the others.
+/// Appends a sender with a way, counted 0. `AllocError` if memory runs out.
 fn push_way(
     tally: &mut Vec<Counted>,
     sender: Option<u8>,
@@ -193,7 +194,7 @@ fn push_way(
     Ok(())
 }
 
-/// A way by its name.
+/// Returns the name of a way.
 fn way_name(way: Option<Rule>) -> &'static str
     ensures { result.now ≡ way_words way }
 {
@@ -203,7 +204,7 @@ fn way_name(way: Option<Rule>) -> &'static str
     }
 }
 
-/// A way and a number in their columns.
+/// A way and a count, in their columns.
 #[derive(Clone, Copy)]
 struct CountColumns {
     way: Option<Rule>,
@@ -242,7 +243,7 @@ impl fmt::Display for SenderColumn {
     }
 }
 
-/// The row of a sender and a way, where there was such a request.
+/// The row of a sender and a way; writes nothing if the count is 0.
 #[derive(Clone, Copy)]
 struct CountedRow<'a>(&'a Counted);
 
@@ -262,7 +263,7 @@ impl<'a> fmt::Display for CountedRow<'a> {
     }
 }
 
-/// How often a rule was given to all senders together.
+/// Returns how often requests of all senders were answered by a rule; stops at the largest number of 64 bits.
 fn total(tally: &[Counted], rule: Rule) -> u64
     ensures { result ≡ total tally.now rule }
 {
@@ -277,7 +278,7 @@ fn total(tally: &[Counted], rule: Rule) -> u64
     }
 }
 
-/// The row of a rule by which requests were refused.
+/// The row of a rule that refused requests; writes nothing if the rule refused none.
 #[derive(Clone, Copy)]
 struct RefusedRow<'a> {
     tally: &'a [Counted],
@@ -301,7 +302,7 @@ impl<'a> fmt::Display for RefusedRow<'a> {
     }
 }
 
-/// The rows of senders and ways.
+/// The rows of all senders and ways.
 #[derive(Clone, Copy)]
 struct CountedRows<'a>(&'a [Counted]);
 
@@ -317,7 +318,7 @@ impl<'a> fmt::Display for CountedRows<'a> {
     }
 }
 
-/// The rows of these rules, by which requests were refused.
+/// The rows of those of these rules that refused requests.
 #[derive(Clone, Copy)]
 struct RefusedRows<'a> {
     tally: &'a [Counted],
@@ -339,7 +340,7 @@ impl<'a> fmt::Display for RefusedRows<'a> {
     }
 }
 
-/// How many requests of each master were answered by each rule.
+/// The table of how many requests of each master were answered by each rule.
 #[derive(Clone, Copy)]
 struct CountedTable<'a>(&'a [Counted]);
 
@@ -352,7 +353,7 @@ impl<'a> fmt::Display for CountedTable<'a> {
     }
 }
 
-/// How many requests were refused by each rule.
+/// The table of how many requests were refused by each rule.
 #[derive(Clone, Copy)]
 struct RefusedTable<'a>(&'a [Counted]);
 
@@ -368,7 +369,7 @@ impl<'a> fmt::Display for RefusedTable<'a> {
     }
 }
 
-/// How many requests of each master were answered by each rule, and how many were refused.
+/// Both tables: the requests of each master by rule, and the refusals by rule.
 #[derive(Clone, Copy)]
 pub(crate) struct TallyRows<'a>(pub(crate) &'a [Counted]);
 

@@ -1,4 +1,4 @@
-//! The entries of an audit text, told one after another.
+//! Writes the entries of an audit text, one after another.
 
 ghost use Rattle.std.specs.Prelude.{◌≡◌, ◌+◌, if◌then◌else◌, [], take, None, Some, IfSome, OnOk, MatchResult};
 ghost use Rattle.dp_text.specs.Words.{lines_of};
@@ -29,8 +29,8 @@ use std::fmt::Display;
 use std::io::Write;
 use std::marker::Model;
 
-/// A line that is told: as it was before an event and as it is after it, with the notes. Between two
-/// events both are the same. Contracts see what is known before the next event.
+/// A pass over an audit text: the line before and after the event that is being written, and the notes and counts.
+/// Between two events both lines are equal. Contracts see what is known before the next event.
 #[derive(Drop)]
 pub(crate) struct Telling<'a> {
     line: &'a LineSpec,
@@ -38,7 +38,7 @@ pub(crate) struct Telling<'a> {
     after: LineState,
     notes: Vec<Noted>,
     tally: Vec<Counted>,
-    /// The rows of one entry.
+    /// A buffer for the rows of one entry.
     rows: String,
 }
 
@@ -58,7 +58,8 @@ impl<'a> Model for Telling<'a> {
 }
 
 impl<'a> Telling<'a> {
-    /// Opens the line on which this text is judged, before its first entry. It takes the memory of two lines.
+    /// Opens the line on which this text is judged, before its first entry. It takes memory for two lines; returns
+    /// `OutOfMemory` if there is too little.
     pub(crate) fn open(
         alloc: Global,
         line: &'a LineSpec,
@@ -90,7 +91,7 @@ impl<'a> Telling<'a> {
         })
     }
 
-    /// Tells an event that is the next one.
+    /// Takes the next event, and writes this part of it.
     fn tell_event<W: Write>(
         &mut self,
         part: &Part,
@@ -122,7 +123,7 @@ impl<'a> Telling<'a> {
         told
     }
 
-    /// Tells a row that is the next one.
+    /// Reads the next text line, takes its event, and writes this part of it. A text line without an event is skipped.
     fn tell_row<W: Write>(
         &mut self,
         part: &Part,
@@ -138,7 +139,7 @@ impl<'a> Telling<'a> {
         }
     }
 
-    /// Tells so many of the rows that are left.
+    /// Reads the next `count` text lines, or all that are left, and writes this part of each.
     pub(crate) fn tell_rows<W: Write>(
         &mut self,
         part: &Part,
@@ -161,7 +162,7 @@ impl<'a> Telling<'a> {
         Ok(())
     }
 
-    /// Tells the hold of a slave that lasts.
+    /// Writes the hold of a slave that lasts.
     pub(crate) fn tell_lasting<W: Write>(
         &mut self,
         address: u8,
@@ -176,7 +177,7 @@ impl<'a> Telling<'a> {
         write_rows(&rows, &mut self.rows, writer)
     }
 
-    /// Tells how many requests were answered by each rule.
+    /// Writes how many requests were answered by each rule.
     pub(crate) fn tell_tally<W: Write>(&mut self, writer: &mut W) -> Result<(), ExplainFault>
         ensures { Leaves (tally_text self.old.tally) (W.contents writer.old) (W.contents writer.new) result }
     {
@@ -185,7 +186,7 @@ impl<'a> Telling<'a> {
     }
 }
 
-/// The outcome that an entry tells: where its event met the last place, that of the halt.
+/// Returns the outcome of an entry; that of the halt if its event reached the last place.
 fn outcome_with(outcome: Outcome, halted: Option<ArrayVec<u8, MOST_SLAVES>>) -> Outcome
     ensures { result ≡ outcome_with outcome halted }
 {
@@ -195,7 +196,7 @@ fn outcome_with(outcome: Outcome, halted: Option<ArrayVec<u8, MOST_SLAVES>>) -> 
     }
 }
 
-/// An event, and what came of it.
+/// An event with its outcome, and the line before and after it.
 #[derive(Clone, Copy)]
 struct Moment<'a> {
     scene: &'a Scene<'a>,
@@ -205,7 +206,7 @@ struct Moment<'a> {
     outcome: &'a Outcome,
 }
 
-/// Tells what a pass tells of an event; `rows` is room to make it in.
+/// Writes this part of an event; `rows` is a buffer for the text.
 fn tell_moment<W: Write>(
     moment: &Moment<'_>,
     part: &Part,
@@ -231,7 +232,7 @@ fn tell_moment<W: Write>(
     }
 }
 
-/// Writes the rows of an event, where it is chosen.
+/// Writes the rows of an event if it is chosen.
 fn tell_entry<W: Write>(
     moment: &Moment<'_>,
     choice: &Choice,
@@ -255,7 +256,8 @@ fn tell_entry<W: Write>(
     write_rows(&block, rows, writer)
 }
 
-/// Writes what is told, which is made in `rows` first.
+/// Formats a text into `rows`, and then writes it. Returns `OutOfMemory` if memory runs out, and `WriteFault` if the
+/// write fails.
 pub(crate) fn write_rows<W: Write, D: Display>(
     told: &D,
     rows: &mut String,

@@ -1,4 +1,4 @@
--- When something comes round.
+-- The moments at which an action is due.
 use Rattle.std.proofs.Common.{◌≡◌, ℕ, zero, suc, ◌+◌, ◌-◌, ◌*◌, ◌/◌, ◌%◌, ◌<◌, ◌≤◌, Bool, true, false, nat_lt, if◌then◌else◌, refl, sym, ap, ◌∙◌, inl, inr, ◌⊎◌, arith}
 use Rattle.std.proofs.lemmas.Bool.{cases_lt, ltb-true, lt-ltb}
 use Rattle.std.proofs.lemmas.Nat.{div-mul-add, mod_below, div-add-mod'}
@@ -6,17 +6,17 @@ use Rattle.std.proofs.Math.Nat.{div-lt_iff_lt-mul, div-mul-le_self}
 use Rattle.dp_operate.specs.declared.beat.Beat.{Beat}
 use Rattle.dp_operate.specs.Moments.{is_due, wait_at}
 
--- one that is 0 ms long never comes round
+-- an action with 0 milliseconds is never due
 later_by : (every last moment : ℕ) → last / every < moment / every → last < moment
 later_by zero last moment more = absurd (omega (arith, more))
 later_by (suc every) last moment more =
     omega (arith, (div-lt_iff_lt-mul {k = suc every} {x = last} {y = moment / suc every} (omega arith)).0 more, div-mul-le_self moment (suc every))
 
--- what is due at a moment was done before it
+-- an action that is due at a moment was last done before it
 pub done_before : (beat : Beat) (moment : ℕ) → is_due beat moment ≡ true → beat.last < moment
 done_before beat moment due = later_by beat.every beat.last moment (ltb-true _ _ due)
 
--- by the same multiple nothing more comes round
+-- before the next multiple nothing is due again
 same_round : (every moment more : ℕ) → 0 < every → more < every - moment % every → (moment + more) / every ≡ moment / every
 same_round every moment more some less =
     let q = moment / every in
@@ -35,7 +35,7 @@ next_round every moment some =
     let parts : moment + (every - r) ≡ (q + 1) * every + 0 = omega (arith, whole, below, more) in
     ap (λ n. n / every) parts ∙ div-mul-add (q + 1) every 0 some
 
--- the multiples that have come by a later moment are no fewer
+-- at least as many multiples have passed by a later moment
 rounds_up_by : (every last moment : ℕ) → 0 < every → last ≤ moment → (moment / every < last / every) ⊎ (last / every ≤ moment / every) → last / every ≤ moment / every
 rounds_up_by every last moment some order (inr up) = up
 rounds_up_by every last moment some order (inl down) =

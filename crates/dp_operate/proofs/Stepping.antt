@@ -8,7 +8,7 @@ use Rattle.dp_operate.specs.declared.schedule.Schedule.{Schedule}
 use Rattle.dp_operate.specs.Moments.{is_due, beat_after, step_at, schedule_units_at, schedule_after, schedule_after_all, sent_at_each, steps_in, steps_in_all, first_schedule}
 use Rattle.dp_operate.proofs.Rounds.{rounds_up}
 
--- the multiples that had come when it was done last
+-- the multiples that had passed when it was done last
 abbrev rounds_of : Option Beat → ℕ
 rounds_of None = 0
 rounds_of (Some beat) = beat.last / beat.every
@@ -24,14 +24,14 @@ one_by steps units moment true = omega arith
 one_by None units moment false = omega arith
 one_by (Some beat) units moment false = due_by beat moment (is_due beat moment) refl
 
--- each step is for a multiple more
+-- each step is for at least one more multiple
 stepped : (schedule : Schedule) (moments : List ℕ)
     → steps_in_all (sent_at_each schedule moments) + rounds_of schedule.steps ≤ rounds_of (schedule_after_all schedule moments).steps
 stepped schedule [] = omega arith
 stepped schedule (moment ∷ moments) =
     omega (arith, one_by schedule.steps (schedule_units_at schedule moment) moment (nat_lt 0 (schedule_units_at schedule moment)), stepped (schedule_after schedule moment) moments)
 
--- steps each so many milliseconds, of which the last was sent by this moment
+-- steps at each multiple of `every` milliseconds; the last one was sent by this moment
 abbrev IsBy : ℕ → ℕ → Option Beat → Type 0
 IsBy every latest None = Unit {0}
 IsBy every latest (Some beat) = (beat.every ≡ every) × (beat.last ≤ latest)

@@ -1,4 +1,4 @@
--- What is told over lists of moments.
+-- The units that are sent over lists of moments.
 use Rattle.std.proofs.Common.{◌≡◌, ℕ, ◌+◌, ◌-◌, ◌≤◌, min, Bool, true, false, nat_lt, if◌then◌else◌, List, [], ◌∷◌, ◌++◌, All, Option, Some, None, refl, sym, ap, ◌∙◌, arith}
 use Rattle.std.specs.Option.{option_map_or}
 use Rattle.std.proofs.lemmas.Bool.{ltb-false}
@@ -10,13 +10,13 @@ use Rattle.dp_operate.specs.declared.schedule.Due.TheVariants.{Tick, Step}
 use Rattle.dp_operate.specs.Moments.{is_due, units_at, units_passed, most_units, ticks_after, step_at, due_at, schedule_after, schedule_after_all, sent_at_each, units_in, units_in_all, tick_is_due, first_schedule, first_ticks}
 use Rattle.dp_operate.proofs.Rounds.{done_before}
 
--- ---- what ticks alone tell
+-- ---- the units that ticks send, without steps
 
 abbrev pub ticks_after_all : Ticks → List ℕ → Ticks
 ticks_after_all ticks [] = ticks
 ticks_after_all ticks (moment ∷ moments) = ticks_after_all (ticks_after ticks moment) moments
 
--- a step tells no time
+-- a step sends no units
 step_tells_none : (steps : Option Beat) (moment : ℕ) → units_in (step_at steps moment) ≡ 0
 step_tells_none None moment = refl
 step_tells_none (Some steps) moment = by_due (is_due steps moment)
@@ -32,7 +32,7 @@ told_by units step false is none = none ∙ omega (arith, ltb-false 0 units is)
 told_at : (ticks : Ticks) (steps : Option Beat) (moment : ℕ) → units_in (due_at (record { ticks = Some ticks; steps = steps }) moment) ≡ units_at ticks moment
 told_at ticks steps moment = told_by (units_at ticks moment) (step_at steps moment) (nat_lt 0 (units_at ticks moment)) refl (step_tells_none steps moment)
 
--- what was told, and is told over moments
+-- the units that were sent before, and those that are sent over moments
 pub told_over : (ticks : Ticks) (steps : Option Beat) (moments : List ℕ)
     → ticks.told + units_in_all (sent_at_each (record { ticks = Some ticks; steps = steps }) moments) ≡ (ticks_after_all ticks moments).told
 told_over ticks steps [] = omega arith
@@ -51,7 +51,7 @@ after_one_more : (ticks : Ticks) (moments : List ℕ) (moment : ℕ) → ticks_a
 after_one_more ticks [] moment = refl
 after_one_more ticks (first ∷ moments) moment = after_one_more (ticks_after ticks first) moments moment
 
--- ---- no more is told than has passed when a tick was sent last
+-- ---- no more units are sent than have passed when a tick was sent last
 
 abbrev IsPassed : Ticks → Type 0
 IsPassed ticks = ticks.told ≤ units_passed ticks.beat.last

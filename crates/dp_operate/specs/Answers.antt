@@ -11,19 +11,19 @@ abbrev pub asks_for : OpLine → Bool
 asks_for Nothing = false
 asks_for other = true
 
--- what is no command is answered too
+-- a line that is no command is answered too
 abbrev pub asks : {E : Type 0} → Result OpLine E → Bool
 asks (Ok op_line) = asks_for op_line
 asks (Err fault) = true
 
--- whether a session of an operator answers this line by a row
+-- whether a session of an operator answers this line with a line of text
 abbrev pub is_answered : List ℕ → Bool
 is_answered line = asks (command_in line)
 
--- the answers that say that all went on: no slave was let go; some inputs were recorded
+-- the answers that say that all is as usual: no slave was released; some inputs were recorded
 abbrev pub is_routine : List ℕ → Bool
 is_routine answer = same_text answer (codes "released") || starts_with nat_eq answer (codes "stepped ") && not (same_text answer (codes "stepped 0"))
 
--- an answer to what was sent by the clock tells something, and isn't the one before
+-- an answer to a command that the clock sent is new: it isn't routine, and it differs from the one before
 abbrev pub is_news : List ℕ → List ℕ → Bool
 is_news answer before = not (is_routine answer) && not (same_text answer before)

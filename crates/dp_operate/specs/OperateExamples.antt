@@ -1,4 +1,4 @@
--- Moments and answers that are worked out.
+-- Examples of moments and of answers.
 use Rattle.std.specs.Prelude.{◌≡◌, codes, true, false, [], ◌∷◌, Some, None, option_map, Err, refl}
 use Rattle.std.specs.Fmt.{digits}
 use Rattle.dp_text.specs.OperatorLines.{asked_in}
@@ -10,21 +10,21 @@ use Rattle.dp_operate.specs.Moments.{first_schedule, first_beat, wait_at, wait_f
 abbrev ticks_each_100 : Schedule
 ticks_each_100 = first_schedule (Some 100) None
 
--- a tick that is late tells what has passed, and the next one the rest
+-- a late tick sends the units that have passed, and the next one the rest
 pub a_late_tick : sent_at_each ticks_each_100 (0 ∷ 99 ∷ 100 ∷ 257 ∷ 300 ∷ 305 ∷ []) ≡ None ∷ None ∷ Some (Tick 10) ∷ Some (Tick 15) ∷ Some (Tick 5) ∷ None ∷ []
 a_late_tick = refl
 
--- milliseconds that make no whole unit are told with the next tick
+-- milliseconds that make no whole unit are sent with the next tick
 pub parts_of_units : sent_at_each (first_schedule (Some 15) None) (15 ∷ 30 ∷ 45 ∷ 60 ∷ []) ≡ Some (Tick 1) ∷ Some (Tick 2) ∷ Some (Tick 1) ∷ Some (Tick 2) ∷ []
 parts_of_units = refl
 
--- a tick goes before a step, which is sent at the next moment; one that is late is sent once
+-- a tick is sent before a step, and the step at the next moment; a late step is sent once
 pub both_are_due :
     sent_at_each (first_schedule (Some 20) (Some 20)) (20 ∷ 20 ∷ 20 ∷ 75 ∷ 75 ∷ 76 ∷ [])
     ≡ Some (Tick 2) ∷ Some Step ∷ None ∷ Some (Tick 5) ∷ Some Step ∷ None ∷ []
 both_are_due = refl
 
--- a clock that went back tells nothing
+-- a clock that went back sends nothing
 pub a_moment_before : sent_at_each ticks_each_100 (250 ∷ 120 ∷ 300 ∷ []) ≡ Some (Tick 25) ∷ None ∷ Some (Tick 5) ∷ []
 a_moment_before = refl
 
@@ -54,7 +54,7 @@ empty_lines_get_no_row = refl
 pub a_step_gets_a_row : option_map asks_for (asked_in true (codes "step")) ≡ Some true
 a_step_gets_a_row = refl
 
--- a space is no command
+-- a line with only a space is no command
 pub faults_get_a_row : {E : Type 0} (fault : E) → asks (Err fault) ≡ true
 faults_get_a_row fault = refl
 

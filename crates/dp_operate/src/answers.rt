@@ -1,11 +1,12 @@
-//! Answers to an operator.
+//! The answers to an operator that are shown.
 
 ghost use Rattle.std.specs.Prelude.{◌≡◌};
 ghost use Rattle.dp_operate.specs.Answers.{asks_for, is_answered as is_answered_line, is_news as is_news_behind, is_routine as is_routine_answer};
 
 use dp_text::{OpLine, is_text, read_line};
 
-/// Whether a session answers this line, which has no LF, by a row: any but an empty one and a comment.
+/// Returns whether a session answers this line, which has no LF, with a line of text: any line but an empty one and a
+/// comment.
 pub fn is_answered(line: &[u8]) -> bool
     ensures { result ≡ is_answered_line line.now }
 {
@@ -15,7 +16,7 @@ pub fn is_answered(line: &[u8]) -> bool
     }
 }
 
-/// Whether this asks for anything.
+/// Returns whether a command asks for anything.
 fn asks(op_line: &OpLine) -> bool
     ensures { result ≡ asks_for op_line.now }
 {
@@ -28,15 +29,15 @@ fn asks(op_line: &OpLine) -> bool
     }
 }
 
-/// Whether the answer to what was sent by the clock, without its LF, tells something: it is neither that nothing
-/// was released nor that inputs were recorded, and it isn't that of the time before.
+/// Returns whether the answer to a command that the clock sent, without its LF, is new: it doesn't only say that no
+/// slave was released or that inputs were recorded, and it differs from the answer before.
 pub fn is_news(answer: &[u8], before: &[u8]) -> bool
     ensures { result ≡ is_news_behind answer.now before.now }
 {
     !is_routine(answer) && !is_text(answer, before)
 }
 
-/// The answer says that all went on: `released` with no slave, or `stepped N` with N above 0.
+/// Returns whether the answer says that all is as usual: `released` with no slave, or `stepped N` with N above 0.
 fn is_routine(answer: &[u8]) -> bool
     ensures { result ≡ is_routine_answer answer.now }
 {

@@ -1,10 +1,10 @@
-//! What comes round.
+//! Actions that are due at regular times.
 
 ghost use Rattle.std.specs.Prelude.{◌≡◌, ◌/◌};
 ghost use Rattle.dp_operate.specs.Moments.{beat_after, first_beat, is_due as is_due_at, wait_at};
 
-/// Something that comes round at each multiple of so many milliseconds, 1 or more, and when it was done last. One
-/// of 0 milliseconds never comes round.
+/// An action that is due at each multiple of `every` milliseconds, 1 or more, and the moment at which it was done last.
+/// One with 0 milliseconds is never due.
 #[derive(Clone, Copy, Debug, PartialEq, Eq)]
 pub struct Beat {
     every: u32,
@@ -12,21 +12,21 @@ pub struct Beat {
 }
 
 impl Beat {
-    /// One that comes round each so many milliseconds, at moment 0.
+    /// Returns an action that is due at each multiple of `every` milliseconds, at moment 0.
     pub fn new(every: u32) -> Beat
         ensures { result ≡ first_beat every }
     {
         Beat { every, last: 0 }
     }
 
-    /// Whether it is due at a moment: a multiple has come since it was done last.
+    /// Returns whether it is due at a moment: a multiple has passed since it was done last.
     pub fn is_due(&self, moment: u64) -> bool
         ensures { result ≡ is_due_at self.now moment }
     {
         self.rounds(self.last) < self.rounds(moment)
     }
 
-    /// It is done at a moment, where it is due.
+    /// Marks it as done at a moment, if it is due.
     pub fn pass(&mut self, moment: u64)
         ensures { self.new ≡ beat_after self.old moment }
     {
@@ -35,7 +35,8 @@ impl Beat {
         }
     }
 
-    /// How many milliseconds are left at a moment until it is due, 0 where it is.
+    /// Returns how many milliseconds are left at a moment until it is due; 0 if it is due, and 0 for one with 0
+    /// milliseconds.
     pub fn wait(&self, moment: u64) -> u64
         ensures { result ≡ wait_at self.now moment }
     {
@@ -48,7 +49,7 @@ impl Beat {
         }
     }
 
-    /// How many multiples have come by a moment.
+    /// Returns how many multiples have passed by a moment; 0 for one with 0 milliseconds.
     fn rounds(&self, moment: u64) -> u64
         ensures { result ≡ moment / (self.now).every }
     {

@@ -1,4 +1,4 @@
-//! Laws of what is sent by the clock: each is what an empty function ensures.
+//! Laws of what the clock sends: each is the contract of an empty function.
 
 ghost use Rattle.std.specs.Prelude.{◌≡◌, ◌≤◌, ◌<◌, ◌+◌, ◌/◌, ◌^◌, ◌++◌, ℕ, List, [], ◌∷◌, Option, Some, true, false, All};
 ghost use Rattle.dp_line.specs.declared.event.Op.TheVariants as ops;
@@ -10,8 +10,8 @@ ghost use Rattle.dp_operate.specs.Moments.{due_text, first_schedule, is_due, mos
 
 use dp_text::laws::a_line_is_read_as_it_is_written;
 
-/// No time is lost: over any list of moments, where a tick is due at the last one, all units that have passed by
-/// then are told, by this tick and those before it, if one tick can tell the rest.
+/// No time is lost: over any list of moments, if a tick is due at the last one, this tick and those before it send all
+/// units that have passed by then, provided that one tick can send the rest.
 pub fn no_time_is_lost()
     ensures { (every : ℕ) (step : Option ℕ) (moments : List ℕ) (moment : ℕ)
         → tick_is_due (schedule_after_all (first_schedule (Some every) step) moments) moment ≡ true
@@ -19,33 +19,33 @@ pub fn no_time_is_lost()
         → units_in_all (sent_at_each (first_schedule (Some every) step) (moments ++ moment ∷ [])) ≡ units_passed moment }
 {}
 
-/// No time is told twice: what is told over any list of moments has passed by the latest of them.
+/// No time is sent twice: the units that are sent over any list of moments have passed by the latest of them.
 pub fn no_time_is_told_twice()
     ensures { (every : ℕ) (step : Option ℕ) (moments : List ℕ) (latest : ℕ)
         → All (λ moment. moment ≤ latest) moments
         → units_in_all (sent_at_each (first_schedule (Some every) step) moments) ≤ units_passed latest }
 {}
 
-/// No step is sent twice for one multiple: over any list of moments there are no more steps than multiples that
-/// have come by the latest of them.
+/// No step is sent twice for one multiple: over any list of moments there are no more steps than multiples that have
+/// passed by the latest of them.
 pub fn no_step_is_sent_twice()
     ensures { (every : ℕ) (tick : Option ℕ) (moments : List ℕ) (latest : ℕ)
         → 0 < every → All (λ moment. moment ≤ latest) moments
         → steps_in_all (sent_at_each (first_schedule tick (Some every)) moments) ≤ latest / every }
 {}
 
-/// Nothing is due while what comes round is waited for.
+/// Nothing is due before the waiting time is over.
 pub fn nothing_is_due_before()
     ensures { (beat : Beat) (moment milliseconds : ℕ) → 0 < beat.every → milliseconds < wait_at beat moment
         → is_due beat (moment + milliseconds) ≡ false }
 {}
 
-/// What comes round is due once it was waited for.
+/// An action is due as soon as its waiting time is over.
 pub fn all_is_due_behind()
     ensures { (beat : Beat) (moment : ℕ) → 0 < beat.every → beat.last ≤ moment → is_due beat (moment + wait_at beat moment) ≡ true }
 {}
 
-/// What is sent by the clock is read as what it is: a tick of its units, and a step.
+/// What the clock sends is read as what it is: a tick with its units, and a step.
 pub fn what_is_sent_is_read_as_it_is()
     ensures tick { (units : ℕ) → units < 2 ^ 32 → op_line_of (due_text (due.Tick units)) ≡ Some (asked.Event (ops.Tick units)) }
     ensures step { op_line_of (due_text due.Step) ≡ Some asked.Step }

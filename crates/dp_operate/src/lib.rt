@@ -1,7 +1,7 @@
-//! An operator at hand: what is sent by the clock ([`Schedule`]), and which answers are shown ([`is_answered`],
-//! [`is_news`]).
+//! An interactive operator: the commands that the clock sends ([`Schedule`]), and the answers that are shown
+//! ([`is_answered`], [`is_news`]).
 //!
-//! Moments are values, in milliseconds from the start. Nothing here reads a clock, waits or takes memory.
+//! Moments are values, in milliseconds from the start. Nothing here reads a clock, waits or allocates memory.
 #![tactic(auto)]
 
 mod answers;

@@ -1,4 +1,4 @@
-//! What is due by the clock.
+//! The commands that the clock sends.
 
 ghost use Rattle.std.specs.Prelude.{◌≡◌, Some, option_map};
 ghost use Rattle.dp_operate.specs.Moments.{due_at, due_text, first_schedule, schedule_after, schedule_units_at, ticks_after, wait_for_both};
@@ -7,12 +7,12 @@ use crate::beat::Beat;
 use crate::ticks::Ticks;
 use std::fmt;
 
-/// What is sent to the line. Its `Display` is the line of an operator without its LF.
+/// A command that is sent to the line. Its `Display` is the line of an operator without its LF.
 #[derive(Clone, Copy, Debug, PartialEq, Eq)]
 pub enum Due {
-    /// So many units of 10 ms have passed, 1 to 2^32 - 1.
+    /// This number of units of 10 ms has passed, 1 to 2^32 - 1.
     Tick(u32),
-    /// The devices feed their slaves.
+    /// The devices update the inputs of their slaves.
     Step,
 }
 
@@ -27,7 +27,7 @@ impl fmt::Display for Due {
     }
 }
 
-/// Ticks and steps that are sent by the clock, each of them or neither.
+/// A schedule of ticks and steps, of only one of them, or of neither.
 #[derive(Clone, Copy, Debug, PartialEq, Eq)]
 pub struct Schedule {
     ticks: Option<Ticks>,
@@ -35,7 +35,7 @@ pub struct Schedule {
 }
 
 impl Schedule {
-    /// Ticks and steps each so many milliseconds, at moment 0.
+    /// Returns a schedule at moment 0, with a tick and a step at each multiple of these milliseconds; None sends none.
     pub fn new(tick: Option<u32>, step: Option<u32>) -> Schedule
         ensures { result ≡ first_schedule tick step }
     {
@@ -45,7 +45,8 @@ impl Schedule {
         }
     }
 
-    /// What is sent next at a moment, if anything is due: a tick goes before a step. What is told here is sent.
+    /// Returns the command that is sent at a moment, and marks it as sent; None if nothing is due. A tick is sent
+    /// before a step.
     pub fn next(&mut self, moment: u64) -> Option<Due>
         ensures due { result ≡ due_at self.old moment }
         ensures after { self.new ≡ schedule_after self.old moment }
@@ -62,7 +63,7 @@ impl Schedule {
         Some(Due::Step)
     }
 
-    /// The units that a tick tells at a moment, 0 where none is sent.
+    /// Returns the units of the tick that is sent at a moment, and marks them as sent; 0 if no tick is sent.
     fn take_units(&mut self, moment: u64) -> u32
         ensures units { result ≡ schedule_units_at self.old moment }
         ensures after { self.new ≡ record self.old { ticks = option_map (λ ticks. ticks_after ticks moment) (self.old).ticks } }
@@ -73,7 +74,8 @@ impl Schedule {
         }
     }
 
-    /// How many milliseconds are left at a moment until something is due; None where nothing ever is.
+    /// Returns how many milliseconds are left at a moment until something is due; None if the schedule has neither
+    /// ticks nor steps.
     pub fn wait(&self, moment: u64) -> Option<u64>
         ensures { result ≡ wait_for_both self.now moment }
     {

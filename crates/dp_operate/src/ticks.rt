@@ -1,14 +1,14 @@
-//! Time that passes, in ticks.
+//! The time that ticks send.
 
 ghost use Rattle.std.specs.Prelude.{◌≡◌};
 ghost use Rattle.dp_operate.specs.Moments.{first_ticks, ticks_after, units_at};
 
 use crate::beat::Beat;
 
-/// Milliseconds of one unit of a tick.
+/// The milliseconds of one unit of a tick.
 const UNIT: u64 = 10;
 
-/// The time that ticks tell: when one is due, and how many units of 10 ms were told in all.
+/// The time that ticks send: when a tick is due, and how many units of 10 ms have been sent in all.
 #[derive(Clone, Copy, Debug, PartialEq, Eq)]
 pub struct Ticks {
     beat: Beat,
@@ -16,7 +16,7 @@ pub struct Ticks {
 }
 
 impl Ticks {
-    /// Ticks each so many milliseconds, at moment 0: none was told.
+    /// Returns ticks at each multiple of `every` milliseconds, at moment 0, with no unit sent.
     pub fn new(every: u32) -> Ticks
         ensures { result ≡ first_ticks every }
     {
@@ -26,8 +26,8 @@ impl Ticks {
         }
     }
 
-    /// The units that a tick tells at a moment: where one is due, all that have passed and weren't told, at most
-    /// 2^32 - 1 of them; 0 where none is due. What is told here is told.
+    /// Returns the units that a tick sends at a moment, and marks them as sent. If a tick is due, these are all units
+    /// that have passed and weren't sent, at most 2^32 - 1; otherwise 0.
     pub fn take(&mut self, moment: u64) -> u32
         ensures units { result ≡ units_at self.old moment }
         ensures after { self.new ≡ ticks_after self.old moment }
@@ -43,7 +43,7 @@ impl Ticks {
         units as u32
     }
 
-    /// When a tick is due.
+    /// Returns when a tick is due.
     pub fn beat(&self) -> &Beat
         ensures { result.now ≡ (self.now).beat }
     {

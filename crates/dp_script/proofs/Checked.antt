@@ -24,14 +24,14 @@ first_or : (is : Bool) (first : RackLine) (found : Option LineDescription) (othe
 first_or true first found others same = refl
 first_or false first found others same = same
 
--- the line is found among those that are described as among those that are
+-- finding a line among the described lines is finding it among the lines
 found_described : (header : List ℕ) (lines : List RackLine)
     → find (is_described_headed header) (map line_described lines) ≡ option_map line_described (find (is_headed header) lines)
 found_described header [] = refl
 found_described header (line ∷ lines) =
     first_or (is_headed header line) line (find (is_described_headed header) (map line_described lines)) (find (is_headed header) lines) (found_described header lines)
 
--- the first row names the line that is found by it
+-- the first line of the text names the line that it finds
 line_of_named : (lines : List RackLine) (text header : List ℕ) (others : List (List ℕ)) (found : Option RackLine)
     → lines_of text ≡ header ∷ others → found ≡ find (is_headed header) lines
     → line_named (map line_described lines) (lines_of text) ≡ option_map line_described found
@@ -62,7 +62,7 @@ open_by_recursion header [] line found all = absurd cc
 open_by_recursion header (first ∷ lines) line found all =
     open_among (is_headed header first) first (find (is_headed header) lines) line found all.0 (λ more. open_by_recursion header lines line more all.1)
 
--- where each line can be opened, the one that is found can
+-- if each line can be opened, the one that is found can be opened
 pub found_opens : (header : List ℕ) (lines : List RackLine) (line : RackLine) → Some line ≡ find (is_headed header) lines
     → All (λ l. opening_fault (description_of l.spec) ≡ None) lines → opening_fault (description_of line.spec) ≡ None
 found_opens header lines line found all =

@@ -1,4 +1,4 @@
--- An input on its way: lines that are no mark, and what is left.
+-- Splitting an input: the lines before the mark, and the remaining input.
 use Rattle.std.proofs.Common.{◌≡◌, ℕ, suc, ◌+◌, ◌-◌, ◌<◌, take, subst, length-append, Bool, true, false, cond, not, ◌||◌, drop, List, [], ◌∷◌, ◌++◌, length, refl, sym, ap, ◌∙◌, append_assoc, arith}
 use Rattle.std.specs.List.{list_any, before_first, after_first, position_or_len, join_with_byte}
 use Rattle.std.proofs.lemmas.List.Splits.{slice_split_first, slice_split_none, join_with_byte-slice_split}
@@ -14,7 +14,7 @@ use Rattle.dp_script.specs.Input.{Parts, is_lf, lines_in, is_mark, with_ends, pa
 abbrev pub in_front : List ℕ → Parts → Parts
 in_front front parts = record { rack = front ++ parts.rack; script = parts.script }
 
--- what is left of an input when lines with no mark among them are taken off its front
+-- the remaining input after lines without a mark are taken off its front
 pub record SoFar (input left : List ℕ) : Type 0 where
   pub front : List ℕ
   pub whole : input ≡ front ++ left
@@ -23,7 +23,7 @@ pub record SoFar (input left : List ℕ) : Type 0 where
 pub at_start : (input : List ℕ) → SoFar input input
 at_start input = record { front = []; whole = refl; parts = refl }
 
--- ---- a text is cut where its end begins
+-- ---- a text is cut at the start of its end
 
 front_length : (text front end : List ℕ) → text ≡ front ++ end → length text - length end ≡ length front
 front_length text front end e = let lengths : length text ≡ length front + length end = ap length e ∙ length-append front end in omega arith
@@ -47,14 +47,14 @@ first_line text has = slice_split_first is_lf text 0 has
 pub one_line : (text : List ℕ) → position_or_len is_lf text ≡ length text → lines_in text ≡ text ∷ []
 one_line text none = slice_split_none is_lf text (λ k d below. fails_before_first is_lf text k d (let e = none in omega arith))
 
--- is the line, its LF and the rest
+-- a text is its first line, the LF of that line, and the rest
 line_and_rest : (text : List ℕ) → position_or_len is_lf text < length text → text ≡ (before_first is_lf text ++ 10 ∷ []) ++ after_first is_lf text
 line_and_rest text has =
     split_at_first is_lf text 0 has
     ∙ ap (λ octet. before_first is_lf text ++ (octet ∷ after_first is_lf text)) (eqb-true _ 10 (passes_at_first is_lf text 0 has))
     ∙ sym (append_assoc (before_first is_lf text) (10 ∷ []) (after_first is_lf text))
 
--- the parts by whether there is a mark, and where
+-- the parts, by whether there is a mark, and at which line
 abbrev parts_if : Bool → ℕ → List (List ℕ) → List ℕ → Parts
 parts_if has place lines text =
     cond has (record { rack = with_ends (take place lines); script = join_with_byte 10 (drop (place + 1) lines) }) (record { rack = text; script = [] })
@@ -69,7 +69,7 @@ plain_line_by_tests false true place line lines text rest plain e =
     ∙ ap (λ n. record { rack = with_ends (take (suc place) (line ∷ lines)); script = join_with_byte 10 (drop n (line ∷ lines)) }) behind
 plain_line_by_tests false false place line lines text rest plain e = ap (λ xs. record { rack = xs; script = [] }) e
 
--- a line that is no mark stands in the rack text
+-- a line that is no mark belongs to the rack text
 plain_line : (text line rest : List ℕ) → lines_in text ≡ line ∷ lines_in rest → text ≡ (line ++ 10 ∷ []) ++ rest → is_mark line ≡ false
     → parts_of text ≡ in_front (line ++ 10 ∷ []) (parts_of rest)
 plain_line text line rest first e plain =
@@ -103,7 +103,7 @@ line_passed input left line others so_far has is_line is_rest plain =
           ∙ ap (λ xs. record { rack = xs; script = (parts_of others).script }) (sym (append_assoc front ended (parts_of others).rack));
     }
 
--- the parts of an input, from those of what is left
+-- the parts of an input, from those of the remaining input
 of_what_is_left : (input left rack : List ℕ) (parts : Parts) → SoFar input left → parts_of left ≡ parts → input ≡ rack ++ left
     → parts_of input ≡ in_front rack parts
 of_what_is_left input left rack parts so_far of_left e =

@@ -1,4 +1,4 @@
--- A master's stream on its way: what is answered so far, and what is to come.
+-- A master's stream: the answers so far, and those that remain.
 use Rattle.std.proofs.Common.{◌≡◌, ℕ, true, eqb, List, [], ◌∷◌, ◌++◌, length, Option, refl, sym, ap, subst, ◌∙◌, append_assoc}
 use Rattle.std.specs.Io.KnownBytes.{Appends}
 use Rattle.std.proofs.lemmas.List.{append-nil, nil_from_length}
@@ -10,7 +10,7 @@ use Rattle.dp_script.specs.ScriptLines.{Answered, Stream, Passed, piece_answered
 use Rattle.dp_text.specs.Writes.{WritesPrefix}
 use Rattle.dp_script.proofs.Writing.{appends_none, appends_more, more_prefix}
 
--- the text so far in front
+-- with the text so far before it
 abbrev pub with_text : List ℕ → Passed → Passed
 with_text text passing = record { journal = passing.journal; stream = passing.stream; text = text ++ passing.text }
 
@@ -21,7 +21,7 @@ piece_more journal master text piece cut =
     let behind = cut_passed (piece_answered journal master piece).journal master cut in
     ap (λ t. record { journal = behind.journal; stream = behind.stream; text = t }) (append_assoc text (piece_answered journal master piece).text behind.text)
 
--- so much is written of what octets leave and write, and this is left of the stream
+-- this much of the answers to octets is written, and this part of the stream remains
 pub record SoFar (all : Passed) (old new : Option (List ℕ)) (journal : Journal) (master : ℕ) (cut : CutStream) : Type 0 where
   pub text : List ℕ
   pub written : Appends old new text
@@ -31,7 +31,7 @@ pub at_start : (journal : Journal) (stream : Stream) (octets : List ℕ) (old : 
     → SoFar (passed journal stream octets) old old journal stream.master (cuts_of (stream.held ++ octets))
 at_start journal stream octets old = record { text = []; written = appends_none old; left = refl }
 
--- one more piece is answered
+-- the answer to one more piece is written
 pub piece_written : (all : Passed) (old new newer : Option (List ℕ)) (journal next : Journal) (master : ℕ) (piece : Cut) (more : List ℕ) (whole cut : CutStream)
     → SoFar all old new journal master whole → whole ≡ with_cut piece cut → record { journal = next; text = more } ≡ piece_answered journal master piece → Appends new newer more
     → SoFar all old newer next master cut
@@ -55,13 +55,13 @@ piece_cut_off all old new newer journal next master piece more whole cut s hande
     ∙ ap (λ c. s.text ++ (cut_passed journal master c).text) (sym handed)
     ∙ ap (λ (p : Passed). p.text) s.left)
 
--- what octets leave and write, done
+-- all octets are answered
 pub record IsDone (all : Passed) (old new : Option (List ℕ)) (journal : Journal) (stream : Stream) : Type 0 where
   pub journal_is : journal ≡ all.journal
   pub stream_is : stream ≡ all.stream
   pub written : Appends old new all.text
 
--- nothing is left, and what is held can't be judged yet
+-- no octets remain, and those that are held can't be judged yet
 pub all_passed : (all : Passed) (old new : Option (List ℕ)) (journal : Journal) (master : ℕ) (held left : List ℕ)
     → SoFar all old new journal master (cuts_of (held ++ left)) → eqb (length left) 0 ≡ true → cuts_of held ≡ uncut held
     → IsDone all old new journal (record { master = master; held = held })
@@ -76,7 +76,7 @@ all_passed all old new journal master held left s none uncuttable =
 
 -- ---- octets in words
 
--- so much is written, and these octets are left
+-- this much is written, and these octets remain
 pub record WordsSoFar (all : Passed) (old new : Option (List ℕ)) (journal : Journal) (stream : Stream) (octets : List ℕ) : Type 0 where
   pub text : List ℕ
   pub written : Appends old new text
@@ -85,7 +85,7 @@ pub record WordsSoFar (all : Passed) (old new : Option (List ℕ)) (journal : Jo
 pub words_start : (journal : Journal) (stream : Stream) (octets : List ℕ) (old : Option (List ℕ)) → WordsSoFar (passed journal stream octets) old old journal stream octets
 words_start journal stream octets old = record { text = []; written = appends_none old; left = refl }
 
--- the first of the octets passed, and the others are left
+-- the first octets are answered, and the others remain
 pub words_more : (all : Passed) (old new newer : Option (List ℕ)) (journal next : Journal) (stream following : Stream) (octets part rest : List ℕ)
     → WordsSoFar all old new journal stream octets → octets ≡ part ++ rest → passed journal stream (part ++ rest) ≡ then_passed (passed journal stream part) rest
     → next ≡ (passed journal stream part).journal → following ≡ (passed journal stream part).stream → Appends new newer (passed journal stream part).text
@@ -117,7 +117,7 @@ words_cut_off all old new newer journal stream octets part rest s split law writ
     ∙ ap (λ o. s.text ++ (passed journal stream o).text) (sym split)
     ∙ ap (λ (p : Passed). p.text) s.left)
 
--- the last of the octets passed
+-- the last octets are answered
 pub words_done : (all : Passed) (old new newer : Option (List ℕ)) (journal next : Journal) (stream following : Stream) (octets part rest : List ℕ)
     → WordsSoFar all old new journal stream octets → octets ≡ part ++ rest → length rest ≡ 0
     → next ≡ (passed journal stream part).journal → following ≡ (passed journal stream part).stream → Appends new newer (passed journal stream part).text

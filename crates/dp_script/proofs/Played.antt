@@ -1,4 +1,4 @@
--- What a run has written so far, and what is left of it.
+-- The text that a run has written so far, and the lines that remain.
 use Rattle.std.proofs.Common.{◌≡◌, ℕ, ◌+◌, List, [], ◌∷◌, ◌++◌, Option, Some, None, Result, Ok, Err, refl, sym, ap, subst, ◌∙◌, append_assoc}
 use Rattle.std.specs.Io.KnownBytes.{Appends}
 use Rattle.std.proofs.lemmas.List.{append-nil}
@@ -11,7 +11,7 @@ use Rattle.dp_script.proofs.Writing.{appends_none, appends_more, keeps_more, kee
 use Rattle.rack_file.specs.declared.fault.RackFault.{RackFault}
 use Rattle.rack_file.specs.Rack.{RackDescription}
 
--- so much is written, and what is left would complete the run
+-- this text is written, and the text of the remaining lines would complete the run
 pub record SoFar (played : Played) (old new : Option (List ℕ)) (script_rack : ScriptRack) (n : ℕ) (lines : List (List ℕ)) : Type 0 where
   pub text : List ℕ
   pub written : Appends old new text
@@ -83,7 +83,7 @@ pub line_written_in_part : (played : Played) (old new newer : Option (List ℕ))
     → SoFar played old new script_rack n (line ∷ lines) → Obeys (line_obeyed script_rack line) next new newer (Err stops.WriteFault) → WritesPrefix old newer played.text
 line_written_in_part played old new newer script_rack next n line lines s obeys = fault_by played old new newer script_rack next n line lines (line_obeyed script_rack line) refl s obeys
 
--- out of memory before anything is written
+-- memory ran out before anything was written
 pub memory_told : (rack : Result RackDescription RackFault) (script : List ℕ) (old : Option (List ℕ)) → RunsText rack script old old (Err runs.OutOfMemory)
 memory_told (Ok rack) script old = ([], (script_text rack script).text, refl, appends_none old)
 memory_told (Err fault) script old = keeps_same old

@@ -1,4 +1,4 @@
--- The commands that words are.
+-- The commands that words stand for.
 use Rattle.std.proofs.Common.{◌≡◌, ℕ, List, [], ◌∷◌, length, Some, sym, ap, ◌∙◌, arith}
 use Rattle.std.specs.Prelude.{nat_eq, option_map, option_and_then}
 use Rattle.std.proofs.lemmas.List.Splits.{length-slice_split}
@@ -14,7 +14,7 @@ send_by_words master number text (word ∷ words) is one =
     ap (λ w. option_map (send number) (octets_of_words w)) (sym is)
     ∙ ap (λ n. option_and_then (λ number. option_map (send number) (octets_of_words (word ∷ words))) n) one
 
--- the words behind the first are a master's address, and words that are octets where it sends them
+-- the words after the first one are a master's address, and then words that are octets if a master sends them
 pub sends_words : (words later : List (List ℕ)) (master text : List ℕ) (number : ℕ) → words ≡ master ∷ later → later ≡ words_of text
     → Some number ≡ octet_number master → sending_of number text ≡ send_of words
 sends_words words later master text number first rest one = send_by_words master number text later rest one ∙ ap send_of (sym first)

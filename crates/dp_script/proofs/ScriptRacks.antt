@@ -1,4 +1,4 @@
--- A rack in use.
+-- A rack that a script runs on.
 use Rattle.std.proofs.Common.{◌≡◌, ℕ, ◌<◌, ◌≤◌, List, [], ◌∷◌, map, length, All, None, refl, ap, ◌∙◌, arith}
 use Rattle.std.specs.List.{AllByRecursion}
 use Rattle.std.proofs.lemmas.List.{length-map}
@@ -24,13 +24,13 @@ open_by_recursion : (lines : List RackLine) → AllByRecursion (λ line. opening
 open_by_recursion [] all = tt
 open_by_recursion (x ∷ xs) all = (all.0, open_by_recursion xs all.1)
 
--- where each line that is described can be opened, each line can
+-- if each described line can be opened, each line can be opened
 pub lines_open : (lines : List RackLine) → All (λ line. opening_fault line.line ≡ None) (map line_described lines)
     → All (λ line. opening_fault (description_of line.spec) ≡ None) lines
 lines_open lines all =
     All-from_recursion (λ line. opening_fault (description_of line.spec) ≡ None) lines
     (open_by_recursion lines (recursion_from_All (λ line. opening_fault line.line ≡ None) (map line_described lines) all))
 
--- there are as many lines as are described
+-- there are as many lines as described lines
 pub some_lines : (lines : List RackLine) → 1 ≤ length (map line_described lines) → 0 < length lines
 some_lines lines some = omega (arith, some, length-map lines line_described)

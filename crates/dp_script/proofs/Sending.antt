@@ -1,4 +1,4 @@
--- A command to a line, and to a rack in use, from what its stream leaves.
+-- A command to a line, and to a rack that a script runs on, by what its stream leaves.
 use Rattle.std.proofs.Common.{◌≡◌, ℕ, eqb, true, List, length, get_or, set, Option, Some, None, Result, Ok, Err, OnOk, OnErr, IfErr, refl, sym, ap, subst, ◌∙◌}
 use Rattle.std.specs.Prelude.{is_some, position, slice_get, option_map, option_and_then}
 use Rattle.std.specs.Io.KnownBytes.{Appends}
@@ -91,7 +91,7 @@ sent_by lines chosen line master None is = refl
 sent_by lines chosen line master (Some octets) is =
     sym (ap (option_and_then (λ line. option_map (obeyed_by_line (record { lines = lines; chosen = chosen })) (sent line master octets))) is)
 
--- a master sends the octets of words to the chosen line, if they are such
+-- a master sends the octets of words to the chosen line, if they are hex digits
 pub obeys_send : (lines : List ScriptLine) (chosen : ℕ) (line following : ScriptLine) (master : ℕ) (octets : Option (List ℕ)) (old new : Option (List ℕ)) (r : Result (Unit {0}) ObeyFault)
     → slice_get lines chosen ≡ Some line → Sends (option_and_then (sent line master) octets) following old new r
     → Obeys (option_and_then (obeyed (record { lines = lines; chosen = chosen })) (option_map (send master) octets)) (record { lines = set lines chosen following; chosen = chosen }) old new r
@@ -99,7 +99,7 @@ obeys_send lines chosen line following master octets old new r is s =
     subst (λ (o : Option Obeyed). Obeys o (record { lines = set lines chosen following; chosen = chosen }) old new r) (sent_by lines chosen line master octets is)
     (by_line lines chosen following old new r (option_and_then (sent line master) octets) s)
 
--- the line of what is done to it, and its text written
+-- the line after a command, and its text written
 wrote : (lines : List ScriptLine) (chosen : ℕ) (following : ScriptLine) (text : List ℕ) (sending : Sent) (old new : Option (List ℕ)) (r : Result (Unit {0}) ObeyFault)
     → record { script_line = following; text = text } ≡ sending
     → OnOk r (Appends old new text) → OnErr r (WritesPrefix old new text) → IfErr r (λ stop. stop ≡ stops.WriteFault)
@@ -108,7 +108,7 @@ wrote lines chosen following text sending old new r is ok err fault =
     by_line lines chosen following old new r (Some sending)
     (subst (λ s. Sends (Some s) following old new r) is (ends (record { script_line = following; text = text }) following old new r (on_ok r refl) ok err fault))
 
--- what a line of the operator asks of the chosen line
+-- a line of the operator is obeyed on the chosen line
 does_op : (lines : List ScriptLine) (chosen : ℕ) (line following : ScriptLine) (said : Option OpLine) (op : OpLine) (text : List ℕ) (old new : Option (List ℕ)) (r : Result (Unit {0}) ObeyFault)
     → slice_get lines chosen ≡ Some line → said ≡ Some op → record { script_line = following; text = text } ≡ operated line op
     → OnOk r (Appends old new text) → OnErr r (WritesPrefix old new text) → IfErr r (λ stop. stop ≡ stops.WriteFault)
@@ -121,7 +121,7 @@ does_op lines chosen line following said op text old new r is says done ok err f
     subst (λ (o : Option Obeyed). Obeys o (record { lines = set lines chosen following; chosen = chosen }) old new r) (sym here)
     (wrote lines chosen following text (operated line op) old new r done ok err fault)
 
--- the same where the line has been read, and what it asks for was done
+-- a line of the operator is obeyed on the chosen line after it was read
 pub obeys_op : (lines : List ScriptLine) (chosen : ℕ) (line following : ScriptLine) (said : Option OpLine) (read : Option (Unit {0})) (text : List ℕ) (old new : Option (List ℕ)) (r : Result (Unit {0}) ObeyFault)
     → slice_get lines chosen ≡ Some line → is_some read ≡ true → option_map (λ (d : Unit {0}). record { script_line = following; text = text }) read ≡ option_map (operated line) said
     → OnOk r (Appends old new text) → OnErr r (WritesPrefix old new text) → IfErr r (λ stop. stop ≡ stops.WriteFault)

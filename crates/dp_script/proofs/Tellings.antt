@@ -1,4 +1,4 @@
--- What is told of a text that names no line.
+-- The verdict on a text that names no line.
 use Rattle.std.proofs.Common.{ℕ, List, [], Option, Some, None, Result, Ok, Err, refl, sym, ◌∙◌}
 use Rattle.std.specs.Io.KnownBytes.{Keeps}
 use Rattle.std.proofs.lemmas.List.{append-nil}
@@ -15,7 +15,7 @@ nothing_written None new text same = ([], text, refl, tt)
 nothing_written (Some xs) None text same = absurd same
 nothing_written (Some xs) (Some ys) text same = ([], text, refl, same ∙ sym (append-nil xs))
 
--- the same is told by a check and by an explanation
+-- a check and an explanation write the same verdict
 pub bad_line_told : (old new : Option (List ℕ)) (result : Result ℕ RunFault) → Tells (Err (faults.BadLine 1)) old new result
     → Explains (Err (faults.BadLine 1)) (verdict_text (Err (faults.BadLine 1))) old new result
 bad_line_told old new (Ok status) told = told

@@ -1,4 +1,4 @@
--- Audit texts on a rack of one line, and what is told of them.
+-- Examples of audit texts on a rack of one line, and of their verdicts.
 use Rattle.std.specs.Prelude.{◌≡◌, ⊤, ℕ, [], ◌∷◌, codes, Some, None, Ok, Err, refl}
 use Rattle.std.specs.Fmt.{digits}
 use Rattle.hex.proofs.OnLiterals.{hex_on_literals}
@@ -18,12 +18,12 @@ use Rattle.dp_audit.specs.Check.{checked}
 use Rattle.dp_explain.specs.Explained.{verdict_text}
 use Rattle.dp_script.specs.Checks.{checked_on}
 
--- what computes a verdict on a text without entries
+-- the definitions that are unfolded to compute a verdict on a text without entries
 unfoldable check_on_literals : ⊤
 unfolding checked digits
 check_on_literals = tt
 
--- and on one with entries
+-- the definitions that are unfolded for a text with entries
 unfoldable check_on_entries : ⊤
 unfolding check_on_literals hex_on_literals ascending effect slave_after facts_of outcome_of served heard verdict_of rule_at reply_text acted released
 check_on_entries = tt
@@ -42,7 +42,7 @@ rack_with capacity slave = record {
 abbrev rack_of : SlaveSpec → RackDescription
 rack_of slave = rack_with 1000 slave
 
--- slave 5, and the same where master 1 alone may lock it
+-- slave 5, and slave 5 with a list that allows only master 1 to lock it
 abbrev rack_1 : RackDescription
 rack_1 = rack_of slave_5
 
@@ -64,7 +64,7 @@ pub header_of_another_line : checked_on rack_1 (codes "rack-audit 2 line 9\n") �
 unfolding check_on_literals
 header_of_another_line = refl
 
--- version 1 doesn't know lists
+-- version 1 has no lists
 pub header_of_version_1 : checked_on rack_1 (codes "rack-audit 1 line 1\n") ≡ Ok 0
 unfolding check_on_literals
 header_of_version_1 = refl
@@ -87,7 +87,7 @@ pub an_entry : checked_on rack_1 (codes "rack-audit 2 line 1\n1 in 5 aa55 | Wait
 unfolding check_on_entries
 an_entry = refl
 
--- master 1 asks for the diagnosis, and one digit of the reply is another
+-- master 1 asks for the diagnosis; then one digit of the reply differs
 pub a_reply : checked_on rack_1 (codes "rack-audit 2 line 1\n1 req 1 6805056885816d3c3eed16 | WaitPrm none | reply 680b0b688185083e3c020500ff80a1af16 Done\n") ≡ Ok 1
 unfolding check_on_entries
 a_reply = refl
@@ -104,7 +104,7 @@ pub another_holder : checked_on rack_1 (codes "rack-audit 2 line 1\n1 in 5 aa55 
 unfolding check_on_entries
 another_holder = refl
 
--- at the last place of a line of two places there is the halt, but the endless line has places behind it
+-- at the last place of a line with two places there is the halt; the endless line has more places
 pub a_tick_at_the_last_place : checked_on (rack_with 2 slave_5) (codes "rack-audit 2 line 1\n1 tick 1 | none | released\n2 tick 1 | none | released\n") ≡ Err (NotThePolicy 3)
 unfolding check_on_entries
 a_tick_at_the_last_place = refl

@@ -13,7 +13,7 @@ pub data Command : Type 0 where
   write_journal : Command
   operate : OpLine → Command
 
--- this master sends the octets of words of hex digits, if they are such
+-- this master sends the octets of words, if they are hex digits
 abbrev pub sending_of : ℕ → List ℕ → Option Command
 sending_of master digits = option_map (send master) (octets_of_words (words_of digits))
 
@@ -23,20 +23,20 @@ send_of (master ∷ word ∷ words) =
     option_and_then (λ number. option_map (send number) (octets_of_words (word ∷ words))) (octet_number master)
 send_of other = None
 
--- `line N`: the line of number N is chosen
+-- `line N`: chooses the line of number N
 abbrev pub choice_of : List (List ℕ) → Option Command
 choice_of words = option_map choose_line (only_octet words)
 
--- `journal`: the audit text of the line
+-- `journal`: writes the audit text of the line
 abbrev pub journal_of : List (List ℕ) → Option Command
 journal_of [] = Some write_journal
 journal_of other = None
 
--- any other line is read as one of the operator, an empty one and a comment among them
+-- any other line is read as one of the operator, also an empty one and a comment
 abbrev pub operation_of : List ℕ → Option Command
 operation_of line = option_map operate (op_line_of line)
 
--- a line by its words
+-- the command of a line with these words
 abbrev pub command_by_words : List ℕ → List (List ℕ) → Option Command
 command_by_words line [] = None
 command_by_words line (word ∷ words) =
@@ -45,6 +45,6 @@ command_by_words line (word ∷ words) =
     else if same_text word (codes "journal") then journal_of words
     else operation_of line
 
--- a line that is no command is None
+-- None if the line is no command
 abbrev pub command_of : List ℕ → Option Command
 command_of line = command_by_words line (words_of line)

@@ -1,4 +1,4 @@
--- What the devices of a line do in one step (own).
+-- One step of the devices of a line (own).
 use Rattle.std.specs.Prelude.{ℕ, ◌+◌, if◌then◌else◌, List, [], ◌∷◌, Option, Some, None, option_map, is_some}
 use Rattle.dp_slave.specs.declared.view.SlaveView.{SlaveView}
 use Rattle.dp_slave.specs.View.{view_of}
@@ -10,25 +10,24 @@ use Rattle.dp_audit.specs.Journal.{Journal, taken}
 use Rattle.dp_devices.specs.declared.driven_slave.DrivenSlave.{DrivenSlave}
 use Rattle.dp_devices.specs.DrivenSlaves.{next_input}
 
--- what devices leave: the journal, and how many Inputs of theirs were recorded
+-- the result of devices: the journal, and how many of their Inputs were recorded
 pub record Fed : Type 0 where
   pub journal : Journal
   pub recorded : ℕ
 
--- an event counts where it has a place: one that is refused has none, nor one that meets the last place, where the halt is recorded in
--- its stead
+-- an event counts if it has a place. A refused one has none, nor has one that reaches the last place, because the halt is recorded instead
 abbrev pub fed_by : Journal → Event → Fed
 fed_by journal event = record {
   journal = taken journal event;
   recorded = if is_some (step journal.state.world event).answer.place then 1 else 0;
 }
 
--- the device of a slave that is seen like this feeds it
+-- the device updates the inputs of a slave in this state
 abbrev pub fed_as_seen : Journal → DrivenSlave → Option SlaveView → Fed
 fed_as_seen journal driven None = record { journal = journal; recorded = 0 }
 fed_as_seen journal driven (Some slave) = fed_by journal (Operator (next_input driven slave))
 
--- the device of one slave feeds it, by its inputs and outputs as they are then
+-- the device of one slave updates its inputs, by its inputs and outputs at that moment
 abbrev pub fed_once : Journal → DrivenSlave → Fed
 fed_once journal driven = fed_as_seen journal driven (option_map view_of (slave_at journal.state.world driven.address))
 

@@ -1,4 +1,4 @@
--- What is written of the fault of a run (own).
+-- The text that is written for the fault of a run (own).
 use Rattle.std.specs.Prelude.{codes, ℕ, List, ◌++◌}
 use Rattle.std.specs.Fmt.{decimal}
 use Rattle.dp_line.specs.Names.{open_fault_name}

@@ -25,8 +25,8 @@ abbrev pub with_ends : List (List ℕ) → List ℕ
 with_ends [] = []
 with_ends (line ∷ lines) = (line ++ 10 ∷ []) ++ with_ends lines
 
--- the rack text is the lines before the first mark, each with its LF, and the script is what follows the mark's LF;
--- without a mark all of the text is the rack text, and the script is empty
+-- the rack text is the lines before the first mark, each with its LF, and the script is what follows the LF of the mark;
+-- if there is no mark, all of the text is the rack text, and the script is empty
 abbrev pub parts_by_lines : List ℕ → List (List ℕ) → Parts
 parts_by_lines text lines =
     if list_any is_mark lines

@@ -1,11 +1,11 @@
--- Inputs, and how they are split.
+-- Examples of inputs, and of how they are split.
 use Rattle.std.specs.Prelude.{◌≡◌, codes, refl}
 use Rattle.dp_script.specs.Input.{parts_of}
 
 pub rack_and_script : parts_of (codes "a\nb\n%%\nc\nd") ≡ record { rack = codes "a\nb\n"; script = codes "c\nd" }
 rack_and_script = refl
 
--- CR stays where it is, and a mark with a CR is none
+-- CR is not removed, and a line `%%` with a CR is no mark
 pub lines_with_cr : parts_of (codes "a\r\n%%\r\n%%\nc\r\n") ≡ record { rack = codes "a\r\n%%\r\n"; script = codes "c\r\n" }
 lines_with_cr = refl
 

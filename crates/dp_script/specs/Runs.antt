@@ -14,8 +14,8 @@ use Rattle.dp_audit.specs.declared.fault.AuditFault.{AuditFault}
 use Rattle.dp_explain.specs.Explained.{verdict_text, verdict_status}
 use Rattle.dp_script.specs.Checks.{checked_on}
 
--- a command to a line: at the end the line is as it leaves it, and the writer has its whole text; a prefix where a write failed; and
--- where it is none nothing is written
+-- a command to a line: at the end the line is as the command leaves it, and the writer has its whole text, or a prefix if a write failed;
+-- if it is no command, nothing is written
 abbrev pub Sends : Option Sent → ScriptLine → Option (List ℕ) → Option (List ℕ) → Result (Unit {0}) ObeyFault → Type 0
 Sends (Some sending) script_line old new (Ok done) = (script_line ≡ sending.script_line) × Appends old new sending.text
 Sends (Some sending) script_line old new (Err stops.WriteFault) = WritesPrefix old new sending.text
@@ -23,7 +23,7 @@ Sends (Some sending) script_line old new (Err stops.NoCommand) = ⊥
 Sends None script_line old new (Err stops.NoCommand) = Keeps old new
 Sends None script_line old new other = ⊥
 
--- the same of a command to a rack in use
+-- a command to a rack: at the end the rack is as the command leaves it; the writer is as for a command to a line
 abbrev pub Obeys : Option Obeyed → ScriptRack → Option (List ℕ) → Option (List ℕ) → Result (Unit {0}) ObeyFault → Type 0
 Obeys (Some obeyed) script_rack old new (Ok done) = (script_rack ≡ obeyed.script_rack) × Appends old new obeyed.text
 Obeys (Some obeyed) script_rack old new (Err stops.WriteFault) = WritesPrefix old new obeyed.text
@@ -31,7 +31,7 @@ Obeys (Some obeyed) script_rack old new (Err stops.NoCommand) = ⊥
 Obeys None script_rack old new (Err stops.NoCommand) = Keeps old new
 Obeys None script_rack old new other = ⊥
 
--- at the end of a run the writer has the whole text; where a line is no command, the text of the lines before it; and else a prefix
+-- at the end of a run the writer has the whole text; if a line is no command, the text of the lines before it; otherwise a prefix
 abbrev pub Plays : Played → Option (List ℕ) → Option (List ℕ) → Result (Unit {0}) RunFault → Type 0
 Plays played old new (Ok done) = (played.fault ≡ None) × Appends old new played.text
 Plays played old new (Err (runs.Script line)) = (played.fault ≡ Some line) × Appends old new played.text
@@ -39,18 +39,18 @@ Plays played old new (Err runs.OutOfMemory) = WritesPrefix old new played.text
 Plays played old new (Err runs.WriteFault) = WritesPrefix old new played.text
 Plays played old new (Err (runs.Rack fault)) = ⊥
 
--- a rack that isn't accepted is reported, or that memory is out, and nothing is written
+-- if a rack isn't accepted, its fault is reported, or that memory ran out, and nothing is written
 abbrev pub RefusesRack : {T : Type 0} → RackFault → Option (List ℕ) → Option (List ℕ) → Result T RunFault → Type 0
 RefusesRack fault old new (Err (runs.Rack told)) = (told ≡ fault) × Keeps old new
 RefusesRack fault old new (Err runs.OutOfMemory) = Keeps old new
 RefusesRack fault old new other = ⊥
 
--- a run of a script on the rack that a text describes, or doesn't
+-- the run of a script on the rack that a text describes, or the fault of that text
 abbrev pub RunsText : Result RackDescription RackFault → List ℕ → Option (List ℕ) → Option (List ℕ) → Result (Unit {0}) RunFault → Type 0
 RunsText (Ok rack) script old new result = Plays (script_text rack script) old new result
 RunsText (Err fault) script old new result = RefusesRack fault old new result
 
--- at the end of a check the writer has the whole verdict, a prefix of it where a write failed, and nothing where memory was refused
+-- at the end of a check the writer has the whole verdict, a prefix of it if a write failed, and nothing if memory ran out
 abbrev pub Tells : Result ℕ AuditFault → Option (List ℕ) → Option (List ℕ) → Result ℕ RunFault → Type 0
 Tells verdict old new (Ok status) = (status ≡ verdict_status verdict) × Appends old new (verdict_text verdict)
 Tells verdict old new (Err runs.WriteFault) = WritesPrefix old new (verdict_text verdict)
@@ -58,7 +58,7 @@ Tells verdict old new (Err runs.OutOfMemory) = Keeps old new
 Tells verdict old new (Err (runs.Script line)) = ⊥
 Tells verdict old new (Err (runs.Rack fault)) = ⊥
 
--- a check of an audit text on the rack that a text describes, or doesn't
+-- the check of an audit text on the rack that a text describes, or the fault of that text
 abbrev pub RunsCheck : Result RackDescription RackFault → List ℕ → Option (List ℕ) → Option (List ℕ) → Result ℕ RunFault → Type 0
 RunsCheck (Ok rack) audit old new result = Tells (checked_on rack audit) old new result
 RunsCheck (Err fault) audit old new result = RefusesRack fault old new result

@@ -1,4 +1,4 @@
--- What a master sends to the line with masters 1 and 2 and slave 5, and what is written.
+-- Examples of what a master sends to the line with masters 1 and 2 and slave 5, and of what is written.
 use Rattle.std.specs.Prelude.{◌≡◌, ⊤, ℕ, List, [], ◌∷◌, codes, Some, None, option_map, refl}
 use Rattle.std.specs.Fmt.{digits}
 use Rattle.hex.proofs.OnLiterals.{hex_on_literals}
@@ -17,12 +17,12 @@ use Rattle.dp_line.specs.LineExamples.{fresh}
 use Rattle.dp_audit.specs.Journal.{Journal, added, taken}
 use Rattle.dp_script.specs.ScriptLines.{Stream, ScriptLine, Sent, sent, took, stepped, owned_line, show_line}
 
--- what computes a text
+-- the definitions that are unfolded to compute a text
 unfoldable text_on_literals : ⊤
 unfolding hex_on_literals digits taken added step effect slave_after facts_of outcome_of heard verdict_of reply_text acted released
 text_on_literals = tt
 
--- the line, before anything came
+-- the line before any octets were sent
 abbrev journal_1 : Journal
 journal_1 = record { number = 1; opening = fresh; room = fresh.capacity; entries = []; state = record { world = fresh; last_walk = 0 } }
 
@@ -35,14 +35,14 @@ text_of_sent sending = sending.text
 abbrev streams_of_sent : Sent → List Stream
 streams_of_sent sending = sending.script_line.streams
 
--- a telegram with a bad end and the request of the slave's status, in one piece
+-- a telegram with a bad end, and a request for the slave's FDL status, in one piece
 pub bad_end_then_status :
     option_map text_of_sent (sent line_1 1 (0x68 ∷ 0x05 ∷ 0x05 ∷ 0x68 ∷ 0x05 ∷ 0x01 ∷ 0x5D ∷ 0x12 ∷ 0x34 ∷ 0xA8 ∷ 0x16 ∷ 0x10 ∷ 0x05 ∷ 0x01 ∷ 0x49 ∷ 0x4F ∷ 0x16 ∷ []))
     ≡ Some (codes "1: dropped BadEnd 11\n1: reply 100105000616 Status\n")
 unfolding text_on_literals
 bad_end_then_status = refl
 
--- a wrong head, octet by octet; the last may start a frame
+-- a wrong head, dropped octet by octet; the last octet may start a frame
 pub bad_head :
     option_map text_of_sent (sent line_1 1 (0x68 ∷ 0x05 ∷ 0x04 ∷ 0x68 ∷ []))
     ≡ Some (codes "1: dropped BadHead 1\n1: dropped NoStart 1\n1: dropped NoStart 1\n")
@@ -54,7 +54,7 @@ pub bad_head_keeps_one :
     ≡ Some (record { master = 1; held = 0x68 ∷ [] } ∷ record { master = 2; held = [] } ∷ [])
 bad_head_keeps_one = refl
 
--- half of a request writes nothing, and the other half goes on with it
+-- half of a request writes nothing, and the other half completes it
 pub half_a_request : option_map text_of_sent (sent line_1 2 (0x10 ∷ 0x05 ∷ 0x02 ∷ [])) ≡ Some []
 half_a_request = refl
 
@@ -64,7 +64,7 @@ pub other_half :
 unfolding text_on_literals
 other_half = refl
 
--- Sync to all of a master that holds no slave
+-- Sync to all slaves, from a master that holds no slave
 pub broadcast_to_none :
     option_map text_of_sent (sent line_1 1 (0x68 ∷ 0x07 ∷ 0x07 ∷ 0x68 ∷ 0xFF ∷ 0x81 ∷ 0x46 ∷ 0x3A ∷ 0x3E ∷ 0x20 ∷ 0x00 ∷ 0x5E ∷ 0x16 ∷ []))
     ≡ Some (codes "1: spread\n")
@@ -89,7 +89,7 @@ no_slave_there = refl
 abbrev pub after_op : Op → ScriptLine
 after_op op = (took line_1 op).script_line
 
--- the device sets the inputs, which are shown then
+-- the device sets the inputs, and they are shown
 abbrev pub in_5_aa55 : Op
 in_5_aa55 = Input 5 (record { items = 0xAA ∷ 0x55 ∷ [] })
 
@@ -101,7 +101,7 @@ pub inputs_shown : show_line (after_op in_5_aa55) 5 ≡ codes "show 5 WaitPrm no
 unfolding text_on_literals
 inputs_shown = refl
 
--- one octet where the slave has two
+-- one octet for a slave with two octets of inputs
 pub too_few_inputs : text_of_sent (took line_1 (Input 5 (record { items = 0xAA ∷ [] }))) ≡ codes "refused WrongLength\n"
 unfolding text_on_literals
 too_few_inputs = refl
@@ -111,7 +111,7 @@ pub time_passes_on_a_fresh_line : text_of_sent (took line_1 (Tick 10)) ≡ codes
 unfolding text_on_literals
 time_passes_on_a_fresh_line = refl
 
--- the halt, and after it nothing is taken any more
+-- the halt, and after it all events are refused
 pub halted_once : text_of_sent (took line_1 Halt) ≡ codes "released\n"
 unfolding text_on_literals
 halted_once = refl
@@ -120,7 +120,7 @@ pub halted_twice : text_of_sent (took (after_op Halt) Halt) ≡ codes "refused H
 unfolding text_on_literals
 halted_twice = refl
 
--- a device feeds slave 5
+-- a device updates the inputs of slave 5
 abbrev fed_line : Device → ScriptLine
 fed_line device = record line_1 { driven = (record { address = 5; device = device }) ∷ [] }
 

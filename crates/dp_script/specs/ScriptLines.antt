@@ -1,4 +1,4 @@
--- A line in use, and what its masters send it (own).
+-- A line that a script runs on, and the octets that its masters send (own).
 use Rattle.std.specs.Prelude.{ℕ, ◌==◌, List, [], ◌∷◌, ◌++◌, map, slice_get, slice_set, Option, option_map, option_and_then, position}
 use Rattle.dp_telegram.specs.declared.cutter.Cut.{Cut}
 use Rattle.dp_telegram.specs.declared.cutter.Cut.TheVariants as pieces
@@ -20,18 +20,18 @@ use Rattle.dp_devices.specs.declared.driven_slave.DrivenSlave.{DrivenSlave}
 use Rattle.dp_devices.specs.DrivenSlaves.{driven_slaves}
 use Rattle.dp_script.specs.DeviceSteps.{fed_each}
 
--- a master's stream: of the octets that came, those that can't be judged yet
+-- a master's stream: the octets that were sent and can't be judged yet
 pub record Stream : Type 0 where
   pub master : ℕ
   pub held : List ℕ
 
--- a line in use: its journal, a stream for each of its masters, and the slaves that devices drive
+-- a line that a script runs on: its journal, a stream for each of its masters, and the slaves that devices drive
 pub record ScriptLine : Type 0 where
   pub journal : Journal
   pub streams : List Stream
   pub driven : List DrivenSlave
 
--- the stream of a master before anything came
+-- the stream of a master before it sent any octets
 abbrev pub empty_stream : ℕ → Stream
 empty_stream master = record { master = master; held = [] }
 
@@ -39,16 +39,16 @@ empty_stream master = record { master = master; held = [] }
 abbrev pub line_at_start : Description → ScriptLine
 line_at_start line = record { journal = opened line; streams = map empty_stream line.masters; driven = driven_slaves line.slaves }
 
--- what a line answers to an event
+-- the outcome of an event
 abbrev pub told_of : Journal → LineEvent → Outcome
 told_of journal event = (step journal.state.world event).answer.outcome
 
--- what pieces of a stream leave and write
+-- the result of pieces of a stream: the journal, and the text that is written
 pub record Answered : Type 0 where
   pub journal : Journal
   pub text : List ℕ
 
--- a frame is one event, and its answer is written; dropped octets are no event, and are told
+-- a frame is one event, and its answer is written; dropped octets are no event, and are reported
 abbrev pub piece_answered : Journal → ℕ → Cut → Answered
 piece_answered journal master (pieces.Frame frame octets) =
     record { journal = taken journal (Request master octets); text = answer_text master (told_of journal (Request master octets)) }
@@ -62,7 +62,7 @@ pieces_answered journal master (piece ∷ others) =
     let rest = pieces_answered first.journal master others in
     record { journal = rest.journal; text = first.text ++ rest.text }
 
--- what octets that a master sends leave and write
+-- the result of octets that a master sends: the journal, the stream, and the text that is written
 pub record Passed : Type 0 where
   pub journal : Journal
   pub stream : Stream
@@ -74,22 +74,22 @@ cut_passed journal master cut =
     let answered = pieces_answered journal master cut.cuts in
     record { journal = answered.journal; stream = record { master = master; held = cut.rest }; text = answered.text }
 
--- octets go on with the stream, in whatever pieces they come
+-- octets continue the stream, in whatever pieces they are sent
 abbrev pub passed : Journal → Stream → List ℕ → Passed
 passed journal stream octets = cut_passed journal stream.master (cuts_of (stream.held ++ octets))
 
--- octets that come after others
+-- octets that are sent after others
 abbrev pub then_passed : Passed → List ℕ → Passed
 then_passed before octets =
     let after = passed before.journal before.stream octets in
     record { journal = after.journal; stream = after.stream; text = before.text ++ after.text }
 
--- what a command to a line leaves and writes
+-- the result of a command to a line: the line, and the text that is written
 pub record Sent : Type 0 where
   pub script_line : ScriptLine
   pub text : List ℕ
 
--- octets on the stream at this index
+-- octets are sent on the stream at this index
 abbrev pub sent_at : ScriptLine → List ℕ → ℕ → Stream → Sent
 sent_at script_line octets index stream =
     let passing = passed script_line.journal stream octets in
@@ -98,14 +98,14 @@ sent_at script_line octets index stream =
       text = passing.text;
     }
 
--- a master sends octets; None where it isn't the line's
+-- a master sends octets; None if it is no master of the line
 abbrev pub sent : ScriptLine → ℕ → List ℕ → Option Sent
 sent script_line master octets =
     option_and_then
     (λ index. option_map (sent_at script_line octets index) (slice_get script_line.streams index))
     (position (λ stream. stream.master == master) script_line.streams)
 
--- which slaves a master holds; none for an address that is no master's
+-- the slaves that a master holds; none for an address that is no master's
 abbrev pub owned_line : ScriptLine → ℕ → List ℕ
 owned_line script_line master = owned_text (owned script_line.journal.state.world master)
 
@@ -113,7 +113,7 @@ owned_line script_line master = owned_text (owned script_line.journal.state.worl
 abbrev pub show_line : ScriptLine → ℕ → List ℕ
 show_line script_line address = show_text (option_map view_of (slave_at script_line.journal.state.world address))
 
--- the operator does something, which is one event; the streams stay
+-- an event of the operator; it leaves the streams unchanged
 abbrev pub took : ScriptLine → Op → Sent
 took script_line op =
     record {
@@ -121,17 +121,17 @@ took script_line op =
       text = outcome_line (told_of script_line.journal (Operator op));
     }
 
--- the devices of the line feed their slaves, in ascending order of address, and how many Inputs were recorded is told
+-- the devices of the line update the inputs of their slaves, in ascending order of address; the text has the number of recorded Inputs
 abbrev pub stepped : ScriptLine → Sent
 stepped script_line =
     let fed = fed_each script_line.journal script_line.driven in
     record { script_line = record script_line { journal = fed.journal }; text = stepped_text fed.recorded }
 
--- what is asked leaves the line as it is
+-- a query leaves the line unchanged
 abbrev pub told : ScriptLine → List ℕ → Sent
 told script_line text = record { script_line = script_line; text = text }
 
--- what a line of the operator leaves and writes
+-- the result of a line of the operator
 abbrev pub operated : ScriptLine → OpLine → Sent
 operated script_line (Event op) = took script_line op
 operated script_line (Owned master) = told script_line (owned_line script_line master)
@@ -139,6 +139,6 @@ operated script_line (Show address) = told script_line (show_line script_line ad
 operated script_line Step = stepped script_line
 operated script_line Nothing = told script_line []
 
--- the audit text of its journal
+-- the audit text of the line's journal
 abbrev pub journal_text : ScriptLine → List ℕ
 journal_text script_line = audit_text (version_of script_line.journal.opening.capacity) script_line.journal.number script_line.journal.entries

@@ -1,4 +1,4 @@
-//! An audit text, checked on a rack.
+//! The check of an audit text on a rack.
 
 ghost use Rattle.std.specs.Prelude.{◌≡◌, ◌⊎◌, Err, None, All, find, option_copied};
 ghost use Rattle.dp_line.specs.World.{description_of, opening_fault};
@@ -18,12 +18,12 @@ use rack_file::{Rack, RackFault, RackLine, read_rack};
 use std::alloc::Global;
 use std::io::Write;
 
-/// Checks an audit text on the line that its header names, of the rack that a text describes, and writes
-/// what it is found to be: `legal N` with the number of entries, `bad line N` or `not the policy N` with
-/// the line of the text, from 1. The answer is the exit status: 0 where it is legal, else 1.
+/// Checks an audit text on the line of the rack that its header names, and writes the verdict: `legal N` with the
+/// number of entries, `bad line N` or `not the policy N` with the number of the text line, from 1. Returns the exit
+/// status: 0 if the text is legal, else 1.
 ///
-/// `Rack` where the rack isn't accepted, `OutOfMemory` where memory was refused, and then nothing is
-/// written; `WriteFault` leaves a prefix. It is never `Script`.
+/// Returns `Rack` if the rack isn't accepted, and `OutOfMemory` if memory runs out; then nothing is written.
+/// `WriteFault` leaves a prefix of the verdict. It never returns `Script`.
 pub fn run_check<W: Write>(
     alloc: Global,
     rack: &str,
@@ -40,7 +40,7 @@ pub fn run_check<W: Write>(
     }
 }
 
-/// What an audit text is found to be on a rack; or that memory is out.
+/// Returns the verdict on an audit text on a rack; `OutOfMemory` if memory runs out.
 fn verdict_on(alloc: Global, rack: &Rack, audit: &str) -> Result<u32, AuditFault>
     requires { All (λ line. opening_fault (description_of line.spec) ≡ None) rack.now.lines.items }
     ensures { (result ≡ Err AuditFault.OutOfMemory) ⊎ (result ≡ checked_on (rack_described rack.now) audit.now) }
@@ -54,14 +54,15 @@ fn verdict_on(alloc: Global, rack: &Rack, audit: &str) -> Result<u32, AuditFault
     }
 }
 
-/// The line that this is an accepted header of.
+/// Returns the first line that accepts this header; None if there is none.
 pub(crate) fn line_named<'a>(lines: &'a [RackLine], header: &[u8]) -> Option<&'a RackLine>
     ensures { option_copied result ≡ find (λ line. is_accepted_header (description_of line.spec) header.now) lines.now }
 {
     lines.iter().find(|line| is_header_of(header, &line.spec))
 }
 
-/// Writes what an audit text is found to be, and answers the exit status.
+/// Writes the verdict on an audit text, and returns the exit status: 0 if it is legal, else 1. Returns `OutOfMemory` if
+/// that is the verdict, and `WriteFault` if the write fails.
 pub(crate) fn tell_verdict<W: Write>(
     verdict: Result<u32, AuditFault>,
     writer: &mut W,

@@ -6,28 +6,28 @@ ghost use Rattle.dp_script.specs.CommandView.{command_view};
 
 use dp_text::{Words, is_text, octet_in, only_octet_in};
 
-/// What a line of a script asks for.
+/// What one line of a script asks for.
 #[derive(Drop)]
 pub(crate) enum Command<'a> {
-    /// `line N`: commands go to the line of this number.
+    /// `line N`: chooses the rack's line of this number for the commands that follow.
     ChooseLine(u8),
-    /// `m M HEX..`: a master sends octets.
+    /// `m M HEX..`: sends octets as a master.
     Send {
-        /// The master's address.
+        /// The address of the master.
         master: u8,
-        /// The words of the octets, where they stand in the line. They are looked at and decoded in one pass, when
+        /// The words of the octets, as they are in the script's line. They are checked and decoded in one pass, when
         /// the command is obeyed.
         digits: &'a [u8],
     },
-    /// `journal`: the audit text of the line.
+    /// `journal`: writes the audit text of the line.
     WriteJournal,
-    /// Any other line. It is a command where it is one of the operator's, which is read when it is obeyed,
-    /// since what is read is large.
+    /// Any other line. It is a command if it is one of the operator's. That is read only when the command is obeyed,
+    /// because an operator's command takes much space.
     Operate(&'a [u8]),
 }
 
-/// The command that a line is, if it is one; what a master sends, and a line that may be the operator's, is left to be
-/// read.
+/// Returns the command of a script's line; None if it is none. The octets of a master, and a line that may be the
+/// operator's, are not read yet.
 pub(crate) fn command_in(line: &[u8]) -> Option<Command<'_>>
     ensures { option_and_then command_view result ≡ command_of line.now }
 {
@@ -45,7 +45,7 @@ pub(crate) fn command_in(line: &[u8]) -> Option<Command<'_>>
     Some(Command::Operate(line))
 }
 
-/// The audit text; no other word may stand behind it.
+/// Returns the command `journal`; None if another word follows.
 fn journal<'a>(words: &mut Words<'a>) -> Option<Command<'a>>
     ensures { option_and_then command_view result ≡ journal_of words.old }
 {
@@ -55,7 +55,8 @@ fn journal<'a>(words: &mut Words<'a>) -> Option<Command<'a>>
     }
 }
 
-/// What a master sends: its address, and one or more words, which are left to be read.
+/// Returns the command of a master that sends: its address, and one or more words that are not read yet. None if the
+/// address or the words are missing.
 fn send<'a>(words: &mut Words<'a>) -> Option<Command<'a>>
     ensures { option_and_then command_view result ≡ send_of words.old }
 {

@@ -1,4 +1,4 @@
-//! What the devices of a line do in one step.
+//! One step of the devices of a line.
 
 ghost use Rattle.std.specs.Prelude.{◌≡◌, ◌≤◌, if◌then◌else◌, length};
 ghost use Rattle.dp_line.specs.declared.event.Event.TheVariants.{Operator};
@@ -9,7 +9,7 @@ use dp_audit::Book;
 use dp_devices::DrivenSlave;
 use dp_line::{Event, Op, Step};
 
-/// The devices feed these slaves, one after another; how many inputs were recorded.
+/// Updates the inputs of these slaves by their devices, one after another. Returns how many inputs were recorded.
 pub(crate) fn feed_each(book: &mut Book, driven: &[DrivenSlave]) -> u8
     requires { length driven.now ≤ MOST_DRIVEN }
     ensures { record { journal = book.new; recorded = result } ≡ fed_each book.old driven.now }
@@ -25,7 +25,7 @@ pub(crate) fn feed_each(book: &mut Book, driven: &[DrivenSlave]) -> u8
     recorded
 }
 
-/// The device of a slave feeds it; whether that was recorded.
+/// Updates the inputs of a slave by its device. Returns whether that was recorded.
 fn feed(book: &mut Book, driven: DrivenSlave) -> bool
     ensures { record { journal = book.new; recorded = if result then 1 else 0 } ≡ fed_once book.old driven }
 {
@@ -35,7 +35,7 @@ fn feed(book: &mut Book, driven: DrivenSlave) -> bool
     }
 }
 
-/// Takes what a device does; whether that was recorded.
+/// Takes the event of a device. Returns whether it was recorded.
 fn take(book: &mut Book, op: Op) -> bool
     ensures { record { journal = book.new; recorded = if result then 1 else 0 } ≡ fed_by book.old (Operator op) }
 {

@@ -1,4 +1,4 @@
-//! An audit text, explained on a rack.
+//! The explanation of an audit text on a rack.
 
 ghost use Rattle.std.specs.Prelude.{◌≡◌, None, All};
 ghost use Rattle.dp_line.specs.World.{description_of, opening_fault};
@@ -20,12 +20,12 @@ use rack_file::{Rack, RackFault, read_rack};
 use std::alloc::Global;
 use std::io::Write;
 
-/// Explains an audit text to a person, on the line that its header names, of the rack that a text describes: the
-/// entries that are chosen, up to the first row that is wrong, a summary of all, and then what the text is found to
-/// be, as [`run_check`](crate::run_check) tells it. The answer is the exit status: 0 where it is legal, else 1.
+/// Explains an audit text to a person, on the line of the rack that its header names. Writes the chosen entries, up to
+/// the first line of the text that is wrong, a summary of all entries, and then the verdict, as
+/// [`run_check`](crate::run_check) writes it. Returns the exit status: 0 if the text is legal, else 1.
 ///
-/// `Rack` where the rack isn't accepted, and then nothing is written; `OutOfMemory` and `WriteFault` leave a prefix.
-/// It is never `Script`.
+/// Returns `Rack` if the rack isn't accepted, and then nothing is written. `OutOfMemory` and `WriteFault` leave a
+/// prefix of the output. It never returns `Script`.
 pub fn run_explain<W: Write>(
     alloc: Global,
     rack: &str,
@@ -43,7 +43,7 @@ pub fn run_explain<W: Write>(
     }
 }
 
-/// Explains an audit text on the line of a rack that it names; where it names none, its first row is bad.
+/// Explains an audit text on the line of the rack that its header names. If it names none, its first line is bad.
 fn explain_on<W: Write>(
     alloc: Global,
     rack: &Rack,

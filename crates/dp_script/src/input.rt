@@ -1,11 +1,11 @@
-//! Standard input: a rack text, a line `%%`, a script.
+//! Standard input: a rack text, a line `%%`, and a script.
 
 ghost use Rattle.std.specs.Prelude.{◌≡◌, ◌++◌, List, ℕ};
 ghost use Rattle.dp_script.specs.Input.{parts_of};
 
-/// The rack text and the script of an input. The first line that is exactly `%%` separates them:
-/// what stands before it is the rack text, line ends and all, and what follows its LF is the script.
-/// Without such a line all of it is the rack text, and the script is empty.
+/// Splits an input into the rack text and the script. The first line that is exactly `%%` separates them: the rack
+/// text is all before it, including the line ends, and the script is all after its LF. If there is no such line, all
+/// of the input is the rack text, and the script is empty.
 pub fn split_input(input: &str) -> (&str, &str)
     ensures { record { rack = result.0.now; script = result.1.now } ≡ parts_of input.now }
 {
@@ -23,7 +23,7 @@ pub fn split_input(input: &str) -> (&str, &str)
     }
 }
 
-/// What stands in a text before its end.
+/// Returns a text without this end.
 fn before<'a>(text: &'a str, end: &str) -> &'a str
     requires { (front : List ℕ) × (text.now ≡ front ++ end.now) }
     ensures { text.now ≡ result.now ++ end.now }

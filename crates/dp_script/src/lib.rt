@@ -1,7 +1,10 @@
-//! Scripts and audit texts on a rack: a script is run ([`run_text`]), and an audit text is checked
-//! ([`run_check`]), or told to a person ([`run_explain`]). All write to any writer; [`split_input`] parts a rack text and a script that come as one.
+//! Scripts and audit texts on a rack. [`run_text`] runs a script, [`run_check`] checks an audit text, and
+//! [`run_explain`] explains one to a person. All write to any writer. [`split_input`] splits an input into a rack text
+//! and a script.
 //!
-//! What takes memory: the rack with its lines, slaves, streams and journals. No row of a script and no answer does.
+//! Memory is taken for the rack with its lines, slaves, streams and journals, and for the lines that a check or an
+//! explanation opens. An explanation also takes memory for the rows of an entry. No line of a script and no answer
+//! takes memory.
 #![tactic(auto)]
 
 mod check;

@@ -1,10 +1,10 @@
-//! Why a line of a script stopped its run.
+//! The reasons why a line of a script stops its run.
 
-/// Why a line of a script stopped its run.
+/// A reason why a line of a script stops its run.
 #[derive(Clone, Copy, Debug, PartialEq, Eq)]
 pub(crate) enum ObeyFault {
-    /// It is no command, or can't be obeyed; then nothing is written.
+    /// The line is no command, or can't be obeyed; then nothing is written.
     NoCommand,
-    /// A write failed, or took no octet.
+    /// A write failed, or took no bytes.
     WriteFault,
 }

@@ -1,4 +1,4 @@
-//! Writing an answer whole.
+//! Writes an answer whole.
 
 ghost use Rattle.std.specs.Prelude.{◌≡◌, OnOk, OnErr, IfErr};
 ghost use Rattle.std.specs.Io.KnownBytes.{Appends};
@@ -7,7 +7,7 @@ ghost use Rattle.dp_text.specs.Writes.{WritesPrefix};
 use crate::obey_fault::ObeyFault;
 use std::io::Write;
 
-/// Writes all of the bytes, or a prefix of them where a write fails or takes no octet.
+/// Writes all of the bytes; `WriteFault` if a write fails or takes no bytes, which leaves a prefix of them.
 pub(crate) fn write_whole<W: Write>(writer: &mut W, bytes: &[u8]) -> Result<(), ObeyFault>
     ensures ok { OnOk result (Appends (W.contents writer.old) (W.contents writer.new) bytes.now) }
     ensures err { OnErr result (WritesPrefix (W.contents writer.old) (W.contents writer.new) bytes.now) }

@@ -1,4 +1,4 @@
-//! A rack text and a script, run.
+//! Runs a script on the rack that a text describes.
 
 ghost use Rattle.std.specs.Prelude.{◌≡◌};
 ghost use Rattle.rack_file.specs.RackFile.{rack_in};
@@ -13,9 +13,9 @@ use std::io::Write;
 
 /// Runs a script on the rack that a text describes, and writes the answers.
 ///
-/// `Rack` where the rack isn't accepted, and then nothing is written; `Script` for the first line that
-/// is no command, and then the answers of the lines before it are written; `WriteFault` and
-/// `OutOfMemory` leave a prefix of the answers written.
+/// Returns `Rack` if the rack isn't accepted, and then nothing is written. Returns `Script` for the first line that is
+/// no command or can't be obeyed, and then the answers of the lines before it are written. `WriteFault` and
+/// `OutOfMemory` leave a prefix of the answers.
 pub fn run_text<W: Write>(
     alloc: Global,
     rack: &str,

@@ -1,4 +1,4 @@
-//! Why a run ended early.
+//! The reasons why a run ends early.
 
 ghost use Rattle.std.specs.Prelude.{◌≡◌, Some};
 ghost use Rattle.dp_script.specs.Codes.{run_fault_code};
@@ -8,22 +8,22 @@ use rack_file::RackFault;
 use std::error::Error;
 use std::fmt;
 
-/// Why a run ended early. What was written before stays written.
+/// A reason why a run ends early. What was written before stays written.
 #[derive(Clone, Copy, Debug, PartialEq, Eq)]
 pub enum RunFault {
-    /// Memory was refused.
+    /// Memory ran out.
     OutOfMemory,
     /// The rack isn't accepted.
     Rack(RackFault),
-    /// The script's line of this number, from 1, is no command, or can't be obeyed: it chooses a line
-    /// that isn't in the rack, or names a master that isn't one of the line's.
+    /// The script's line of this number, from 1, is no command, or can't be obeyed: it chooses a line that isn't in the
+    /// rack, or names a master that isn't one of the line's.
     Script(u64),
-    /// A write failed, or took no octet.
+    /// A write failed, or took no bytes.
     WriteFault,
 }
 
 impl RunFault {
-    /// The number of the fault, 1 to 4 (own).
+    /// Returns the number of the fault, 1 to 4 (own).
     pub const fn code(self) -> u8
         ensures { result ≡ run_fault_code self }
     {

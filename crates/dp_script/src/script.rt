@@ -1,4 +1,4 @@
-//! Scripts on a rack.
+//! Runs a script on a rack.
 
 ghost use Rattle.std.specs.Prelude.{◌≡◌, ◌<◌, None, All, length};
 ghost use Rattle.dp_line.specs.World.{description_of, opening_fault};
@@ -16,9 +16,9 @@ use rack_file::Rack;
 use std::alloc::Global;
 use std::io::Write;
 
-/// Runs a script on a rack: writes the answers of its lines, one after another.
+/// Runs a script on a rack, and writes the answers of its lines, one after another.
 ///
-/// `Script` names the first line that is no command, or that can't be obeyed: then the answers of the
+/// Returns `Script` with the number of the first line that is no command or can't be obeyed; then the answers of the
 /// lines before it are written.
 pub(crate) fn run_script<W: Write>(
     alloc: Global,
@@ -36,7 +36,7 @@ pub(crate) fn run_script<W: Write>(
     play_lines(&mut script_rack, script.as_bytes(), writer)
 }
 
-/// Obeys the lines of a script in turn, and writes what each writes.
+/// Obeys the lines of a script in turn, and writes the answer of each.
 fn play_lines<W: Write>(
     script_rack: &mut ScriptRack,
     script: &[u8],
@@ -59,7 +59,7 @@ fn play_lines<W: Write>(
     Err(RunFault::OutOfMemory)
 }
 
-/// Obeys one line; it may be no command, or one that can't be obeyed.
+/// Obeys one line. Returns `NoCommand` if it is no command, or can't be obeyed.
 fn obey_line<W: Write>(
     script_rack: &mut ScriptRack,
     line: &[u8],

@@ -1,4 +1,4 @@
-//! A line in use: its journal, the streams of its masters, and the slaves that devices drive.
+//! A line that a script runs on: its journal, the streams of its masters, and the slaves that devices drive.
 
 ghost use Rattle.std.specs.Prelude.{◌≡◌, ◌≤◌, ◌<◌, ◌==◌, [], ◌++◌, length, take, None, map, option_map, option_and_then, position, IfOk, OnOk, OnErr, IfErr};
 ghost use Rattle.std.specs.Io.KnownBytes.{Appends};
@@ -28,11 +28,11 @@ use std::alloc::{AllocError, Global};
 use std::io::Write;
 use std::marker::Model;
 
-/// Octets that are decoded at once.
+/// The largest number of octets that are decoded at a time.
 const CHUNK: usize = 64;
 
-/// What a master sends, in whatever pieces it comes, and room for what the line answers: each answer is written into it
-/// anew, so none clears room for itself.
+/// The stream of a master, which may arrive in any pieces, and a buffer for the result of a step. Each result
+/// overwrites the one before, so the buffer isn't cleared for each event.
 #[derive(Drop)]
 struct Stream {
     master: u8,
@@ -40,7 +40,7 @@ struct Stream {
     step: Step,
 }
 
-/// Room for what the operator does, and for what the line answers.
+/// Buffers for an event of the operator, and for its result.
 #[derive(Drop)]
 struct Room {
     event: Event,
@@ -58,7 +58,7 @@ impl Model for Stream {
     ghost invariant = { λ s. length s.cutter ≤ 255 };
 }
 
-/// A line in use. Each of its masters has a stream of its own, which commands go on with.
+/// A line that a script runs on. Each of its masters has one stream, which its commands continue.
 #[derive(Drop)]
 pub(crate) struct ScriptLine {
     book: Book,
@@ -76,7 +76,7 @@ impl Model for ScriptLine {
 }
 
 impl ScriptLine {
-    /// The line at its start; or memory was refused.
+    /// Opens the line at its start; `AllocError` if memory runs out.
     pub(crate) fn open(alloc: Global, line: &LineSpec) -> Result<ScriptLine, AllocError>
         requires { opening_fault (description_of line.now) ≡ None }
         ensures { IfOk result (λ script_line. script_line ≡ line_at_start (description_of line.now)) }
@@ -89,15 +89,15 @@ impl ScriptLine {
         })
     }
 
-    /// Its number in the rack.
+    /// Returns the number of the line in the rack.
     pub(crate) fn number(&self) -> u8
         ensures { result ≡ self.now.journal.number }
     {
         self.book.number()
     }
 
-    /// A master sends the octets of words, and the answers are written; it may be none of the line's, and the words no
-    /// hex digits.
+    /// Sends the octets of words as a master, and writes the answers. Returns `NoCommand` if the line has no such
+    /// master, or if the words are no hex digits; then nothing is written. `WriteFault` leaves a prefix of the answers.
     pub(crate) fn send<W: Write>(
         &mut self,
         master: u8,
@@ -118,10 +118,10 @@ impl ScriptLine {
         stream.pass_words(&mut self.book, decoded, &mut chunk, octets, text, writer)
     }
 
-    /// Does what a line of the operator asks for, and makes the text its answer: none for an empty line or
-    /// a comment. None where the line is no command.
+    /// Obeys a line of the operator, and sets the text to its answer, which is empty for an empty line or a comment.
+    /// Returns None if the line is no command.
     ///
-    /// It is not inlined, so that the way of a frame keeps its registers.
+    /// It is not inlined, so that the code that handles a frame keeps its registers.
     #[inline(never)]
     pub(crate) fn operate(&mut self, line: &[u8], text: &mut Text) -> Option<()>
         ensures { option_map (λ done. record { script_line = self.new; text = text.new }) result ≡ option_map (operated self.old) (op_line_of line.now) }
@@ -136,7 +136,7 @@ impl ScriptLine {
         Some(())
     }
 
-    /// The devices feed their slaves, and the text tells how many inputs were recorded.
+    /// Lets each device update the inputs of its slave, and sets the text to the number of inputs that were recorded.
     fn step(&mut self, text: &mut Text)
         ensures { record { script_line = self.new; text = text.new } ≡ stepped self.old }
     {
@@ -144,21 +144,21 @@ impl ScriptLine {
         text.set_stepped(recorded);
     }
 
-    /// Makes the text the list of the slaves that a master holds, oldest lock first.
+    /// Sets the text to the list of the slaves that a master holds, oldest lock first.
     fn list_owned(&self, master: u8, text: &mut Text)
         ensures { text.new ≡ owned_line self.now master }
     {
         text.set_owned(self.book.state().owned_by(master).as_slice());
     }
 
-    /// Makes the text what is shown of the slave at an address, which none may have.
+    /// Sets the text to what is shown of the slave at an address. There may be no such slave.
     fn show_slave(&self, address: u8, text: &mut Text)
         ensures { text.new ≡ show_line self.now address }
     {
         text.set_show(&self.book.state().view(address));
     }
 
-    /// Writes the audit text of its journal.
+    /// Writes the audit text of the line's journal. `WriteFault` leaves a prefix of it.
     pub(crate) fn write_journal<W: Write>(&self, writer: &mut W) -> Result<(), ObeyFault>
         ensures ok { OnOk result (Appends (W.contents writer.old) (W.contents writer.new) (journal_text self.now)) }
         ensures err { OnErr result (WritesPrefix (W.contents writer.old) (W.contents writer.new) (journal_text self.now)) }
@@ -170,7 +170,7 @@ impl ScriptLine {
     }
 }
 
-/// A stream for each of the masters, before anything came.
+/// Returns an empty stream for each of the masters; `AllocError` if memory runs out.
 fn empty_streams(alloc: Global, masters: &[u8]) -> Result<Vec<Stream>, AllocError>
     ensures { IfOk result (λ streams. streams.items ≡ map empty_stream masters.now) }
 {
@@ -185,7 +185,7 @@ fn empty_streams(alloc: Global, masters: &[u8]) -> Result<Vec<Stream>, AllocErro
     Ok(streams)
 }
 
-/// Where the stream of a master stands.
+/// Returns the index of the stream of a master; None if there is none.
 fn index_of(streams: &[Stream], master: u8) -> Option<usize>
     ensures { result ≡ position (λ stream. stream.master == master) streams.now }
 {
@@ -193,8 +193,8 @@ fn index_of(streams: &[Stream], master: u8) -> Option<usize>
 }
 
 impl Stream {
-    /// Octets come in words, of which so many are decoded in a chunk and the others are left, and the answers to the
-    /// pieces that they complete are written.
+    /// Takes octets, and writes the answers to the pieces that they complete. The first `decoded` octets are already in
+    /// `chunk`; the words in `octets` are decoded into it, one chunk after another. `WriteFault` leaves a prefix.
     fn pass_words<W: Write>(
         &mut self,
         book: &mut Book,
@@ -224,7 +224,7 @@ impl Stream {
         }
     }
 
-    /// Octets come, and the answers to the pieces that they complete are written.
+    /// Takes octets, and writes the answers to the pieces that they complete. `WriteFault` leaves a prefix.
     fn pass<W: Write>(
         &mut self,
         book: &mut Book,
@@ -255,7 +255,7 @@ impl Stream {
     }
 }
 
-/// Makes the text the answer to a piece of a master's stream: a frame is one event of the line.
+/// Sets the text to the answer to a piece of a master's stream: a frame is one event of the line.
 fn answer_piece(text: &mut Text, book: &mut Book, master: u8, piece: Piece<'_>, step: &mut Step)
     ensures { record { journal = book.new; text = text.new } ≡ piece_answered book.old master (cut_lent piece.entry) }
 {
@@ -268,7 +268,8 @@ fn answer_piece(text: &mut Text, book: &mut Book, master: u8, piece: Piece<'_>, 
     }
 }
 
-/// What a line of the operator asks for; what he does is made the event. One of his that lies there gives its room.
+/// Reads a line of the operator; None if it is no command. If the line asks for an event, `event` becomes that event.
+/// If `event` already is one of the operator's, it is overwritten in place.
 fn asked_in(line: &[u8], event: &mut Event) -> Option<Asked>
     ensures { IsAsked (op_line_of line.now) result event.new }
 {
@@ -278,7 +279,7 @@ fn asked_in(line: &[u8], event: &mut Event) -> Option<Asked>
     }
 }
 
-/// What a line of the operator asks for, where a request lies.
+/// Reads a line of the operator into an event that is a request. See [`asked_in`].
 fn asked_anew(line: &[u8], event: &mut Event) -> Option<Asked>
     ensures { IsAsked (op_line_of line.now) result event.new }
 {
@@ -288,7 +289,7 @@ fn asked_anew(line: &[u8], event: &mut Event) -> Option<Asked>
     asked
 }
 
-/// Makes the text the answer to what the operator does, which is the event in the room.
+/// Takes the event of the operator in `room`, and sets the text to the answer.
 fn answer_op(text: &mut Text, book: &mut Book, room: &mut Room)
     ensures journal { book.new ≡ taken book.old room.old.event }
     ensures text { text.new ≡ outcome_line (told_of book.old room.old.event) }
@@ -297,7 +298,7 @@ fn answer_op(text: &mut Text, book: &mut Book, room: &mut Room)
     text.set_outcome(&room.step.outcome);
 }
 
-/// Room in which nothing lies yet.
+/// Returns empty buffers.
 fn blank_room() -> Room {
     Room {
         event: Event::Operator(Op::Halt),

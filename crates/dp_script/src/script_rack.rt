@@ -1,4 +1,4 @@
-//! A rack in use: its lines, and the one that commands speak to.
+//! A rack that a script runs on: its lines, and the chosen one, which gets the commands.
 
 ghost use Rattle.std.specs.Prelude.{◌≡◌, ◌<◌, ◌==◌, ℕ, List, Option, None, option_and_then, All, map, position, length, IfOk, IfSome};
 ghost use Rattle.dp_script.specs.Commands.{choose_line, sending_of, write_journal as journal_asked, operation_of};
@@ -19,7 +19,7 @@ use std::alloc::{AllocError, Global};
 use std::io::Write;
 use std::marker::Model;
 
-/// The lines of a rack in the order of its file, and the chosen one, which is one of them.
+/// The lines of a rack in the order of its file, and the index of the chosen one.
 #[derive(Drop)]
 pub(crate) struct ScriptRack {
     lines: Vec<ScriptLine>,
@@ -38,7 +38,7 @@ impl Model for ScriptRack {
 }
 
 impl ScriptRack {
-    /// Each line at its start, the first chosen; or memory was refused.
+    /// Opens each line at its start, and chooses the first; `AllocError` if memory runs out.
     pub(crate) fn open(alloc: Global, rack: &Rack) -> Result<ScriptRack, AllocError>
         requires some { 0 < length rack.now.lines.items }
         requires fit { All (λ line. opening_fault (description_of line.spec) ≡ None) rack.now.lines.items }
@@ -50,7 +50,7 @@ impl ScriptRack {
         })
     }
 
-    /// Obeys a command, and writes what it writes; it may be one that can't be obeyed.
+    /// Obeys a command, and writes its answer. Returns `NoCommand` if it can't be obeyed.
     pub(crate) fn obey<W: Write>(
         &mut self,
         command: Command<'_>,
@@ -67,7 +67,7 @@ impl ScriptRack {
         }
     }
 
-    /// Speaks to the line of this number from now on, if there is one.
+    /// Chooses the line of this number for the commands that follow. Returns `NoCommand` if the rack has no such line.
     fn choose(&mut self, number: u8) -> Result<(), ObeyFault>
         ensures { (contents : Option (List ℕ)) → Obeys (obeyed self.old (choose_line number)) self.new contents contents result }
     {
@@ -80,7 +80,8 @@ impl ScriptRack {
         }
     }
 
-    /// A master sends the octets of words to the chosen line, if they are hex digits.
+    /// Sends the octets of words to the chosen line as a master, and writes the answers. Returns `NoCommand` if the
+    /// line has no such master, or if the words are no hex digits.
     fn send<W: Write>(
         &mut self,
         master: u8,
@@ -100,7 +101,7 @@ impl ScriptRack {
         self.lines[self.chosen].write_journal(writer)
     }
 
-    /// The chosen line does what a line of its operator asks for, if it is one; its answer is written.
+    /// Obeys a line of the operator on the chosen line, and writes its answer. Returns `NoCommand` if it is no command.
     fn operate<W: Write>(
         &mut self,
         line: &[u8],
@@ -116,7 +117,7 @@ impl ScriptRack {
     }
 }
 
-/// Where the line of a number stands first.
+/// Returns the index of the first line with this number; None if there is none.
 fn index_of(lines: &[ScriptLine], number: u8) -> Option<usize>
     ensures index { result ≡ position (λ line. line.journal.number == number) lines.now }
     ensures bound { IfSome result (λ index. index < length lines.now) }
@@ -124,7 +125,7 @@ fn index_of(lines: &[ScriptLine], number: u8) -> Option<usize>
     lines.iter().position(|line| line.number() == number)
 }
 
-/// The lines at their start.
+/// Opens each of the lines at its start; `AllocError` if memory runs out.
 fn lines_of(alloc: Global, lines: &[RackLine]) -> Result<Vec<ScriptLine>, AllocError>
     requires { All (λ line. opening_fault (description_of line.spec) ≡ None) lines.now }
     ensures { IfOk result (λ script_lines. script_lines.items ≡ map (λ line. line_at_start (description_of line.spec)) lines.now) }

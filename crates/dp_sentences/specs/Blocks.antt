@@ -1,4 +1,4 @@
--- The rows of an entry (own).
+-- All rows of an entry (own).
 use Rattle.std.specs.Prelude.{ℕ, List, [], ◌++◌}
 use Rattle.dp_line.specs.declared.event.Event.{Event}
 use Rattle.dp_line.specs.declared.event.Event.TheVariants.{Request, Operator}
@@ -20,7 +20,7 @@ abbrev pub reply_row : Event → Outcome → List ℕ
 reply_row (Request master octets) (Reply reply rule) = row_where (reply_text octets.items reply.items)
 reply_row event outcome = []
 
--- the rows of an event that had this outcome and left this world
+-- the rows of an event with this outcome, after which the line is this world
 abbrev pub block_text : SceneView → World → ℕ → Event → Outcome → List ℕ
 block_text scene after place event outcome =
     head_text place event ++ contents_row event ++ result_rows scene event outcome ++ reply_row event outcome

@@ -1,4 +1,4 @@
--- What an event changed of the slaves: state and holder where they are others than before (own).
+-- The changes of slaves that an event caused: state and holder, if they differ from before (own).
 use Rattle.std.specs.Prelude.{codes, ℕ, ◌==◌, ◌&&◌, if◌then◌else◌, Bool, true, false, List, [], ◌∷◌, ◌++◌, Option, Some, None}
 use Rattle.std.specs.List.{flat_map}
 use Rattle.std.specs.Fmt.{decimal}
@@ -37,7 +37,7 @@ changed_words address before after = codes "slave " ++ decimal address ++ codes 
 abbrev pub changed_row : ℕ → SlaveView → SlaveView → List ℕ
 changed_row address before after = codes "       change      " ++ changed_words address before after ++ codes "\n"
 
--- the row of a slave, before and after the event; no row where both are as before
+-- the row of a slave, before and after the event; no row if both are unchanged
 abbrev pub change_row : ℕ → Option SlaveView → Option SlaveView → List ℕ
 change_row address None after = []
 change_row address (Some before) None = []
@@ -48,8 +48,8 @@ change_row address (Some before) (Some after) =
 abbrev pub change_of : World → World → ℕ → List ℕ
 change_of before after address = change_row address (shown_at before address) (shown_at after address)
 
--- the slaves of which an event can change state and holder: the one that a request asks, and those that a tick or the halt let go. A
--- Global_Control to all slaves changes neither of any
+-- the slaves whose state and holder an event can change: the one that a request is sent to, and those that a tick or the halt released.
+-- A Global_Control to all slaves changes neither of any
 abbrev pub asked_addresses : Whom → List ℕ
 asked_addresses (Slave address) = address ∷ []
 asked_addresses AllSlaves = []

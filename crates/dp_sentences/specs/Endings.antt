@@ -12,7 +12,7 @@ use Rattle.dp_line.specs.Hearing.{telegram_spelt}
 use Rattle.dp_sentences.specs.declared.ending.Ending.{Ending}
 use Rattle.dp_sentences.specs.declared.ending.Ending.TheVariants as endings
 
--- what ended a hold: of requests Chk_Cfg that was wrong, and Set_Prm that unlocked or was wrong
+-- how a request ended a hold: by a wrong Chk_Cfg, or by a Set_Prm that unlocked the slave or was wrong
 abbrev pub ending_by_parts : Option Parts → Ending
 ending_by_parts None = endings.WrongParameters
 ending_by_parts (Some parts) =

@@ -1,4 +1,4 @@
--- The head row of an entry: its place, from whom to whom, and what it is (own).
+-- The first row of an entry: its place, the sender and the receiver, and the kind of the event (own).
 use Rattle.std.specs.Prelude.{codes, ℕ, ◌==◌, if◌then◌else◌, Bool, true, false, List, ◌++◌, Option, Some, None}
 use Rattle.std.specs.Fmt.{decimal}
 use Rattle.dp_telegram.specs.declared.frame.Frame.{Frame}
@@ -17,10 +17,10 @@ use Rattle.dp_sentences.specs.declared.who.Who.TheVariants as senders
 use Rattle.dp_decode.specs.Kinds.{kind_text}
 use Rattle.dp_sentences.specs.Words.{at_left, at_right, counted_words, octets_words, point_words, time_words}
 
--- ---- from whom to whom
+-- ---- the sender and the receiver
 
--- to whom a frame goes: a telegram to the station of its DA, which is the slave of a request, or to all; a token to a station; a short
--- acknowledgement to nobody (IEC 61158-4-3, address octets)
+-- the receiver of a frame: for a telegram the station of its DA, which is the slave of a request, or all slaves; for a token a station;
+-- for a short acknowledgement nobody (IEC 61158-4-3, address octets)
 abbrev pub whom_of_frame : Option Frame → Whom
 whom_of_frame None = Nobody
 whom_of_frame (Some (frames.Token da sa)) = Station (address_of da)
@@ -43,7 +43,7 @@ who_text (senders.Master master whom) = codes "master " ++ decimal master ++ cod
 who_text (senders.Operator None) = codes "operator -> line"
 who_text (senders.Operator (Some address)) = codes "operator -> slave " ++ decimal address
 
--- ---- what it is
+-- ---- the kind of the event
 
 abbrev pub bit_text : Bool → List ℕ
 bit_text true = codes "1"
@@ -56,7 +56,7 @@ busy_words false = codes " no longer busy"
 abbrev pub flags_words : Bool → Bool → Bool → List ℕ
 flags_words ext stat overflow = codes "Ext_Diag " ++ bit_text ext ++ codes ", Stat_Diag " ++ bit_text stat ++ codes ", Ext_Diag_Overflow " ++ bit_text overflow
 
--- what an operator does
+-- an event of the operator
 abbrev pub op_kind_text : Op → List ℕ
 op_kind_text (Input address octets) = codes "inputs " ++ octets_words octets.items
 op_kind_text (Diag address ext stat overflow octets) =
@@ -71,7 +71,7 @@ event_kind_text (Operator op) = op_kind_text op
 
 -- ---- the row
 
--- the place stands in the first five columns, and from whom to whom in 26 behind two spaces
+-- the place has the first five columns; the sender and the receiver have 26 columns after two spaces
 abbrev pub head_text : ℕ → Event → List ℕ
 head_text place event =
     at_right 5 (decimal place) ++ codes "  " ++ at_left 26 (who_text (who_of event)) ++ event_kind_text event ++ codes "\n"

@@ -1,16 +1,16 @@
--- A request that has reached a slave, and what a sentence is made of (own).
+-- A request that has reached a slave, and the data that a sentence is made of (own).
 use Rattle.std.specs.Prelude.{ℕ}
 use Rattle.dp_telegram.specs.declared.frame.Telegram.{Telegram}
 use Rattle.dp_telegram.specs.declared.access.Parts.{Parts}
 use Rattle.dp_slave.specs.declared.description.SlaveSpec.{SlaveSpec}
 use Rattle.dp_slave.specs.declared.view.SlaveView.{SlaveView}
 
--- a request of a master, the slave that it has reached, as it was before, and its description
+-- a request of a master, the slave that it has reached, as it was before the request, and its description
 pub record MeetingView : Type 0 where
   pub master : ℕ
   pub telegram : Telegram
   pub parts : Parts
   pub description : SlaveSpec
   pub slave : SlaveView
-  -- the place of the request whose reply the slave remembers of this master; 0 where there was none
+  -- the place of the request whose reply the slave remembers for this master; 0 if there is none
   pub asked : ℕ

@@ -14,24 +14,24 @@ use Rattle.dp_line.specs.declared.event.Outcome.TheVariants.{Reply}
 use Rattle.dp_line.specs.Hearing.{telegram_spelt}
 use Rattle.dp_sentences.specs.declared.notes.Noted.{Noted}
 
--- of a slave and a master no request is noted
+-- no request is noted for a slave and a master
 abbrev pub unnoted : ℕ → ℕ → Noted
 unnoted slave master = record { slave = slave; master = master; place = 0 }
 
--- at first, of each slave and each master
+-- at first no request is noted for any slave and master
 abbrev pub first_notes : List ℕ → List ℕ → List Noted
 first_notes slaves masters = flat_map (λ slave. map (unnoted slave) masters) slaves
 
--- the place of the last request of the master that the slave judged anew and replied to; 0 where there is none
+-- the place of the last request of the master that the slave judged and replied to, other than by a repeat; 0 if there is none
 abbrev pub place_noted : List Noted → ℕ → ℕ → ℕ
 place_noted notes slave master = option_map_or (λ noted. noted.place) (find (λ noted. noted.slave == slave && noted.master == master) notes) 0
 
--- a request to the slave is noted with its place
+-- the place of a request to the slave is noted
 abbrev pub noted_at : ℕ → ℕ → ℕ → Noted → Noted
 noted_at slave master place noted = if noted.slave == slave && noted.master == master then record noted { place = place } else noted
 
--- an SRD that is judged anew leaves its reply, whatever its rule; a repeat leaves the memory as it is (IEC 61158-4-3, frame count bit; own
--- in detail). Where the memory is emptied no repeat follows, so that the place doesn't matter
+-- an SRD that is no repeat leaves its reply, whatever its rule; a repeat leaves the memory unchanged (IEC 61158-4-3, frame count bit; own
+-- in detail). After the memory is emptied no repeat follows, so the place doesn't matter
 abbrev pub is_judged_anew : Rule → Bool
 is_judged_anew rules.Repeat = false
 is_judged_anew other = true

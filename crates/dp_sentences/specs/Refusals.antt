@@ -1,4 +1,4 @@
--- Why a slave refuses a request, in one sentence for each rule, of the slave's own state (own).
+-- The reasons why a slave refuses a request: one sentence for each rule, about the slave's own state (own).
 use Rattle.std.specs.Prelude.{codes, ℕ, ◌==◌, if◌then◌else◌, Bool, List, ◌++◌, Option, Some, None}
 use Rattle.std.specs.Fmt.{decimal}
 use Rattle.arrayvec.specs.ArrayVec.{ArrayVec}
@@ -25,7 +25,7 @@ abbrev pub not_holder_text : ℕ → Option ℕ → ℕ → List ℕ
 not_holder_text address None since = codes "Nobody holds slave " ++ decimal address ++ codes "."
 not_holder_text address (Some holder) since = holds_words address holder ++ since_words since
 
--- who may use a point by a list; where there is no list, every master may
+-- the masters that may use a point, by a list; if there is no list, every master may
 abbrev pub listed_words : Option (ArrayVec ℕ) → List ℕ
 listed_words None = codes "all"
 listed_words (Some masters) = numbers_words masters.items
@@ -54,7 +54,7 @@ no_service_text fc point = no_service_by (other_service (function_of fc)) point
 abbrev pub busy_text : Option ℕ → List ℕ
 busy_text point = codes "The operator has marked " ++ point_words point ++ codes " busy."
 
--- how many octets a point takes of a slave with so many outputs, which is cleared or isn't; a slave without outputs takes none either way
+-- how many octets a point takes at a slave with this number of outputs, cleared or not; a slave without outputs takes none in both cases
 abbrev pub taken_data_words : ℕ → Bool → List ℕ
 taken_data_words outputs cleared =
     if outputs == 0 then codes "none" else if cleared then decimal outputs ++ codes " or none" else decimal outputs

@@ -1,4 +1,4 @@
--- What came of an event, in its result rows (own).
+-- The result of an event, in its result rows (own).
 use Rattle.std.specs.Prelude.{codes, ℕ, Bool, true, false, if◌then◌else◌, List, [], ◌∷◌, ◌++◌, Option, Some, None, option_map}
 use Rattle.std.specs.Option.{option_and_then}
 use Rattle.std.specs.List.{flat_map}
@@ -30,11 +30,11 @@ use Rattle.dp_sentences.specs.Sentences.{line_text, slave_text}
 
 -- ---- the answer of one slave
 
--- the slave of an address before the event, as it is shown
+-- the view of the slave at an address before the event
 abbrev pub shown_at : World → ℕ → Option SlaveView
 shown_at world address = option_map view_of (slave_at world address)
 
--- where the slave is the line's, its sentence
+-- the sentence of the slave; empty if the line has no such slave
 abbrev pub told_where_known : AskedView → ℕ → Bool → Rule → Option SlaveSpec → Option SlaveView → List ℕ
 told_where_known asked place silent rule None slave = []
 told_where_known asked place silent rule (Some description) None = []
@@ -64,7 +64,7 @@ abbrev pub told_of_telegram : SceneView → ℕ → Bool → Rule → Option Tel
 told_of_telegram scene master silent rule None = []
 told_of_telegram scene master silent rule (Some telegram) = told_of_parts scene master silent rule telegram (parts_of telegram)
 
--- by a row of the line, or by one of the slave's own
+-- by a rule that concerns the line, or by one that concerns a slave
 abbrev pub told_of_one : SceneView → ℕ → Option Frame → Bool → Rule → List ℕ
 told_of_one scene master frame silent rule =
     if concerns_a_slave rule then told_of_telegram scene master silent rule (option_and_then telegram_of_frame frame)
@@ -75,7 +75,7 @@ result_row text = codes "       result      " ++ text ++ codes "\n"
 
 -- ---- the answer to a request to all slaves
 
--- each slave has a row of its own, behind its address
+-- each slave has its own row, which begins with its address
 abbrev pub pair_row : SceneView → AskedView → ℕ × Rule → List ℕ
 pair_row scene asked pair =
     codes "       " ++ at_left 12 (codes "slave " ++ decimal pair.0) ++ told_of_slave scene asked pair.0 true pair.1 ++ codes "\n"
@@ -103,18 +103,18 @@ request_rows scene master frame (Spread pairs) =
 request_rows scene master frame (Released addresses) = []
 request_rows scene master frame (Refused fault) = []
 
--- ---- what an operator does
+-- ---- an event of the operator
 
--- the full time of a watchdog that ran out
+-- the full time of a watchdog that ran out, in units of 10 ms
 abbrev pub watchdog_words : Option ℕ → List ℕ
 watchdog_words None = []
 watchdog_words (Some units) = codes " (its watchdog of " ++ time_words units ++ codes " ran out)"
 
--- of the parameters of a slave
+-- the full time by the parameters of a slave
 abbrev pub full_time_of : Option SlaveView → Option ℕ
 full_time_of slave = option_and_then (λ s. option_and_then (λ prm. prm.watchdog) s.prm) slave
 
--- a slave that a tick let go
+-- a slave that a tick released
 abbrev pub expired_words : World → ℕ → List ℕ
 expired_words world address = decimal address ++ watchdog_words (full_time_of (shown_at world address))
 
@@ -138,7 +138,7 @@ op_text world op Done = codes "done."
 op_text world op (Refused fault) = codes "refused: " ++ operator_fault_name fault ++ codes "."
 op_text world op outcome = []
 
--- ---- by the event
+-- ---- any event
 
 abbrev pub result_rows : SceneView → Event → Outcome → List ℕ
 result_rows scene (Request master octets) outcome = request_rows scene master (frame_of octets.items) outcome

@@ -1,4 +1,4 @@
--- What is known where an event is told: the line's description, the line before the event, and the notes (own).
+-- The data that an explanation of an event reads: the line's description, the line before the event, and the notes (own).
 use Rattle.std.specs.Prelude.{ℕ, List}
 use Rattle.dp_telegram.specs.declared.frame.Telegram.{Telegram}
 use Rattle.dp_telegram.specs.declared.access.Parts.{Parts}
@@ -10,7 +10,7 @@ pub record SceneView : Type 0 where
   pub world : World
   pub notes : List Noted
 
--- a request, as it reaches slaves
+-- a request on its way to slaves
 pub record AskedView : Type 0 where
   pub master : ℕ
   pub telegram : Telegram

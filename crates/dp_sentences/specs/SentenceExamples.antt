@@ -1,4 +1,4 @@
--- Sentences, worked out.
+-- Examples of sentences.
 use Rattle.std.specs.Prelude.{◌≡◌, ⊤, ℕ, List, [], ◌∷◌, true, false, codes, Some, None, refl}
 use Rattle.std.specs.Fmt.{digits}
 use Rattle.dp_telegram.specs.Access.{request_of, request_parts}
@@ -18,19 +18,19 @@ use Rattle.dp_sentences.specs.Refusals.{not_active_text, not_listed_text, length
 use Rattle.dp_sentences.specs.Services.{acts_words, control_text, user_parameters_text}
 use Rattle.dp_sentences.specs.Sentences.{line_text, slave_text}
 
--- what computes a sentence
+-- the definitions that are unfolded to compute a sentence
 unfoldable sentence_on_literals : ⊤
 unfolding digits acts_words groups_text is_one_group listed
 sentence_on_literals = tt
 
--- slave 5, which nobody holds; and held by master 1 since place 2, in Data_Exch
+-- slave 5 when nobody holds it, and when master 1 holds it since place 2, in Data_Exch
 abbrev free : SlaveView
 free = view_of (starting_slave (1 ∷ 2 ∷ []) slave_5)
 
 abbrev held : SlaveView
 held = record free { state = DataExch; holder = Some 1; since = 2; cfg = Some 0 }
 
--- a master's SRD with these octets to a point of the slave of this description
+-- a master's SRD with these octets to a point of the slave with this description
 abbrev asks : SlaveSpec → SlaveView → ℕ → List ℕ → MeetingView
 asks description slave point octets = record {
   master = 2;
@@ -103,7 +103,7 @@ pub another_ident :
 unfolding sentence_on_literals
 another_ident = refl
 
--- three reasons at once, at a slave that nobody holds
+-- three reasons in one request, at a slave that nobody holds
 pub several_reasons :
     slave_text false (asks (record slave_5 { sync = false; user_max = 1 }) free 61 (0xA8 ∷ 0 ∷ 5 ∷ 11 ∷ 0x80 ∷ 0xA1 ∷ 0 ∷ 1 ∷ 2 ∷ [])) rules.Done
     ≡ codes "wrong parameters: watchdog time 0; Sync_Req, the slave has no Sync; 2 user parameters, the slave takes 1."
@@ -140,7 +140,7 @@ a_wrong_configuration = refl
 
 -- ---- Global_Control
 
--- Unsync goes before Sync
+-- Unsync takes precedence over Sync
 pub several_acts :
     slave_text true (asks slave_5 held 58 (0x36 ∷ 0x00 ∷ [])) rules.Done
     ≡ codes "done: outputs cleared, Unsync, Unfreeze. Sync does nothing beside Unsync."
@@ -153,13 +153,13 @@ pub nothing_is_done :
 unfolding sentence_on_literals
 nothing_is_done = refl
 
--- ---- the operator
+-- ---- events of the operator
 
 pub one_unit : op_kind_text (Tick 1) ≡ codes "1 unit of time, 10 ms"
 unfolding sentence_on_literals
 one_unit = refl
 
--- ---- the line
+-- ---- rules that concern the line
 
 pub a_strange_master : line_text (1 ∷ 2 ∷ []) 9 None rules.NoMaster ≡ codes "silence: NoMaster. Master 9 is none of the line's (1, 2)."
 unfolding sentence_on_literals

@@ -1,4 +1,4 @@
--- Why a request was answered as it was: one sentence for each rule (own).
+-- The reason why a request was answered as it was: one sentence for each rule (own).
 use Rattle.std.specs.Prelude.{codes, ℕ, Bool, true, false, List, [], ◌++◌, length, slice_index, Option, Some, None}
 use Rattle.std.specs.Option.{option_map_or}
 use Rattle.std.specs.Fmt.{decimal}
@@ -12,7 +12,7 @@ use Rattle.dp_sentences.specs.Words.{numbers_words}
 use Rattle.dp_sentences.specs.Refusals.{not_active_text, not_holder_text, not_listed_text, no_service_text, busy_text, length_text, not_selected_text, repeat_text, status_text}
 use Rattle.dp_sentences.specs.Services.{done_text}
 
--- ---- by the rows of the line, which concern no slave
+-- ---- the rules that concern the line, and no slave
 
 abbrev pub station_words : Option ℕ → List ℕ
 station_words None = codes "no station"
@@ -25,7 +25,7 @@ foreign_sender_text (Some frame) = codes "The frame is from " ++ station_words (
 abbrev pub no_master_text : ℕ → List ℕ → List ℕ
 no_master_text master masters = codes "Master " ++ decimal master ++ codes " is none of the line's (" ++ numbers_words masters ++ codes ")."
 
--- why nobody replies; what concerns a slave is told of that slave, and has no sentence here
+-- the reason why nobody replies; a rule that concerns a slave has no sentence here
 abbrev pub line_text : List ℕ → ℕ → Option Frame → Rule → List ℕ
 line_text masters master frame rules.Halted = codes "silence: Halted. The line takes no more."
 line_text masters master frame rules.NoFrame = codes "silence: NoFrame. The octets are no single frame."
@@ -39,18 +39,18 @@ line_text masters master frame rules.BadBroadcast = codes "silence: BadBroadcast
 line_text masters master frame rules.NoStation = codes "silence: NoStation. No slave has this address."
 line_text masters master frame other = []
 
--- ---- by the rows of a slave
+-- ---- the rules that concern a slave
 
 -- the groups of a slave, by the parameters of its holder
 abbrev pub group_in : Option Prm → ℕ
 group_in prm = option_map_or (λ p. p.group) prm 0
 
--- a refusal, to which the slave replies, or which it meets in silence, as that of an SDN
+-- a refusal, which the slave sends in a reply or makes in silence, as for an SDN
 abbrev pub refused_words : Bool → List ℕ
 refused_words true = codes "refused in silence"
 refused_words false = codes "refused"
 
--- what a slave answers; what concerns no slave has no sentence here
+-- the answer of a slave; a rule that concerns no slave has no sentence here
 abbrev pub slave_text : Bool → MeetingView → Rule → List ℕ
 slave_text silent meeting rules.Status = codes "answered: Status. " ++ status_text meeting.slave.address meeting.slave.state
 slave_text silent meeting rules.NoService =

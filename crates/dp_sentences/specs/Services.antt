@@ -1,4 +1,4 @@
--- What a service did that was done, in one sentence of the slave's own state (own).
+-- The result of a service that was done, in one sentence about the slave's own state (own).
 use Rattle.std.specs.Prelude.{codes, ℕ, ◌==◌, ◌&&◌, nat_lt, not, if◌then◌else◌, Bool, true, false, List, [], ◌∷◌, ◌++◌, length, Option, Some, None}
 use Rattle.std.specs.List.{flat_map}
 use Rattle.std.specs.Option.{option_map_or}
@@ -36,7 +36,7 @@ abbrev pub fault_where : Bool → PrmFault → List PrmFault
 fault_where true fault = fault ∷ []
 fault_where false fault = []
 
--- why the octets of a locking request are refused, each reason that there is
+-- every reason why the octets of a locking request are refused
 abbrev pub prm_faults : List ℕ → SlaveSpec → List PrmFault
 prm_faults octets slave =
     fault_where (not (ident_number octets == slave.ident)) (faults.Ident (ident_number octets) slave.ident)
@@ -52,7 +52,7 @@ abbrev pub prm_faults_words : List PrmFault → List ℕ
 prm_faults_words [] = codes "none"
 prm_faults_words (fault ∷ faults) = prm_fault_text fault ++ flat_map prm_fault_behind faults
 
--- a slave that somebody held is released by what was wrong
+-- wrong octets release a slave that somebody holds
 abbrev pub released_words : Option ℕ → List ℕ
 released_words None = codes "."
 released_words (Some holder) = codes ". Released."
@@ -63,7 +63,7 @@ wrong_prm_text holder faults = codes "wrong parameters: " ++ prm_faults_words fa
 abbrev pub held_words : ℕ → ℕ → List ℕ
 held_words master address = codes "master " ++ decimal master ++ codes " holds slave " ++ decimal address
 
--- a lock, where the sender may have held the slave already
+-- a lock; the sender may have held the slave before
 abbrev pub locked_text : ℕ → SlaveView → List ℕ
 locked_text master slave =
     if option_map_or (λ holder. holder == master) slave.holder false
@@ -74,7 +74,7 @@ abbrev pub unlocked_text : ℕ → Option ℕ → List ℕ
 unlocked_text address None = codes "unlocked: nobody held slave " ++ decimal address ++ codes "."
 unlocked_text address (Some holder) = codes "unlocked: slave " ++ decimal address ++ codes " is released."
 
--- min TSDR alone; 0 leaves it
+-- only min TSDR; 0 leaves the slave's value unchanged
 abbrev pub min_tsdr_text : ℕ → ℕ → List ℕ
 min_tsdr_text octet own =
     if octet == 0 then codes "done: min TSDR stays " ++ decimal own ++ codes "." else codes "done: min TSDR is " ++ decimal octet ++ codes "."
@@ -83,7 +83,7 @@ abbrev pub lock_text : MeetingView → List PrmFault → List ℕ
 lock_text meeting [] = locked_text meeting.master meeting.slave
 lock_text meeting (fault ∷ faults) = wrong_prm_text meeting.slave.holder (fault ∷ faults)
 
--- the four forms of Set_Prm, in the order in which the octets are looked at
+-- the four forms of Set_Prm, in the order in which the octets are checked
 abbrev pub set_prm_text : MeetingView → List ℕ → List ℕ
 set_prm_text meeting octets =
     if is_short octets then wrong_prm_text meeting.slave.holder (faults.Short (length octets) ∷ [])
@@ -118,7 +118,7 @@ chk_cfg_text meeting octets = chosen_text meeting (chosen (configurations meetin
 
 -- ---- Data_Exchange (IEC 61158-6-3, Data_Exchange request)
 
--- of the whole length, which wait for Sync in sync mode, or none, which stand for zeros
+-- data of the whole length, which wait for Sync in sync mode, or no data, which stand for zeros
 abbrev pub exchange_text : SlaveView → List ℕ → List ℕ
 exchange_text slave octets =
     if not (length octets == length slave.outputs.items) then codes "done: no data, for zeros; the slave stays cleared."
@@ -127,7 +127,7 @@ exchange_text slave octets =
 
 -- ---- Slave_Diag (IEC 61158-6-3, Slave_Diag request)
 
--- the diagnosis is read by the holder alone
+-- only a request of the holder counts as having read the diagnosis
 abbrev pub slave_diag_text : ℕ → Option ℕ → List ℕ
 slave_diag_text master holder =
     if option_map_or (λ holder. holder == master) holder false then codes "done: read by the holder." else codes "done."
@@ -140,8 +140,8 @@ sync_is_asked prm = option_map_or (λ p. p.sync_req) prm false
 abbrev pub freeze_is_asked : Option Prm → Bool
 freeze_is_asked prm = option_map_or (λ p. p.freeze_req) prm false
 
--- what is done, in its order: Clear_Data; Unsync, or else Sync; Unfreeze, or else Freeze; Sync and Freeze where the parameters asked for them
--- (own order)
+-- the actions, in their order: Clear_Data; Unsync, or else Sync; Unfreeze, or else Freeze; Sync and Freeze only if the parameters asked for
+-- them (own order)
 unfoldable pub acts_words : Bool → Bool → Bool → Bool → Bool → List ℕ
 acts_words clears unsyncs syncs unfreezes freezes =
     listed (codes "no change") [] (
@@ -157,21 +157,21 @@ acts_text slave control =
     acts_words control.clear_data control.unsync (not control.unsync && (control.sync && sync_is_asked slave.prm))
     control.unfreeze (not control.unfreeze && (control.freeze && freeze_is_asked slave.prm))
 
--- why Sync does nothing, where it is asked for; beside Unsync it needs no other reason
+-- the reason why a requested Sync does nothing; beside Unsync no other reason is given
 abbrev pub idle_sync_text : Bool → Bool → Bool → List ℕ
 idle_sync_text false unsync asked = []
 idle_sync_text true true asked = codes " Sync does nothing beside Unsync."
 idle_sync_text true false false = codes " Sync does nothing without Sync_Req."
 idle_sync_text true false true = []
 
--- why Freeze does nothing, where it is asked for
+-- the reason why a requested Freeze does nothing
 abbrev pub idle_freeze_text : Bool → Bool → Bool → List ℕ
 idle_freeze_text false unfreeze asked = []
 idle_freeze_text true true asked = codes " Freeze does nothing beside Unfreeze."
 idle_freeze_text true false false = codes " Freeze does nothing without Freeze_Req."
 idle_freeze_text true false true = []
 
--- what is done, and what is asked for and isn't done
+-- the actions that are done, and what was requested and isn't done
 abbrev pub controlled_text : SlaveView → Control → List ℕ
 controlled_text slave control =
     codes "done: " ++ acts_text slave control ++ codes "."
@@ -181,7 +181,7 @@ controlled_text slave control =
 abbrev pub control_text : SlaveView → List ℕ → List ℕ
 control_text slave octets = controlled_text slave (control_of octets)
 
--- ---- by the point that was asked
+-- ---- by the point of the request
 
 abbrev pub done_at : MeetingView → Option ℕ → List ℕ → List ℕ
 done_at meeting point octets =

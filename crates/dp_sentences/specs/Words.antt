@@ -1,4 +1,4 @@
--- The words that the rows of an explanation are made of (own).
+-- The parts that the rows of an explanation are made of (own).
 use Rattle.std.specs.Prelude.{codes, ℕ, ◌-◌, ◌*◌, ◌/◌, ◌%◌, ◌==◌, if◌then◌else◌, List, [], ◌∷◌, ◌++◌, length, replicate, Option, Some, None}
 use Rattle.std.specs.List.{flat_map}
 use Rattle.std.specs.Fmt.{decimal}
@@ -12,7 +12,7 @@ use Rattle.dp_decode.specs.Points.{points, service_in}
 abbrev pub spaces : ℕ → List ℕ
 spaces count = replicate count 32
 
--- a text at the left and at the right of a column of this width; one that is longer is told whole
+-- a text at the left and at the right of a column of this width; a longer text is shown whole
 abbrev pub at_left : ℕ → List ℕ → List ℕ
 at_left width text = text ++ spaces (width - length text)
 
@@ -26,26 +26,26 @@ abbrev pub octets_words : List ℕ → List ℕ
 octets_words [] = codes "none"
 octets_words (octet ∷ octets) = hex_text (octet ∷ octets)
 
--- an ident number by four digits, the high octet first
+-- an ident number as four hex digits, high octet first
 abbrev pub ident_words : ℕ → List ℕ
 ident_words ident = capital_pair (ident / 256 % 256) ++ capital_pair (ident % 256)
 
 abbrev pub number_behind : ℕ → List ℕ
 number_behind number = codes ", " ++ decimal number
 
--- numbers, parted by a comma
+-- numbers, separated by commas
 abbrev pub numbers_words : List ℕ → List ℕ
 numbers_words [] = codes "none"
 numbers_words (number ∷ numbers) = decimal number ++ flat_map number_behind numbers
 
--- so many of something, which has a word for one and a word for several
+-- a count with its word, singular or plural
 abbrev pub counted_words : ℕ → List ℕ → List ℕ → List ℕ
 counted_words count one several = decimal count ++ codes " " ++ (if count == 1 then one else several)
 
 abbrev pub count_words : ℕ → List ℕ
 count_words count = counted_words count (codes "octet") (codes "octets")
 
--- a time in units of 10 ms
+-- a time in units of 10 ms, in milliseconds
 abbrev pub time_words : ℕ → List ℕ
 time_words units = decimal (10 * units) ++ codes " ms"
 
@@ -61,7 +61,7 @@ abbrev pub holder_words : Option ℕ → List ℕ
 holder_words None = codes "held by nobody"
 holder_words (Some master) = codes "held by master " ++ decimal master
 
--- who holds a slave since a place, at the end of a sentence
+-- the place since which something holds, at the end of a sentence
 abbrev pub since_words : ℕ → List ℕ
 since_words place = codes " since place " ++ decimal place ++ codes "."
 

@@ -1,4 +1,4 @@
-//! The rows of an entry.
+//! All rows of an entry.
 
 ghost use Rattle.std.specs.Prelude.{◌≡◌, Some};
 ghost use Rattle.dp_telegram.specs.FrameText.{frame_of};
@@ -15,7 +15,7 @@ use dp_line::{Event, LineState, Outcome};
 use dp_telegram::{Frame, decode};
 use std::fmt;
 
-/// The frame that octets spell, if they spell one.
+/// Returns the frame that the octets spell; None if they are no single frame.
 fn frame_in(octets: &[u8]) -> Option<Frame>
     ensures { result ≡ frame_of octets.now }
 {
@@ -25,7 +25,7 @@ fn frame_in(octets: &[u8]) -> Option<Frame>
     }
 }
 
-/// What is in a request.
+/// The row that shows the data of a request; writes nothing for an event of the operator.
 #[derive(Clone, Copy)]
 struct Contents<'a>(&'a Event);
 
@@ -43,7 +43,7 @@ impl<'a> fmt::Display for Contents<'a> {
     }
 }
 
-/// What came of an event.
+/// The rows that show the result of an event.
 #[derive(Clone, Copy)]
 struct ResultRows<'a> {
     scene: &'a Scene<'a>,
@@ -79,7 +79,7 @@ impl<'a> fmt::Display for ResultRows<'a> {
     }
 }
 
-/// What is in the reply to a request.
+/// The row that shows the reply to a request; writes nothing if there is no reply.
 #[derive(Clone, Copy)]
 struct ReplyRows<'a> {
     event: &'a Event,
@@ -110,14 +110,14 @@ impl<'a> fmt::Display for ReplyRows<'a> {
     }
 }
 
-/// The rows of an event.
+/// All rows of one event.
 #[derive(Clone, Copy)]
 pub struct Block<'a> {
-    /// What is known before it.
+    /// The description, the line and the notes before the event.
     pub scene: &'a Scene<'a>,
-    /// The line after it.
+    /// The line after the event.
     pub after: &'a LineState,
-    /// Its place, from 1.
+    /// The place of the event, from 1.
     pub place: u64,
     pub event: &'a Event,
     pub outcome: &'a Outcome,

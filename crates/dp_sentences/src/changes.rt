@@ -1,4 +1,4 @@
-//! What an event changed of the slaves.
+//! The changes of slaves that an event caused.
 
 ghost use Rattle.std.specs.Prelude.{◌≡◌, Some};
 ghost use Rattle.std.specs.List.{flat_map};
@@ -10,7 +10,7 @@ use dp_line::{Event, LineState, Outcome, SlaveView};
 use dp_sap::State;
 use std::fmt;
 
-/// State and holder of a slave.
+/// The state and the holder of a slave.
 #[derive(Clone, Copy)]
 struct StandingWords<'a>(&'a SlaveView);
 
@@ -41,7 +41,7 @@ fn same_state(before: State, after: State) -> bool
     }
 }
 
-/// The same master holds the slave, or nobody does.
+/// Returns whether the same master holds the slave before and after, or nobody does.
 pub fn same_holder(before: Option<u8>, after: Option<u8>) -> bool
     ensures { result ≡ same_holder before after }
 {
@@ -53,7 +53,7 @@ pub fn same_holder(before: Option<u8>, after: Option<u8>) -> bool
     }
 }
 
-/// State and holder of a slave, before and after an event.
+/// The state and the holder of a slave, before and after an event.
 #[derive(Clone, Copy)]
 struct ChangedWords<'a> {
     address: u8,
@@ -72,7 +72,7 @@ impl<'a> fmt::Display for ChangedWords<'a> {
     }
 }
 
-/// The row of what changed.
+/// A change as a row.
 #[derive(Clone, Copy)]
 struct ChangedRow<'a>(ChangedWords<'a>);
 
@@ -85,7 +85,7 @@ impl<'a> fmt::Display for ChangedRow<'a> {
     }
 }
 
-/// What changed of one slave.
+/// The change of one slave; writes nothing if its state and its holder are unchanged.
 #[derive(Clone, Copy)]
 struct ChangeRow<'a> {
     address: u8,
@@ -116,7 +116,7 @@ impl<'a> fmt::Display for ChangeRow<'a> {
     }
 }
 
-/// What changed of these slaves.
+/// The changes of these slaves.
 #[derive(Clone, Copy)]
 struct SlaveChanges<'a> {
     before: &'a LineState,
@@ -140,7 +140,7 @@ impl<'a> fmt::Display for SlaveChanges<'a> {
     }
 }
 
-/// What changed of the slave that a request asks.
+/// The change of the slave that a request is sent to.
 #[derive(Clone, Copy)]
 struct AskedChange<'a> {
     before: &'a LineState,
@@ -168,7 +168,7 @@ impl<'a> fmt::Display for AskedChange<'a> {
     }
 }
 
-/// What an event changed.
+/// All changes that an event caused.
 #[derive(Clone, Copy)]
 pub(crate) struct ChangeRows<'a> {
     pub(crate) before: &'a LineState,
@@ -202,7 +202,7 @@ impl<'a> fmt::Display for ChangeRows<'a> {
     }
 }
 
-/// What changed of the slaves that a tick or the halt let go.
+/// The changes of the slaves that a tick or the halt released.
 #[derive(Clone, Copy)]
 struct LetGo<'a> {
     before: &'a LineState,

@@ -1,4 +1,4 @@
-//! What came of a Chk_Cfg.
+//! The result of a Chk_Cfg.
 
 ghost use Rattle.std.specs.Prelude.{◌≡◌, ◌<◌, length, map, IfSome, Some};
 ghost use Rattle.std.specs.List.{flat_map};
@@ -11,7 +11,7 @@ use crate::words::OctetsWords;
 use dp_slave::Configuration;
 use std::fmt;
 
-/// Configurations, each behind an `or`.
+/// Configurations, each after the word `or`.
 #[derive(Clone, Copy)]
 struct ConfigurationsBehind<'a>(&'a [Configuration]);
 
@@ -27,7 +27,7 @@ impl<'a> fmt::Display for ConfigurationsBehind<'a> {
     }
 }
 
-/// The configurations of a slave.
+/// The configurations of a slave, separated by the word `or`.
 #[derive(Clone, Copy)]
 struct Configurations<'a>(&'a [Configuration]);
 
@@ -46,7 +46,7 @@ impl<'a> fmt::Display for Configurations<'a> {
     }
 }
 
-/// The number of the first configuration that has these octets.
+/// Returns the number of the first configuration that has these octets, from 0; None if no configuration has them.
 fn number_of(own: &[Configuration], octets: &[u8]) -> Option<usize>
     ensures number { result ≡ chosen (map (λ configuration. configuration.items) own.now) octets.now }
     ensures bound { IfSome result (λ number. number < length own.now) }
@@ -69,7 +69,7 @@ fn same_octets(own: &[u8], octets: &[u8]) -> bool
     own == octets
 }
 
-/// What came of Chk_Cfg.
+/// The result of a Chk_Cfg.
 #[derive(Clone, Copy)]
 pub(crate) struct ChkCfg<'a> {
     pub(crate) meeting: &'a Meeting<'a>,
@@ -99,7 +99,7 @@ impl<'a> fmt::Display for ChkCfg<'a> {
     }
 }
 
-/// A configuration of the slave was sent.
+/// The result of a Chk_Cfg that sent a configuration of the slave.
 #[derive(Clone, Copy)]
 struct GoodCfg {
     number: usize,

@@ -1,4 +1,4 @@
-//! What came of a Global_Control at a slave.
+//! The result of a Global_Control at a slave.
 
 ghost use Rattle.std.specs.Prelude.{◌≡◌, ◌&&◌, not, slice_index, Some};
 ghost use Rattle.dp_slave.specs.Services.{control_of};
@@ -11,28 +11,28 @@ use dp_prm::Prm;
 use dp_slave::SlaveView;
 use std::fmt;
 
-/// What the octets ask for. Group_Select, which has selected the slave, is not told.
+/// Returns the command that the octets hold. Group_Select is not read, because it has already selected the slave.
 fn command_in(octets: &[u8]) -> Command
     ensures { control_in result ≡ control_of octets.now }
 {
     Command::read(&[first_of(octets), 0])
 }
 
-/// Sync is done: it is asked for, by the parameters too, and not beside Unsync.
+/// Returns whether Sync is done: the command and the parameters ask for it, and the command doesn't ask for Unsync.
 fn syncs(command: &Command, asked: bool) -> bool
     ensures { result ≡ (not command.now.unsync && (command.now.sync && asked)) }
 {
     !command.unsync && (command.sync && asked)
 }
 
-/// Freeze is done: it is asked for, by the parameters too, and not beside Unfreeze.
+/// Returns whether Freeze is done: the command and the parameters ask for it, and the command doesn't ask for Unfreeze.
 fn freezes(command: &Command, asked: bool) -> bool
     ensures { result ≡ (not command.now.unfreeze && (command.now.freeze && asked)) }
 {
     !command.unfreeze && (command.freeze && asked)
 }
 
-/// What is done.
+/// The actions that are done.
 #[derive(Clone, Copy)]
 struct Acts {
     clears: bool,
@@ -63,7 +63,7 @@ impl fmt::Display for Acts {
     }
 }
 
-/// Why Sync does nothing, where it is asked for.
+/// Returns the reason why a requested Sync does nothing; an empty text if there is none.
 fn idle_sync(sync: bool, unsync: bool, asked: bool) -> &'static str
     ensures { result.now ≡ idle_sync_text sync unsync asked }
 {
@@ -75,7 +75,7 @@ fn idle_sync(sync: bool, unsync: bool, asked: bool) -> &'static str
     }
 }
 
-/// Why Freeze does nothing, where it is asked for.
+/// Returns the reason why a requested Freeze does nothing; an empty text if there is none.
 fn idle_freeze(freeze: bool, unfreeze: bool, asked: bool) -> &'static str
     ensures { result.now ≡ idle_freeze_text freeze unfreeze asked }
 {
@@ -87,7 +87,7 @@ fn idle_freeze(freeze: bool, unfreeze: bool, asked: bool) -> &'static str
     }
 }
 
-/// What came of a command.
+/// The result of a command at a slave.
 #[derive(Clone, Copy)]
 struct Done<'a> {
     slave: &'a SlaveView,
@@ -114,7 +114,7 @@ impl<'a> fmt::Display for Done<'a> {
     }
 }
 
-/// What came of a Global_Control.
+/// The result of a Global_Control, from its octets.
 #[derive(Clone, Copy)]
 pub(crate) struct Controlled<'a> {
     pub(crate) slave: &'a SlaveView,
@@ -134,7 +134,7 @@ impl<'a> fmt::Display for Controlled<'a> {
     }
 }
 
-/// The first octet, 0 where there is none.
+/// Returns the first octet; 0 if there is none.
 fn first_of(octets: &[u8]) -> u8
     ensures { result ≡ slice_index octets.now 0 }
 {

@@ -1,4 +1,4 @@
-//! How a hold ended.
+//! The ways in which a hold ends.
 
 ghost use Rattle.std.specs.Prelude.{◌≡◌, ◌&&◌, not, if◌then◌else◌, Some};
 ghost use Rattle.dp_prm.specs.Meaning.{is_short, unlock_req};
@@ -12,7 +12,7 @@ use dp_prm::UNLOCK_REQ;
 use dp_sap::CHK_CFG;
 use dp_telegram::{Frame, Parts, Telegram, decode};
 
-/// How a hold ended.
+/// The way in which a hold of a slave ended.
 #[derive(Clone, Copy)]
 pub enum Ending {
     /// Chk_Cfg was wrong.
@@ -30,7 +30,7 @@ pub enum Ending {
 }
 
 impl Ending {
-    /// How a hold ended that this event ended.
+    /// Returns how the hold ended that this event ended.
     pub fn by(event: &Event) -> Ending
         ensures { result ≡ ending_by event.now }
     {
@@ -76,7 +76,7 @@ impl Ending {
         }
     }
 
-    /// By the octets of Set_Prm.
+    /// Returns how the hold ended that a Set_Prm with these octets ended.
     fn by_parameters(octets: &[u8]) -> Ending
         ensures { result ≡ (if not (is_short octets.now) && unlock_req octets.now then Ending.Unlocked else Ending.WrongParameters) }
     {
@@ -90,7 +90,7 @@ impl Ending {
         }
     }
 
-    /// How a hold ended, in words.
+    /// Returns the way in words.
     pub fn name(self) -> &'static str
         ensures { result.now ≡ ending_text self }
     {

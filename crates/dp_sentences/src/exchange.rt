@@ -1,4 +1,4 @@
-//! What came of a Data_Exchange and of a Slave_Diag.
+//! The results of a Data_Exchange and of a Slave_Diag.
 
 ghost use Rattle.std.specs.Prelude.{◌≡◌};
 ghost use Rattle.dp_sentences.specs.Services.{exchange_text, slave_diag_text};
@@ -6,7 +6,7 @@ ghost use Rattle.dp_sentences.specs.Services.{exchange_text, slave_diag_text};
 use crate::set_prm::holds;
 use dp_slave::SlaveView;
 
-/// What came of a Data_Exchange.
+/// Returns the result of a Data_Exchange that was done.
 pub(crate) fn exchanged(slave: &SlaveView, octets: &[u8]) -> &'static str
     ensures { result.now ≡ exchange_text slave.now octets.now }
 {
@@ -19,7 +19,7 @@ pub(crate) fn exchanged(slave: &SlaveView, octets: &[u8]) -> &'static str
     }
 }
 
-/// What came of a Slave_Diag.
+/// Returns the result of a Slave_Diag that was done.
 pub(crate) fn diagnosed(master: u8, holder: Option<u8>) -> &'static str
     ensures { result.now ≡ slave_diag_text master holder }
 {

@@ -1,4 +1,4 @@
-//! The head row of an entry.
+//! The first row of an entry.
 
 ghost use Rattle.std.specs.Prelude.{◌≡◌, Some};
 ghost use Rattle.dp_sentences.specs.Heads.{bit_text, flags_words, busy_words, op_kind_text, event_kind_text, head_text};
@@ -9,26 +9,26 @@ use crate::words::{OctetsWords, PointWords, Spaces, TimeWords, digits_of_long, w
 use dp_line::{Event, Op};
 use std::fmt;
 
-/// The columns of a place, and those of from whom to whom.
+/// The widths of the columns of the place, and of the sender and the receiver.
 const PLACE_COLUMNS: usize = 5;
 
 const WHO_COLUMNS: usize = 26;
 
-/// A bit as 0 or 1.
+/// Returns a bit as 0 or 1.
 fn bit(is_set: bool) -> &'static str
     ensures { result.now ≡ bit_text is_set }
 {
     if is_set { "1" } else { "0" }
 }
 
-/// What a mark says of its point.
+/// Returns the words for a point that is marked busy or no longer busy.
 fn busy_name(on: bool) -> &'static str
     ensures { result.now ≡ busy_words on }
 {
     if on { " busy" } else { " no longer busy" }
 }
 
-/// The flags of a report.
+/// The flags of a diagnosis that the operator reports.
 #[derive(Clone, Copy)]
 struct Flags {
     ext: bool,
@@ -50,7 +50,7 @@ impl fmt::Display for Flags {
     }
 }
 
-/// A mark of a point.
+/// A busy mark of a point.
 #[derive(Clone, Copy)]
 struct Mark {
     point: Option<u8>,
@@ -70,7 +70,7 @@ impl fmt::Display for Mark {
     }
 }
 
-/// What an operator does.
+/// An event of the operator, in words.
 #[derive(Clone, Copy)]
 struct OpKind<'a>(&'a Op);
 
@@ -115,7 +115,7 @@ impl<'a> fmt::Display for OpKind<'a> {
     }
 }
 
-/// What an event is.
+/// The kind of an event.
 #[derive(Clone, Copy)]
 struct EventKind<'a>(&'a Event);
 
@@ -136,10 +136,10 @@ impl<'a> fmt::Display for EventKind<'a> {
     }
 }
 
-/// The head row of an entry, with its LF.
+/// The first row of an entry, with its LF.
 #[derive(Clone, Copy)]
 pub(crate) struct Head<'a> {
-    /// The place, from 1.
+    /// The place of the event, from 1.
     pub(crate) place: u64,
     pub(crate) event: &'a Event,
 }

@@ -1,9 +1,9 @@
-//! What an event of a line was, what came of it and why, in rows for a person: one sentence of the slave's own state for
-//! each rule, and what the event changed.
+//! Explanations of events for a person: rows of text that show what an event of a line was, its result and the reason,
+//! in one sentence about the slave's own state for each rule, and what the event changed.
 //!
-//! [`Block`] displays the rows of an event that had an outcome, of what was known before it ([`Scene`]) and of the line
-//! behind it. What else tells of events finds its words here: from whom to whom one goes ([`Who`]), how a hold ended
-//! ([`Ending`]), and columns. Contracts see the text that each displays.
+//! [`Block`] displays the rows of an event that has an outcome. It reads what was known before the event ([`Scene`])
+//! and the line after it. Other texts about events use the parts: the sender and the receiver ([`Who`]), how a hold
+//! ended ([`Ending`]), and columns. Contracts see the text that each of them displays.
 #![tactic(auto)]
 
 mod block;

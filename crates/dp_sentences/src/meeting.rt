@@ -14,7 +14,7 @@ pub(crate) struct Meeting<'a> {
     pub(crate) description: &'a SlaveSpec,
     /// The slave before the request.
     pub(crate) slave: SlaveView,
-    /// The place of the request whose reply the slave remembers of the sender; 0 where there was none.
+    /// The place of the request whose reply the slave remembers for the sender; 0 if there is none.
     pub(crate) asked: u64,
 }
 

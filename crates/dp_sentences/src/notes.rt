@@ -11,18 +11,18 @@ use dp_responder::Rule;
 use dp_telegram::{Frame, Telegram, decode};
 use std::alloc::{AllocError, Global};
 
-/// The place of the last request of a master that a slave judged anew and replied to.
+/// The place of the last request of a master that a slave judged and replied to, other than by a repeat.
 #[derive(Drop)]
 pub struct Noted {
     /// The slave, 0 to 126.
     pub slave: u8,
     /// The master, 0 to 126.
     pub master: u8,
-    /// The place, from 1; 0 where there was no such request.
+    /// The place, from 1; 0 if there was no such request.
     pub place: u64,
 }
 
-/// The place that is noted of a slave and a master; 0 where none is.
+/// Returns the place that is noted for a slave and a master; 0 if none is.
 pub(crate) fn place_noted(notes: &[Noted], slave: u8, master: u8) -> u64
     ensures { result ≡ place_noted notes.now slave master }
 {
@@ -32,7 +32,7 @@ pub(crate) fn place_noted(notes: &[Noted], slave: u8, master: u8) -> u64
     }
 }
 
-/// What is noted of a slave and a master.
+/// Returns the note for a slave and a master; None if there is none.
 fn noted_of(notes: &[Noted], slave: u8, master: u8) -> Option<&Noted>
     ensures { option_copied result ≡ find (λ noted. noted.slave == slave && noted.master == master) notes.now }
 {
@@ -41,7 +41,7 @@ fn noted_of(notes: &[Noted], slave: u8, master: u8) -> Option<&Noted>
         .find(|noted| noted.slave == slave && noted.master == master)
 }
 
-/// Notes a request of a master to a slave with its place.
+/// Notes the place of a request from a master to a slave.
 fn note(notes: &mut [Noted], slave: u8, master: u8, place: u64)
     ensures { notes.new ≡ map (noted_at slave master place) notes.old }
 {
@@ -57,7 +57,7 @@ impl Noted {
         self.place
     }
 
-    /// Sets the place where it is noted of this slave and this master.
+    /// Sets the place if the note is for this slave and this master.
     fn set(&mut self, slave: u8, master: u8, place: u64)
         ensures { self.new ≡ noted_at slave master place self.old }
     {
@@ -67,14 +67,14 @@ impl Noted {
     }
 }
 
-/// Notes an event of a place by what came of it.
+/// Notes an event at a place, by its outcome. Only requests that a slave judged and replied to change the notes.
 pub fn note_event(notes: &mut Vec<Noted>, place: u64, event: &Event, outcome: &Outcome)
     ensures { notes.new.items ≡ notes_after notes.old.items place event.now outcome.now }
 {
     note_in(notes.as_mut_slice(), place, event, outcome);
 }
 
-/// Notes an event in these notes.
+/// Notes an event in this slice of notes. See [`note_event`].
 fn note_in(notes: &mut [Noted], place: u64, event: &Event, outcome: &Outcome)
     ensures { notes.new ≡ notes_after notes.old place event.now outcome.now }
 {
@@ -97,7 +97,7 @@ fn note_in(notes: &mut [Noted], place: u64, event: &Event, outcome: &Outcome)
     }
 }
 
-/// Notes a request that was replied to.
+/// Notes a request that was replied to, if it is an SRD and no repeat.
 fn note_request(notes: &mut [Noted], place: u64, master: u8, rule: Rule, octets: &[u8])
     ensures { notes.new ≡ noted_telegram notes.old place master rule (telegram_spelt octets.now) }
 {
@@ -109,7 +109,7 @@ fn note_request(notes: &mut [Noted], place: u64, master: u8, rule: Rule, octets:
     }
 }
 
-/// Notes a telegram that was replied to.
+/// Notes a telegram that was replied to, if it is an SRD and no repeat.
 fn note_telegram(notes: &mut [Noted], place: u64, master: u8, rule: Rule, telegram: &Telegram)
     ensures { notes.new ≡ noted_telegram notes.old place master rule (Some telegram.now) }
 {
@@ -118,7 +118,7 @@ fn note_telegram(notes: &mut [Noted], place: u64, master: u8, rule: Rule, telegr
     }
 }
 
-/// The request was no repeat.
+/// Returns whether the rule shows that the request was no repeat.
 fn is_judged_anew(rule: Rule) -> bool
     ensures { result ≡ is_judged_anew rule }
 {
@@ -128,7 +128,8 @@ fn is_judged_anew(rule: Rule) -> bool
     }
 }
 
-/// At first no request is noted of each slave and each master. `AllocError` where memory was refused.
+/// Returns the notes of a new line: one for each slave and each master, without a request. `AllocError` if memory runs
+/// out.
 pub fn first_notes(alloc: Global, line: &LineSpec) -> Result<Vec<Noted>, AllocError>
     ensures { IfOk result (λ notes. notes.items ≡ first_notes (map (λ slave. slave.address) line.now.slaves.items) line.now.masters.items) }
 {
@@ -139,7 +140,7 @@ pub fn first_notes(alloc: Global, line: &LineSpec) -> Result<Vec<Noted>, AllocEr
     Ok(notes)
 }
 
-/// Puts a slave with each of these masters behind the others.
+/// Appends a note without a request for a slave and each of these masters. `AllocError` if memory runs out.
 fn push_slave(notes: &mut Vec<Noted>, slave: u8, masters: &[u8]) -> Result<(), AllocError>
     ensures { OnOk result (notes.new.items ≡ notes.old.items ++ map (unnoted slave) masters.now) }
 {

@@ -1,4 +1,4 @@
-//! What came of what an operator does.
+//! The results of the operator's events.
 
 ghost use Rattle.std.specs.Prelude.{◌≡◌, Some};
 ghost use Rattle.std.specs.List.{flat_map};
@@ -10,7 +10,7 @@ use crate::words::{NumbersWords, TimeWords};
 use dp_line::{LineState, Op, Outcome, SlaveView};
 use std::fmt;
 
-/// The full time of a watchdog that ran out.
+/// The full time of a watchdog that ran out, in units of 10 ms; writes nothing if there is none.
 #[derive(Clone, Copy)]
 struct WatchdogWords(Option<u32>);
 
@@ -28,7 +28,8 @@ impl fmt::Display for WatchdogWords {
     }
 }
 
-/// The full time of the watchdog of a slave, by the parameters of its holder.
+/// Returns the full time of a slave's watchdog in units of 10 ms, by the parameters of its holder; None if it is off,
+/// or if there are no parameters.
 fn full_time_of(slave: &Option<SlaveView>) -> Option<u32>
     ensures { result ≡ full_time_of slave.now }
 {
@@ -41,7 +42,7 @@ fn full_time_of(slave: &Option<SlaveView>) -> Option<u32>
     }
 }
 
-/// A slave that a tick let go.
+/// A slave that a tick released.
 #[derive(Clone, Copy)]
 struct Expired<'a> {
     before: &'a LineState,
@@ -58,7 +59,7 @@ impl<'a> fmt::Display for Expired<'a> {
     }
 }
 
-/// Slaves that a tick let go, each behind a comma.
+/// Slaves that a tick released, each after a comma.
 #[derive(Clone, Copy)]
 struct ExpiredBehind<'a> {
     before: &'a LineState,
@@ -80,7 +81,7 @@ impl<'a> fmt::Display for ExpiredBehind<'a> {
     }
 }
 
-/// The slaves that a tick let go.
+/// All slaves that a tick released.
 #[derive(Clone, Copy)]
 struct TickWords<'a> {
     before: &'a LineState,
@@ -108,7 +109,7 @@ impl<'a> fmt::Display for TickWords<'a> {
     }
 }
 
-/// The slaves that the halt let go.
+/// All slaves that the halt released.
 #[derive(Clone, Copy)]
 struct HaltWords<'a>(&'a [u8]);
 
@@ -126,7 +127,7 @@ impl<'a> fmt::Display for HaltWords<'a> {
     }
 }
 
-/// The slaves that were let go.
+/// The slaves that an event of the operator released.
 #[derive(Clone, Copy)]
 struct ReleasedSlaves<'a> {
     before: &'a LineState,
@@ -151,7 +152,7 @@ impl<'a> fmt::Display for ReleasedSlaves<'a> {
     }
 }
 
-/// It is the halt.
+/// Returns whether the event is the halt.
 pub(crate) fn is_halt(op: &Op) -> bool
     ensures { result ≡ is_halt (Operator op.now) }
 {
@@ -164,7 +165,7 @@ pub(crate) fn is_halt(op: &Op) -> bool
     }
 }
 
-/// What came of what an operator does.
+/// The result of an event of the operator.
 #[derive(Clone, Copy)]
 pub(crate) struct OpWords<'a> {
     pub(crate) before: &'a LineState,

@@ -1,4 +1,4 @@
-//! Why parameters are wrong.
+//! The reasons why parameters are wrong.
 
 ghost use Rattle.std.specs.Prelude.{◌≡◌, ◌≤◌, ◌<◌, ◌++◌, ◌+◌, ◌==◌, ◌&&◌, nat_lt, not, length, Some};
 ghost use Rattle.std.specs.List.{flat_map};
@@ -11,28 +11,28 @@ use dp_prm::{FREEZE_REQ, SYNC_REQ, WD_ON};
 use dp_slave::SlaveSpec;
 use std::fmt;
 
-/// The most reasons why the octets of one request are refused.
+/// The largest number of reasons why the octets of one request are refused.
 const MOST_FAULTS: usize = 5;
 
-/// Why parameters are wrong (IEC 61158-6-3, Set_Prm request).
+/// A reason why parameters are wrong (IEC 61158-6-3, Set_Prm request).
 #[derive(Clone, Copy)]
 pub(crate) enum PrmFault {
-    /// There are so many octets, fewer than 7.
+    /// There are only this many octets, fewer than 7.
     Short(usize),
-    /// The ident number that was sent, and that of the slave.
+    /// The ident number that was sent differs from the slave's; both in this order.
     Ident(u16, u16),
-    /// A watchdog is to run, and a factor of its time is 0.
+    /// The watchdog is to run, and a factor of its time is 0.
     WatchdogTime,
-    /// Sync is asked for, which the slave doesn't support.
+    /// The request asks for Sync, which the slave doesn't support.
     NoSync,
-    /// Freeze is asked for, which the slave doesn't support.
+    /// The request asks for Freeze, which the slave doesn't support.
     NoFreeze,
-    /// So many user parameters were sent, and so many the slave takes.
+    /// More user parameters were sent than the slave takes; both numbers of octets in this order.
     UserParameters(usize, u8),
 }
 
 impl Default for PrmFault {
-    /// It only fills the free cells of an `ArrayVec`.
+    /// Returns a value for the free cells of an `ArrayVec`; it is never read.
     fn default() -> PrmFault {
         PrmFault::WatchdogTime
     }
@@ -66,7 +66,7 @@ impl fmt::Display for PrmFault {
     }
 }
 
-/// More user parameters were sent than the slave takes.
+/// The numbers of user parameters that were sent and that the slave takes at most.
 #[derive(Clone, Copy)]
 struct UserParameters {
     count: usize,
@@ -84,7 +84,7 @@ impl fmt::Display for UserParameters {
     }
 }
 
-/// Reasons, each behind a semicolon.
+/// Reasons, each after a semicolon.
 #[derive(Clone, Copy)]
 struct FaultsBehind<'a>(&'a [PrmFault]);
 
@@ -100,7 +100,7 @@ impl<'a> fmt::Display for FaultsBehind<'a> {
     }
 }
 
-/// Reasons, parted by a semicolon.
+/// Reasons, separated by semicolons.
 #[derive(Clone, Copy)]
 pub(crate) struct PrmFaults<'a>(pub(crate) &'a [PrmFault]);
 
@@ -119,7 +119,7 @@ impl<'a> fmt::Display for PrmFaults<'a> {
     }
 }
 
-/// Why the octets of a locking request, at least 7 of them, are refused: each reason that there is.
+/// Returns every reason why the octets of a locking request, at least 7 of them, are refused.
 pub(crate) fn prm_faults(octets: &[u8], slave: &SlaveSpec) -> ArrayVec<PrmFault, MOST_FAULTS>
     requires { 7 ≤ length octets.now }
     ensures { result.items ≡ prm_faults octets.now slave.now }
@@ -156,7 +156,7 @@ fn ident_in(octets: &[u8]) -> u16
     u16::from_be_bytes([octets[4], octets[5]])
 }
 
-/// A watchdog is to run, and a factor of its time is 0.
+/// Returns whether the watchdog is to run and a factor of its time is 0.
 fn has_factor_0(octets: &[u8]) -> bool
     requires { 7 ≤ length octets.now }
     ensures { result ≡ has_factor_0 octets.now }
@@ -164,7 +164,7 @@ fn has_factor_0(octets: &[u8]) -> bool
     is_set(WD_ON, octets[0]) && (octets[1] == 0 || octets[2] == 0)
 }
 
-/// Sync is to be used, which the slave doesn't support.
+/// Returns whether the request asks for Sync and the slave doesn't support it.
 fn asks_no_sync(octets: &[u8], slave: &SlaveSpec) -> bool
     requires { 7 ≤ length octets.now }
     ensures { result ≡ (sync_req octets.now && not slave.now.sync) }
@@ -172,7 +172,7 @@ fn asks_no_sync(octets: &[u8], slave: &SlaveSpec) -> bool
     is_set(SYNC_REQ, octets[0]) && !slave.sync
 }
 
-/// Freeze is to be used, which the slave doesn't support.
+/// Returns whether the request asks for Freeze and the slave doesn't support it.
 fn asks_no_freeze(octets: &[u8], slave: &SlaveSpec) -> bool
     requires { 7 ≤ length octets.now }
     ensures { result ≡ (freeze_req octets.now && not slave.now.freeze) }
@@ -180,7 +180,7 @@ fn asks_no_freeze(octets: &[u8], slave: &SlaveSpec) -> bool
     is_set(FREEZE_REQ, octets[0]) && !slave.freeze
 }
 
-/// Puts a reason behind the others where it holds.
+/// Appends a reason if it holds.
 fn push_where(faults: &mut ArrayVec<PrmFault, MOST_FAULTS>, holds: bool, fault: PrmFault)
     requires { length faults.old.items < MOST_FAULTS }
     ensures faults { faults.new.items ≡ faults.old.items ++ fault_where holds fault }
@@ -191,7 +191,7 @@ fn push_where(faults: &mut ArrayVec<PrmFault, MOST_FAULTS>, holds: bool, fault: 
     }
 }
 
-/// The bit of this number is 1.
+/// Returns whether the bit of this number is 1; bit 0 is the lowest.
 pub(crate) const fn is_set(number: u32, octet: u8) -> bool
     requires { number < 8 }
     ensures { result ≡ is_set_of number octet }

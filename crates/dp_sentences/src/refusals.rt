@@ -1,4 +1,4 @@
-//! Why a slave refuses a request: a sentence for each rule.
+//! The reasons why a slave refuses a request: one sentence for each rule.
 
 ghost use Rattle.std.specs.Prelude.{◌≡◌, option_map, Some};
 ghost use Rattle.dp_sap.specs.AccessTable.{same_point, set_prm};
@@ -11,7 +11,7 @@ use dp_sap::{CHK_CFG, GLOBAL_CONTROL, Lists, MOST_LISTED, SET_PRM, State, is_poi
 use dp_telegram::Function;
 use std::fmt;
 
-/// The point is off.
+/// The reason that the point is off in this state of the slave, or that no slave has the point.
 #[derive(Clone, Copy)]
 pub(crate) struct NotActive {
     pub(crate) address: u8,
@@ -34,12 +34,12 @@ impl fmt::Display for NotActive {
     }
 }
 
-/// Another master holds the slave.
+/// The reason that another master holds the slave, or nobody does.
 #[derive(Clone, Copy)]
 pub(crate) struct NotHolder {
     pub(crate) address: u8,
     pub(crate) holder: Option<u8>,
-    /// The place of its lock.
+    /// The place at which the holder locked the slave.
     pub(crate) since: u32,
 }
 
@@ -62,7 +62,7 @@ impl fmt::Display for NotHolder {
     }
 }
 
-/// A master holds a slave, at the start of a sentence.
+/// The words that a master holds a slave, at the start of a sentence.
 #[derive(Clone, Copy)]
 struct HoldsSlave {
     address: u8,
@@ -79,7 +79,7 @@ impl fmt::Display for HoldsSlave {
     }
 }
 
-/// A master holds the slave since a place.
+/// The sentence that a master holds a slave since a place.
 #[derive(Clone, Copy)]
 struct Holds {
     address: u8,
@@ -100,7 +100,7 @@ impl fmt::Display for Holds {
     }
 }
 
-/// The masters of a list.
+/// The masters of a list; no list stands for all masters.
 #[derive(Clone, Copy)]
 struct Listed<'a>(&'a Option<ArrayVec<u8, MOST_LISTED>>);
 
@@ -118,11 +118,11 @@ impl<'a> fmt::Display for Listed<'a> {
     }
 }
 
-/// A list doesn't name the master.
+/// The sentence that a list doesn't name the master.
 #[derive(Clone, Copy)]
 struct NotNamed<'a> {
     master: u8,
-    /// Who is on such a list.
+    /// What the masters of the list are called.
     of: &'a str,
     list: &'a Option<ArrayVec<u8, MOST_LISTED>>,
 }
@@ -138,7 +138,7 @@ impl<'a> fmt::Display for NotNamed<'a> {
     }
 }
 
-/// The slave's lists don't name the master.
+/// The reason that a list of the slave doesn't name the master.
 #[derive(Clone, Copy)]
 pub(crate) struct NotListed<'a> {
     pub(crate) master: u8,
@@ -168,7 +168,7 @@ impl<'a> fmt::Display for NotListed<'a> {
     }
 }
 
-/// The point is that of Set_Prm.
+/// Returns whether the point is that of Set_Prm.
 fn is_set_prm(point: Option<u8>) -> bool
     ensures { result ≡ same_point point set_prm }
 {
@@ -179,7 +179,7 @@ fn is_set_prm(point: Option<u8>) -> bool
     }
 }
 
-/// The function is no slave's, or not that of the point.
+/// The reason that no slave has the function, or that the point takes another one.
 #[derive(Clone, Copy)]
 pub(crate) struct NoService {
     pub(crate) fc: u8,
@@ -200,7 +200,7 @@ impl fmt::Display for NoService {
     }
 }
 
-/// The service that a point takes which doesn't take this function; None where no slave has the function.
+/// Returns the service that a point takes instead of this function; None if no slave has the function.
 fn other_service(function: Function) -> Option<&'static str>
     ensures { option_map (λ service. service.now) result ≡ other_service function }
 {
@@ -218,7 +218,7 @@ fn other_service(function: Function) -> Option<&'static str>
     }
 }
 
-/// The point is marked busy.
+/// The reason that the point is marked busy.
 #[derive(Clone, Copy)]
 pub(crate) struct Busy(pub(crate) Option<u8>);
 
@@ -231,7 +231,7 @@ impl fmt::Display for Busy {
     }
 }
 
-/// How many octets of data a slave takes.
+/// How many octets of data a slave takes in a Data_Exchange.
 #[derive(Clone, Copy)]
 struct TakenData {
     outputs: usize,
@@ -281,15 +281,15 @@ impl fmt::Display for Taken {
     }
 }
 
-/// The point takes another number of octets.
+/// The reason that the point takes another number of octets.
 #[derive(Clone, Copy)]
 pub(crate) struct WrongLength {
-    /// How many came.
+    /// How many octets were sent.
     pub(crate) count: usize,
     pub(crate) point: Option<u8>,
-    /// How many outputs the slave has.
+    /// How many octets of outputs the slave has.
     pub(crate) outputs: usize,
-    /// The slave is cleared.
+    /// Whether the slave is cleared.
     pub(crate) cleared: bool,
 }
 
@@ -307,13 +307,13 @@ impl fmt::Display for WrongLength {
     }
 }
 
-/// A Global_Control doesn't select the slave.
+/// The reason that a Global_Control doesn't select the slave.
 #[derive(Clone, Copy)]
 pub(crate) struct NotSelected {
     pub(crate) address: u8,
-    /// Group_Select.
+    /// The Group_Select of the command.
     pub(crate) select: u8,
-    /// Group_Ident.
+    /// The Group_Ident of the slave.
     pub(crate) group: u8,
 }
 
@@ -330,7 +330,7 @@ impl fmt::Display for NotSelected {
     }
 }
 
-/// Whom a Global_Control is for.
+/// The slaves that a Global_Control selects, by its Group_Select.
 #[derive(Clone, Copy)]
 struct Selecting(u8);
 
@@ -347,7 +347,7 @@ impl fmt::Display for Selecting {
     }
 }
 
-/// In which groups a slave is.
+/// The groups of a slave.
 #[derive(Clone, Copy)]
 struct Grouped {
     address: u8,
@@ -368,7 +368,7 @@ impl fmt::Display for Grouped {
     }
 }
 
-/// The request is a repeat of that of a place.
+/// The reason that the request repeats the one at this place.
 #[derive(Clone, Copy)]
 pub(crate) struct Repeated(pub(crate) u64);
 
@@ -381,7 +381,7 @@ impl fmt::Display for Repeated {
     }
 }
 
-/// The slave is there.
+/// The answer to an FDL status request: the slave exists and is in this state.
 #[derive(Clone, Copy)]
 pub(crate) struct Status {
     pub(crate) address: u8,

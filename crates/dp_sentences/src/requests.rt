@@ -1,4 +1,4 @@
-//! What came of a request.
+//! The result of a request.
 
 ghost use Rattle.std.specs.Prelude.{◌≡◌, ◌++◌, codes, Some, true, false};
 ghost use Rattle.std.specs.List.{flat_map};
@@ -20,17 +20,17 @@ use dp_responder::Rule;
 use dp_telegram::{Frame, Telegram};
 use std::fmt;
 
-/// The columns of a label.
+/// The width of the column of labels.
 const LABEL_COLUMNS: usize = 12;
 
-/// What a slave answers a request, in one sentence.
+/// The answer of a slave to a request, in one sentence.
 #[derive(Clone, Copy)]
 struct OfSlave<'a> {
     scene: &'a Scene<'a>,
     asked: &'a Asked<'a>,
-    /// The slave.
+    /// The address of the slave.
     address: u8,
-    /// Nobody replies.
+    /// Whether nobody replies.
     silent: bool,
     rule: Rule,
 }
@@ -64,7 +64,7 @@ impl<'a> fmt::Display for OfSlave<'a> {
     }
 }
 
-/// What the slave that a telegram asks answers.
+/// The answer of the slave that a telegram is sent to.
 #[derive(Clone, Copy)]
 struct OfTelegram<'a> {
     scene: &'a Scene<'a>,
@@ -97,7 +97,7 @@ impl<'a> fmt::Display for OfTelegram<'a> {
     }
 }
 
-/// What one slave, or a row of the line, answers a request.
+/// The answer of one slave, or the result by a rule of the line.
 #[derive(Clone, Copy)]
 struct OfOne<'a> {
     scene: &'a Scene<'a>,
@@ -136,7 +136,7 @@ impl<'a> fmt::Display for OfOne<'a> {
     }
 }
 
-/// The rule is one of a slave.
+/// Returns whether a rule concerns one slave, and not the line.
 fn concerns_a_slave(rule: Rule) -> bool
     ensures { result ≡ concerns_a_slave rule }
 {
@@ -164,7 +164,7 @@ fn concerns_a_slave(rule: Rule) -> bool
     }
 }
 
-/// What a slave answers a request to all, in a row of its own.
+/// The answer of one slave to a request to all slaves, as a row.
 #[derive(Clone, Copy)]
 struct PairRow<'a> {
     scene: &'a Scene<'a>,
@@ -189,7 +189,7 @@ impl<'a> fmt::Display for PairRow<'a> {
     }
 }
 
-/// What the slaves answer a request to all.
+/// The answers of these slaves to a request to all slaves, each as a row.
 #[derive(Clone, Copy)]
 struct PairRows<'a> {
     scene: &'a Scene<'a>,
@@ -213,7 +213,8 @@ impl<'a> fmt::Display for PairRows<'a> {
     }
 }
 
-/// What the slaves answer a telegram to all.
+/// The answers of these slaves to a frame that goes to all slaves; writes nothing if it is no telegram with readable
+/// access points.
 #[derive(Clone, Copy)]
 struct SpreadRows<'a> {
     scene: &'a Scene<'a>,
@@ -246,7 +247,7 @@ impl<'a> fmt::Display for SpreadRows<'a> {
     }
 }
 
-/// What a request to all is answered by the line.
+/// The result of a request to all slaves, before the answers of the slaves.
 #[derive(Clone, Copy)]
 struct SpreadWords<'a> {
     master: u8,
@@ -265,11 +266,11 @@ impl<'a> fmt::Display for SpreadWords<'a> {
     }
 }
 
-/// What came of a request, in its rows.
+/// The rows that show the result of a request.
 #[derive(Clone, Copy)]
 pub(crate) struct RequestRows<'a> {
     pub(crate) scene: &'a Scene<'a>,
-    /// The sender.
+    /// The address of the sender.
     pub(crate) master: u8,
     pub(crate) frame: &'a Option<Frame>,
     pub(crate) outcome: &'a Outcome,
@@ -312,7 +313,7 @@ impl<'a> fmt::Display for RequestRows<'a> {
 }
 
 impl<'a> RequestRows<'a> {
-    /// What one slave, or a row of the line, answers.
+    /// Returns the result of this request at one slave, or by a rule of the line.
     fn of_one(&self, silent: bool, rule: Rule) -> OfOne<'a>
         ensures { result ≡ record { scene = self.now.scene; master = self.now.master; frame = self.now.frame; silent = silent; rule = rule } }
     {

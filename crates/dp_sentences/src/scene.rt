@@ -1,11 +1,11 @@
-//! What is known where an event is told.
+//! The data that an explanation of an event reads.
 
 use crate::notes::Noted;
 use dp_line::{LineSpec, LineState};
 use dp_telegram::{Parts, Telegram};
 use std::marker::Model;
 
-/// What is known where an event is told. Contracts see the description, the world and the notes.
+/// What is known before an event. Contracts see the description, the world and the notes.
 #[derive(Drop)]
 pub struct Scene<'a> {
     pub line: &'a LineSpec,
@@ -28,10 +28,10 @@ impl<'a> Model for Scene<'a> {
     } };
 }
 
-/// A request, as it reaches slaves. Contracts see what it holds.
+/// A request on its way to slaves. Contracts see what it holds.
 #[derive(Drop)]
 pub(crate) struct Asked<'a> {
-    /// The sender.
+    /// The address of the sender.
     pub(crate) master: u8,
     pub(crate) telegram: &'a Telegram,
     pub(crate) parts: Parts,

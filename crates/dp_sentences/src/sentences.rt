@@ -1,4 +1,4 @@
-//! Why a request was answered as it was: one sentence for each rule.
+//! The reason why a request was answered as it was: one sentence for each rule.
 
 ghost use Rattle.std.specs.Prelude.{◌≡◌, length, slice_index, Some};
 ghost use Rattle.dp_sentences.specs.Sentences.{station_words, foreign_sender_text, no_master_text, line_text, group_in, refused_words, slave_text};
@@ -14,7 +14,7 @@ use dp_responder::Rule;
 use dp_telegram::Frame;
 use std::fmt;
 
-/// The station that a frame is from.
+/// The station that sent a frame.
 #[derive(Clone, Copy)]
 struct StationWords(Option<u8>);
 
@@ -29,7 +29,7 @@ impl fmt::Display for StationWords {
     }
 }
 
-/// The frame is from another station than its sender.
+/// The reason that a frame names another station than its sender.
 #[derive(Clone, Copy)]
 struct ForeignSender<'a>(&'a Option<Frame>);
 
@@ -47,7 +47,7 @@ impl<'a> fmt::Display for ForeignSender<'a> {
     }
 }
 
-/// The sender is no master of the line.
+/// The reason that the sender is no master of the line.
 #[derive(Clone, Copy)]
 struct NoMaster<'a> {
     master: u8,
@@ -64,12 +64,12 @@ impl<'a> fmt::Display for NoMaster<'a> {
     }
 }
 
-/// Why nobody replies, by a row of the line.
+/// The result of a request to which nobody replies, by a rule that concerns the line.
 #[derive(Clone, Copy)]
 pub(crate) struct LineWords<'a> {
     /// The masters of the line.
     pub(crate) masters: &'a [u8],
-    /// The sender.
+    /// The address of the sender.
     pub(crate) master: u8,
     pub(crate) frame: &'a Option<Frame>,
     pub(crate) rule: Rule,
@@ -117,7 +117,7 @@ impl<'a> fmt::Display for LineWords<'a> {
     }
 }
 
-/// A refusal, to which the slave replies, or which it meets in silence.
+/// Returns the words for a refusal, which a slave sends in a reply or makes in silence.
 fn refused_name(silent: bool) -> &'static str
     ensures { result.now ≡ refused_words silent }
 {
@@ -128,11 +128,11 @@ fn refused_name(silent: bool) -> &'static str
     }
 }
 
-/// Why a slave answers as it does, by a row of its own.
+/// The answer of a slave and its reason, by a rule that concerns one slave.
 #[derive(Clone, Copy)]
 pub(crate) struct SlaveWords<'a> {
     pub(crate) meeting: &'a Meeting<'a>,
-    /// Nobody replies.
+    /// Whether nobody replies.
     pub(crate) silent: bool,
     pub(crate) rule: Rule,
 }
@@ -280,7 +280,7 @@ impl<'a> Meeting<'a> {
     }
 }
 
-/// The second octet, 0 where there is none.
+/// Returns the second octet; 0 if there is none.
 fn second_of(octets: &[u8]) -> u8
     ensures { result ≡ slice_index octets.now 1 }
 {
@@ -290,7 +290,7 @@ fn second_of(octets: &[u8]) -> u8
     }
 }
 
-/// The groups of a slave, by the parameters of its holder.
+/// Returns the groups of a slave, by the parameters of its holder; 0 if it has none.
 fn group_in(prm: &Option<Prm>) -> u8
     ensures { result ≡ group_in prm.now }
 {

@@ -1,4 +1,4 @@
-//! What a service did that was done.
+//! The results of services that were done.
 
 ghost use Rattle.std.specs.Prelude.{Some};
 ghost use Rattle.dp_sentences.specs.Services.{done_text};
@@ -11,7 +11,7 @@ use crate::set_prm::SetPrm;
 use dp_sap::{CHK_CFG, GLOBAL_CONTROL, SET_PRM, SLAVE_DIAG};
 use std::fmt;
 
-/// What a service did that was done.
+/// The result of a service that was done.
 #[derive(Clone, Copy)]
 pub(crate) struct DoneService<'a>(pub(crate) &'a Meeting<'a>);
 

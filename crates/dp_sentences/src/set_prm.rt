@@ -1,4 +1,4 @@
-//! What came of a Set_Prm.
+//! The result of a Set_Prm.
 
 ghost use Rattle.std.specs.Prelude.{◌≡◌, ◌==◌, Some, false};
 ghost use Rattle.std.specs.Option.{option_map_or};
@@ -11,7 +11,7 @@ use dp_prm::{LOCK_REQ, UNLOCK_REQ};
 use dp_slave::SlaveView;
 use std::fmt;
 
-/// That a slave which somebody held is released by what was wrong.
+/// Returns the end of the sentence about wrong octets, which says that the slave is released if somebody held it.
 pub(crate) fn released_name(holder: Option<u8>) -> &'static str
     ensures { result.now ≡ released_words holder }
 {
@@ -21,7 +21,7 @@ pub(crate) fn released_name(holder: Option<u8>) -> &'static str
     }
 }
 
-/// Parameters were wrong.
+/// The result of wrong parameters.
 #[derive(Clone, Copy)]
 struct WrongPrm<'a> {
     holder: Option<u8>,
@@ -38,7 +38,7 @@ impl<'a> fmt::Display for WrongPrm<'a> {
     }
 }
 
-/// The master is the slave's holder.
+/// Returns whether the master holds the slave.
 pub(crate) fn holds(holder: Option<u8>, master: u8) -> bool
     ensures { result ≡ option_map_or (λ other. other == master) holder false }
 {
@@ -48,7 +48,7 @@ pub(crate) fn holds(holder: Option<u8>, master: u8) -> bool
     }
 }
 
-/// A master holds a slave.
+/// The words that a master holds a slave.
 #[derive(Clone, Copy)]
 struct HeldWords {
     master: u8,
@@ -65,7 +65,7 @@ impl fmt::Display for HeldWords {
     }
 }
 
-/// A master has locked the slave.
+/// The result of a Set_Prm that locked the slave.
 #[derive(Clone, Copy)]
 struct Locked<'a> {
     master: u8,
@@ -89,7 +89,7 @@ impl<'a> fmt::Display for Locked<'a> {
     }
 }
 
-/// A master has let the slave go.
+/// The result of a Set_Prm that unlocked the slave.
 #[derive(Clone, Copy)]
 struct Unlocked {
     address: u8,
@@ -108,7 +108,7 @@ impl fmt::Display for Unlocked {
     }
 }
 
-/// Min TSDR alone was set.
+/// The result of a Set_Prm that sets only min TSDR, in bit times.
 #[derive(Clone, Copy)]
 struct MinTsdr {
     octet: u8,
@@ -129,7 +129,7 @@ impl fmt::Display for MinTsdr {
     }
 }
 
-/// A locking request was taken, or was a fault for these reasons.
+/// The result of a locking request, which is accepted if there is no fault.
 #[derive(Clone, Copy)]
 struct Lock<'a> {
     meeting: &'a Meeting<'a>,
@@ -160,7 +160,7 @@ impl<'a> fmt::Display for Lock<'a> {
     }
 }
 
-/// What came of Set_Prm.
+/// The result of a Set_Prm.
 #[derive(Clone, Copy)]
 pub(crate) struct SetPrm<'a> {
     pub(crate) meeting: &'a Meeting<'a>,

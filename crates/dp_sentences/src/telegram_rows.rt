@@ -1,4 +1,4 @@
-//! What the octets of a telegram say, in rows.
+//! The contents of a telegram, in rows.
 
 ghost use Rattle.std.specs.Prelude.{◌≡◌, Some};
 ghost use Rattle.dp_decode.specs.Kinds.{kind_text};
@@ -9,7 +9,7 @@ use dp_decode::{Contents, Hex, Kind, Reply};
 use dp_telegram::decode;
 use std::fmt;
 
-/// What a request is.
+/// The kind of a request.
 #[derive(Clone, Copy)]
 pub(crate) struct KindWords<'a>(pub(crate) &'a [u8]);
 
@@ -22,7 +22,7 @@ impl<'a> fmt::Display for KindWords<'a> {
     }
 }
 
-/// What is in a request, in a row where anything is.
+/// The row that shows the data of a request; writes nothing if there are none.
 #[derive(Clone, Copy)]
 struct ContentsRow<'a>(&'a [u8]);
 
@@ -39,7 +39,7 @@ impl<'a> fmt::Display for ContentsRow<'a> {
     }
 }
 
-/// Octets that are no frame, in a row where there are any.
+/// The row that shows octets that are no frame; writes nothing if there are none.
 #[derive(Clone, Copy)]
 struct UnreadRow<'a>(&'a [u8]);
 
@@ -57,7 +57,7 @@ impl<'a> fmt::Display for UnreadRow<'a> {
     }
 }
 
-/// What is in the octets of a request.
+/// The row that shows the octets of a request: the data of a frame, or all octets if they are no frame.
 #[derive(Clone, Copy)]
 pub(crate) struct SentRow<'a>(pub(crate) &'a [u8]);
 
@@ -78,7 +78,7 @@ impl<'a> fmt::Display for SentRow<'a> {
     }
 }
 
-/// What is in the reply to a request, in a row where anything is.
+/// The row that shows the reply to a request; writes nothing if the octets are no reply.
 #[derive(Clone, Copy)]
 pub(crate) struct ReplyRow<'a> {
     pub(crate) request: &'a [u8],

@@ -1,4 +1,4 @@
-//! From whom to whom an event goes.
+//! The sender and the receiver of an event.
 
 ghost use Rattle.std.specs.Prelude.{◌≡◌, ◌≤◌, ◌==◌, Some, length};
 ghost use Rattle.dp_telegram.specs.FrameText.{frame_of};
@@ -9,30 +9,30 @@ use dp_line::{Event, Op};
 use dp_telegram::{Frame, GLOBAL_ADDRESS, Telegram, decode};
 use std::fmt;
 
-/// To whom octets of a master go.
+/// The receiver of octets that a master sends.
 #[derive(Clone, Copy)]
 pub enum Whom {
-    /// The slave of this address, 0 to 126.
+    /// The slave with this address, 0 to 126.
     Slave(u8),
     /// All slaves.
     AllSlaves,
-    /// The station of this address, 0 to 127: a token.
+    /// The station with this address, 0 to 127, which receives a token.
     Station(u8),
-    /// No station: a short acknowledgement, or octets that are no single frame.
+    /// No station: the octets are a short acknowledgement, or no single frame.
     Nobody,
 }
 
-/// From whom to whom an event goes.
+/// The sender and the receiver of an event.
 #[derive(Clone, Copy)]
 pub enum Who {
-    /// From a master.
+    /// A master sends to this receiver.
     Master(u8, Whom),
-    /// From the operator, to the slave of this address; None is the line.
+    /// The operator acts on the slave with this address; None stands for the line.
     Operator(Option<u8>),
 }
 
 impl Whom {
-    /// To whom the octets of a request go.
+    /// Returns the receiver of the octets of a request.
     pub fn from_octets(octets: &[u8]) -> Whom
         ensures { result ≡ whom_of_frame (frame_of octets.now) }
     {
@@ -63,7 +63,7 @@ impl Whom {
         }
     }
 
-    /// How many letters its text has.
+    /// Returns the number of characters of its text.
     fn width(self) -> usize
         ensures width { result ≡ length (whom_text self) }
         ensures few { result ≤ 12 }
@@ -91,7 +91,7 @@ impl fmt::Display for Whom {
 }
 
 impl Who {
-    /// From whom to whom an event goes.
+    /// Returns the sender and the receiver of an event.
     pub fn from_event(event: &Event) -> Who
         ensures { result ≡ who_of event.now }
     {
@@ -105,7 +105,7 @@ impl Who {
         }
     }
 
-    /// How many letters its text has.
+    /// Returns the number of characters of its text.
     pub(crate) fn width(self) -> usize
         ensures { result ≡ length (who_text self) }
     {

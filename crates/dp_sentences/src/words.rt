@@ -1,4 +1,4 @@
-//! The words that the rows of an explanation are made of.
+//! The parts that the rows of an explanation are made of.
 
 ghost use Rattle.std.specs.Prelude.{◌≡◌, ◌<◌, ◌≤◌, if◌then◌else◌, Some, length};
 ghost use Rattle.std.specs.Fmt.{decimal};
@@ -9,7 +9,7 @@ use dp_decode::{CapitalPair, Hex, service};
 use dp_sap::State;
 use std::fmt;
 
-/// So many spaces.
+/// This number of spaces.
 #[derive(Clone, Copy)]
 pub struct Spaces(pub usize);
 
@@ -24,7 +24,7 @@ impl fmt::Display for Spaces {
     }
 }
 
-/// How many digits a number has in decimal, 1 to 3.
+/// Returns how many digits a number has in decimal, 1 to 3.
 pub fn digits_of(number: u8) -> usize
     ensures digits { result ≡ length (decimal number) }
     ensures few { result < 4 }
@@ -38,7 +38,7 @@ pub fn digits_of(number: u8) -> usize
     }
 }
 
-/// How many digits a long number has in decimal, 1 to 20.
+/// Returns how many digits a long number has in decimal, 1 to 20.
 pub fn digits_of_long(number: u64) -> usize
     ensures digits { result ≡ length (decimal number) }
     ensures few { result ≤ 20 }
@@ -50,7 +50,7 @@ pub fn digits_of_long(number: u64) -> usize
     }
 }
 
-/// Octets in hex.
+/// Octets in hex, separated by spaces.
 #[derive(Clone, Copy)]
 pub(crate) struct OctetsWords<'a>(pub(crate) &'a [u8]);
 
@@ -68,7 +68,7 @@ impl<'a> fmt::Display for OctetsWords<'a> {
     }
 }
 
-/// An ident number by four hex digits.
+/// An ident number as four hex digits.
 #[derive(Clone, Copy)]
 pub(crate) struct IdentWords(pub(crate) u16);
 
@@ -82,7 +82,7 @@ impl fmt::Display for IdentWords {
     }
 }
 
-/// Numbers, each behind a comma.
+/// Numbers, each after a comma.
 #[derive(Clone, Copy)]
 struct NumbersBehind<'a>(&'a [u8]);
 
@@ -98,7 +98,7 @@ impl<'a> fmt::Display for NumbersBehind<'a> {
     }
 }
 
-/// Numbers, parted by a comma.
+/// Numbers, separated by commas.
 #[derive(Clone, Copy)]
 pub(crate) struct NumbersWords<'a>(pub(crate) &'a [u8]);
 
@@ -117,7 +117,7 @@ impl<'a> fmt::Display for NumbersWords<'a> {
     }
 }
 
-/// So many octets.
+/// A number of octets.
 #[derive(Clone, Copy)]
 pub(crate) struct CountWords(pub(crate) usize);
 
@@ -131,14 +131,14 @@ impl fmt::Display for CountWords {
     }
 }
 
-/// The word for one, or for several.
+/// Returns the word for one or for several.
 pub(crate) fn word_for(is_one: bool, one: &'static str, several: &'static str) -> &'static str
     ensures { result.now ≡ (if is_one then one.now else several.now) }
 {
     if is_one { one } else { several }
 }
 
-/// A time in units of 10 ms, as milliseconds.
+/// A time in units of 10 ms, shown in milliseconds.
 #[derive(Clone, Copy)]
 pub(crate) struct TimeWords(pub(crate) u32);
 
@@ -151,7 +151,7 @@ impl fmt::Display for TimeWords {
     }
 }
 
-/// A state by its name in the standard.
+/// Returns the standard's name of a state.
 pub(crate) fn state_name(state: State) -> &'static str
     ensures { result.now ≡ state_words state }
 {
@@ -162,7 +162,7 @@ pub(crate) fn state_name(state: State) -> &'static str
     }
 }
 
-/// Who holds a slave.
+/// The holder of a slave.
 #[derive(Clone, Copy)]
 pub(crate) struct HolderWords(pub(crate) Option<u8>);
 
@@ -177,7 +177,7 @@ impl fmt::Display for HolderWords {
     }
 }
 
-/// Since which place, at the end of a sentence.
+/// The place since which something holds, at the end of a sentence.
 #[derive(Clone, Copy)]
 pub(crate) struct SinceWords(pub(crate) u32);
 
@@ -190,7 +190,7 @@ impl fmt::Display for SinceWords {
     }
 }
 
-/// A point by its name.
+/// The name of a point; None is the default point, with the name Data_Exchange.
 #[derive(Clone, Copy)]
 pub(crate) struct PointWords(pub(crate) Option<u8>);
 

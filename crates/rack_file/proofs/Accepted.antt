@@ -1,4 +1,4 @@
--- What holds of an accepted rack.
+-- The properties of an accepted rack.
 use Rattle.std.proofs.Common.{◌≡◌, ℕ, ℤ, pos, negsuc, ◌+◌, ◌≤◌, Bool, true, false, ◌&&◌, cond, leb, List, [], ◌∷◌, length, Option, Some, None, Result, Ok, Err, refl, sym, ap, subst, suc, codes, ◌∙◌, arith}
 use Rattle.std.proofs.lemmas.Bool.Decides.{nat_tests}
 use Rattle.std.specs.List.{AllByRecursion}
@@ -32,12 +32,12 @@ length-each_from {E = E} read position (value ∷ values) done e =
     let (others, there, whole) = done_parts (each_from read (position + 1) values) (λ others. Ok (first ∷ others)) done more in
     ap length (ok_parts E done (first ∷ others) (sym whole)) ∙ ap (λ (n : ℕ). suc n) (length-each_from read (position + 1) values others there)
 
--- what was read at a key, by a test
+-- what was read at a key, if a test holds
 guarded : {A : Type 0} (test : Bool) (place : Place) (key : List ℕ) (cause : Cause) (read x : A) → at_key place key (cond test (Ok read) (Err cause)) ≡ Ok x → (test ≡ true) × (read ≡ x)
 guarded true place key cause read x e = (refl, ok_parts Misread read x e)
 guarded false place key cause read x e = absurd cc
 
--- so many values are counted
+-- the number of values is in the range
 pub counted_count : (least most : ℕ) (place : Place) (key : List ℕ) (all values : List Data) → at_key place key (counted least most all) ≡ Ok values → (least ≤ length values) × (length values ≤ most)
 counted_count least most place key all values e =
     let (within, same) = guarded (leb least (length all) && leb (length all) most) place key (Count least most) all values e in

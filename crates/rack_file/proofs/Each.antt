@@ -1,4 +1,4 @@
--- Reading each value of an array in turn, as a loop does.
+-- Reading each value of an array in turn, as a loop does it.
 use Rattle.std.proofs.Common.{◌≡◌, ℕ, suc, ◌+◌, ◌<◌, ◌≤◌, List, [], ◌∷◌, ◌++◌, length, get_or, take, drop, map, Option, Some, None, Result, Ok, Err, refl, ap, subst, arith}
 use Rattle.std.proofs.Math.Seq.{split_at}
 use Rattle.std.proofs.lemmas.List.{map_more, map-append, length-map, length-take-le}
@@ -57,7 +57,7 @@ refuses_then (Some fault) r f h = rw h
 
 -- ---- a loop over the values of an array
 
--- the position of the value behind the first i
+-- the position of the value after the first i
 next_position : (values : List Value) (i : ℕ) → i < length values → i + 1 ≡ 1 + length (map view (take i values))
 next_position values i within =
     let some : i ≤ length values = omega arith in
@@ -72,7 +72,7 @@ each_more read values i value done x within is so_far here =
     let after = next_position values i within in
     rw (map_more view values i value within, is, each_from-append read 1 (i + 1) (map view (take i values)) (view value ∷ []) done after so_far, here)
 
--- a value wasn't read
+-- a value isn't accepted
 pub each_stops : {A E : Type 0} (read : ℕ → Data → Result A E) (values : List Value) (i : ℕ) (value : Value) (done : List A) (fault : Option E)
     → i < length values → get_or values i value ≡ value → each_from read 1 (map view (take i values)) ≡ Ok done → Refuses fault (read (i + 1) (view value))
     → Refuses fault (each_from read 1 (map view values))

@@ -1,4 +1,4 @@
--- A test of what is seen of each element.
+-- A test of the view of each element.
 use Rattle.std.proofs.Common.{◌≡◌, Bool, List, [], ◌∷◌, ◌||◌, map, refl, ap}
 use Rattle.std.specs.List.{list_any}
 

@@ -1,4 +1,4 @@
--- Where a key stands that isn't read, and that it is told.
+-- The place of a key that isn't accepted, and that the key is reported.
 use Rattle.std.proofs.Common.{◌≡◌, ℕ, ◌+◌, ◌≤◌, Bool, true, false, cond, List, [], ◌∷◌, length, Option, Some, None, Result, Ok, Err, refl, subst, codes, arith}
 use Rattle.std.specs.List.{list_any}
 use Rattle.std.specs.Option.{ok_or, option_map_or}
@@ -21,7 +21,7 @@ use Rattle.rack_file.specs.TomlKeys.{◌>>=◌, at_key, number_from, counted, ar
 use Rattle.rack_file.specs.RackFile.{masters_of, configurations_of, device_of, list_of, slave_keys, slave_of, slave_at, slaves_of, port_of, line_keys, line_of, line_at, lines_of, numbers, numbers_differ, opened, all_open, rack_keys, rack_of, with_fault, rack_of_document}
 use Rattle.rack_file.proofs.Accepted.{counted_count}
 
--- if a key isn't read, it stands in such a place
+-- if a key isn't accepted, it is in such a place
 abbrev Stands : {A : Type 0} → (Place → Type 0) → Result A Misread → Type 0
 Stands P (Ok x) = Unit {0}
 Stands P (Err misreads.OutOfMemory) = Unit {0}
@@ -29,7 +29,7 @@ Stands P (Err (misreads.BadKey bad)) = P bad.place
 Stands P (Err misreads.TwiceLine) = Unit {0}
 Stands P (Err (misreads.Open position fault)) = Unit {0}
 
--- of two steps, where the second knows what the first read
+-- two steps; the second one knows what the first one read
 then_stands : {A B : Type 0} (P : Place → Type 0) (r : Result A Misread) (f : A → Result B Misread)
     → Stands P r → ((x : A) → r ≡ Ok x → Stands P (f x)) → Stands P (r >>= f)
 then_stands P (Ok x) f here there = there x refl
@@ -42,7 +42,7 @@ at_key_stands : {A : Type 0} (P : Place → Type 0) (place : Place) (key : List 
 at_key_stands P place key (Ok x) here = tt
 at_key_stands P place key (Err cause) here = here
 
--- a fault, where nothing is read
+-- a fault, and nothing is read
 abbrev stopped : Misread → Result (Unit {0}) Misread
 stopped misread = Err misread
 
@@ -72,7 +72,7 @@ optional_stands : {A : Type 0} (P : Place → Type 0) (default : A) (read : Data
 unfolding optional
 optional_stands P default read place key table here = optional_by P default read place key (get_member key table) here
 
--- of each element, whose positions are at most this
+-- reading elements whose positions are at most this
 each_stands : {A : Type 0} (P : Place → Type 0) (read : ℕ → Data → Result A Misread) (most : ℕ)
     → ((position : ℕ) (value : Data) → 1 ≤ position → position ≤ most → Stands P (read position value))
     → (position : ℕ) (values : List Data) → 1 ≤ position → position + length values ≤ most + 1 → Stands P (each_from read position values)
@@ -157,11 +157,11 @@ rack_stands file =
     then_stands (IsWithin 8) (numbers_differ lines) _ (differ_stands (has_twice (numbers lines))) (λ _ _.
     then_stands (IsWithin 8) (all_open 1 lines) _ (all_open_stand 1 lines) (λ _ _. tt)))))
 
--- a key that isn't read stands in the file, or in its lines 1 to 8
+-- a key that isn't accepted is in the file itself, or in its lines 1 to 8
 pub stands_within : (file : Members) (bad : KeyFault) → rack_of file ≡ Err (misreads.BadKey bad) → IsWithin 8 bad.place
 stands_within file bad is = subst (λ (r : Result RackDescription Misread). Stands (IsWithin 8) r) is (rack_stands file)
 
--- the fault is told by a key
+-- the fault `BadKey` comes from a key
 told_by : (read : Result RackDescription Misread) → with_fault read ≡ Err faults.BadKey → (bad : KeyFault) × (read ≡ Err (misreads.BadKey bad))
 told_by (Ok rack) e = absurd cc
 told_by (Err misreads.OutOfMemory) e = absurd cc

@@ -1,4 +1,4 @@
--- What is told of a rack text, in one row.
+-- The text that is shown for a rack text, in one line.
 use Rattle.std.proofs.Common.{◌≡◌, ℕ, ◌/◌, ◌%◌, ◌<◌, ◌⊎◌, ◌≢◌, inl, inr, Bool, true, false, IsTrue, cond, List, [], ◌∷◌, ◌++◌, Option, Some, None, Result, Ok, Err, refl, sym, codes, All, arith}
 use Rattle.std.proofs.lemmas.Bool.Decides.{nat_tests}
 use Rattle.std.proofs.lemmas.List.Elements.{All-nil, All-cons, All-append, All-head, All-tail, All-from_recursion}
@@ -13,7 +13,7 @@ use Rattle.rack_file.specs.Misreads.{stands_for_itself, shown_octet, shown}
 use Rattle.rack_file.specs.RackFile.{rack_of, with_fault, rack_of_document}
 use Rattle.rack_file.specs.Causes.{cause_of, TellsCause}
 
--- ---- which texts a cause is told of
+-- ---- the texts for which a cause is shown
 
 abbrev Refused : Result RackDescription RackFault → Type 0
 Refused read = (read ≡ Err faults.BadKey) ⊎ (read ≡ Err faults.NotToml)

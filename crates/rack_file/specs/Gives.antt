@@ -1,4 +1,4 @@
--- What a function gives that reads, and that memory may be refused to (own).
+-- The result of a function that reads and that may run out of memory (own).
 use Rattle.std.specs.Prelude.{◌≡◌, Option, Some, None, Result, Ok, Err}
 use Rattle.rack_file.specs.declared.fault.RackFault.{RackFault}
 use Rattle.rack_file.specs.declared.fault.RackFault.TheVariants as faults
@@ -8,7 +8,7 @@ use Rattle.rack_file.specs.declared.misread.Misread.TheVariants as misreads
 use Rattle.rack_file.specs.declared.misread.Unread.{Unread}
 use Rattle.rack_file.specs.declared.misread.Unread.TheVariants as unreads
 
--- what a fault tells of what was read: nothing where memory was refused
+-- the fault of what was read; None if memory ran out
 abbrev pub told : Misread → Option Misread
 told misreads.OutOfMemory = None
 told misread = Some misread
@@ -17,17 +17,17 @@ abbrev pub wrong : Unread → Option Cause
 wrong unreads.OutOfMemory = None
 wrong (unreads.Wrong cause) = Some cause
 
--- reading ended with a fault that tells this: that is what was to be read, if it tells something
+-- reading ended with this fault: what was to be read has the same fault, if there is one
 abbrev pub Refuses : {A E : Type 0} → Option E → Result A E → Type 0
 Refuses None read = Unit {0}
 Refuses (Some fault) read = read ≡ Err fault
 
--- what a function returned, whose faults tell this, is what was to be read, seen by view
+-- what a function returned is what was to be read, seen by `view`; `tells` gives the fault of what was read
 abbrev pub Gives : {A B E F : Type 0} → (F → Option E) → (A → B) → Result A F → Result B E → Type 0
 Gives tells view (Ok x) read = read ≡ Ok (view x)
 Gives tells view (Err fault) read = Refuses (tells fault) read
 
--- a function that met this fault was to read this: it is its fault, or memory was refused
+-- a function that returned this fault was to read this: the text has this fault, or memory ran out
 abbrev pub Fails : {A : Type 0} → RackFault → Result A RackFault → Type 0
 Fails faults.OutOfMemory read = Unit {0}
 Fails fault read = read ≡ Err fault

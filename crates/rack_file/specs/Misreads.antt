@@ -1,4 +1,4 @@
--- What is told of a document that describes no rack (own).
+-- The texts that are shown for a document that describes no rack (own).
 use Rattle.std.specs.Prelude.{codes, ℕ, List, [], ◌∷◌, ◌++◌, ◌/◌, ◌%◌, ◌==◌, ◌&&◌, Bool, false, not, nat_le, if◌then◌else◌}
 use Rattle.std.specs.Fmt.{decimal, digit_glyph}
 use Rattle.std.specs.List.{flat_map}
@@ -12,11 +12,11 @@ use Rattle.rack_file.specs.declared.misread.Misread.{Misread}
 use Rattle.rack_file.specs.declared.misread.Misread.TheVariants as misreads
 use Rattle.rack_file.specs.KeyFault.{KeyFault}
 
--- this key of the table in this place isn't read
+-- this key of the table in this place isn't accepted
 abbrev pub bad_key : Place → List ℕ → Cause → Misread
 bad_key place key cause = misreads.BadKey (record { place = place; key = key; cause = cause })
 
--- the fault that the rack file is refused with
+-- the fault with which the rack file is refused
 abbrev pub fault_of : Misread → RackFault
 fault_of misreads.OutOfMemory = faults.OutOfMemory
 fault_of (misreads.BadKey bad) = faults.BadKey
@@ -44,16 +44,16 @@ cause_text (Count least most) = codes "not " ++ decimal least ++ codes " to " ++
 cause_text NoTable = codes "an element is no table"
 cause_text NoDevice = codes "none of \"still\", \"counter\" and \"mirror\""
 
--- ASCII that prints, but for `"` and `\`
+-- printable ASCII, except `"` and `\`
 abbrev pub stands_for_itself : ℕ → Bool
 stands_for_itself octet = nat_le 0x20 octet && nat_le octet 0x7E && not (octet == 0x22) && not (octet == 0x5C)
 
--- an octet as it is shown in a row
+-- an octet as it is shown in a text line
 abbrev pub shown_octet : ℕ → List ℕ
 shown_octet octet =
     if stands_for_itself octet then octet ∷ [] else codes "\\x" ++ digit_glyph false (octet / 16) ∷ digit_glyph false (octet % 16) ∷ []
 
--- a text as it is shown in a row
+-- a text as it is shown in a text line
 abbrev pub shown : List ℕ → List ℕ
 shown text = flat_map shown_octet text
 

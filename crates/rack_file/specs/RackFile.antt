@@ -23,7 +23,7 @@ use Rattle.rack_file.specs.TomlKeys.{◌>>=◌, at_key, only, required, optional
 
 -- ---- masters
 
--- masters by their addresses, at most 16, in the order of the file; one that is given twice is there twice
+-- masters by their addresses, at most 16, in the order of the file; a duplicate address stays
 unfoldable pub masters_of : Data → Result (List ℕ) Cause
 masters_of value = do
   all ← array_of value
@@ -53,11 +53,11 @@ device_named name =
     else if bytes_eq name (codes "mirror") then Ok Mirror
     else Err NoDevice
 
--- what feeds a slave's inputs
+-- the device that updates a slave's inputs
 unfoldable pub device_of : Data → Result Device Cause
 device_of value = text_of value >>= device_named
 
--- a list of masters: one that names nobody is a list too
+-- a list of masters; an empty array is a list too
 unfoldable pub list_of : Data → Result (Option (ArrayVec ℕ)) Cause
 list_of value = do
   masters ← masters_of value
@@ -94,7 +94,7 @@ slave_of place slave = do
     failsafe = failsafe;
   })
 
--- the slave that is the element at this position of `slave`, of the line at this position
+-- the slave described by the element at this position of `slave`, of the line at this position
 unfoldable pub slave_at : ℕ → ℕ → Data → Result SlaveSpec Misread
 slave_at line position value = do
   slave ← at_key (Line line) (codes "slave") (table_of value)
@@ -134,7 +134,7 @@ line_of position line = do
     operator = operator;
   })
 
--- the line that is the element at this position of `line`
+-- the line described by the element at this position of `line`
 unfoldable pub line_at : ℕ → Data → Result LineDescription Misread
 line_at position value = do
   line ← at_key Rack (codes "line") (table_of value)
@@ -153,16 +153,16 @@ lines_of file = do
 abbrev pub numbers : List LineDescription → List ℕ
 numbers lines = map (λ line. line.line.number) lines
 
--- no two lines have one number
+-- no two lines have the same number
 abbrev pub numbers_differ : List LineDescription → Result (Unit {0}) Misread
 numbers_differ lines = if has_twice (numbers lines) then Err misreads.TwiceLine else Ok tt
 
--- a line at this position is opened, or refused for this reason
+-- a line at this position can be opened, or is refused for this reason
 abbrev pub opened : ℕ → Option OpenFault → Result (Unit {0}) Misread
 opened position None = Ok tt
 opened position (Some fault) = Err (misreads.Open position fault)
 
--- every line is opened, the first of them at this position
+-- every line can be opened; the first of them is at this position
 unfoldable pub all_open : ℕ → List LineDescription → Result (Unit {0}) Misread
 all_open position [] = Ok tt
 all_open position (line ∷ lines) = do
@@ -172,7 +172,7 @@ all_open position (line ∷ lines) = do
 abbrev pub rack_keys : List (List ℕ)
 rack_keys = codes "workers" ∷ codes "line" ∷ []
 
--- the rack that a document describes, or why it describes none
+-- the rack that a document describes, or the reason why it describes none
 unfoldable pub rack_of : Members → Result RackDescription Misread
 rack_of file = do
   _ ← only Rack rack_keys file
@@ -182,16 +182,16 @@ rack_of file = do
   _ ← all_open 1 lines
   Ok (record { workers = workers; lines = lines })
 
--- the same rack, or its fault
+-- the rack that a document describes, or the fault of the rack file
 abbrev pub with_fault : {A : Type 0} → Result A Misread → Result A RackFault
 with_fault (Ok rack) = Ok rack
 with_fault (Err misread) = Err (fault_of misread)
 
--- the rack that a text describes which may be no document, or why it isn't accepted
+-- the rack that a document describes, or the fault; None is a text that is no document
 abbrev pub rack_of_document : Option Members → Result RackDescription RackFault
 rack_of_document None = Err faults.NotToml
 rack_of_document (Some file) = with_fault (rack_of file)
 
--- the rack that a text describes, or why it isn't accepted
+-- the rack that a text describes, or the reason why it isn't accepted
 abbrev pub rack_in : List ℕ → Result RackDescription RackFault
 rack_in text = rack_of_document (parse_document text)

@@ -1,4 +1,4 @@
--- The rack of one line with masters 1 and 2 and slave 5, ident number 80A1, as a document; and what is told of documents that describe none.
+-- Examples: one line with masters 1 and 2 and slave 5, ident number 80A1, as a document; and the texts for documents that describe no rack.
 use Rattle.std.specs.Prelude.{◌≡◌, ⊤, ℕ, zero, suc, pos, negsuc, List, [], ◌∷◌, ◌++◌, codes, true, false, None, Some, Ok, Err, refl, option_map}
 use Rattle.std.specs.Fmt.{digits}
 use Rattle.hex.proofs.OnLiterals.{hex_on_literals}
@@ -19,7 +19,7 @@ use Rattle.rack_file.specs.TomlKeys.{required, optional, elements_of, text_or_ar
 use Rattle.rack_file.specs.RackFile.{masters_of, configuration_of, configurations_of, device_of, list_of, slave_of, slave_at, slaves_of, port_of, line_of, line_at, lines_of, all_open, rack_of, rack_of_document, rack_in}
 use Rattle.rack_file.specs.Causes.{cause_of, row_at}
 
--- what computes a document's rack
+-- the definitions that are unfolded to compute a document's rack
 unfoldable rack_on_literals : ⊤
 unfolding hex_on_literals toml_on_literals digits required optional elements_of text_or_array_of number_from octets_of each_from masters_of configuration_of configurations_of device_of list_of slave_of slave_at slaves_of port_of line_of line_at lines_of all_open rack_of
 rack_on_literals = tt
@@ -173,7 +173,7 @@ slave_with_cfg cfg =
     (member (codes "cfg") cfg
     (member (codes "ident") (integer (pos 1)) no_members)))
 
--- the items of an array: so many times this text
+-- the items of an array: this text n times
 abbrev texts : ℕ → List ℕ → Items
 texts zero text = no_items
 texts (suc n) text = item (string text) (texts n text)
@@ -246,9 +246,9 @@ pub one_text :
 unfolding rack_on_literals
 one_text = refl
 
--- ---- each cause, where it stands and its text
+-- ---- each cause, its place and its text
 
--- a document tells this key in this place for this cause, and this is the text
+-- a document is refused for this key in this place with this cause, and this is the text
 abbrev Tells : Members → Place → List ℕ → Cause → List ℕ → Type 0
 Tells file place key cause text =
     (rack_of file ≡ Err (bad_key place key cause)) × (key_fault_text (record { place = place; key = key; cause = cause }) ≡ text)
@@ -261,7 +261,7 @@ file_with_slaves slaves =
     (member (codes "number") (integer (pos 1))
     (member (codes "slave") (array slaves) no_members))))) no_items)
 
--- the third slave of the second line has `cgf` for `cfg`
+-- the third slave of the second line has `cgf` instead of `cfg`
 abbrev misspelt_slave : Data
 misspelt_slave =
     table (member (codes "address") (integer (pos 5))
@@ -315,7 +315,7 @@ pub cut_pair :
 unfolding rack_on_literals
 cut_pair = (refl, refl)
 
--- so many octets 0 in hex text
+-- n octets 0 in hex text
 abbrev zeros : ℕ → List ℕ
 zeros zero = []
 zeros (suc n) = codes "00" ++ zeros n
@@ -359,7 +359,7 @@ pub device_in_capitals :
 unfolding rack_on_literals
 device_in_capitals = (refl, refl)
 
--- the key is `a`, a quotation mark, a line end, a backslash and u with two dots
+-- the key is `a`, a quotation mark, a line end, a backslash and a u with two dots
 pub key_in_one_row : shown (0x61 ∷ 0x22 ∷ 0x0A ∷ 0x5C ∷ 0xC3 ∷ 0xBC ∷ []) ≡ codes "a\\x22\\x0a\\x5c\\xc3\\xbc"
 key_in_one_row = refl
 

@@ -1,4 +1,4 @@
--- Reading the keys of a TOML table, with the first fault that is met: a value tells its cause, a key of a table that and where it stands (own).
+-- Reading the keys of a TOML table, up to the first fault: a value gives its cause, a key of a table gives its cause and its place (own).
 use Rattle.std.specs.Prelude.{ℕ, ◌+◌, pos, negsuc, ℤ, Bool, ◌&&◌, nat_le, if◌then◌else◌, List, [], ◌∷◌, length, Result, Ok, Err, is_some}
 use Rattle.std.specs.List.{list_any}
 use Rattle.std.specs.Option.{ok_or, option_map_or}
@@ -12,7 +12,7 @@ use Rattle.rack_file.specs.declared.misread.Cause.TheVariants.{NoSuchKey, Missin
 use Rattle.rack_file.specs.declared.misread.Misread.{Misread}
 use Rattle.rack_file.specs.Misreads.{bad_key}
 
--- the second step, if the first gave a value
+-- the second step, if the first one gave a value
 infixl 10 ◌>>=◌
 abbrev pub ◌>>=◌ : {A B E : Type 0} → Result A E → (A → Result B E) → Result B E
 (Ok x) >>= f = f x
@@ -25,7 +25,7 @@ seen view (Err fault) = Err fault
 
 -- ---- a value
 
--- a number from the least to the most
+-- a number from `least` to `most`
 unfoldable pub number_from : ℕ → ℕ → Data → Result ℕ Cause
 number_from least most value = do
   number ← ok_or (as_integer value) (NoNumber least most)
@@ -58,7 +58,7 @@ abbrev pub elements : Items → List Data
 elements no_items = []
 elements (item first others) = first ∷ elements others
 
--- those of an array; a value that is none is wrong for this cause
+-- the elements of an array; another value is wrong for this cause
 unfoldable pub elements_of : Cause → Data → Result (List Data) Cause
 elements_of cause value = do
   items ← ok_or (as_array value) cause
@@ -67,11 +67,11 @@ elements_of cause value = do
 abbrev pub array_of : Data → Result (List Data) Cause
 array_of value = elements_of NoArray value
 
--- those of an array; a text counts as an array of it alone
+-- the elements of an array; a text counts as an array of only this text
 unfoldable pub text_or_array_of : Data → Result (List Data) Cause
 text_or_array_of value = if is_some (as_str value) then Ok (value ∷ []) else elements_of NoTextOrArray value
 
--- so many elements
+-- from `least` to `most` elements
 abbrev pub counted : ℕ → ℕ → List Data → Result (List Data) Cause
 counted least most values = if nat_le least (length values) && nat_le (length values) most then Ok values else Err (Count least most)
 
@@ -81,33 +81,33 @@ table_of value = ok_or (as_table value) NoTable
 
 -- ---- a table
 
--- what was read of the value at a key of the table in this place
+-- what was read of the value at a key of the table in this place; a fault gets the place and the key
 abbrev pub at_key : {A : Type 0} → Place → List ℕ → Result A Cause → Result A Misread
 at_key place key (Ok x) = Ok x
 at_key place key (Err cause) = Err (bad_key place key cause)
 
--- the table in this place may have these keys and no other
+-- the table in this place may have only these keys
 abbrev pub only : Place → List (List ℕ) → Members → Result (Unit {0}) Misread
 only place known no_members = Ok tt
 only place known (member key value others) = if list_any (bytes_eq key) known then only place known others else Err (bad_key place key NoSuchKey)
 
--- the value at a key that the table has to have
+-- the value at a key that the table must have
 abbrev pub required_value : Place → List ℕ → Members → Result Data Misread
 required_value place key table = ok_or (get_member key table) (bad_key place key Missing)
 
--- what is read at a key that the table has to have
+-- what is read at a key that the table must have
 unfoldable pub required : {A : Type 0} → (Data → Result A Cause) → Place → List ℕ → Members → Result A Misread
 required read place key table = do
   value ← required_value place key table
   at_key place key (read value)
 
--- what is read at a key, or this value where the table doesn't have it
+-- what is read at a key, or this default if the table doesn't have it
 unfoldable pub optional : {A : Type 0} → A → (Data → Result A Cause) → Place → List ℕ → Members → Result A Misread
 optional default read place key table = option_map_or (λ value. at_key place key (read value)) (get_member key table) (Ok default)
 
 -- ---- the elements of an array
 
--- what is read of each, the first of them at this position
+-- what is read of each element, the first of them at this position
 unfoldable pub each_from : {A E : Type 0} → (ℕ → Data → Result A E) → ℕ → List Data → Result (List A) E
 each_from read position [] = Ok []
 each_from read position (value ∷ values) = do
@@ -115,6 +115,6 @@ each_from read position (value ∷ values) = do
   others ← each_from read (position + 1) values
   Ok (first ∷ others)
 
--- what is read of each, wherever it stands
+-- what is read of each element, independent of its position
 abbrev pub each_of : {A E : Type 0} → (Data → Result A E) → List Data → Result (List A) E
 each_of read values = each_from (λ position. read) 1 values

@@ -1,4 +1,4 @@
-//! Why a rack file isn't accepted.
+//! The reasons why a rack file isn't accepted.
 
 ghost use Rattle.std.specs.Prelude.{◌≡◌};
 ghost use Rattle.rack_file.specs.Codes.{rack_fault_code};
@@ -7,21 +7,20 @@ ghost use Rattle.rack_file.specs.Names.{rack_fault_name};
 use dp_line::OpenFault;
 use thiserror::Error;
 
-/// Why a rack file isn't accepted. The first that applies is reported: `NotToml`, `BadKey`, `TwiceLine`,
-/// `Open` of the first line of the file that is refused; out of memory is `OutOfMemory`, wherever it
-/// comes.
+/// A reason why a rack file isn't accepted. The first one that applies is reported, in the order `NotToml`, `BadKey`,
+/// `TwiceLine`, and `Open` of the first line of the file that is refused. `OutOfMemory` may be reported at any point.
 #[derive(Clone, Copy, Debug, PartialEq, Eq, Error)]
 pub enum RackFault {
-    /// Memory was refused.
+    /// Memory ran out.
     #[error("{}", self.name())]
     OutOfMemory,
-    /// The text is no TOML.
+    /// The text isn't TOML.
     #[error("{}", self.name())]
     NotToml,
     /// A key is unknown or missing, or its value is of a wrong type or outside its range.
     #[error("{}", self.name())]
     BadKey,
-    /// Two lines have one number.
+    /// Two lines have the same number.
     #[error("{}", self.name())]
     TwiceLine,
     /// The line at this position of the file, from 1, can't be opened for this reason.
@@ -30,7 +29,7 @@ pub enum RackFault {
 }
 
 impl RackFault {
-    /// The number of the fault, 1 to 5 (own).
+    /// Returns the number of the fault, 1 to 5 (own).
     pub const fn code(self) -> u8
         ensures { result ≡ rack_fault_code self }
     {
@@ -43,7 +42,7 @@ impl RackFault {
         }
     }
 
-    /// Its name in texts (own).
+    /// Returns the name of the fault in texts (own).
     pub const fn name(self) -> &'static str
         ensures { result.now ≡ rack_fault_name self }
     {

@@ -1,4 +1,4 @@
-//! What holds of every accepted rack, and of every key that isn't read.
+//! Laws of every accepted rack, and of every key that isn't accepted.
 
 ghost use Rattle.std.specs.Prelude.{◌≡◌, ◌≤◌, ℕ, List, ◌≢◌, ◌⊎◌, ◌<◌, IsTrue, false, None, Some, Ok, Err, length, All};
 ghost use Rattle.toml.specs.Data.{Members};
@@ -24,7 +24,7 @@ pub fn accepted_racks_have_1_to_32_workers()
     ensures most { (text : List ℕ) (rack : RackDescription) → rack_in text ≡ Ok rack → rack.workers ≤ 32 }
 {}
 
-/// No two lines of an accepted rack have one number.
+/// No two lines of an accepted rack have the same number.
 pub fn accepted_lines_differ_in_number()
     ensures { (text : List ℕ) (rack : RackDescription) → rack_in text ≡ Ok rack → has_twice (numbers rack.lines) ≡ false }
 {}
@@ -35,7 +35,7 @@ pub fn accepted_lines_can_be_opened()
         → All (λ line. opening_fault line.line ≡ None) rack.lines }
 {}
 
-/// A text is refused as `BadKey` exactly where it is a document with a key that isn't read.
+/// A text is refused as `BadKey` if and only if it is a document with a key that isn't accepted.
 pub fn bad_keys_are_told()
     ensures told { (text : List ℕ) → rack_in text ≡ Err faults.BadKey
         → (file : Members) × (bad : KeyFault) × (parse_document text ≡ Some file) × (rack_of file ≡ Err (misreads.BadKey bad)) }
@@ -43,12 +43,12 @@ pub fn bad_keys_are_told()
         → rack_of file ≡ Err (misreads.BadKey bad) → rack_in text ≡ Err faults.BadKey }
 {}
 
-/// A key that isn't read is one of the file itself, of its line 1 to 8, or of a slave of such a line, from 1.
+/// A key that isn't accepted is one of the file itself, of its lines 1 to 8, or of a slave of such a line, from 1.
 pub fn bad_keys_stand_in_lines_1_to_8()
     ensures { (file : Members) (bad : KeyFault) → rack_of file ≡ Err (misreads.BadKey bad) → IsWithin 8 bad.place }
 {}
 
-/// A cause is told exactly of the texts that are refused as `BadKey` or `NotToml`.
+/// A cause is given exactly for the texts that are refused as `BadKey` or `NotToml`.
 pub fn causes_are_told_of_bad_keys_and_of_no_toml()
     ensures told { (text cause : List ℕ) → TellsCause text (parse_document text) (Some cause)
         → (rack_in text ≡ Err faults.BadKey) ⊎ (rack_in text ≡ Err faults.NotToml) }
@@ -56,7 +56,7 @@ pub fn causes_are_told_of_bad_keys_and_of_no_toml()
         → (rack_in text ≢ Err faults.BadKey) × (rack_in text ≢ Err faults.NotToml) }
 {}
 
-/// A key or a message that is shown ends no row and no quotation: its octets are those that stand for
+/// A key or a message that is shown ends neither the text line nor the quotation: its octets are those that stand for
 /// themselves, and `\`.
 pub fn shown_texts_stay_in_their_row()
     ensures { (text : List ℕ) → All (λ octet. octet < 256) text

@@ -1,8 +1,8 @@
 //! Rack files: the TOML text that describes a rack of lines of simulated DP slaves.
 //!
-//! [`read_rack`] reads the [`Rack`] that a text describes, or tells the first [`RackFault`] that
-//! applies. [`cause_in`] tells where and why a text is refused. What a text describes is the definition
-//! `rack_in` of `specs/RackFile`, and what is told of it is `specs/Causes`.
+//! [`read_rack`] reads the [`Rack`] that a text describes, or returns the first [`RackFault`] that applies.
+//! [`cause_in`] shows where and why a text is refused. The definition `rack_in` of `specs/RackFile` is what a text
+//! describes, and `specs/Causes` defines the text that is shown if it is refused.
 #![tactic(auto)]
 
 mod fault;

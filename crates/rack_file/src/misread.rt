@@ -1,4 +1,4 @@
-//! Why a document describes no rack: which key of which table isn't read, and why.
+//! The reasons why a document describes no rack: which key of which table isn't accepted, and why.
 
 ghost use Rattle.std.specs.Prelude.{◌≡◌, Some};
 ghost use Rattle.rack_file.specs.Misreads.{bad_key, fault_of, cause_text, place_text, stands_for_itself, shown_octet, shown, key_fault_text};
@@ -8,7 +8,7 @@ use dp_line::OpenFault;
 use std::fmt;
 use std::marker::Model;
 
-/// Where a table of a rack file stands.
+/// The place of a table in a rack file.
 #[derive(Clone, Copy)]
 pub(crate) enum Place {
     /// The file itself.
@@ -31,32 +31,32 @@ impl fmt::Display for Place {
     }
 }
 
-/// Why a key isn't read.
+/// A reason why a key isn't accepted.
 #[derive(Clone, Copy)]
 pub(crate) enum Cause {
-    /// The table may not have such a key.
+    /// The table can't have such a key.
     NoSuchKey,
-    /// The table has to have this key.
+    /// The table must have this key, but hasn't.
     Missing,
-    /// The value is no number from the first of these to the second.
+    /// The value isn't a number from the first of these to the second.
     NoNumber(u32, u32),
-    /// The value is no text.
+    /// The value isn't a text.
     NoText,
     /// The value is neither a text nor an array.
     NoTextOrArray,
-    /// The text isn't pairs of hex digits.
+    /// The text doesn't consist of pairs of hex digits.
     NoHex,
     /// The text writes more than 244 octets.
     ManyOctets,
-    /// The value is no truth value.
+    /// The value isn't a truth value.
     NoFlag,
-    /// The value is no array.
+    /// The value isn't an array.
     NoArray,
     /// The array has fewer elements than the first of these, or more than the second.
     Count(u8, u8),
-    /// An element of the array is no table.
+    /// An element of the array isn't a table.
     NoTable,
-    /// The text names no device.
+    /// The text isn't the name of a device.
     NoDevice,
 }
 
@@ -81,7 +81,7 @@ impl fmt::Display for Cause {
     }
 }
 
-/// An octet as it is shown in a row: ASCII that prints stands for itself, but for `"` and `\`; each other
+/// An octet as it is shown in a text line: printable ASCII other than `"` and `\` stands for itself, and each other
 /// octet is written `\xNN`.
 #[derive(Drop)]
 struct ShownOctet(u8);
@@ -99,14 +99,14 @@ impl fmt::Display for ShownOctet {
     }
 }
 
-/// The octet is ASCII that prints, and neither `"` nor `\`.
+/// Returns whether the octet is printable ASCII, and neither `"` nor `\`.
 fn stands_for_itself(octet: u8) -> bool
     ensures { result ≡ stands_for_itself octet }
 {
     b' ' <= octet && octet <= b'~' && octet != b'"' && octet != b'\\'
 }
 
-/// A text as it is shown in a row, octet by octet.
+/// A text as it is shown in a text line, octet by octet.
 #[derive(Drop)]
 pub(crate) struct Shown<'a>(pub(crate) &'a str);
 
@@ -122,7 +122,7 @@ impl<'a> fmt::Display for Shown<'a> {
     }
 }
 
-/// A key of a rack file that isn't read.
+/// A key of a rack file that isn't accepted.
 #[derive(Drop)]
 pub(crate) struct BadKey<'a> {
     place: Place,
@@ -149,28 +149,28 @@ impl<'a> fmt::Display for BadKey<'a> {
     }
 }
 
-/// Why a document describes no rack.
+/// A reason why a document describes no rack.
 #[derive(Drop)]
 pub(crate) enum Misread<'a> {
-    /// Memory was refused.
+    /// Memory ran out.
     OutOfMemory,
-    /// A key isn't read.
+    /// A key isn't accepted.
     BadKey(BadKey<'a>),
-    /// Two lines have one number.
+    /// Two lines have the same number.
     TwiceLine,
     /// The line at this position of the file, from 1, can't be opened for this reason.
     Open(u8, OpenFault),
 }
 
 impl<'a> Misread<'a> {
-    /// This key of the table in this place isn't read.
+    /// Returns that this key of the table in this place isn't accepted, with the cause.
     pub(crate) fn of_key(place: Place, key: &'a str, cause: Cause) -> Misread<'a>
         ensures { result ≡ bad_key place key.entry.now cause }
     {
         Misread::BadKey(BadKey { place, key, cause })
     }
 
-    /// The fault that the rack file is refused with.
+    /// Returns the fault with which the rack file is refused.
     pub(crate) fn fault(self) -> RackFault
         ensures { result ≡ fault_of self.entry }
     {
@@ -183,10 +183,10 @@ impl<'a> Misread<'a> {
     }
 }
 
-/// Why a value isn't read, where reading it takes memory.
+/// A reason why a value isn't accepted, if reading it takes memory.
 #[derive(Drop)]
 pub(crate) enum Unread {
-    /// Memory was refused.
+    /// Memory ran out.
     OutOfMemory,
     /// The value is wrong.
     Wrong(Cause),

@@ -1,4 +1,4 @@
-//! Reading a rack file.
+//! Reads a rack file.
 
 ghost use Rattle.std.specs.Prelude.{◌≡◌, ◌≤◌, ◌<◌, ◌+◌, ◌==◌, map, length, codes, vec_len, None, Ok, IfOk, IfErr};
 ghost use Rattle.std.specs.List.{list_any};
@@ -24,19 +24,19 @@ use dp_slave::{Configuration, MOST_CONFIGURATIONS};
 use std::alloc::Global;
 use toml::{Table, Value};
 
-/// Workers of a rack whose file doesn't say how many.
+/// The number of workers of a rack if its file doesn't say how many.
 const WORKERS: u8 = 4;
 
-/// The most workers of a rack.
+/// The largest number of workers of a rack.
 const MOST_WORKERS: u32 = 32;
 
-/// User parameters that a slave takes whose description doesn't say how many, in octets.
+/// The largest number of user parameters that a slave takes, in octets, if its description doesn't say how many.
 const USER_PARAMETERS: u8 = MOST_USER_PARAMETERS as u8;
 
-/// The most lines of a rack.
+/// The largest number of lines of a rack.
 const MOST_LINES: u8 = 8;
 
-/// The addresses of masters.
+/// Reads the addresses of masters, 0 to 255.
 fn addresses_in(values: &[Value]) -> Result<ArrayVec<u8, MOST_MASTERS>, Cause>
     requires { length values.now ≤ 16 }
     ensures { seen (λ masters. masters.items) result ≡ each_of (number_from 0 255) (map view values.now) }
@@ -48,7 +48,7 @@ fn addresses_in(values: &[Value]) -> Result<ArrayVec<u8, MOST_MASTERS>, Cause>
     Ok(masters)
 }
 
-/// The masters that a value names, at most 16.
+/// Reads an array of masters, at most 16.
 #[tactic(auto, unfolding(crate::specs::RackFile::masters_of))]
 fn masters_in(value: &Value) -> Result<ArrayVec<u8, MOST_MASTERS>, Cause>
     ensures { seen (λ masters. masters.items) result ≡ masters_of (view value.now) }
@@ -56,7 +56,7 @@ fn masters_in(value: &Value) -> Result<ArrayVec<u8, MOST_MASTERS>, Cause>
     addresses_in(counted(array_in(value)?, 0, MOST_MASTERS as u8)?)
 }
 
-/// A configuration: at most 244 octets in hex text.
+/// Reads a configuration: at most 244 octets in hex text.
 #[tactic(auto, unfolding(crate::specs::RackFile::configuration_of))]
 fn configuration_in(alloc: Global, value: &Value) -> Result<Configuration, Unread>
     ensures { Gives wrong (λ cfg. cfg) result (configuration_of (view value.now)) }
@@ -68,7 +68,7 @@ fn configuration_in(alloc: Global, value: &Value) -> Result<Configuration, Unrea
     }
 }
 
-/// A slave's configurations, in the order of the file: one as a text, or 1 to 4 of them as an array.
+/// Reads a slave's configurations, in the order of the file: one as a text, or 1 to 4 of them as an array.
 #[tactic(auto, unfolding(crate::specs::RackFile::configurations_of))]
 fn configurations_in(
     alloc: Global,
@@ -84,7 +84,7 @@ fn configurations_in(
     Ok(cfgs)
 }
 
-/// A slave's configurations, which it has to have.
+/// Reads a slave's configurations, which it must have.
 #[tactic(auto, unfolding(crate::specs::TomlKeys::required))]
 fn required_configurations<'a>(
     alloc: Global,
@@ -100,7 +100,7 @@ fn required_configurations<'a>(
     }
 }
 
-/// User parameters that a slave takes, in octets, 237 where it doesn't say how many.
+/// Reads how many octets of user parameters a slave takes at most; 237 if the key is missing.
 #[tactic(auto, unfolding(crate::specs::TomlKeys::optional))]
 fn optional_user_parameters<'a>(place: Place, slave: &'a Table) -> Result<u8, Misread<'a>>
     ensures { result ≡ optional 237 (number_from 0 255) place (codes "user_max") (table_view slave.now) }
@@ -111,7 +111,7 @@ fn optional_user_parameters<'a>(place: Place, slave: &'a Table) -> Result<u8, Mi
     }
 }
 
-/// The device of this name.
+/// Returns the device with this name; `NoDevice` if there is none.
 fn device_by_name(name: &str) -> Result<Device, Cause>
     ensures { result ≡ device_named name.now }
 {
@@ -126,7 +126,7 @@ fn device_by_name(name: &str) -> Result<Device, Cause>
     }
 }
 
-/// The device that a value names.
+/// Reads a device by its name.
 #[tactic(auto, unfolding(crate::specs::RackFile::device_of))]
 fn device_in(value: &Value) -> Result<Device, Cause>
     ensures { result ≡ device_of (view value.now) }
@@ -134,7 +134,7 @@ fn device_in(value: &Value) -> Result<Device, Cause>
     device_by_name(text_in(value)?)
 }
 
-/// What feeds a slave's inputs, nothing where it doesn't say.
+/// Reads the device that updates a slave's inputs; still if the key is missing.
 #[tactic(auto, unfolding(crate::specs::TomlKeys::optional))]
 fn optional_device<'a>(place: Place, slave: &'a Table) -> Result<Device, Misread<'a>>
     ensures { result ≡ optional Still device_of place (codes "device") (table_view slave.now) }
@@ -145,7 +145,7 @@ fn optional_device<'a>(place: Place, slave: &'a Table) -> Result<Device, Misread
     }
 }
 
-/// The list of masters that a value is; one that names nobody is a list too.
+/// Reads a list of masters; an empty array is a list too.
 #[tactic(auto, unfolding(crate::specs::RackFile::list_of))]
 fn list_in(value: &Value) -> Result<Option<ArrayVec<u8, MOST_LISTED>>, Cause>
     ensures { result ≡ list_of (view value.now) }
@@ -153,7 +153,7 @@ fn list_in(value: &Value) -> Result<Option<ArrayVec<u8, MOST_LISTED>>, Cause>
     Ok(Some(masters_in(value)?))
 }
 
-/// The list of masters at a key, if the slave has it.
+/// Reads the list of masters at a key; None if the key is missing.
 #[tactic(auto, unfolding(crate::specs::TomlKeys::optional))]
 fn optional_list<'a>(
     place: Place,
@@ -168,7 +168,7 @@ fn optional_list<'a>(
     }
 }
 
-/// The slave that the table in this place describes.
+/// Reads the slave that the table in this place describes.
 #[tactic(auto, unfolding(crate::specs::RackFile::slave_of))]
 fn slave_in<'a>(alloc: Global, place: Place, slave: &'a Table) -> Result<SlaveSpec, Misread<'a>>
     ensures { Gives told (λ slave. slave) result (slave_of place (table_view slave.now)) }
@@ -197,7 +197,7 @@ fn slave_in<'a>(alloc: Global, place: Place, slave: &'a Table) -> Result<SlaveSp
     })
 }
 
-/// The slave that an element of `slave` describes, at this position among those of the line at this position.
+/// Reads the slave that an element of `slave` describes, at this position among those of the line at this position.
 #[tactic(auto, unfolding(crate::specs::RackFile::slave_at))]
 fn slave_at<'a>(
     alloc: Global,
@@ -211,7 +211,7 @@ fn slave_at<'a>(
     slave_in(alloc, Place::Slave(line, position), slave)
 }
 
-/// The slaves of the line at this position.
+/// Reads the slaves of the line at this position.
 fn slaves_in<'a>(
     alloc: Global,
     line: u8,
@@ -227,7 +227,7 @@ fn slaves_in<'a>(
     Ok(slaves)
 }
 
-/// The slaves at the key `slave` of the line at this position.
+/// Reads the slaves at the key `slave` of the line at this position.
 #[tactic(auto, unfolding(crate::specs::RackFile::slaves_of))]
 fn required_slaves<'a>(
     alloc: Global,
@@ -240,7 +240,7 @@ fn required_slaves<'a>(
     slaves_in(alloc, position, values)
 }
 
-/// The masters of a line.
+/// Reads the masters of a line.
 #[tactic(auto, unfolding(crate::specs::TomlKeys::required))]
 fn required_masters<'a>(
     place: Place,
@@ -252,7 +252,7 @@ fn required_masters<'a>(
     at_key(place, "masters", masters_in(value))
 }
 
-/// The port that a value is.
+/// Reads a port, 0 to 65,535.
 #[tactic(auto, unfolding(crate::specs::RackFile::port_of))]
 fn port_in(value: &Value) -> Result<Option<u16>, Cause>
     ensures { result ≡ port_of (view value.now) }
@@ -260,7 +260,7 @@ fn port_in(value: &Value) -> Result<Option<u16>, Cause>
     Ok(Some(number_in(value, 0, 65_535)? as u16))
 }
 
-/// The port at a key, if the line has it.
+/// Reads the port at a key; None if the key is missing.
 #[tactic(auto, unfolding(crate::specs::TomlKeys::optional))]
 fn optional_port<'a>(
     place: Place,
@@ -275,7 +275,7 @@ fn optional_port<'a>(
     }
 }
 
-/// The line at this position, which the table describes.
+/// Reads the line that the table describes, at this position of the file.
 #[tactic(auto, unfolding(crate::specs::RackFile::line_of))]
 fn line_in<'a>(alloc: Global, position: u8, line: &'a Table) -> Result<RackLine, Misread<'a>>
     ensures { Gives told line_described result (line_of position (table_view line.now)) }
@@ -301,7 +301,7 @@ fn line_in<'a>(alloc: Global, position: u8, line: &'a Table) -> Result<RackLine,
     })
 }
 
-/// The line that an element of `line` describes, at this position of the file.
+/// Reads the line that an element of `line` describes, at this position of the file.
 #[tactic(auto, unfolding(crate::specs::RackFile::line_at))]
 fn line_at<'a>(alloc: Global, position: u8, value: &'a Value) -> Result<RackLine, Misread<'a>>
     ensures { Gives told line_described result (line_at position (view value.now)) }
@@ -310,7 +310,7 @@ fn line_at<'a>(alloc: Global, position: u8, value: &'a Value) -> Result<RackLine
     line_in(alloc, position, line)
 }
 
-/// The lines of a rack.
+/// Reads the lines of a rack.
 fn lines_in<'a>(alloc: Global, values: &'a [Value]) -> Result<Vec<RackLine>, Misread<'a>>
     requires { length values.now ≤ 8 }
     ensures lines { Gives told (λ lines. map line_described lines.items) result (each_from line_at 1 (map view values.now)) }
@@ -324,7 +324,7 @@ fn lines_in<'a>(alloc: Global, values: &'a [Value]) -> Result<Vec<RackLine>, Mis
     Ok(lines)
 }
 
-/// The lines of a rack, 1 to 8.
+/// Reads the lines of a rack, 1 to 8.
 #[tactic(auto, unfolding(crate::specs::RackFile::lines_of))]
 fn required_lines<'a>(alloc: Global, file: &'a Table) -> Result<Vec<RackLine>, Misread<'a>>
     ensures lines { Gives told (λ lines. map line_described lines.items) result (lines_of (table_view file.now)) }
@@ -335,7 +335,7 @@ fn required_lines<'a>(alloc: Global, file: &'a Table) -> Result<Vec<RackLine>, M
     lines_in(alloc, values)
 }
 
-/// The workers of a rack, 1 to 32, and 4 where it doesn't say how many.
+/// Reads the number of workers of a rack, 1 to 32; 4 if the key is missing.
 #[tactic(auto, unfolding(crate::specs::TomlKeys::optional))]
 fn optional_workers<'a>(file: &'a Table) -> Result<u8, Misread<'a>>
     ensures { result ≡ optional 4 (number_from 1 32) Place.Rack (codes "workers") (table_view file.now) }
@@ -348,7 +348,7 @@ fn optional_workers<'a>(file: &'a Table) -> Result<u8, Misread<'a>>
     }
 }
 
-/// Two of the lines have one number.
+/// Returns whether two of the lines have the same number.
 fn has_number_twice(lines: &[RackLine]) -> bool
     ensures { result ≡ has_twice (numbers (map line_described lines.now)) }
 {
@@ -358,14 +358,14 @@ fn has_number_twice(lines: &[RackLine]) -> bool
     }
 }
 
-/// One of the lines has the number.
+/// Returns whether one of the lines has this number.
 fn has_number(lines: &[RackLine], number: u8) -> bool
     ensures { result ≡ list_any (λ y. number == y) (numbers (map line_described lines.now)) }
 {
     lines.iter().any(|line| number == line.spec.number)
 }
 
-/// The line at this position of the file can be opened.
+/// Checks that the line at this position of the file can be opened; `Open` with the reason if it can't.
 fn check_opening<'a>(position: u8, line: &LineSpec) -> Result<(), Misread<'a>>
     ensures { result ≡ opened position (opening_fault (description_of line.now)) }
 {
@@ -375,7 +375,8 @@ fn check_opening<'a>(position: u8, line: &LineSpec) -> Result<(), Misread<'a>>
     }
 }
 
-/// Every line can be opened; the first of them stands at this position of the file.
+/// Checks that every line can be opened; the first of them is at this position of the file. `Open` for the first line
+/// that can't.
 #[tactic(auto, unfolding(crate::specs::RackFile::all_open))]
 fn check_openings<'a>(position: u8, lines: &[RackLine]) -> Result<(), Misread<'a>>
     requires { position + length lines.now < 256 }
@@ -390,7 +391,7 @@ fn check_openings<'a>(position: u8, lines: &[RackLine]) -> Result<(), Misread<'a
     }
 }
 
-/// The rack that a document describes, or where and why it describes none.
+/// Reads the rack that a document describes; if it describes none, returns where and why.
 #[tactic(auto, unfolding(crate::specs::RackFile::rack_of))]
 pub(crate) fn rack_in_document<'a>(alloc: Global, file: &'a Table) -> Result<Rack, Misread<'a>>
     ensures { Gives told rack_described result (rack_of (table_view file.now)) }
@@ -405,7 +406,7 @@ pub(crate) fn rack_in_document<'a>(alloc: Global, file: &'a Table) -> Result<Rac
     Ok(Rack { workers, lines })
 }
 
-/// The rack that a document describes, or its fault.
+/// Reads the rack that a document describes; if it describes none, returns the fault.
 fn rack_or_fault(alloc: Global, file: &Table) -> Result<Rack, RackFault>
     ensures ok { IfOk result (λ rack. with_fault (rack_of (table_view file.now)) ≡ Ok (rack_described rack)) }
     ensures refused { IfErr result (λ fault. Fails fault (with_fault (rack_of (table_view file.now)))) }
@@ -416,26 +417,23 @@ fn rack_or_fault(alloc: Global, file: &Table) -> Result<Rack, RackFault>
     }
 }
 
-/// The rack that a text describes. The text is TOML with these keys and no other (own):
+/// Reads the rack that a text describes. The text is TOML with these keys and no others (own):
 ///
-/// - `workers`, 1 to 32, and 4 where it is missing.
-/// - `[[line]]`, 1 to 8 of them: `number`, 0 to 255; `capacity`, below 2^32; `masters`, at most 16
-///   numbers from 0 to 255; the tables `slave`; `listen` and `operator`, ports from 0 to 65,535, and
-///   no port where they are missing.
-/// - `[[line.slave]]`: `address`, 0 to 255; `ident`, 0 to 65,535; `cfg`, hex text of at most 244
-///   octets, or an array of 1 to 4 such texts, which are the configurations from number 0 on; `sync`,
-///   `freeze` and `failsafe`, false where they are missing; `user_max`, 0 to 255, and 237 where it is
-///   missing; `device`, "still", "counter" or "mirror", and still where it is missing; `lockers` and
-///   `readers`, each at most 16 numbers from 0 to 255, and no list where they are missing.
+/// - `workers`, 1 to 32; 4 if it is missing.
+/// - `[[line]]`, 1 to 8 of them: `number`, 0 to 255; `capacity`, below 2^32; `masters`, at most 16 numbers from 0 to
+///   255; the tables `slave`; `listen` and `operator`, ports from 0 to 65,535, no port if they are missing.
+/// - `[[line.slave]]`: `address`, 0 to 255; `ident`, 0 to 65,535; `cfg`, hex text of at most 244 octets, or an array of
+///   1 to 4 such texts, which are the configurations from number 0 on; `sync`, `freeze` and `failsafe`, false if they
+///   are missing; `user_max`, 0 to 255, 237 if it is missing; `device`, "still", "counter" or "mirror", still if it is
+///   missing; `lockers` and `readers`, each at most 16 numbers from 0 to 255, no list if they are missing.
 ///
-/// The first fault that applies is reported: `NotToml`; `BadKey` for an unknown or missing key, a wrong
-/// type, text that isn't hex or no device, or a number, a list or an array of configurations outside
-/// its range; `TwiceLine`; `Open` of the first line that can't be opened. `OutOfMemory` may come
-/// instead of each.
+/// Returns the first fault that applies: `NotToml`; `BadKey` for an unknown or missing key, a wrong type, a text that
+/// isn't hex, a text that isn't the name of a device, or a number, a list or an array of configurations outside its
+/// range; `TwiceLine`; `Open` of the first line that can't be opened. `OutOfMemory` may come instead of each.
 pub fn read_rack(alloc: Global, text: &str) -> Result<Rack, RackFault>
     // The rack is the one that the text describes.
     ensures ok { IfOk result (λ rack. rack_in text.now ≡ Ok (rack_described rack)) }
-    // Every fault but that memory is out is the text's.
+    // Every fault but `OutOfMemory` is one of the text.
     ensures refused { IfErr result (λ fault. Fails fault (rack_in text.now)) }
 {
     match toml::table_from_str(alloc, text) {

@@ -1,4 +1,4 @@
-//! Telling where and why a rack text is refused.
+//! Shows where and why a rack text is refused.
 
 ghost use Rattle.std.specs.Prelude.{◌≡◌, ◌≤◌, Some, codes, ◌++◌, length, IfOk, option_map, string_bytes};
 ghost use Rattle.std.specs.Fmt.{decimal};
@@ -13,17 +13,18 @@ use crate::reading::rack_in_document;
 use std::alloc::{AllocError, Global};
 use toml::Table;
 
-/// Where and why a rack text is refused as `BadKey` or `NotToml`, in one row of ASCII without its LF (own);
-/// None where the rack is accepted, or is refused for another fault, which says all itself.
+/// Returns where and why a rack text is refused as `BadKey` or `NotToml`, in one line of ASCII without its LF (own).
+/// Returns None if the rack is accepted, or is refused for another fault, whose name and data say all.
 ///
-/// - `BadKey`: the first key that isn't read, in its place: `key "KEY": CAUSE` of the file itself,
-///   `line L, key "KEY": CAUSE` of the line at this position of the file, from 1, and
-///   `line L, slave S, key "KEY": CAUSE` of the slave at this position, from 1, among those of that line.
-/// - `NotToml`: `row N: MESSAGE`, with the row of the text, from 1, where it stops to be TOML.
+/// - `BadKey`: the first key that isn't accepted, with its place: `key "KEY": CAUSE` for the file itself,
+///   `line L, key "KEY": CAUSE` for the line at this position of the file, from 1, and
+///   `line L, slave S, key "KEY": CAUSE` for the slave at this position, from 1, among those of that line.
+/// - `NotToml`: `row N: MESSAGE`, with the number of the text line, from 1, at which the text stops being TOML.
 ///
-/// In a key and a message, `"`, `\` and each octet that isn't ASCII that prints are written `\xNN`.
+/// In a key and a message, `"`, `\` and each octet that isn't printable ASCII are written `\xNN`.
 ///
-/// `AllocError` where memory was refused, which may come instead of each. The text is read for this.
+/// Returns `AllocError` if memory runs out, which may happen instead of each result. It reads the text to find the
+/// cause.
 pub fn cause_in(alloc: Global, text: &str) -> Result<Option<String>, AllocError>
     ensures { IfOk result (λ told. TellsCause text.now (parse_document text.now) (option_map string_bytes told)) }
 {
@@ -39,7 +40,7 @@ pub fn cause_in(alloc: Global, text: &str) -> Result<Option<String>, AllocError>
     }
 }
 
-/// Where and why a document is refused as `BadKey`.
+/// Returns where and why a document is refused as `BadKey`; None if it is not. `AllocError` if memory runs out.
 fn cause_in_document(alloc: Global, file: &Table) -> Result<Option<String>, AllocError>
     ensures { IfOk result (λ told. option_map string_bytes told ≡ cause_of (rack_of (table_view file.now))) }
 {
@@ -52,7 +53,7 @@ fn cause_in_document(alloc: Global, file: &Table) -> Result<Option<String>, Allo
     }
 }
 
-/// The number of the row that has the octet at this offset, from 1.
+/// Returns the number of the text line, from 1, that has the octet at this offset.
 fn row_at(text: &str, offset: usize) -> usize
     requires { offset ≤ length text.now }
     ensures { result ≡ row_at text.now offset }
@@ -61,7 +62,7 @@ fn row_at(text: &str, offset: usize) -> usize
     before.iter().filter(|octet| **octet == b'\n').count() + 1
 }
 
-/// What is told of a row.
+/// Returns the text `row N: MESSAGE` for a text line. `AllocError` if memory runs out.
 fn row_told(alloc: Global, row: usize, message: &str) -> Result<String, AllocError>
     ensures { IfOk result (λ told. string_bytes told ≡ codes "row " ++ decimal row ++ codes ": " ++ shown message.now) }
 {

@@ -1,5 +1,5 @@
-//! Reading the keys of a TOML table. A value that isn't read gives its cause; a key of a table, that and
-//! where it stands.
+//! Reads the keys of a TOML table. A value that isn't accepted gives its cause; a key of a table gives its cause and
+//! its place.
 
 ghost use Rattle.std.specs.Prelude.{◌≡◌, ◌≤◌, false, map, length, IfOk, option_map};
 ghost use Rattle.std.specs.List.{list_any};
@@ -14,7 +14,7 @@ use std::alloc::Global;
 use std::slice;
 use toml::{Table, Value};
 
-/// What was read of the value at a key of the table in this place.
+/// Adds the place and the key of a value to the cause if it wasn't accepted.
 pub(crate) fn at_key<'a, T>(
     place: Place,
     key: &'a str,
@@ -28,7 +28,7 @@ pub(crate) fn at_key<'a, T>(
     }
 }
 
-/// Every key of the table in this place is one of the known ones.
+/// Checks that every key of the table in this place is a known one; `NoSuchKey` for the first that isn't.
 pub(crate) fn only_keys<'a>(
     place: Place,
     table: &'a Table,
@@ -44,21 +44,21 @@ pub(crate) fn only_keys<'a>(
     Ok(())
 }
 
-/// The key is one of these.
+/// Returns whether the key is one of these.
 fn is_among(key: &str, known: &[&str]) -> bool
     ensures { result ≡ list_any (bytes_eq key.now) (map (λ key. key.now) known.now) }
 {
     known.iter().any(|name| key == *name)
 }
 
-/// The value at a key, if the table has it.
+/// Returns the value at a key; None if the table doesn't have it.
 pub(crate) fn value_at<'a>(table: &'a Table, key: &str) -> Option<&'a Value>
     ensures { option_map (λ value. view value.now) result ≡ get_member key.now (table_view table.now) }
 {
     table.get(key)
 }
 
-/// The value at a key that the table in this place has to have.
+/// Returns the value at a key of the table in this place; `Missing` if the table doesn't have it.
 pub(crate) fn required_value<'a>(
     place: Place,
     table: &'a Table,
@@ -72,7 +72,7 @@ pub(crate) fn required_value<'a>(
     }
 }
 
-/// The number from 0 to the most at a key that the table in this place has to have.
+/// Reads the number from 0 to `most` at a key that the table in this place must have.
 #[tactic(auto, unfolding(crate::specs::TomlKeys::required))]
 pub(crate) fn required_number<'a>(
     place: Place,
@@ -87,7 +87,7 @@ pub(crate) fn required_number<'a>(
     at_key(place, key, number_in(value, 0, most))
 }
 
-/// The values of the array at a key that the table in this place has to have.
+/// Reads the values of the array at a key that the table in this place must have.
 #[tactic(auto, unfolding(crate::specs::TomlKeys::required))]
 pub(crate) fn required_array<'a>(
     place: Place,
@@ -100,7 +100,7 @@ pub(crate) fn required_array<'a>(
     at_key(place, key, array_in(value))
 }
 
-/// The truth value at a key, or false where the table in this place doesn't have it.
+/// Reads the truth value at a key; false if the table in this place doesn't have it.
 #[tactic(auto, unfolding(crate::specs::TomlKeys::optional))]
 pub(crate) fn optional_flag<'a>(
     place: Place,
@@ -115,7 +115,7 @@ pub(crate) fn optional_flag<'a>(
     }
 }
 
-/// The table that an element of an array is.
+/// Reads a value as a table; `NoTable` if it isn't one.
 pub(crate) fn table_in(value: &Value) -> Result<&Table, Cause>
     ensures { seen (λ table. table_view table.now) result ≡ table_of (view value.now) }
 {
@@ -125,7 +125,7 @@ pub(crate) fn table_in(value: &Value) -> Result<&Table, Cause>
     }
 }
 
-/// The values of the array that a value is; one that is no array is wrong for this cause.
+/// Reads a value as an array and returns its values; this cause if it isn't one.
 #[tactic(auto, unfolding(crate::specs::TomlKeys::elements_of))]
 fn elements_in(value: &Value, cause: Cause) -> Result<&[Value], Cause>
     ensures { seen (λ values. map view values.now) result ≡ elements_of cause (view value.now) }
@@ -136,14 +136,15 @@ fn elements_in(value: &Value, cause: Cause) -> Result<&[Value], Cause>
     }
 }
 
-/// The values of the array that a value is.
+/// Reads a value as an array and returns its values; `NoArray` if it isn't one.
 pub(crate) fn array_in(value: &Value) -> Result<&[Value], Cause>
     ensures { seen (λ values. map view values.now) result ≡ array_of (view value.now) }
 {
     elements_in(value, Cause::NoArray)
 }
 
-/// The values of the array that a value is; a text counts as an array of it alone.
+/// Reads a value as an array and returns its values; a text counts as an array of only this text. `NoTextOrArray` if it
+/// is neither.
 #[tactic(auto, unfolding(crate::specs::TomlKeys::text_or_array_of))]
 pub(crate) fn text_or_array_in(value: &Value) -> Result<&[Value], Cause>
     ensures { seen (λ values. map view values.now) result ≡ text_or_array_of (view value.now) }
@@ -154,7 +155,7 @@ pub(crate) fn text_or_array_in(value: &Value) -> Result<&[Value], Cause>
     elements_in(value, Cause::NoTextOrArray)
 }
 
-/// The values, of which there are from the least to the most.
+/// Checks that there are `least` to `most` values; `Count` if there aren't.
 pub(crate) fn counted(values: &[Value], least: u8, most: u8) -> Result<&[Value], Cause>
     ensures values { seen (λ values. map view values.now) result ≡ counted least most (map view values.now) }
     ensures count { IfOk result (λ values. length values.now ≤ most) }
@@ -165,7 +166,7 @@ pub(crate) fn counted(values: &[Value], least: u8, most: u8) -> Result<&[Value],
     Ok(values)
 }
 
-/// The number, from the least to the most, that a value is.
+/// Reads a value as a number from `least` to `most`; `NoNumber` if it isn't one.
 #[tactic(auto, unfolding(crate::specs::TomlKeys::number_from))]
 pub(crate) fn number_in(value: &Value, least: u32, most: u32) -> Result<u32, Cause>
     ensures number { result ≡ number_from least most (view value.now) }
@@ -177,21 +178,22 @@ pub(crate) fn number_in(value: &Value, least: u32, most: u32) -> Result<u32, Cau
     }
 }
 
-/// The truth value that a value is.
+/// Reads a value as a truth value; `NoFlag` if it isn't one.
 fn flag_in(value: &Value) -> Result<bool, Cause>
     ensures { result ≡ flag_of (view value.now) }
 {
     value.as_bool().ok_or(Cause::NoFlag)
 }
 
-/// The text that a value is.
+/// Reads a value as a text; `NoText` if it isn't one.
 pub(crate) fn text_in(value: &Value) -> Result<&str, Cause>
     ensures { seen (λ text. text.now) result ≡ text_of (view value.now) }
 {
     value.as_str().ok_or(Cause::NoText)
 }
 
-/// The octets that a value writes as hex text.
+/// Reads a value as a hex text and returns the octets. `NoText` if it isn't a text, `NoHex` if it isn't hex,
+/// `OutOfMemory` if memory runs out.
 #[tactic(auto, unfolding(crate::specs::TomlKeys::octets_of))]
 pub(crate) fn octets_in(alloc: Global, value: &Value) -> Result<Vec<u8>, Unread>
     ensures { Gives wrong (λ octets. octets.items) result (octets_of (view value.now)) }

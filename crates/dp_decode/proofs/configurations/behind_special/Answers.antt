@@ -1,4 +1,4 @@
--- Each form has its length octets, and then the maker's.
+-- Each form has its length octets, and then the manufacturer's.
 use Rattle.std.proofs.Common.{◌≡◌, sym, ◌∙◌, arith}
 use Rattle.dp_cfg.specs.Identifiers.{bits_7_6}
 use Rattle.dp_decode.proofs.Splitting.{empty_behind, inputs_behind, outputs_behind, both_behind}

@@ -1,4 +1,4 @@
--- What is behind the first identifier is what isn't of it.
+-- What follows the first identifier is what does not belong to it.
 use Rattle.std.proofs.Common.{rules}
 use Rattle.dp_decode.proofs.Splitting.{identifiers_cut, identifiers_more}
 use Rattle.dp_decode.proofs.configurations.first_identifier.Goals as goal

@@ -4,7 +4,7 @@ use denote.Text.{Utf8}
 use Rattle.dp_script.proofs.Parting.{SoFar}
 use Rattle.dp_script.proofs.input.split_input.Given as goal
 
--- no line that was passed is a mark
+-- none of the lines before is a mark
 abbrev pub invariant-loop-line : goal.invariant-loop-line
 invariant-loop-line l = SoFar l.input l.rest × shadow (Utf8 l.rest)
 

@@ -1,4 +1,4 @@
--- A text that toml refuses, and not for memory, is no document, and what it tells lies in the text.
+-- A text that toml refuses, unless memory ran out, is no document, and the reported offset is in the text.
 use Rattle.std.proofs.Common.{◌≡◌, ◌≤◌, None, IsNone, Some, length, arith}
 use Rattle.toml.specs.Parse.{parse_document}
 use Rattle.rack_file.proofs.telling.cause_in.Goals as goal

@@ -4,7 +4,7 @@ use Rattle.dp_script.specs.ScriptLines.{passed}
 use Rattle.dp_script.proofs.Passing.{SoFar}
 use Rattle.dp_script.proofs.script_line.Stream.pass.Given as goal
 
--- what is answered so far, and then what is held and what is left, is what there is to answer
+-- the answers so far, and those to the held and the remaining octets, are all answers
 abbrev pub invariant-loop-piece : goal.invariant-loop-piece
 invariant-loop-piece g l = record {
   answered : SoFar (passed l.fn.book l.fn.self l.octets) (g.W.Write.contents l.fn.writer) (g.W.Write.contents l.writer) l.book l.self-inside.master (cuts_of (l.self-inside.cutter ++ l.left));

@@ -3,7 +3,7 @@ use Rattle.dp_script.specs.ScriptLines.{passed}
 use Rattle.dp_script.proofs.Passing.{WordsSoFar}
 use Rattle.dp_script.proofs.script_line.Stream.pass_words.Given as goal
 
--- what is decoded and what is left behind it is what there is to answer
+-- the answers so far, and those to the decoded and the remaining octets, are all answers
 abbrev pub invariant-loop-octets : goal.invariant-loop-octets
 invariant-loop-octets g l = record {
   answered : WordsSoFar (passed l.fn.book l.fn.self (take l.decoded l.fn.chunk ++ l.fn.octets)) (g.W.Write.contents l.fn.writer) (g.W.Write.contents l.writer) l.book l.self (take l.count l.chunk ++ l.octets);

@@ -1,4 +1,4 @@
--- An octet that doesn't stand for itself is written by its two hex digits.
+-- An octet that doesn't stand for itself is written as its two hex digits.
 use Rattle.std.proofs.Common.{◌≡◌, ◌^◌, ◌-◌, ◌++◌, [], sym, ◌∙◌, arith, false, codes}
 use Rattle.std.specs.Fmt.{padded_integral, format_spec, digits}
 use Rattle.std.proofs.lemmas.Fmt.{hex_byte}
