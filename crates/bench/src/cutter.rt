@@ -1,4 +1,4 @@
-//! The cutter under streams that repeat one pattern.
+//! The cutter on streams that repeat one pattern.
 
 ghost use Rattle.std.specs.Prelude.{◌<◌, length};
 
@@ -21,7 +21,7 @@ pub const TOKEN: [u8; 3] = [0xDC, 0x02, 0x01];
 /// An octet that starts no frame.
 pub const NO_START: [u8; 1] = [0x33];
 
-/// What a cutter handed out.
+/// The count of what a cutter returned.
 #[derive(Clone, Debug, Default, Drop, PartialEq, Eq)]
 pub struct Tally {
     /// Pieces that are frames.
@@ -35,7 +35,7 @@ pub struct Tally {
 }
 
 impl Tally {
-    /// So many frames of this size, each of which ends with this octet.
+    /// Returns the count for `count` frames of this size, each of which ends with this octet.
     pub fn of_frames(count: u64, size: u64, end: u8) -> Tally {
         Tally {
             frames: count,
@@ -45,7 +45,7 @@ impl Tally {
         }
     }
 
-    /// So many pieces of this size that are no frame.
+    /// Returns the count for `count` pieces of this size that are no frame.
     pub fn of_dropped(count: u64, size: u64) -> Tally {
         Tally {
             frames: 0,
@@ -55,7 +55,8 @@ impl Tally {
         }
     }
 
-    /// Counts the piece. An octet of each frame is read, else the build drops the copies of them.
+    /// Counts the piece. Reads an octet of each frame, because otherwise the compiler removes the copies of the
+    /// octets.
     fn add(&mut self, cut: &Cut) {
         let size = match cut {
             Cut::Frame { octets, .. } => {
@@ -73,12 +74,12 @@ impl Tally {
     }
 }
 
-/// So many octets, the pattern over and over.
+/// Returns `length` octets that repeat the pattern.
 pub fn stream(alloc: Global, pattern: &[u8], length: usize) -> Result<Vec<u8>, AllocError> {
     pattern.iter().copied().cycle().take(length).collect(alloc)
 }
 
-/// What a new cutter hands out of the stream, fed in parts of this size.
+/// Returns the count of what a new cutter returns for the stream, fed in parts of this size.
 pub fn cut_up(stream: &[u8], size: usize) -> Tally
     requires { 0 < size }
 {
@@ -90,7 +91,7 @@ pub fn cut_up(stream: &[u8], size: usize) -> Tally
     tally
 }
 
-/// Feeds all octets, and hands out all pieces.
+/// Feeds all octets, and counts all pieces.
 fn pass(cutter: &mut Cutter, octets: &[u8], tally: &mut Tally)
     requires { length cutter.old < 255 }
     ensures { length cutter.new < 255 }
@@ -103,7 +104,7 @@ fn pass(cutter: &mut Cutter, octets: &[u8], tally: &mut Tally)
     }
 }
 
-/// Hands out all pieces that the octets held begin with.
+/// Counts all pieces with which the octets held begin.
 fn hand_out(cutter: &mut Cutter, tally: &mut Tally)
     ensures { length cutter.new < 255 }
 {

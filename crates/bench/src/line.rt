@@ -4,10 +4,10 @@ use arrayvec::ArrayVec;
 use dp_line::{Device, Event, LineSpec, LineState, Lists, OpenFault, Outcome, SlaveSpec};
 use std::alloc::Global;
 
-/// Requests of one measurement.
+/// The number of requests of one measurement.
 pub const REQUESTS: u32 = 60_000;
 
-/// A slave without data: its one configuration has no octets.
+/// Returns a slave without data: its one configuration has no octets.
 pub(crate) fn slave(address: u8) -> SlaveSpec {
     let mut cfgs = ArrayVec::new();
     cfgs.push(ArrayVec::new());
@@ -27,7 +27,7 @@ pub(crate) fn slave(address: u8) -> SlaveSpec {
     }
 }
 
-/// A line of master 1 and slaves 2 to one above their number.
+/// Opens a line of master 1 and `slaves` slaves, at addresses from 2.
 pub fn opened(alloc: Global, slaves: u8) -> Result<LineState, OpenFault> {
     let mut masters = ArrayVec::new();
     masters.push(1);
@@ -47,8 +47,7 @@ pub fn opened(alloc: Global, slaves: u8) -> Result<LineState, OpenFault> {
     )
 }
 
-/// Asks this many slaves in turn for their diagnosis, the last address first; how many replied with a
-/// whole frame.
+/// Asks this many slaves in turn for their diagnosis, the last address first. Returns the number of whole replies.
 pub fn ask(line: &mut LineState, slaves: u8, asked: u8) -> u32 {
     let last = slaves.saturating_add(1).min(126);
     let mut replies = 0u32;

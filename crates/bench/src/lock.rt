@@ -1,4 +1,4 @@
-//! A line behind its lock, beside its journal alone: masters that ask for the diagnosis of one slave.
+//! A line behind its lock, compared with its journal only: masters that ask for the diagnosis of one slave.
 
 ghost use Rattle.std.specs.Prelude.{◌≡◌};
 ghost use Rattle.dp_shared.specs.Passes.{table_of};
@@ -19,7 +19,7 @@ use std::thread::Threads;
 /// The slave that is asked.
 const SLAVE: u8 = 100;
 
-/// A line of masters 1 to 16 and one slave, with places for so many requests.
+/// Returns a line of masters 1 to 16 and one slave, with places for this many requests.
 pub(crate) fn described(alloc: Global, requests: u32) -> Result<LineSpec, OpenFault> {
     let mut masters = ArrayVec::new();
     for master in 1..=16 {
@@ -37,7 +37,7 @@ pub(crate) fn described(alloc: Global, requests: u32) -> Result<LineSpec, OpenFa
     })
 }
 
-/// Lets master 1 ask so many times, of the journal itself; how many replies there were.
+/// Sends this many requests of master 1 to the journal itself. Returns the number of replies.
 pub(crate) fn ask_book(book: &mut Book, requests: u32) -> u32 {
     let octets = request(1);
     let mut replies = 0u32;
@@ -51,10 +51,10 @@ pub(crate) fn ask_book(book: &mut Book, requests: u32) -> u32 {
     replies
 }
 
-/// What masters ask. It is a type parameter where threads are started, since the check finds there that it
-/// may be shared by the bound alone.
+/// Something that masters send requests to. It is a type parameter in functions that start threads, because the
+/// checker proves by the bound of the parameter that threads may share it.
 pub(crate) trait Asked {
-    /// A master's session: its pass, so many requests, and the pass back; how many replies there were.
+    /// Opens a master's pass, sends this many requests, and hands the pass back. Returns the number of replies.
     fn ask<R: Wait>(&self, rt: &R, master: u8, requests: u32) -> u32;
 }
 
@@ -70,8 +70,8 @@ impl Asked for Line {
     }
 }
 
-/// Lets masters ask, each so many times in a thread of its own, of one line; how many replies there were.
-/// None where a thread wasn't started.
+/// Lets masters send this many requests each to one line, each master in a thread of its own. Returns the number of
+/// replies, or None if a thread could not be started.
 pub(crate) fn ask_one<L: Asked + Sync, R: Threads + Wait + Sync>(
     rt: &R,
     line: &L,
@@ -93,7 +93,8 @@ pub(crate) fn ask_one<L: Asked + Sync, R: Threads + Wait + Sync>(
     started.then(|| replies.load(SeqCst))
 }
 
-/// Lets masters ask at one time, each a line of its own; how many replies there were.
+/// Lets masters send this many requests each, at the same time, each to a line of its own. Returns the number of
+/// replies, or None if a thread could not be started.
 pub(crate) fn ask_own<L: Asked + Sync, R: Threads + Wait + Sync>(
     rt: &R,
     lines: &[L],
@@ -113,7 +114,7 @@ pub(crate) fn ask_own<L: Asked + Sync, R: Threads + Wait + Sync>(
     started.then(|| replies.load(SeqCst))
 }
 
-/// One master's session; adds how many replies there were.
+/// Runs one master's session, and adds the number of its replies.
 fn count_replies<L: Asked, R: Wait>(
     rt: &R,
     line: &L,
@@ -124,7 +125,7 @@ fn count_replies<L: Asked, R: Wait>(
     replies.fetch_add(line.ask(rt, master, requests), SeqCst);
 }
 
-/// So many requests of a master's pass; how many replies there were. None of an operator's.
+/// Sends this many requests of a master's pass. Returns the number of replies; 0 for an operator's pass.
 fn ask_each<R: Wait>(rt: &R, line: &Line, pass: &mut Pass, octets: &Octets, requests: u32) -> u32
     requires { pass.old.table ≡ table_of line.now }
     ensures { pass.new.table ≡ pass.old.table }
@@ -139,13 +140,13 @@ fn ask_each<R: Wait>(rt: &R, line: &Line, pass: &mut Pass, octets: &Octets, requ
     replies
 }
 
-/// A master's request for the slave's diagnosis.
+/// Returns a master's request for the slave's diagnosis.
 fn request(master: u8) -> Octets {
     let telegram = dp_telegram::request(SLAVE, master.min(126), 0x6D, Some(60), Some(62), &[]);
     dp_telegram::encode(&telegram)
 }
 
-/// 1 for a receipt with a place and a whole reply.
+/// Returns 1 for a receipt with a place and a whole reply, and 0 otherwise.
 fn replied(receipt: &Receipt) -> u32 {
     match &receipt.outcome {
         Outcome::Reply { octets, .. } => {

@@ -1,4 +1,4 @@
-//! What the lock of a line costs, and how lines behave under many threads.
+//! The time that the lock of a line costs, and the times of lines under many threads.
 
 use crate::ROUNDS;
 use crate::lock::{ask_book, ask_one, ask_own, described};
@@ -11,21 +11,21 @@ use std::sync::Wait;
 use std::thread::Threads;
 use std::time::{Clock, Instant};
 
-/// Requests of one measurement, over all threads.
+/// The number of requests of one measurement, over all threads.
 const REQUESTS: u32 = 48_000;
 
 /// What is measured.
 #[derive(Clone, Copy)]
 enum Load {
-    /// The journal alone.
+    /// Only the journal.
     Book,
-    /// One line, from so many threads, 1 to 16.
+    /// One line, from this many threads, 1 to 16.
     OneLine(u8),
     /// As many lines as threads, 1 to 16.
     OwnLines(u8),
 }
 
-/// Prints the times of a request: of the journal alone, behind its lock, and from several threads.
+/// Prints the times of a request: of the journal only, behind its lock, and from several threads.
 pub(crate) fn measure<R: Threads + Wait + Clock + Print + Sync>(
     rt: &R,
     alloc: Global,
@@ -43,7 +43,7 @@ pub(crate) fn measure<R: Threads + Wait + Clock + Print + Sync>(
     Ok(())
 }
 
-/// Nanoseconds for a request; the best of the rounds.
+/// Returns the nanoseconds for a request, from the best round.
 fn best<R: Threads + Wait + Clock + Sync>(rt: &R, alloc: Global, load: Load) -> io::Result<u64> {
     let mut best = u64::MAX;
     for _ in 0..ROUNDS {
@@ -57,7 +57,7 @@ fn best<R: Threads + Wait + Clock + Sync>(rt: &R, alloc: Global, load: Load) -> 
     Ok(best)
 }
 
-/// Nanoseconds for all requests, of the journal alone.
+/// Returns the nanoseconds for all requests, of the journal only.
 fn book_round<R: Clock>(rt: &R, alloc: Global) -> io::Result<u64> {
     let mut book = opened_book(alloc).map_err(no_memory)?;
     let start = Instant::now(rt)?;
@@ -70,7 +70,7 @@ fn opened_book(alloc: Global) -> Result<Book, OpenFault> {
     Book::open(alloc, &described(alloc, REQUESTS)?)
 }
 
-/// One round of masters that ask one line.
+/// Measures one round of masters that ask one line. Returns the nanoseconds for all requests.
 fn one_round<R: Threads + Wait + Clock + Sync>(
     rt: &R,
     alloc: Global,
@@ -87,7 +87,7 @@ fn opened_line(alloc: Global, requests: u32) -> Result<Line, OpenFault> {
     Line::open(alloc, &described(alloc, requests)?)
 }
 
-/// One round of masters that each ask a line of their own.
+/// Measures one round of masters that each ask a line of their own. Returns the nanoseconds for all requests.
 fn own_round<R: Threads + Wait + Clock + Sync>(
     rt: &R,
     alloc: Global,
@@ -109,7 +109,7 @@ fn opened_lines(alloc: Global, count: u8) -> Result<Vec<Line>, OpenFault> {
     Ok(lines)
 }
 
-/// The requests of each of so many threads.
+/// Returns the number of requests of each thread.
 fn share(threads: u8) -> u32 {
     REQUESTS / u32::from(threads.max(1))
 }
@@ -119,7 +119,7 @@ fn no_memory(fault: OpenFault) -> io::Error {
     io::ErrorKind::OutOfMemory.into()
 }
 
-/// The time, where all requests were replied to.
+/// Returns the time if all requests were replied to. Otherwise returns `InvalidData`.
 fn whole(replies: u32, spent: u128) -> io::Result<u64> {
     if replies != REQUESTS {
         return Err(io::ErrorKind::InvalidData.into());

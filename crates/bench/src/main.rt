@@ -1,4 +1,4 @@
-//! Measures, by ratios within one run. Without words it measures nothing and says how to ask.
+//! Measures times, as ratios within one run. Without words it measures nothing and prints its usage.
 #![tactic(auto)]
 
 ghost use Rattle.std.specs.Prelude.{◌<◌};
@@ -14,10 +14,10 @@ use cutter::Tally;
 use std::time::Instant;
 use std::{fmt, io};
 
-/// Octets of a stream that is cut.
+/// The number of octets of a stream that is cut.
 const STREAM: usize = 1_048_576;
 
-/// Rounds of one measurement, of which the best counts.
+/// The number of rounds of one measurement. The best round counts.
 const ROUNDS: u32 = 9;
 
 fn main(rt: HostRuntime) -> io::Result<()> {
@@ -50,8 +50,8 @@ fn ask_line(rt: &HostRuntime) -> io::Result<()> {
     )
 }
 
-/// Nanoseconds for a request on a line of so many slaves, of which so many are asked; the best of the
-/// rounds.
+/// Returns the nanoseconds for a request on a line of `slaves` slaves, of which `asked` are asked, from the best
+/// round.
 fn timed(rt: &HostRuntime, slaves: u8, asked: u8) -> io::Result<u64> {
     let mut best = u64::MAX;
     for _ in 0..ROUNDS {
@@ -73,7 +73,7 @@ fn round(rt: &HostRuntime, slaves: u8, asked: u8) -> io::Result<u64> {
     Ok(u64::try_from(spent / u128::from(line::REQUESTS)).unwrap_or(0))
 }
 
-/// Streams of 1,048,576 octets: 95,325 telegrams or 349,525 tokens, and one octet more.
+/// Measures streams of 1,048,576 octets: 95,325 telegrams or 349,525 tokens, and one more octet.
 fn cut_streams(rt: &HostRuntime) -> io::Result<()> {
     println!(rt; "| Nanoseconds an octet | pieces of 1 | 7 | 255 |")?;
     println!(rt; "|---|---|---|---|")?;
@@ -102,7 +102,7 @@ fn cut_streams(rt: &HostRuntime) -> io::Result<()> {
     )
 }
 
-/// Prints a row: the stream that repeats the pattern, of which all this has to be handed out.
+/// Prints the row of a stream that repeats the pattern. The cutter has to return `whole` for the stream.
 fn row(rt: &HostRuntime, name: &str, pattern: &[u8], whole: &Tally) -> io::Result<()> {
     let stream = cutter::stream(rt.alloc(), pattern, STREAM)?;
     let one = cut_time(rt, &stream, 1, whole)?;
@@ -111,7 +111,7 @@ fn row(rt: &HostRuntime, name: &str, pattern: &[u8], whole: &Tally) -> io::Resul
     println!(rt; "| {name} | {one} | {seven} | {most} |")
 }
 
-/// Tenths of a nanosecond.
+/// A time in tenths of a nanosecond.
 #[derive(Clone, Copy)]
 struct Tenths(u64);
 
@@ -121,7 +121,7 @@ impl fmt::Display for Tenths {
     }
 }
 
-/// The time of an octet of the stream, fed in pieces of this size; the best of the rounds.
+/// Returns the time for an octet of the stream, fed in pieces of this size, from the best round.
 fn cut_time(rt: &HostRuntime, stream: &[u8], size: usize, whole: &Tally) -> io::Result<Tenths>
     requires { 0 < size }
 {
@@ -134,7 +134,7 @@ fn cut_time(rt: &HostRuntime, stream: &[u8], size: usize, whole: &Tally) -> io::
     Ok(Tenths(tenths))
 }
 
-/// Nanoseconds for the whole stream.
+/// Returns the nanoseconds for the whole stream. Returns `InvalidData` if the cutter did not return `whole`.
 fn cut_round(rt: &HostRuntime, stream: &[u8], size: usize, whole: &Tally) -> io::Result<u64>
     requires { 0 < size }
 {

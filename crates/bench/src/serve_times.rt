@@ -1,4 +1,5 @@
-//! What a session over a socket costs, beside a bare exchange of the same octets, and with its audit text in a file.
+//! The time of a session over a socket, compared with a bare exchange of the same octets, and with its audit text in a
+//! file.
 
 ghost use Rattle.std.specs.Prelude.{◌≡◌};
 
@@ -18,14 +19,15 @@ use std::sync::Wait;
 use std::thread::Threads;
 use std::time::{Clock, Instant};
 
-/// The requests for which an endless line has room, less than two.
+/// The least places of an endless line that is served, 16,416, without the two that [`described`] adds.
 const LEAST_WINDOW: u32 = 16_414;
 
-/// Requests of one measurement, over all sessions.
+/// The number of requests of one measurement, over all sessions.
 const REQUESTS: u32 = 48_000;
 
-/// Prints how many requests a second are answered, bare, by sessions with lines of their own, and by such sessions
-/// with endless lines, whose audit texts go to files: the ratio of the second to the first, and of the third to the second.
+/// Prints how many requests a second are answered: without a line, by sessions with lines of their own, and by such
+/// sessions with endless lines, whose audit texts go to files. Also prints the ratio of the second to the first, and of
+/// the third to the second.
 pub(crate) fn measure<
     R: Threads
         + Wait
@@ -56,7 +58,7 @@ pub(crate) fn measure<
     Ok(())
 }
 
-/// Hundredths of one.
+/// A ratio in hundredths.
 #[derive(Clone, Copy)]
 struct Hundredths(u64);
 
@@ -66,12 +68,12 @@ impl fmt::Display for Hundredths {
     }
 }
 
-/// Requests a second, where all of a measurement took so many nanoseconds.
+/// Returns the requests a second if all requests of a measurement took this many nanoseconds.
 fn rate(nanoseconds: u64) -> u64 {
     u64::from(REQUESTS) * 1_000_000_000 / nanoseconds.max(1)
 }
 
-/// Nanoseconds for all requests, of what answers without a line.
+/// Measures one round of answers without a line. Returns the nanoseconds for all requests.
 fn bare_round<R: Threads + Wait + Clock + Net<Listener = TcpListener, Stream = TcpStream> + Sync>(
     rt: &R,
     alloc: Global,
@@ -89,7 +91,7 @@ fn bare_round<R: Threads + Wait + Clock + Net<Listener = TcpListener, Stream = T
     whole(replies.unwrap_or(0), spent)
 }
 
-/// One round of sessions, each with a line of its own.
+/// Measures one round of sessions, each with a line of its own. Returns the nanoseconds for all requests.
 fn served_round<R: Threads + Wait + Clock + Net<Listener = TcpListener, Stream = TcpStream> + Sync>(
     rt: &R,
     alloc: Global,
@@ -108,7 +110,8 @@ fn served_round<R: Threads + Wait + Clock + Net<Listener = TcpListener, Stream =
     whole(replies.unwrap_or(0), spent)
 }
 
-/// One round of sessions, each with an endless line of its own, whose audit text goes to a file of its own.
+/// Measures one round of sessions, each with an endless line of its own, whose audit text goes to a file of its own.
+/// Returns the nanoseconds for all requests.
 fn recorded_round<
     R: Threads
         + Wait
@@ -136,7 +139,7 @@ fn recorded_round<
     whole(replies.unwrap_or(0), spent)
 }
 
-/// A line of master 1 and slave 5, with places for so many requests.
+/// Returns a line of master 1 and slave 5, with places for this many requests.
 fn described(alloc: Global, requests: u32) -> io::Result<LineSpec> {
     let mut masters = ArrayVec::new();
     masters.push(1);
@@ -150,7 +153,7 @@ fn described(alloc: Global, requests: u32) -> io::Result<LineSpec> {
     })
 }
 
-/// A session to come, with a line that is opened by this description.
+/// Prepares a session with a line that is opened by this description.
 fn opened(alloc: Global, line: &LineSpec, stream: TcpStream) -> io::Result<Served> {
     let Ok(opened) = Line::open(alloc, line) else {
         return Err(io::ErrorKind::OutOfMemory.into());
@@ -166,7 +169,7 @@ fn opened(alloc: Global, line: &LineSpec, stream: TcpStream) -> io::Result<Serve
     Ok(Served { stream, port, seat })
 }
 
-/// A session to come, with an endless line that has room for as many entries as a served one.
+/// Prepares a session with an endless line that has room for as many entries as a served one.
 fn opened_endless(alloc: Global, line: &LineSpec, stream: TcpStream) -> io::Result<Served> {
     let mut session = opened(alloc, line, stream)?;
     let mut endless = described(alloc, LEAST_WINDOW)?;
@@ -177,12 +180,12 @@ fn opened_endless(alloc: Global, line: &LineSpec, stream: TcpStream) -> io::Resu
     Ok(session)
 }
 
-/// The requests of each of so many sessions.
+/// Returns the number of requests of each session.
 fn share(sessions: u8) -> u32 {
     REQUESTS / u32::from(sessions.max(1))
 }
 
-/// The time, where all requests were replied to.
+/// Returns the time if all requests were replied to. Otherwise returns `InvalidData`.
 fn whole(replies: u32, spent: u128) -> io::Result<u64> {
     if replies != REQUESTS {
         return Err(io::ErrorKind::InvalidData.into());

@@ -1,4 +1,4 @@
-//! Clients that ask over sockets: of a session with a line, and of what answers alike without one.
+//! Clients that send requests over sockets, to a session with a line or to an answerer without one.
 
 ghost use Rattle.dp_sessions.specs.Pools.{IsSeatAt};
 
@@ -14,35 +14,35 @@ use std::sync::atomic::Ordering::SeqCst;
 use std::thread;
 use std::thread::Threads;
 
-/// The address of the master that asks.
+/// The address that the client sends: master 1.
 const MASTER: [u8; 1] = [1];
 
-/// What accepts it.
+/// The octet that accepts the master.
 const ACCEPTANCE: [u8; 1] = [0xE5];
 
-/// The reply to Slave_Diag, of a slave that nobody holds.
+/// The reply to Slave_Diag of a slave that nobody holds.
 const DIAGNOSIS: [u8; 17] = [
     0x68, 0x0B, 0x0B, 0x68, 0x81, 0x85, 0x08, 0x3E, 0x3C, 0x02, 0x05, 0x00, 0xFF, 0x80, 0xA1, 0xAF,
     0x16,
 ];
 
-/// A client's end of a connection, and what answers at the other end.
+/// A client's end of a connection, and the answerer at the other end.
 #[derive(Drop)]
 pub(crate) struct Connection<A> {
     /// The client's end.
     pub(crate) client: TcpStream,
-    /// What answers.
+    /// The answerer.
     pub(crate) answers: A,
 }
 
-/// What answers a client. It is a type parameter where threads are started, since the check finds there that
-/// it may go to one by the bound alone.
+/// Answers a client. It is a type parameter in functions that start threads, because the checker proves by the bound
+/// of the parameter that it may go to a thread.
 pub(crate) trait Answers {
-    /// Answers until the client is gone.
+    /// Answers until the client has closed the connection.
     fn answer<R: Wait>(self, rt: &R);
 }
 
-/// What answers with the same octets, whatever it was asked.
+/// An answerer that always sends the same octets, whatever the request.
 #[derive(Drop)]
 pub(crate) struct Bare {
     /// Its end of the connection.
@@ -87,7 +87,7 @@ impl Answers for Served {
     }
 }
 
-/// A session with a line of its own, whose audit text goes to a file before its replies leave.
+/// A session with a line of its own, whose audit text goes to a file before its replies are sent.
 #[derive(Drop)]
 pub(crate) struct Recorded<F> {
     /// The session.
@@ -128,7 +128,7 @@ impl<F: Write + Drop> Answers for Recorded<F> {
     }
 }
 
-/// Both ends of a new connection, a client's first. No octet waits for another.
+/// Returns both ends of a new connection, the client's first. No octet waits for another.
 pub(crate) fn connect<N: Net<Listener = TcpListener, Stream = TcpStream>>(
     rt: &N,
 ) -> io::Result<(TcpStream, TcpStream)> {
@@ -140,8 +140,8 @@ pub(crate) fn connect<N: Net<Listener = TcpListener, Stream = TcpStream>>(
     Ok((client, server))
 }
 
-/// Lets each client ask so many times, while its other end answers, each end in a thread of its own; how many
-/// replies there were. None where a thread wasn't started.
+/// Lets each client send this many requests, while its other end answers, each end in a thread of its own. Returns
+/// the number of replies, or None if a thread could not be started.
 pub(crate) fn ask_all<A: Answers + Send + Drop, R: Threads + Wait + Sync>(
     rt: &R,
     connections: Vec<Connection<A>>,
@@ -164,12 +164,12 @@ pub(crate) fn ask_all<A: Answers + Send + Drop, R: Threads + Wait + Sync>(
     started.then(|| replies.load(SeqCst))
 }
 
-/// A client; adds how many replies there were.
+/// Runs a client, and adds the number of its replies.
 fn count_replies(mut client: TcpStream, requests: u32, replies: &AtomicU32) {
     replies.fetch_add(ask(&mut client, requests), SeqCst);
 }
 
-/// So many requests, once the master is accepted; how many replies there were.
+/// Sends this many requests after the master is accepted. Returns the number of replies.
 fn ask(client: &mut TcpStream, requests: u32) -> u32 {
     let mut replies = 0u32;
     if !is_accepted(client).unwrap_or(false) {
@@ -184,7 +184,7 @@ fn ask(client: &mut TcpStream, requests: u32) -> u32 {
     replies
 }
 
-/// Sends the master's address; whether it is accepted.
+/// Sends the master's address. Returns whether it is accepted.
 fn is_accepted(client: &mut TcpStream) -> io::Result<bool> {
     let mut first = [0; 1];
     client.write_all(&MASTER)?;
@@ -192,7 +192,7 @@ fn is_accepted(client: &mut TcpStream) -> io::Result<bool> {
     Ok(first == ACCEPTANCE)
 }
 
-/// Asks once; whether the right reply came.
+/// Sends one request. Returns whether the right reply came.
 fn is_replied(client: &mut TcpStream) -> io::Result<bool> {
     let mut reply = [0; 17];
     client.write_all(&SLAVE_DIAG)?;
@@ -200,7 +200,7 @@ fn is_replied(client: &mut TcpStream) -> io::Result<bool> {
     Ok(reply == DIAGNOSIS)
 }
 
-/// Accepts, and then replies to each request, until the client is gone.
+/// Accepts the client, and then replies to each request until the client has closed the connection.
 fn repeat(stream: &mut TcpStream) -> io::Result<()> {
     let mut address = [0; 1];
     let mut request = [0; 11];

@@ -1,10 +1,10 @@
--- The second row on standard error: why a file or a port can't be had (own).
+-- The second row on standard error: why the program cannot open, read or write a file, or use a port (own).
 use Rattle.std.specs.Prelude.{codes, ℕ, List, ◌++◌}
 use Rattle.std.specs.Fmt.{decimal}
 use Rattle.dp_cause.specs.declared.cause.Cause.{Cause}
 use Rattle.dp_cause.specs.declared.cause.Cause.TheVariants as causes
 
--- without its LF
+-- the row without its LF
 abbrev pub cause_text : Cause → List ℕ
 cause_text causes.NotThere = codes "  nothing is there"
 cause_text causes.NoPermission = codes "  no permission"

@@ -1,4 +1,4 @@
-//! Why a file or a port can't be had.
+//! Why the program cannot open, read or write a file, or use a port.
 
 ghost use Rattle.std.specs.Prelude.{◌≡◌, Some};
 ghost use Rattle.std.specs.IoError.{error_kind, raw_os_error};
@@ -8,50 +8,51 @@ ghost use Rattle.dp_cause.specs.SystemErrors.{cause_of_error, cause_of_number};
 use std::fmt;
 use std::io::{self, ErrorKind};
 
-/// Too many descriptors of the program, and of the system.
+/// The system's error numbers for too many open files: of the program, and of the system.
 const TOO_MANY_FILES: u32 = 24;
 
 const TOO_MANY_FILES_IN_ALL: u32 = 23;
 
-/// Why a file or a port can't be had. Its `Display` is the second row on standard error, without its LF.
+/// Why the program cannot open, read or write a file, or use a port. Its `Display` is the second row on standard
+/// error, without its LF.
 #[derive(Clone, Copy)]
 pub enum Cause {
-    /// Nothing has this path.
+    /// There is no file or folder with this path.
     NotThere,
-    /// The system doesn't permit it.
+    /// The system does not permit access.
     NoPermission,
-    /// It is a folder.
+    /// The path is that of a folder.
     IsFolder,
-    /// What stands before a `/` of the path is no folder.
+    /// A part of the path before a `/` is no folder.
     NoFolder,
-    /// Something that isn't a folder has the path of one.
+    /// Something that is no folder has the path of a folder.
     IsThere,
-    /// It isn't UTF-8.
+    /// The file is not UTF-8.
     NotText,
     /// Another program has the port.
     InUse,
-    /// Two ports of the rack have one number.
+    /// Two ports of the rack have the same number.
     TwiceInRack,
-    /// There are too few descriptors.
+    /// There are too few file descriptors.
     FewDescriptors,
     /// There is no space left.
     NoSpace,
-    /// It can be read alone.
+    /// The file system is read-only.
     ReadOnly,
-    /// No program listens there.
+    /// No program listens at the port.
     NobodyListens,
-    /// The file doesn't take all octets that are written to it.
+    /// The file did not take all bytes that were written to it.
     NotTaken,
     /// Entries of an endless line were forgotten before they were written to the file.
     Forgotten,
-    /// The system names no other cause than this number.
+    /// The system gives no cause except this error number.
     Code(u32),
     /// No cause is known.
     Unknown,
 }
 
 impl Cause {
-    /// What an error of the system says.
+    /// Returns the cause of an error of the system.
     pub fn from_error(error: &io::Error) -> Cause
         ensures { result ≡ cause_of_error (error_kind error.now) (raw_os_error error.now) }
     {
@@ -70,7 +71,7 @@ impl Cause {
         }
     }
 
-    /// What a number of the system says.
+    /// Returns the cause of an error number of the system.
     fn of_number(number: Option<i32>) -> Cause
         ensures { result ≡ cause_of_number number }
     {

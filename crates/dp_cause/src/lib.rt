@@ -1,4 +1,5 @@
-//! Why a file or a port can't be had, in the words of the second row on standard error.
+//! Why the program cannot open, read or write a file, or use a port, in the words of the second row on standard
+//! error.
 #![tactic(auto)]
 
 mod cause;

@@ -1,6 +1,6 @@
-//! What is told on standard error while a rack is served.
+//! Reports on standard error while a rack is served.
 //!
-//! Rows have the form of the crate `log` and the time of day; their texts aren't fixed, and tests show them.
+//! Rows have the form of the crate `log`, with the time of day. Their texts are not specified; tests show them.
 #![tactic(auto)]
 
 mod dropped_rows;

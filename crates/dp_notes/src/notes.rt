@@ -1,4 +1,4 @@
-//! What is told on standard error while a rack is served.
+//! Reports on standard error while a rack is served.
 
 use crate::dropped_rows::DroppedRows;
 use crate::time_of_day::TimeOfDay;
@@ -36,20 +36,20 @@ struct MasterSession {
     dropped: DroppedRows,
 }
 
-/// What was told or counted, and is needed again.
+/// What was reported or counted and is needed again.
 #[derive(Drop)]
 struct Noted {
-    /// The lines whose operators have sent a halt that is not answered yet.
+    /// The lines whose operators have sent a halt that has not been answered yet.
     halting: ArrayVec<u8, MOST_LINES>,
     /// The lines that were reported as halted.
     halted: ArrayVec<u8, MOST_LINES>,
     /// The sessions of masters, while connections, sessions or requests are logged.
     sessions: ArrayVec<MasterSession, MOST_SESSIONS>,
-    /// All workers were reported as busy, and none is free since.
+    /// Whether all workers were reported as busy, and none has become free since.
     are_busy: bool,
 }
 
-/// What is told of the lines of a rack, a row on standard error for each thing, with the time of day (UTC).
+/// Reports of the lines of a rack: one row on standard error for each report, with the time of day (UTC).
 #[derive(Drop)]
 pub struct Notes<'a, L> {
     log: &'a L,
@@ -61,7 +61,7 @@ pub struct Notes<'a, L> {
 }
 
 impl<'a, L: Log + Clock> Notes<'a, L> {
-    /// Nothing was told yet of these lines, which so many workers serve.
+    /// Returns the reports of these lines, which `workers` workers serve. Nothing has been reported yet.
     pub fn new(log: &'a L, telling: Telling, lines: LineNumbers, workers: u32) -> Notes<'a, L> {
         Notes {
             log,
@@ -78,8 +78,8 @@ impl<'a, L: Log + Clock> Notes<'a, L> {
         }
     }
 
-    /// A connection of a master waits for a worker, at a port by its place. If all workers are busy, that is reported, once
-    /// until one of them is free.
+    /// Counts a connection of a master that waits for a worker. `port` is the place of its port. Reports if all workers
+    /// are busy, and then not again until one of them becomes free.
     pub fn waits<W: Wait>(&self, rt: &W, port: u8) {
         if self.attended.fetch_add(1, SeqCst) < self.workers {
             return;
@@ -94,14 +94,14 @@ impl<'a, L: Log + Clock> Notes<'a, L> {
         warn!(self.log; target: "rackd", "{time} line {line}: a connection waits, all {workers} workers are busy");
     }
 
-    /// A worker has ended a session.
+    /// Counts that a worker has ended a session.
     fn leaves<W: Wait>(&self, rt: &W) {
         if self.attended.fetch_sub(1, SeqCst) <= self.workers {
             self.noted.lock(rt).are_busy = false;
         }
     }
 
-    /// A connection begins as a request of the web does, and is closed.
+    /// Reports that a connection began like a web request and is closed.
     pub fn web_request<W: Wait>(&self, rt: &W, line: u8) {
         self.tell(
             rt,
@@ -109,18 +109,18 @@ impl<'a, L: Log + Clock> Notes<'a, L> {
         );
     }
 
-    /// An operator's session begins.
+    /// Reports that an operator's session begins.
     pub fn operator_connected<W: Wait>(&self, rt: &W, line: u8) {
         self.tell(rt, format_args!("line {line}: operator connected"));
     }
 
-    /// An operator's session has ended.
+    /// Reports that an operator's session has ended.
     pub fn operator_ended<W: Wait>(&self, rt: &W, line: u8, end: SessionEnd) {
         let end = end.name();
         self.tell(rt, format_args!("line {line}: operator ended: {end}"));
     }
 
-    /// A connection can't be accepted.
+    /// Reports that a connection cannot be accepted.
     pub fn cannot_accept<W: Wait>(&self, rt: &W, line: u8, error: Error) {
         self.tell(
             rt,
@@ -128,12 +128,12 @@ impl<'a, L: Log + Clock> Notes<'a, L> {
         );
     }
 
-    /// The audit text of a line goes on in a further file.
+    /// Reports that the audit text of a line continues in another file.
     pub fn goes_on<W: Wait>(&self, rt: &W, line: u8, file: impl Display + Drop) {
         self.tell(rt, format_args!("line {line} goes on in {file}"));
     }
 
-    /// The number of the line whose port has this place.
+    /// Returns the number of the line whose port has this place, or 0 if there is none.
     fn line_at(&self, port: u8) -> u8 {
         match self.lines.get(usize::from(port)) {
             Some(number) => *number,
@@ -141,7 +141,7 @@ impl<'a, L: Log + Clock> Notes<'a, L> {
         }
     }
 
-    /// Tells a thing of connections, sessions or requests.
+    /// Reports something about connections, sessions or requests, unless only halts are reported.
     fn tell<W: Wait>(&self, rt: &W, row: impl Display + Drop) {
         if self.telling != Telling::Little {
             let _one_row_at_a_time = self.noted.lock(rt);
@@ -208,7 +208,7 @@ impl<'a, L: Log + Clock> Notes<'a, L> {
         }
     }
 
-    /// A session is under way, which has asked for nothing.
+    /// Adds a session in progress, which has sent no request yet.
     fn begin<W: Wait>(&self, rt: &W, line: u8, master: u8) {
         let _ = self.noted.lock(rt).sessions.try_push(MasterSession {
             line,
@@ -219,7 +219,7 @@ impl<'a, L: Log + Clock> Notes<'a, L> {
         });
     }
 
-    /// What a session has asked for, which is under way no more.
+    /// Removes a session in progress, and returns its requests.
     fn finish<W: Wait>(&self, rt: &W, line: u8, master: u8) -> MasterSession {
         let mut noted = self.noted.lock(rt);
         let place = noted
@@ -322,13 +322,13 @@ impl<L: Log + Clock> Gate for Notes<'_, L> {
     }
 }
 
-/// The operator halts the line.
+/// Returns whether the event is the operator's halt of the line.
 fn is_halt(event: &Event) -> bool {
     matches!(event, Event::Operator(Op::Halt))
 }
 
-/// Why a line is halted, as far as an answer shows it, to the operator's halt or to another event: its operator halted it,
-/// or it answers so.
+/// Returns why a line is halted, if the answer shows it: its operator halted it, or the answer says that it is halted.
+/// `is_halt` is whether the answer is to the operator's halt.
 fn cause_of_halt(is_halt: bool, outcome: &Outcome) -> Option<&'static str> {
     match outcome {
         Outcome::Released(_) if is_halt => Some("by its operator"),

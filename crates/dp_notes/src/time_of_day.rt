@@ -3,7 +3,7 @@
 use std::fmt;
 use std::time::Clock;
 
-/// How many seconds a day has.
+/// The number of seconds of a day.
 const DAY: u64 = 86_400;
 
 /// A time of day (UTC): `HH:MM:SS.mmm`.
@@ -16,7 +16,7 @@ pub(crate) struct TimeOfDay {
 }
 
 impl TimeOfDay {
-    /// The time of day now; midnight where the clock doesn't tell.
+    /// Returns the time of day now, or midnight if the clock cannot be read.
     pub(crate) fn now(clock: &impl Clock) -> TimeOfDay {
         let (seconds, milliseconds) = match clock.since_1970() {
             Ok(since) => (since.as_secs() % DAY, since.subsec_millis()),

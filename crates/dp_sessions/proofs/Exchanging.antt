@@ -1,4 +1,4 @@
--- A session on its way: octets come, pieces are exchanged one after another, and a write fails.
+-- The progress of a session: octets come, pieces are exchanged one after another, and a write fails.
 use Rattle.std.proofs.Common.{◌≡◌, ℕ, List, [], ◌∷◌, ◌++◌, map, length, take, drop, eqb, true, Option, Some, None, Result, Ok, Err, OnOk, OnErr, refl, sym, ap, subst, ◌∙◌, append_assoc}
 use Rattle.std.specs.List.{concat}
 use Rattle.std.specs.Io.KnownBytes.{Appends, Consumes, Keeps}
@@ -100,7 +100,7 @@ cut_off_then a b c texts others first o = record {
   failed = o.failed;
 }
 
--- ---- the cut of a stream on its way
+-- ---- the cut of a stream so far
 
 cut_none : (stream : List ℕ) → IsCutTo stream [] stream
 cut_none stream = record { goes_on = λ more. refl }
@@ -121,7 +121,7 @@ cut_more stream ahead octets cuts first = record {
       ∙ ap (λ os. with_cuts cuts (cuts_of os)) (sym (append_assoc ahead octets more));
 }
 
--- ---- what is served so far
+-- ---- what was served so far
 
 pub served_none : (master : ℕ) (stream : List ℕ) (pass : PassView) (old : Option (List ℕ)) → IsServedTo master stream stream pass pass old old
 served_none master stream pass old = record {
@@ -168,7 +168,7 @@ served_more master stream ahead octets p q a b first = record {
 
 -- ---- one piece
 
--- one receipt for a frame and none for dropped octets, and the reply is written
+-- one receipt for a frame and none for dropped octets; the reply is written
 abbrev pub OnePiece : ℕ → Cut → PassView → PassView → Option (List ℕ) → Option (List ℕ) → Type 0
 OnePiece master cut p q a b = (receipts : List Receipt) × AreExchanged master (cut ∷ []) receipts p q × Appends a b (concat (map reply_in receipts))
 
@@ -195,7 +195,7 @@ one_broken (Err fault) master cut receipt p q a b text exchanged is failed = (
   record { whole = []; last = reply_in receipt; texts_are = refl; between = a; written = appends_none a; failed = subst (WritesPrefix a b) is failed },
 )
 
--- the piece was handed out of what is held, and something is left behind it
+-- the piece was cut off the octets held, of which `behind` is left
 pub piece_served : (master same : ℕ) (stream held left behind : List ℕ) (cut : Cut) (p q r : PassView) (a b c : Option (List ℕ))
     → same ≡ master → IsServedTo master stream (held ++ left) p q a b → ((more : List ℕ) → cuts_of (held ++ more) ≡ with_cut cut (cuts_of (behind ++ more)))
     → OnePiece same cut q r b c → IsServedTo master stream (behind ++ left) p r a c
@@ -224,7 +224,7 @@ piece_broken master same stream held left behind cut p q r a b c is first handed
       written = one.2;
     })
 
--- ---- a stream that comes to an end
+-- ---- the end of a stream
 
 ended_at : (stream ahead : List ℕ) (cuts : List Cut) → IsCutTo stream cuts ahead → cuts_of stream ≡ with_cuts cuts (cuts_of ahead)
 ended_at stream ahead cuts cut = ap cuts_of (sym (append-nil stream)) ∙ cut.goes_on [] ∙ ap (λ os. with_cuts cuts (cuts_of os)) (append-nil ahead)
@@ -256,7 +256,7 @@ broken_off master stream p q a b whole first = record {
   written = first.written;
 }
 
--- octets that are held go on with those that are fed
+-- the octets held are followed by those that are fed
 pub fed : (held left : List ℕ) (count : ℕ) → (held ++ take count left) ++ drop count left ≡ held ++ left
 fed held left count = append_assoc held (take count left) (drop count left) ∙ ap (λ os. held ++ os) (take-append-drop count left)
 

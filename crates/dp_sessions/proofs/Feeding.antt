@@ -1,11 +1,11 @@
--- Slaves that devices feed, one after another.
+-- Inputs that devices give slaves, one slave after another.
 use Rattle.std.proofs.Common.{◌≡◌, ℕ, ◌+◌, List, [], ◌∷◌, refl, subst, arith, length}
 use Rattle.std.proofs.lemmas.List.{nil_from_length}
 use Rattle.dp_shared.specs.declared.line_view.PassView.{PassView}
 use Rattle.dp_devices.specs.declared.driven_slave.DrivenSlave.{DrivenSlave}
 use Rattle.dp_sessions.specs.Operators.{AreFed, IsFed}
 
--- what is left makes the whole
+-- the slaves that are left complete the whole
 abbrev pub GoesOn : List DrivenSlave → List DrivenSlave → PassView → PassView → ℕ → Type 0
 GoesOn driven left start now recorded = (after : PassView) (rest : ℕ) → AreFed left now after rest → AreFed driven start after (recorded + rest)
 

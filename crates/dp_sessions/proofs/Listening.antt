@@ -10,7 +10,7 @@ use Rattle.dp_sessions.specs.Operating.{AreServedTo, BreaksOff, GoesOn}
 use Rattle.dp_sessions.proofs.Exchanging.{consumed_none, consumes_kept, consumes_more, consumes_none}
 use Rattle.dp_sessions.proofs.Operating.{served_all, served_start}
 
--- so many reads gave a stream, of whose last line this is held
+-- this number of reads gave a stream, and `held` is stored of its last line
 pub record IsListening (driven : List DrivenSlave) (reads : ℕ) (held : List ℕ) (before after : PassView) (left left_now old new : Option (List ℕ)) : Type 0 where
   pub stream : List ℕ
   pub read : Consumes left left_now stream

@@ -1,4 +1,4 @@
--- A session of an operator on its way: octets come, lines are answered one after another, and a write fails.
+-- The progress of an operator's session: octets come, lines are answered one after another, and a write fails.
 use Rattle.std.proofs.Common.{◌≡◌, ◌≢◌, ℕ, zero, suc, ◌≤◌, ◌<◌, Bool, true, false, not, ◌&&◌, ◌==◌, List, [], ◌∷◌, ◌++◌, map, length, take, Option, Result, Ok, Err, OnOk, OnErr, ok_or, if◌then◌else◌, inl, inr, refl, sym, ap, subst, ◌∙◌, arith, append_assoc, length-append}
 use Rattle.std.specs.List.{AllByRecursion, concat, list_all}
 use Rattle.std.specs.Io.KnownBytes.{Appends}
@@ -37,7 +37,7 @@ unended_more (first ∷ line) octet before other =
     and_more (not (first == line_feed)) (list_all (λ o. not (o == line_feed)) line) (list_all (λ o. not (o == line_feed)) (line ++ octet ∷ []))
     (λ all. unended_more line octet all other) before
 
--- ---- what is answered
+-- ---- answers
 
 answered_then : (driven : List DrivenSlave) (lines : List (List ℕ)) (line : List ℕ) (texts : List (List ℕ)) (text : List ℕ) (p q r : PassView)
     → AreAnswered driven lines p q texts → IsAnswered driven line q r text → AreAnswered driven (lines ++ line ∷ []) p r (texts ++ text ∷ [])
@@ -53,7 +53,7 @@ answered_then driven (begun ∷ lines) line texts text p q r first one = (
   answered_then driven lines line first.2 text first.0 q r first.5 one,
 )
 
--- ---- what is kept of a line
+-- ---- what is stored of a line
 
 take_front : (n : ℕ) (xs ys : List ℕ) → take n (take n xs ++ ys) ≡ take n (xs ++ ys)
 take_front zero xs ys = refl
@@ -90,7 +90,7 @@ kept_command line = elim (cases_lt 1024 (length line)) [
 answered_kept : (driven : List DrivenSlave) (line held : List ℕ) (q r : PassView) (text : List ℕ) → held ≡ kept line → IsAnswered driven held q r text → IsAnswered driven line q r text
 answered_kept driven line held q r text is answered = subst (λ c. IsDone driven c q r text) (ap command_in is ∙ kept_command line) answered
 
--- ---- what is served so far
+-- ---- what was served so far
 
 pub served_start : (driven : List DrivenSlave) (held : List ℕ) (pass : PassView) (old : Option (List ℕ)) → held ≡ [] → AreServedTo driven [] held pass pass old old
 served_start driven held pass old empty = record {
@@ -103,7 +103,7 @@ served_start driven held pass old empty = record {
   written = appends_none old;
 }
 
--- an octet that ends no line
+-- an octet that is no LF
 octet_served : (driven : List DrivenSlave) (held now : List ℕ) (octet : ℕ) (p : PassView) (old : Option (List ℕ))
     → (octet == line_feed) ≡ false → now ≡ kept (held ++ octet ∷ []) → GoesOn driven (octet ∷ []) held now p p old old
 octet_served driven held now octet p old other is stream start first s = record {
@@ -137,7 +137,7 @@ pub on_failed : {T E P Q : Type 0} (r : Result T E) → (P → Q) → OnErr r P 
 on_failed (Ok x) f p = tt
 on_failed (Err e) f p = f p
 
--- the line that is begun ends here
+-- the line that was begun ends here
 line_ends : (stream rest : List ℕ) (lines : List (List ℕ)) → FallsInto stream lines rest → BeginsWith (stream ++ line_feed ∷ []) (lines ++ rest ∷ []) []
 line_ends stream rest lines parted = record {
   whole =
@@ -231,7 +231,7 @@ pub goes_to : (driven : List DrivenSlave) (octets done left h k : List ℕ) (p q
 goes_to driven octets done left h k p q a b parts none on =
     subst (λ os. GoesOn driven os h k p q a b) (sym (parts ∙ ap (λ l. done ++ l) (nil_from_length left none) ∙ append-nil done)) on
 
--- it breaks off at this octet
+-- the session breaks off at this octet
 pub breaks_at : (driven : List DrivenSlave) (octets done left : List ℕ) (octet : ℕ) (more h k : List ℕ) (p q r : PassView) (a b c : Option (List ℕ))
     → octets ≡ done ++ left → left ≡ octet ∷ more → GoesOn driven done h k p q a b → BreaksOff driven (octet ∷ []) k q r b c → BreaksOff driven octets h p r a c
 breaks_at driven octets done left octet more h k p q r a b c parts first on off =

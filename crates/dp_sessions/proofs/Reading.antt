@@ -9,7 +9,7 @@ use Rattle.dp_sessions.specs.Sessions.{Exchanges, HasExchanged}
 use Rattle.dp_sessions.specs.SessionProgress.{IsBrokenIn, IsServedTo}
 use Rattle.dp_sessions.proofs.Exchanging.{broken_off, broken_then, consumed_none, consumes_kept, consumes_more, consumes_none, served_more, served_none, served_then, served_whole}
 
--- so many reads gave a stream, of which what is held is no piece
+-- this number of reads gave a stream, and the octets held are no piece
 pub record IsUnderWay (master reads : ℕ) (held : List ℕ) (before after : PassView) (left left_now old new : Option (List ℕ)) : Type 0 where
   pub stream : List ℕ
   pub read : Consumes left left_now stream

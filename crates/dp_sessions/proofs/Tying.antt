@@ -1,4 +1,4 @@
--- The receipts of a session, from the entries of the journal.
+-- The receipts of a session, in terms of the entries of the journal.
 use Rattle.std.proofs.Common.{◌≡◌, ℕ, Bool, true, false, List, [], ◌∷◌, ◌++◌, map, length, drop, Option, Some, None, inl, inr, ⊎_elim, refl, sym, ap, subst, ◌∙◌, append_assoc}
 use Rattle.std.specs.Prelude.{◌⊎◌, ◌||◌, IfNone, IfSome}
 use Rattle.std.specs.List.{AllByRecursion, concat}
@@ -41,7 +41,7 @@ or_true false = refl
 seen_by : (t : Bool) (outcome : Outcome) → outcome ≡ Silence rules.Halted → (t || says_halted outcome) ≡ true
 seen_by t outcome is = ap (λ o. t || says_halted o) is ∙ or_true t
 
--- all of them are silent, and none is kept
+-- all receipts are silent, and the pass stores none of them
 record AreSilent (pass : PassView) (receipts : List Receipt) : Type 0 where
   silence : AllByRecursion IsSilent receipts
   same : (with_receipts pass receipts).receipts ≡ pass.receipts
@@ -135,7 +135,7 @@ same_replies receipts placed silent es parts silence are =
     ∙ ap (λ ps. concat (map reply_in ps)) (sym are)
     ∙ ap concat (replies_of es)
 
--- ---- a write that failed in nothing
+-- ---- a failed write of an empty text
 
 abbrev final : List (List ℕ) → List ℕ
 final [] = []

@@ -1,4 +1,4 @@
--- What lines of an operator did, from the entries of the journal.
+-- The effects of an operator's lines, in terms of the entries of the journal.
 use Rattle.std.proofs.Common.{◌≡◌, ℕ, true, false, List, [], ◌∷◌, ◌++◌, map, length, take, drop, Option, Some, None, Result, Ok, Err, if◌then◌else◌, inl, inr, refl, sym, ap, subst, ◌∙◌, append_assoc}
 use Rattle.std.specs.Prelude.{IfNone, is_some}
 use Rattle.std.specs.List.{AllByRecursion}
@@ -61,7 +61,7 @@ all_back P [] ys all = all
 all_back P (x ∷ xs) ys all = all_back P xs ys all.1
 
 module _ (content : Content) where
-  -- a pass gained receipts and looks, and of the entries of these receipts this holds, where the looks fit
+  -- a pass gained receipts and looks, and `P` holds for the entries of these receipts if the looks fit
   record Goes (P : List Entry → Type 0) (before after : PassView) : Type 0 where
     receipts : List Receipt
     looks : List Look

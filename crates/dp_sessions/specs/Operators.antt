@@ -29,20 +29,20 @@ use Rattle.dp_sessions.specs.Sessions.{IsCutOff, Streams}
 abbrev pub line_feed : ℕ
 line_feed = 10
 
--- the octets of a line, of which none ends a line
+-- octets of a line, none of which is an LF
 abbrev pub IsUnended : List ℕ → Type 0
 IsUnended line = list_all (λ octet. not (octet == line_feed)) line ≡ true
 
--- a line as it is sent: its LF is behind it
+-- a line as it is sent, with its LF
 abbrev pub ended : List ℕ → List ℕ
 ended line = line ++ line_feed ∷ []
 
--- a stream begins with these lines, and other octets are behind them
+-- a stream begins with these lines, and these other octets follow
 pub record BeginsWith (stream : List ℕ) (lines : List (List ℕ)) (others : List ℕ) : Type 0 where
   pub whole : stream ≡ concat (map ended lines) ++ others
   pub unended : AllByRecursion IsUnended lines
 
--- a stream falls into these lines, and what is behind the last LF
+-- a stream consists of these lines and of the octets after the last LF
 pub record FallsInto (stream : List ℕ) (lines : List (List ℕ)) (rest : List ℕ) : Type 0 where
   pub begins : BeginsWith stream lines rest
   pub unended : IsUnended rest
@@ -53,38 +53,38 @@ pub record FallsInto (stream : List ℕ) (lines : List (List ℕ)) (rest : List 
 abbrev pub fault_text : LineFault → List ℕ
 fault_text fault = codes "fault " ++ line_fault_name fault ++ codes "\n"
 
--- one event: its receipt is the pass's, and has the outcome. Without a place it has the reason of the refusal; with one, the pass was not
--- answered before that the line is halted
+-- One event added a receipt with the outcome to the pass. Without a place the receipt has the reason of the refusal. With a place, the pass had not
+-- been answered that the line is halted.
 pub record IsTaken (event : Event) (before after : PassView) (receipt : Receipt) : Type 0 where
   pub event_is : receipt.event ≡ event
   pub gained : after ≡ with_receipt before receipt receipt.place
   pub refused : IfNone receipt.place ((receipt.facts ≡ None) × (fault : OperatorFault) × (receipt.outcome ≡ Refused fault))
   pub running : IfSome receipt.place (λ _. before.saw_halt ≡ false)
 
--- one look, after so many entries
+-- one look, after some number of entries
 abbrev pub IsLook : Question → Answer → PassView → PassView → Type 0
 IsLook question answer before after = (count : ℕ) × (after ≡ with_look before (look_by before question count answer))
 
--- what is seen of a slave is fed to it by its device, and the Input counts where it has a place; nothing is fed where no slave is seen
+-- if the slave is seen, its device gives it the next input, which counts if it has a place; otherwise nothing happens
 abbrev pub IsFedAsSeen : DrivenSlave → Option SlaveView → PassView → PassView → ℕ → Type 0
 IsFedAsSeen driven None before after recorded = (after ≡ before) × (recorded ≡ 0)
 IsFedAsSeen driven (Some slave) before after recorded =
     (receipt : Receipt) × IsTaken (Operator (next_input driven slave)) before after receipt × (recorded ≡ (if is_some receipt.place then 1 else 0))
 
--- a look at a slave, and then its device feeds it
+-- a look at a slave, and then the next input of its device
 pub record IsFed (driven : DrivenSlave) (before after : PassView) (recorded : ℕ) : Type 0 where
   pub seen : Option SlaveView
   pub looked : PassView
   pub look : IsLook (Question.View driven.address) (Answer.View seen) before looked
   pub fed : IsFedAsSeen driven seen looked after recorded
 
--- one slave after another, and so many Inputs were recorded
+-- the inputs of one slave after another, and the number that were recorded
 abbrev pub AreFed : List DrivenSlave → PassView → PassView → ℕ → Type 0
 AreFed [] before after recorded = (after ≡ before) × (recorded ≡ 0)
 AreFed (driven ∷ others) before after recorded =
     (between : PassView) × (first rest : ℕ) × IsFed driven before between first × AreFed others between after rest × (recorded ≡ first + rest)
 
--- what is asked for is done by the pass, and this is the answer; these are the slaves that devices drive
+-- the pass carries out what is asked for, and this is the answer; these are the slaves that devices drive
 abbrev pub IsOperated : List DrivenSlave → OpLine → PassView → PassView → List ℕ → Type 0
 IsOperated driven (asked.Event op) before after text = (receipt : Receipt) × IsTaken (Operator op) before after receipt × (text ≡ outcome_line receipt.outcome)
 IsOperated driven (asked.Owned master) before after text = (addresses : ArrayVec ℕ) × IsLook (Question.Owned master) (Answer.Owned addresses) before after × (text ≡ owned_text addresses.items)
@@ -92,7 +92,7 @@ IsOperated driven (asked.Show address) before after text = (seen : Option SlaveV
 IsOperated driven asked.Step before after text = (recorded : ℕ) × AreFed driven before after recorded × (text ≡ stepped_text recorded)
 IsOperated driven asked.Nothing before after text = (after ≡ before) × (text ≡ [])
 
--- the answer to a line that can't be done
+-- a line is carried out, or it is answered with its fault
 abbrev pub IsDone : List DrivenSlave → Result OpLine LineFault → PassView → PassView → List ℕ → Type 0
 IsDone driven (Ok op_line) before after text = IsOperated driven op_line before after text
 IsDone driven (Err fault) before after text = (after ≡ before) × (text ≡ fault_text fault)
@@ -109,7 +109,7 @@ AreAnswered driven (line ∷ lines) before after texts =
 
 -- ---- a session
 
--- all lines of the stream were answered, and every answer is written; what is behind the last LF is dropped
+-- all lines of the stream were answered, and every answer is written; octets after the last LF are dropped
 pub record AreServed (driven : List DrivenSlave) (stream : List ℕ) (before after : PassView) (old new : Option (List ℕ)) : Type 0 where
   pub lines : List (List ℕ)
   pub rest : List ℕ
@@ -127,12 +127,12 @@ pub record AreBrokenOff (driven : List DrivenSlave) (stream : List ℕ) (before 
   pub answered : AreAnswered driven lines before after texts
   pub written : IsCutOff old new texts
 
--- a stream was read, and its lines were answered: how the session ended says how far, how many reads it made of those that it may make, and
--- what is left to read
+-- A stream was read, and its lines were answered. The end of the session says how far, how many reads it made of the `turns` that it may make, and
+-- what is left to read.
 abbrev pub Operates : SessionEnd → List DrivenSlave → ℕ → ℕ → List ℕ → PassView → PassView → Option (List ℕ) → Option (List ℕ) → Option (List ℕ) → Type 0
 Operates ends.EndOfInput driven turns made stream before after left old new = AreServed driven stream before after old new × IsAtEnd left
 Operates ends.ReadFault driven turns made stream before after left old new = AreServed driven stream before after old new
--- as many reads as it may make were made, and each gave an octet at least
+-- all reads that it may make were made, and each returned at least one octet
 Operates ends.TurnLimit driven turns made stream before after left old new = AreServed driven stream before after old new × (made ≡ turns) × (made ≤ length stream)
 Operates ends.WriteFault driven turns made stream before after left old new = AreBrokenOff driven stream before after old new
 Operates other driven turns made stream before after left old new = ⊥
@@ -143,11 +143,11 @@ pub record HasNoPass (streams : Streams) (end : SessionEnd) : Type 0 where
   pub unread : Keeps streams.left streams.left_after
   pub unwritten : Keeps streams.written streams.written_after
 
--- by a lent pass, a stream was read in at most `turns` reads, and its lines were answered
+-- by a given pass, a stream was read in at most `turns` reads, and its lines were answered
 pub record HasOperatedBy (driven : List DrivenSlave) (turns : ℕ) (streams : Streams) (before after : PassView) (end : SessionEnd) : Type 0 where
   pub stream : List ℕ
   pub read : Consumes streams.left streams.left_after stream
-  -- how many reads were made
+  -- the number of reads that were made
   pub made : ℕ
   pub most : made ≤ turns
   pub operated : Operates end driven turns made stream before after streams.left_after streams.written streams.written_after
@@ -158,6 +158,6 @@ pub record HasOperated (driven : List DrivenSlave) (turns : ℕ) (streams : Stre
   pub pass : PassView
   pub operated : HasOperatedBy driven turns streams (new_pass number 127) pass end
 
--- a session of an operator, of as many reads as this at most, with a line of which devices drive these slaves
+-- a session of an operator, of at most `turns` reads, with a line on which devices drive these slaves
 abbrev pub IsOperatorSession : List DrivenSlave → ℕ → Streams → SessionEnd → Type 0
 IsOperatorSession driven turns streams end = HasNoPass streams end ⊎ HasOperated driven turns streams end

@@ -4,7 +4,7 @@ use Rattle.std.specs.List.{AllZip}
 use Rattle.dp_shared.specs.Claims.{Claiming, Seated}
 use Rattle.dp_sessions.specs.declared.port.LineAndClaims.{LineAndClaims}
 
--- a seat at these claims, which holds nothing
+-- a seat at these claims that holds nothing
 abbrev pub IsSeatAt : Claiming → Seated → Type 0
 IsSeatAt claims seat = (seat.table ≡ claims.table) × (seat.view.held ≡ None)
 

@@ -40,22 +40,22 @@ octets_of outcome = []
 abbrev pub reply_in : Receipt → List ℕ
 reply_in receipt = octets_of receipt.outcome
 
--- the pass after receipts, one after another
+-- a pass after these receipts, in order
 abbrev pub with_receipts : PassView → List Receipt → PassView
 with_receipts pass [] = pass
 with_receipts pass (receipt ∷ receipts) = with_receipts (with_receipt pass receipt receipt.place) receipts
 
--- what a receipt says of its pass: without a place, that the line is halted; with one, that the pass was not answered so before
+-- what a receipt shows of its pass: without a place, the line is halted; with a place, the pass had not been answered that the line is halted
 pub record IsReceivedBy (pass : PassView) (receipt : Receipt) : Type 0 where
   pub halted : IfNone receipt.place ((receipt.facts ≡ None) × (receipt.outcome ≡ Silence rules.Halted))
   pub running : IfSome receipt.place (λ _. pass.saw_halt ≡ false)
 
--- .. of receipts, one after another
+-- .. for receipts in order
 abbrev pub AreReceivedBy : PassView → List Receipt → Type 0
 AreReceivedBy pass [] = ⊤
 AreReceivedBy pass (receipt ∷ receipts) = IsReceivedBy pass receipt × AreReceivedBy (with_receipt pass receipt receipt.place) receipts
 
--- a pass exchanged these pieces: one receipt for each frame, in the order of the stream, and those with a place are its next receipts
+-- a pass exchanged these pieces: one receipt for each frame, in the order of the stream; those with a place are its next receipts
 pub record AreExchanged (master : ℕ) (cuts : List Cut) (receipts : List Receipt) (before after : PassView) : Type 0 where
   pub events : map (λ receipt. receipt.event) receipts ≡ requests_in master cuts
   pub gained : after ≡ with_receipts before receipts
@@ -63,7 +63,7 @@ pub record AreExchanged (master : ℕ) (cuts : List Cut) (receipts : List Receip
 
 -- ---- what an accepted session does
 
--- texts are written one after another, and a write failed in the last of them, of which a prefix is out
+-- texts are written one after another, and a write failed in the last of them, of which a prefix is written
 pub record IsCutOff (old new : Option (List ℕ)) (texts : List (List ℕ)) : Type 0 where
   pub whole : List (List ℕ)
   pub last : List ℕ
@@ -105,7 +105,7 @@ Exchanges other master turns made stream before after left old new = ⊥
 abbrev pub acceptance : List ℕ
 acceptance = 0xE5 ∷ []
 
--- the acceptance can't be written, and nothing more is read; or it is written, and then the stream's frames are exchanged
+-- the acceptance cannot be written, and nothing more is read; or it is written, and then the stream's frames are exchanged
 abbrev pub Accepts : SessionEnd → ℕ → ℕ → ℕ → List ℕ → PassView → PassView → Option (List ℕ) → Option (List ℕ) → Option (List ℕ) → Type 0
 Accepts end master turns made stream before after left old new =
     ((end ≡ ends.WriteFault) × (stream ≡ []) × (after ≡ before) × WritesPrefix old new acceptance)
@@ -113,14 +113,14 @@ Accepts end master turns made stream before after left old new =
 
 -- ---- a session
 
--- what is known of the octets that are left to read, and of those that are written, before a session and after it
+-- what is known of the octets that are left to read, and of the octets that are written, before and after a session
 pub record Streams : Type 0 where
   pub left : Option (List ℕ)
   pub left_after : Option (List ℕ)
   pub written : Option (List ℕ)
   pub written_after : Option (List ℕ)
 
--- by a lent pass, a stream was read in at most `turns` reads, and its frames were exchanged
+-- by a given pass, a stream was read in at most `turns` reads, and its frames were exchanged
 pub record HasExchanged (turns : ℕ) (streams : Streams) (before after : PassView) (end : SessionEnd) : Type 0 where
   pub stream : List ℕ
   pub read : Consumes streams.left streams.left_after stream
@@ -128,7 +128,7 @@ pub record HasExchanged (turns : ℕ) (streams : Streams) (before after : PassVi
   pub most : made ≤ turns
   pub exchanged : Exchanges end before.address turns made stream before after streams.left_after streams.written streams.written_after
 
--- no octet came: the reader ended at once, the read failed, or no read may be made
+-- no octet was read: the reader ended at once, the read failed, or no read may be made
 abbrev pub EndsAtOnce : SessionEnd → ℕ → Option (List ℕ) → Type 0
 EndsAtOnce ends.EndOfInput turns left = IsAtEnd left
 EndsAtOnce ends.ReadFault turns left = Unit {0}
@@ -141,7 +141,7 @@ pub record CameNothing (turns : ℕ) (streams : Streams) (before after : ClaimVi
   pub unwritten : Keeps streams.written streams.written_after
   pub unclaimed : after ≡ before
 
--- why an address is refused, in this order: no master of the line; held by another seat; no pass, after which the address is free again
+-- why an address is refused, in this order: no master of the line; held by another seat; no pass, and the address is free again
 abbrev pub Refuses : SessionEnd → List ℕ → ℕ → ClaimView → ClaimView → Type 0
 Refuses ends.UnknownMaster masters address before after = (is_master_of masters address ≡ false) × (after ≡ before)
 Refuses ends.AddressHeld masters address before after = (is_master_of masters address ≡ true) × HasLost address before after
@@ -154,15 +154,15 @@ pub record IsRefused (masters : List ℕ) (streams : Streams) (before after : Cl
   pub refused : Refuses end masters address before after
   pub unwritten : Keeps streams.written streams.written_after
 
--- the first octet is the address of a master, which is claimed until the session ends; what follows is the stream that it exchanges, by a new
--- pass, which is this one at the end
+-- The first octet is the address of a master, which is claimed until the session ends. The octets after it are the stream, which a new pass
+-- exchanges; at the end the pass is this one.
 pub record IsAccepted (masters : List ℕ) (turns : ℕ) (streams : Streams) (before after : ClaimView) (pass : PassView) (end : SessionEnd) : Type 0 where
   pub address : ℕ
   pub stream : List ℕ
   pub read : Consumes streams.left streams.left_after (address ∷ stream)
   pub known : is_master_of masters address ≡ true
   pub freed : after ≡ released (claimed before address)
-  -- the first read returned the address; of the stream it may make the `behind` others, and it made `made`
+  -- the first read returned the address; the session may make `behind` more reads, and made `made` of them
   pub behind : ℕ
   pub first : turns ≡ behind + 1
   pub made : ℕ

@@ -22,7 +22,7 @@ entries_behind content before after = drop (length before.receipts) (under after
 abbrev pub reply_of : Entry → List ℕ
 reply_of entry = octets_of entry.outcome
 
--- the entries are those of the first frames of these pieces, in order; and of all, unless the pass was answered that the line is halted
+-- the entries are those of the first frames of these pieces, in order, and of all frames unless the pass was answered that the line is halted
 pub record AreOfFrames (master : ℕ) (cuts : List Cut) (saw_halt : Bool) (entries : List Entry) : Type 0 where
   pub later : List Event
   pub events : requests_in master cuts ≡ map (λ entry. entry.event) entries ++ later

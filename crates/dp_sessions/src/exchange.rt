@@ -1,4 +1,4 @@
-//! Exchanges of an accepted session, and sessions by a lent pass.
+//! Exchanges of an accepted session, and sessions that a given pass serves.
 
 ghost use Rattle.std.specs.Prelude.{◌≡◌, ◌≢◌, ◌+◌, ◌≤◌, ℕ, true, List, [], ◌∷◌, ◌++◌, length, map, OnErr, OnOk};
 ghost use Rattle.std.specs.List.{concat};
@@ -21,16 +21,16 @@ use dp_text::{WriteFault, write_whole};
 use std::io::{Read, Write};
 use std::sync::Wait;
 
-/// Octets that are read at once.
+/// The most octets that one read returns.
 const CHUNK: usize = 255;
 
 /// Serves a master by its pass, in at most `turns` reads, and returns how the session ended (own).
 ///
-/// The octets that are read are a stream of telegrams. Each frame of it is one exchange; its reply is written whole before
-/// the next frame is exchanged, and a silence writes nothing. A read that fails in any way ends the session.
+/// The octets that are read are a stream of telegrams. Each frame of it is one exchange. The reply is written whole
+/// before the next frame is exchanged; a silence writes nothing. A read that fails in any way ends the session.
 ///
-/// Afterwards the pass has one receipt more for each frame, in order, and the replies in these receipts are what was
-/// written. It waits for the gate and for the line, and takes no memory.
+/// Afterwards the pass has one more receipt for each frame, in order, and the replies in these receipts are what was
+/// written. The call waits for the gate and for the line, and allocates no memory.
 pub fn serve_pass<T: Wait, R: Read, W: Write, G: Gate>(
     rt: &T,
     reader: &mut R,
@@ -50,7 +50,7 @@ pub fn serve_pass<T: Wait, R: Read, W: Write, G: Gate>(
     serve_pass_by::<T, R, Uncounted, W, G>(rt, reader, writer, line, pass, gate, turns)
 }
 
-/// Serves as [`serve_pass`] does, with a bound on the reads of a reader that counts them: at most `turns`, at every end.
+/// Serves as [`serve_pass`] does. A reader that counts its reads counts at most `turns` of them, at every end.
 pub fn serve_pass_by<T: Wait, R: Read, C: Reads<R>, W: Write, G: Gate>(
     rt: &T,
     reader: &mut R,
@@ -123,8 +123,8 @@ pub(crate) fn accept<T: Wait, R: Read, C: Reads<R>, W: Write, G: Gate>(
     }
 }
 
-/// Octets come, and the frames that they complete are exchanged, each after the reply before it was
-/// written.
+/// Passes octets on, and exchanges each frame that they complete. Each reply is written before the next frame is
+/// exchanged.
 fn pass_octets<T: Wait, W: Write, G: Gate>(
     rt: &T,
     writer: &mut W,
@@ -211,7 +211,7 @@ fn report<T: Wait, G: Gate>(rt: &T, gate: &G, pass: &Pass, dropped: &mut Dropped
     }
 }
 
-/// The octets that an answer sends: those of a reply, and none otherwise.
+/// Returns the octets that an answer sends: those of a reply, and none otherwise.
 fn octets_in(outcome: &Outcome) -> &[u8]
     ensures { result.now ≡ octets_of outcome.now }
 {

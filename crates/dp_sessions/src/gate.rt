@@ -1,4 +1,4 @@
-//! What stands beside the exchanges of sessions.
+//! Calls that sessions make before and after their exchanges.
 
 use crate::dropped::DroppedOctets;
 use crate::session_end::SessionEnd;
@@ -7,17 +7,17 @@ use dp_line::{Op, Step};
 use dp_telegram::WholeFrame;
 use std::sync::Wait;
 
-/// What stands before each exchange of a session, and gets the results of sessions. It may hold the session up,
-/// and no other. Every call is outside every lock, by the number of the line and the address of the master; where
-/// a call isn't written out, nothing is done.
+/// What a session calls before and after each exchange and event, and at its end. A call may hold up its own session,
+/// and no other. No lock is held during a call. Unless stated otherwise, a call gives the number of the line and, for
+/// a master, its address. Each call except `enter` does nothing unless it is implemented.
 pub trait Gate {
     /// Called before each exchange of a master with a line.
     fn enter<W: Wait>(&self, rt: &W, line: u8, master: u8);
 
-    /// Called once a session has the address of a master, before E5 is written.
+    /// Called after a session has claimed the address of a master, before E5 is written.
     fn accepted<W: Wait>(&self, _rt: &W, _line: u8, _master: u8) {}
 
-    /// Called behind each exchange of a master, before its reply is written.
+    /// Called after each exchange of a master, before its reply is written.
     fn answered<W: Wait>(
         &self,
         _rt: &W,
@@ -31,21 +31,21 @@ pub trait Gate {
     /// are cut.
     fn dropped<W: Wait>(&self, _rt: &W, _line: u8, _master: u8, _dropped: &DroppedOctets) {}
 
-    /// Called where an accepted session has ended, before its address is free again.
+    /// Called when an accepted session has ended, before its address is free again.
     fn ended<W: Wait>(&self, _rt: &W, _line: u8, _master: u8, _end: SessionEnd) {}
 
-    /// Called where a session of a pool has ended that was not accepted: the place of its port among those of
-    /// the pool, and the address that it gave, if it gave one.
+    /// Called when a session of a pool has ended that was not accepted. `port` is the place of its port among those
+    /// of the pool; `address` is the address that it sent, if it sent one.
     fn turned_away<W: Wait>(&self, _rt: &W, _port: u8, _address: Option<u8>, _end: SessionEnd) {}
 
     /// Called before each event of an operator.
     fn operates<W: Wait>(&self, _rt: &W, _line: u8, _op: &Op) {}
 
-    /// Called behind each event of an operator, before its answer is written.
+    /// Called after each event of an operator, before its answer is written.
     fn operated<W: Wait>(&self, _rt: &W, _line: u8, _receipt: &Receipt) {}
 }
 
-/// A gate that lets everybody through at once.
+/// A gate that never holds a session up.
 #[derive(Clone, Copy, Debug, PartialEq, Eq)]
 pub struct OpenGate;
 

@@ -1,4 +1,4 @@
-//! Laws of sessions: each is the contract of a function without work.
+//! Laws of sessions. Each is the contract of a function that does no work.
 
 ghost use Rattle.std.specs.Prelude.{ℕ, List};
 ghost use Rattle.dp_line.specs.declared.description.LineSpec.{LineSpec};
@@ -17,9 +17,9 @@ ghost use Rattle.dp_devices.specs.declared.driven_slave.DrivenSlave.{DrivenSlave
 use dp_shared::laws::a_pass_has_its_entries;
 
 /// A session by a pass wrote the replies of the journal's entries under the number of the pass, in order. These are the
-/// entries of the first frames of the stream that it read, and of all frames unless the pass was answered that the line is
-/// halted. `fits` is for the journal of a closed line, which fits each of its passes; `rule` is for any time, by the rule of
-/// the line's lock.
+/// entries of the first frames of the stream that it read, and of all frames unless the pass was answered that the line
+/// is halted. `fits` is for the journal of a closed line, which fits each of its passes. `rule` is for any time, by the
+/// rule of the line's lock.
 pub fn a_session_has_its_entries()
     ensures fits { (content : Content) (turns : ℕ) (streams : Streams) (before after : PassView) (end : SessionEnd)
         → HasExchanged turns streams before after end → FitsPass content after
@@ -31,8 +31,9 @@ pub fn a_session_has_its_entries()
     a_pass_has_its_entries();
 }
 
-/// The same for an operator's session by a pass: each event of its lines left the next entry under the number of the pass,
-/// or was refused, and each look was answered by what the entries before it left.
+/// In an operator's session by a pass, each event of its lines left the next entry under the number of the pass, or was
+/// refused, and each look was answered from the entries before it. `fits` is for the journal of a closed line, which
+/// fits each of its passes. `rule` is for any time, by the rule of the line's lock.
 pub fn an_operator_has_its_entries()
     ensures fits { (content : Content) (driven : List DrivenSlave) (turns : ℕ) (streams : Streams) (before after : PassView) (end : SessionEnd)
         → HasOperatedBy driven turns streams before after end → FitsPass content after
@@ -44,11 +45,11 @@ pub fn an_operator_has_its_entries()
     a_pass_has_its_entries();
 }
 
-/// A session of a master that ended with this pass wrote the acceptance `E5`, and then the replies of the journal's entries
-/// under the number of the pass, in order. These are the entries of the first frames of the stream behind the address, and
-/// of all frames unless the pass was answered that the line is halted. `fits` is for the journal of a closed line, which fits
-/// each pass that [`close_with`](dp_shared::Line::close_with) was given; `rule` is for any time, by the rule of the line's
-/// lock.
+/// A session of a master that ended with this pass wrote the acceptance `E5`, and then the replies of the journal's
+/// entries under the number of the pass, in order. These are the entries of the first frames of the stream after the
+/// address, and of all frames unless the pass was answered that the line is halted. `fits` is for the journal of a
+/// closed line, which fits each pass that [`close_with`](dp_shared::Line::close_with) was given. `rule` is for any
+/// time, by the rule of the line's lock.
 pub fn a_master_has_its_entries()
     ensures fits { (content : Content) (masters : List ℕ) (turns : ℕ) (streams : Streams) (before after : ClaimView) (pass : PassView) (end : SessionEnd)
         → IsAccepted masters turns streams before after pass end → FitsPass content pass

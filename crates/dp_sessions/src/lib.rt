@@ -1,7 +1,7 @@
-//! Sessions with a line: those of masters ([`serve`]), which a pool of workers serves ([`run_pool`]), and those
-//! of operators ([`serve_operator`]); and the inputs that devices feed ([`next_inputs`]).
+//! Sessions of masters with a line ([`serve`]), which a pool of workers serves ([`run_pool`]); sessions of operators
+//! ([`serve_operator`]); and the inputs that devices give their slaves ([`next_inputs`]).
 //!
-//! A session comes to a [`Port`], by any reader and writer. Nothing here takes memory but what a thread takes.
+//! A session runs at a [`Port`], over any reader and writer. Only the start of a thread allocates memory.
 #![tactic(auto)]
 
 mod dropped;

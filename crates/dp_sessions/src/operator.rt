@@ -25,30 +25,30 @@ use dp_text::{Text, WriteFault, write_whole};
 use std::io::{Read, Write};
 use std::sync::Wait;
 
-/// Octets that are read at once.
+/// The most octets that one read returns.
 const CHUNK: usize = 256;
 
-/// Octets that are stored of a line: one more than a command may have, so that a line that is too long is noticed.
+/// The octets that are stored of a line: one more than a command may have, so that a line that is too long is noticed.
 const KEPT: usize = LONGEST_LINE + 1;
 
-/// What ends a line.
+/// The octet that ends a line.
 const LF: u8 = b'\n';
 
-/// A session of an operator with the line of a port, of at most so many reads. The line's description is
-/// that of the port. How it ended is the answer (own).
+/// Serves a session of an operator with the line of a port, in at most `turns` reads, and returns how it ended (own).
+/// The description `line` is that of the port's line.
 ///
-/// It has an operator's pass; where that is refused, the session ends with `NoPass`, and nothing is read or
-/// written. The octets are lines, each ended by LF; what is behind the last LF is dropped. Each line is
-/// answered by one line, which is written whole before the next line is done; an empty line, or one that
-/// begins with `#`, by nothing.
+/// The session has an operator's pass. If the pass is refused, the session ends with `NoPass`, and nothing is read or
+/// written. The octets are lines, each ended by LF; octets after the last LF are dropped. Each line is answered by one
+/// line, which is written whole before the next line is carried out. An empty line, or one that begins with `#`, is not
+/// answered.
 ///
-/// A line of more than 1,024 octets, without its LF, is answered `fault TooLong`, and one that is no command or
-/// not UTF-8 `fault NotACommand`. What the operator does is answered by its outcome, `owned M` by `owned` and
-/// ` A` for each slave of the master, oldest lock first, `show A` by the slave or `refused NoStation`, and
-/// `step` by `stepped N`: the devices fed their slaves, in ascending order of address, each as a look
-/// showed it just before, and N Inputs were recorded. A read that fails in any way ends the session.
+/// A line of more than 1,024 octets, without its LF, is answered `fault TooLong`. A line that is no command or not
+/// UTF-8 is answered `fault NotACommand`. An event is answered by its outcome; `owned M` by `owned` and ` A` for each
+/// slave of the master, oldest lock first; `show A` by the slave or `refused NoStation`; and `step` by `stepped N`. For
+/// `step` each device gives its slave its next input, in ascending order of address, computed from a look at the slave
+/// just before; N is the number of Inputs recorded. A read that fails in any way ends the session.
 ///
-/// At every end the pass is back. It waits for the line, and takes no memory.
+/// The pass is handed back at every end. The call waits for the line and allocates no memory.
 pub fn serve_operator<T: Wait, R: Read, W: Write>(
     rt: &T,
     reader: &mut R,
@@ -86,8 +86,8 @@ pub fn serve_operator_at<T: Wait, R: Read, W: Write, G: Gate>(
     session.end()
 }
 
-/// Serves as [`serve_operator_at`] does, with a bound on the reads of a reader that counts them (at most `turns`, at every
-/// end), and returns the pass that served the session with its end.
+/// Serves as [`serve_operator_at`] does, and returns the pass that served the session with its end. A reader that
+/// counts its reads counts at most `turns` of them, at every end.
 pub fn serve_operator_session<T: Wait, R: Read, C: Reads<R>, W: Write, G: Gate>(
     rt: &T,
     reader: &mut R,
@@ -117,11 +117,11 @@ pub fn serve_operator_session<T: Wait, R: Read, C: Reads<R>, W: Write, G: Gate>(
     Session::Accepted { end, spent }
 }
 
-/// Serves an operator by its pass, in at most `turns` reads, with the answers of [`serve_operator`], and returns how the
-/// session ended (own). The description is that of the line.
+/// Serves an operator by its pass, in at most `turns` reads, with the answers of [`serve_operator`], and returns how
+/// the session ended (own). The description is that of the line.
 ///
-/// Afterwards the pass has the receipts and looks of the lines that ended, in their order. It waits for the line, and takes
-/// no memory.
+/// Afterwards the pass has the receipts and looks of the lines that ended, in their order. The call waits for the line
+/// and allocates no memory.
 pub fn serve_operator_pass<T: Wait, R: Read, W: Write, G: Gate>(
     rt: &T,
     reader: &mut R,
@@ -152,8 +152,7 @@ pub fn serve_operator_pass<T: Wait, R: Read, W: Write, G: Gate>(
     )
 }
 
-/// Serves as [`serve_operator_pass`] does, with a bound on the reads of a reader that counts them: at most `turns`, at
-/// every end.
+/// Serves as [`serve_operator_pass`] does. A reader that counts its reads counts at most `turns` of them, at every end.
 pub fn serve_operator_pass_by<T: Wait, R: Read, C: Reads<R>, W: Write, G: Gate>(
     rt: &T,
     reader: &mut R,
@@ -178,7 +177,7 @@ pub fn serve_operator_pass_by<T: Wait, R: Read, C: Reads<R>, W: Write, G: Gate>(
     session.run::<T, R, C, W, G>(rt, reader, writer, line, pass, gate, turns)
 }
 
-/// A session under way: the slaves that devices drive, and the first octets of the line that hasn't ended.
+/// A session in progress: the slaves that devices drive, and the first octets of the line that has not ended.
 #[derive(Drop)]
 struct OperatorSession {
     driven: ArrayVec<DrivenSlave, MOST_DRIVEN>,
@@ -186,7 +185,7 @@ struct OperatorSession {
 }
 
 impl OperatorSession {
-    /// A session before anything came.
+    /// Returns a session that has read nothing yet.
     fn open(line: &LineSpec) -> OperatorSession
         ensures driven { result.driven.items ≡ all_driven line.now.slaves.items }
         ensures empty { result.begun.items ≡ [] }
@@ -197,7 +196,7 @@ impl OperatorSession {
         }
     }
 
-    /// Reads until so many reads were made, and answers each line that ends.
+    /// Makes at most `turns` reads, and answers each line that ends. Returns how the session ended.
     fn run<T: Wait, R: Read, C: Reads<R>, W: Write, G: Gate>(
         &mut self,
         rt: &T,
@@ -236,7 +235,7 @@ impl OperatorSession {
         SessionEnd::TurnLimit
     }
 
-    /// Octets come, and the lines that they end are answered, each after the answer before it was written.
+    /// Passes octets on, and answers each line that they end. Each answer is written before the next line is answered.
     fn pass_octets<T: Wait, W: Write, G: Gate>(
         &mut self,
         rt: &T,
@@ -265,7 +264,7 @@ impl OperatorSession {
         Ok(())
     }
 
-    /// An octet comes, and where it ends a line that is answered.
+    /// Takes one octet. An LF ends the line, which is then answered; any other octet is added to the line.
     fn take<T: Wait, W: Write, G: Gate>(
         &mut self,
         rt: &T,
@@ -293,7 +292,7 @@ impl OperatorSession {
         Ok(())
     }
 
-    /// The line has one octet more.
+    /// Appends an octet to the line, unless the line is too long already.
     fn keep(&mut self, octet: u8)
         ensures driven { self.new.driven ≡ self.old.driven }
         ensures begun { self.new.begun.items ≡ kept (self.old.begun.items ++ octet ∷ []) }
@@ -303,7 +302,7 @@ impl OperatorSession {
         }
     }
 
-    /// The line has ended: it is answered, and the answer is written.
+    /// Ends the line: answers it, and writes the answer.
     fn end_line<T: Wait, W: Write, G: Gate>(
         &mut self,
         rt: &T,

@@ -13,8 +13,8 @@ use dp_shared::{Line, Pass};
 use dp_text::{LineFault, OpLine, Text, read_line};
 use std::sync::Wait;
 
-/// Does what a line asks for, by an operator's pass, and makes the text the answer to it: none for an
-/// empty line or a comment. These are the slaves of the line that devices drive.
+/// Carries out a line by an operator's pass, and sets `text` to the answer: none for an empty line or a comment.
+/// `driven` are the slaves of the line that devices drive.
 pub(crate) fn answer_line<T: Wait, G: Gate>(
     rt: &T,
     line: &Line,
@@ -37,7 +37,7 @@ pub(crate) fn answer_line<T: Wait, G: Gate>(
     }
 }
 
-/// Makes the text the line `fault FAULT`.
+/// Sets the text to the line `fault FAULT`.
 fn set_fault(text: &mut Text, fault: LineFault)
     ensures { text.new ≡ fault_text fault }
 {
@@ -47,7 +47,7 @@ fn set_fault(text: &mut Text, fault: LineFault)
     text.push_str("\n");
 }
 
-/// Does what is asked for, and makes the text its answer.
+/// Carries out what is asked for, and sets `text` to the answer.
 fn operate<T: Wait, G: Gate>(
     rt: &T,
     line: &Line,
@@ -78,7 +78,7 @@ fn operate<T: Wait, G: Gate>(
     }
 }
 
-/// The devices feed these slaves, one after another; how many inputs were recorded.
+/// Gives these slaves the next inputs of their devices, one after another. Returns the number of inputs recorded.
 fn feed_each<T: Wait, G: Gate>(
     rt: &T,
     line: &Line,
@@ -102,8 +102,8 @@ fn feed_each<T: Wait, G: Gate>(
     recorded
 }
 
-/// The device of a slave feeds it, by its inputs and outputs as they are then; how many inputs were
-/// recorded, 0 or 1.
+/// Gives a slave the next input of its device, computed from the inputs and outputs of the slave at that moment.
+/// Returns the number of inputs recorded, 0 or 1.
 fn feed<T: Wait, G: Gate>(rt: &T, line: &Line, gate: &G, driven: DrivenSlave, pass: &mut Pass) -> u8
     requires ours { pass.old.table ≡ table_of line.now }
     requires operator { pass.old.view.address ≡ 127 }
@@ -116,7 +116,8 @@ fn feed<T: Wait, G: Gate>(rt: &T, line: &Line, gate: &G, driven: DrivenSlave, pa
     feed_as_seen(rt, line, gate, driven, &seen, pass)
 }
 
-/// What is seen of a slave is fed to it by its device; how many inputs were recorded, 0 or 1.
+/// Gives a slave the next input of its device, computed from what a look saw. Returns the number of inputs recorded,
+/// 0 or 1.
 fn feed_as_seen<T: Wait, G: Gate>(
     rt: &T,
     line: &Line,

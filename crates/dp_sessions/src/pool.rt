@@ -1,4 +1,4 @@
-//! A pool of workers, which serve sessions at the ports of a rack.
+//! A pool of workers that serve sessions at the ports of a rack.
 
 ghost use Rattle.std.specs.Prelude.{◌≡◌, ◌≤◌, All, IfErr, length, nat_lt};
 ghost use Rattle.std.specs.List.{AllZip};
@@ -23,16 +23,16 @@ use std::thread::Threads;
 pub struct Job<R, W> {
     /// The place of its port among those of the pool, from 0.
     pub port: u8,
-    /// Where its octets are read.
+    /// The reader of its octets.
     pub reader: R,
-    /// Where its octets are written.
+    /// The writer for its answers.
     pub writer: W,
 }
 
-/// What a worker serves sessions at, with a seat of its own. It stands for a port where threads start, since
-/// the check finds that threads may share a port only where nothing else is handed to them.
+/// Something at which a worker serves sessions, with a seat of its own. It stands for a port when threads start,
+/// because the checker proves that threads may share a port only if nothing else is passed to them.
 trait Serve {
-    /// The seat is one for this, and holds nothing.
+    /// The seat is one for this port, and holds nothing.
     ghost ours: { Self → Seated → Type 0 };
 
     fn serve<H: Wait, R: Read, W: Write, G: Gate>(
@@ -66,15 +66,15 @@ impl Serve for Port {
     }
 }
 
-/// Serves sessions by one worker for each list of seats, until every sender of jobs is gone: how many sessions
-/// were served, whatever their ends; the count stays at 2^32 - 1. A rack has 1 to 32 workers, and each has a
+/// Serves sessions with one worker for each list of seats until every sender of jobs is gone. Returns the number of
+/// sessions served, whatever their ends; the count saturates at 2^32 - 1. A rack has 1 to 32 workers, and each has a
 /// seat at every port, in the order of the ports (own).
 ///
-/// Each session is one of [`serve`](crate::serve), at the port of its job. A job whose port isn't there is
-/// dropped, and not counted. It waits for jobs and for its workers, and takes no memory but what a thread takes.
+/// Each session is one of [`serve`](crate::serve), at the port of its job. A job whose port does not exist is dropped
+/// and not counted. The call waits for jobs and for its workers. Only the start of a thread allocates memory.
 ///
-/// `NoThread` where the start of a worker is refused; the workers already started serve jobs until every sender
-/// is gone, and are joined first. `OutOfMemory` never comes: nothing here takes memory.
+/// Returns `NoThread` if a worker cannot be started. The workers that have started serve jobs until every sender is
+/// gone, and are joined first. Never returns `OutOfMemory`, because nothing here allocates memory.
 pub fn run_pool<
     H: Threads + Wait + Sync,
     R: Read + Send + Drop,
@@ -100,7 +100,7 @@ pub fn run_pool<
     }
 }
 
-/// Starts the workers and joins them. False: a start was refused.
+/// Starts the workers and joins them. Returns false if a worker could not be started.
 fn start_all<
     P: Serve + Sync,
     H: Threads + Wait + Sync,
@@ -161,7 +161,8 @@ fn work<P: Serve, H: Wait, R: Read + Drop, W: Write + Drop, G: Gate>(
     unreachable!()
 }
 
-/// Serves a job at its port, with the worker's seat there. False: its port isn't there, and the job is dropped.
+/// Serves a job at its port, with the worker's seat there. Returns false if there is no such port; the job is then
+/// dropped.
 fn serve_job<P: Serve, H: Wait, R: Read + Drop, W: Write + Drop, G: Gate>(
     rt: &H,
     ports: &[P],

@@ -4,8 +4,8 @@ use dp_shared::{Claims, Line};
 
 /// A line, and the claims of its masters' addresses.
 ///
-/// It is generic, since the check finds that threads may share it by the facts of its type parameters, and
-/// not where it would have to look into the types of a line.
+/// The type is generic, because the checker decides from the facts of the type parameters whether threads may share
+/// it. It could not decide this from the types of a line.
 #[derive(Drop)]
 pub struct LineAndClaims<L, C> {
     /// The line.
@@ -14,5 +14,5 @@ pub struct LineAndClaims<L, C> {
     pub claims: C,
 }
 
-/// Where sessions meet a line.
+/// The line at which sessions run, with its claims.
 pub type Port = LineAndClaims<Line, Claims>;

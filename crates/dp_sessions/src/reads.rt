@@ -8,10 +8,10 @@ use std::io::Read;
 
 /// How a session reads: by one call of [`Reads::read`] for each read, and in no other way.
 ///
-/// A client whose reader counts its reads implements this for it. Then the bound on reads in the clauses of
-/// [`serve_by`](crate::serve_by) and of the other calls with a `C: Reads<R>` is a bound on that count.
+/// A client whose reader counts its reads implements this trait for it. The bound on reads in the contracts of
+/// [`serve_by`](crate::serve_by) and of the other calls with a `C: Reads<R>` is then a bound on that count.
 pub trait Reads<R: Read> {
-    /// How many reads a reader has counted.
+    /// The number of reads that a reader has counted.
     ghost reads: { R → ℕ };
 
     /// Whether a read of the reader may have failed.

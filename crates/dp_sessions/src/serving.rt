@@ -18,17 +18,17 @@ use dp_telegram::is_station;
 use std::io::{Read, Write};
 use std::sync::Wait;
 
-/// A session of a master with the line of a port, of at most so many reads; a worker's seat at the port's
-/// claims serves it. How it ended is the answer (own).
+/// Serves a session of a master with the line of a port, in at most `turns` reads, and returns how it ended (own). A
+/// worker's seat at the port's claims serves it.
 ///
-/// The first octet is the master's address. An address that is no master of the line ends the session with
-/// `UnknownMaster`, then one that another seat holds with `AddressHeld`, then a refused pass with `NoPass`,
-/// and nothing is written. Otherwise E5 is written, and the octets after the address are a stream of
-/// telegrams. Each frame of it is one exchange; its reply is written whole before the next frame is
-/// exchanged, and a silence writes nothing. A read that fails in any way ends the session.
+/// The first octet is the master's address. The session ends with `UnknownMaster` if the address is no master of the
+/// line, then with `AddressHeld` if another seat holds it, then with `NoPass` if the pass is refused; nothing is
+/// written in these cases. Otherwise E5 is written, and the octets after the address are a stream of telegrams. Each
+/// frame of it is one exchange. The reply is written whole before the next frame is exchanged; a silence writes
+/// nothing. A read that fails in any way ends the session.
 ///
-/// At every end the pass is back and the seat holds nothing. It waits for the gate and for the line, and takes
-/// no memory.
+/// At every end the pass is handed back and the seat holds nothing. The call waits for the gate and for the line, and
+/// allocates no memory.
 pub fn serve<T: Wait, R: Read, W: Write, G: Gate>(
     rt: &T,
     reader: &mut R,
@@ -49,7 +49,7 @@ pub fn serve<T: Wait, R: Read, W: Write, G: Gate>(
     serve_by::<T, R, Uncounted, W, G>(rt, reader, writer, port, seat, gate, turns)
 }
 
-/// Serves as [`serve`] does, with a bound on the reads of a reader that counts them: at most `turns`, at every end.
+/// Serves as [`serve`] does. A reader that counts its reads counts at most `turns` of them, at every end.
 pub fn serve_by<T: Wait, R: Read, C: Reads<R>, W: Write, G: Gate>(
     rt: &T,
     reader: &mut R,
@@ -73,9 +73,9 @@ pub fn serve_by<T: Wait, R: Read, C: Reads<R>, W: Write, G: Gate>(
     session.end()
 }
 
-/// Serves as [`serve_by`] does, and returns the pass that served the session with its end. Once the line is closed,
+/// Serves as [`serve_by`] does, and returns the pass that served the session with its end. After the line is closed,
 /// [`Line::close_with`](dp_shared::Line::close_with) and the law
-/// [`a_master_has_its_entries`](crate::laws::a_master_has_its_entries) say of that pass which entries of the
+/// [`a_master_has_its_entries`](crate::laws::a_master_has_its_entries) state for that pass which entries of the
 /// journal the session wrote.
 pub fn serve_session<T: Wait, R: Read, C: Reads<R>, W: Write, G: Gate>(
     rt: &T,
@@ -124,7 +124,7 @@ pub fn serve_session<T: Wait, R: Read, C: Reads<R>, W: Write, G: Gate>(
     Session::Accepted { end, spent }
 }
 
-/// The first octet of a session, by one read; or how the session ends without one.
+/// Returns the first octet of a session, by one read, or how the session ends if there is none.
 fn first_octet<R: Read, C: Reads<R>>(reader: &mut R) -> Result<u8, SessionEnd>
     ensures reads { C.reads reader.new ≤ C.reads reader.old + 1 }
     ensures failed { IfErr result (λ end. end ≡ SessionEnd.ReadFault → C.failed reader.new ≡ true) }
@@ -139,7 +139,7 @@ fn first_octet<R: Read, C: Reads<R>>(reader: &mut R) -> Result<u8, SessionEnd>
     }
 }
 
-/// The pass of a master whose address the seat claims; or why the session is refused, and the seat holds
+/// Claims a master's address and opens its pass. Otherwise returns why the session is refused, and the seat holds
 /// nothing.
 fn admit<T: Wait>(
     rt: &T,
@@ -167,7 +167,7 @@ fn admit<T: Wait>(
     }
 }
 
-/// Claims the address of a master; or why the session is refused, and the seat holds nothing.
+/// Claims the address of a master. Otherwise returns why the session is refused, and the seat holds nothing.
 fn claim(claims: &Claims, seat: &mut WorkerSeat, address: u8) -> Result<(), SessionEnd>
     requires ours { seat.old.table ≡ claims.now.table }
     requires free { seat.old.view.held ≡ None }

@@ -9,14 +9,14 @@ use dp_shared::Spent;
 /// A session of a master or an operator that has ended, with the pass that served it (own).
 #[derive(Drop)]
 pub enum Session {
-    /// It was accepted, and its pass was handed back.
+    /// The session was accepted, and its pass was handed back.
     Accepted {
         /// How it ended.
         end: SessionEnd,
         /// The pass that served it.
         spent: Spent,
     },
-    /// It was not accepted, and no pass served it.
+    /// The session was not accepted, and no pass served it.
     TurnedAway {
         /// The address that a master sent, if it sent one.
         address: Option<u8>,

@@ -16,14 +16,14 @@ pub enum SessionEnd {
     AddressHeld,
     /// The address is no master of the line; nothing was written.
     UnknownMaster,
-    /// As many reads were made as the session may make.
+    /// The session made as many reads as it may make.
     TurnLimit,
     /// The line gave no pass; nothing was written.
     NoPass,
 }
 
 impl SessionEnd {
-    /// The number of the end, 1 to 7 (own).
+    /// Returns the number of the end, 1 to 7 (own).
     pub const fn code(self) -> u8
         ensures { result ≡ session_end_code self }
     {
@@ -38,7 +38,7 @@ impl SessionEnd {
         }
     }
 
-    /// Its name in texts (own).
+    /// Returns the name of the end in texts (own).
     pub const fn name(self) -> &'static str
         ensures { result.now ≡ session_end_name self }
     {

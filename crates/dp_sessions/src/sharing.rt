@@ -1,24 +1,24 @@
-//! What threads may share: each function is proved only where its argument may be.
+//! What threads may share: each function is proved only if threads may share its argument.
 
 use crate::port::Port;
 use dp_shared::{Claims, Line};
 
-/// A line.
+/// Shows that threads may share a line.
 pub fn a_line_is_shared(line: &Line) {
     is_shared(line);
 }
 
-/// The claims of a line.
+/// Shows that threads may share the claims of a line.
 pub fn claims_are_shared(claims: &Claims) {
     is_shared(claims);
 }
 
-/// A port.
+/// Shows that threads may share a port.
 pub fn a_port_is_shared(port: &Port) {
     is_shared(port);
 }
 
-/// Ports in a row.
+/// Shows that threads may share a slice of ports.
 pub fn ports_are_shared(ports: &[Port]) {
     is_shared(&ports);
 }

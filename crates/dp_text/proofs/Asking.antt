@@ -1,4 +1,4 @@
--- What the octets of a line ask for.
+-- What a line of octets asks for.
 use Rattle.std.proofs.Common.{◌≡◌, ◌≤◌, ℕ, Bool, true, false, List, length, nat_lt, Option, Some, None, Result, Ok, Err, ok_or, if◌then◌else◌, IsUtf8, refl, sym, ap, ◌∙◌, arith}
 use Rattle.std.specs.Str.{is_utf8}
 use Rattle.std.proofs.lemmas.Grind.{common_steps}

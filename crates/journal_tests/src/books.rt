@@ -1,4 +1,4 @@
-//! Books: what events tell, and the entries that they leave, packed and not.
+//! Books: the answers to events, and the entries that the events leave, packed and unpacked.
 
 use crate::described::{is_told, line};
 use dp_audit::{Book, Entry, Record};
@@ -7,10 +7,10 @@ use dp_text::{Text, event_in};
 use std::alloc::{AllocError, Global};
 use std::test::Fail;
 
-/// What parts an event from what it tells.
+/// The text between an event and its result.
 const ARROW: &str = " -> ";
 
-/// `PLACE EVENT | FACTS | OUTCOME`, `-` for no place.
+/// Returns `PLACE EVENT | FACTS | OUTCOME`, with `-` for no place.
 fn row_of(
     alloc: Global,
     place: Option<u32>,
@@ -33,7 +33,7 @@ fn row_of(
     Ok(format!(in alloc; "{row}")?)
 }
 
-/// Two books of one line: one answers by a receipt, and the other one where an answer lies.
+/// Two books of one line. One answers with a receipt, and the other writes its answer to memory of the caller.
 #[derive(Drop)]
 struct Desk {
     book: Book,
@@ -41,8 +41,8 @@ struct Desk {
 }
 
 impl Desk {
-    /// The event of a text comes to both books, which answer the same: the receipt, whom a halt in its stead
-    /// lets go, and how many entries there are then.
+    /// Gives the event of a text to both books, and checks that they answer the same. Returns the receipt, the slaves
+    /// that a halt in place of the event releases, and the number of entries afterwards.
     fn take(&mut self, alloc: Global, event: &str) -> Result<String, Fail> {
         let Some(event) = event_in(event.as_bytes()) else {
             return Err(Fail::new("no event"));
@@ -71,7 +71,7 @@ impl Desk {
         }
     }
 
-    /// The event of each row that has an arrow comes, and is told with what came of it.
+    /// Gives the books the event of each row that has an arrow. Returns each event with its result.
     fn take_rows(&mut self, alloc: Global, rows: &str) -> Result<String, Fail> {
         let mut told = String::new(alloc);
         for row in rows.lines() {
@@ -84,7 +84,7 @@ impl Desk {
     }
 }
 
-/// Two fresh books of a line.
+/// Opens two books of a line.
 fn fresh_desk(alloc: Global, line: &LineSpec) -> Result<Desk, Fail> {
     Ok(Desk {
         book: Book::open(alloc, line)?,
@@ -92,7 +92,7 @@ fn fresh_desk(alloc: Global, line: &LineSpec) -> Result<Desk, Fail> {
     })
 }
 
-/// The row of an entry, or `none`.
+/// Returns the row of an entry, or `none`.
 fn entry_of(alloc: Global, entry: Option<Entry>) -> Result<String, Fail> {
     match entry {
         None => Ok(format!(in alloc; "none")?),
@@ -106,7 +106,7 @@ fn entry_of(alloc: Global, entry: Option<Entry>) -> Result<String, Fail> {
     }
 }
 
-/// The hex digits of a record, or `none`.
+/// Returns the hex digits of a record, or `none`.
 pub(crate) fn record_of(alloc: Global, record: Option<&[u8]>) -> Result<String, AllocError> {
     match record {
         None => format!(in alloc; "none"),
@@ -114,7 +114,7 @@ pub(crate) fn record_of(alloc: Global, record: Option<&[u8]>) -> Result<String, 
     }
 }
 
-/// The line of the entry at a place, or `none`, by a record that had the first entry before.
+/// Returns the line of the entry at a place, or `none`, from a record into which the first entry was copied before.
 fn copied_of(alloc: Global, book: &Book, place: u32) -> Result<String, Fail> {
     let mut record = Record::blank();
     book.copy_record(1, &mut record);
@@ -127,7 +127,7 @@ fn copied_of(alloc: Global, book: &Book, place: u32) -> Result<String, Fail> {
     Ok(format!(in alloc; "{}", line.trim_end())?)
 }
 
-/// The entry at a place, which is that of the copied record too, and the record of it.
+/// Returns the entry at a place and its record. Checks that the copied record has the same entry.
 pub(crate) fn place_of(alloc: Global, book: &Book, place: u32) -> Result<String, Fail> {
     let entry = entry_of(alloc, book.entry(place))?;
     if entry != copied_of(alloc, book, place)? {
@@ -137,8 +137,8 @@ pub(crate) fn place_of(alloc: Global, book: &Book, place: u32) -> Result<String,
     Ok(format!(in alloc; "at {place}: {entry} = {record}\n")?)
 }
 
-/// The book: number, entries, places and whether it is halted; then what is at each place from 0 to behind the
-/// last entry, and at the greatest number.
+/// Returns the text of a book: number, entries, places and whether it is halted; then what is at each place from 0 to
+/// the one after the last entry, and at the greatest number.
 fn book_of(alloc: Global, book: &Book) -> Result<String, Fail> {
     let (number, count, capacity) = (book.number(), book.count(), book.capacity());
     let halted = book.state().is_halted();
@@ -150,8 +150,8 @@ fn book_of(alloc: Global, book: &Book) -> Result<String, Fail> {
     Ok(told)
 }
 
-/// The transcript of two fresh books of a line with masters 1 and 2: the events, and the book, which is the
-/// same of both.
+/// Checks the transcript of two new books of a line with masters 1 and 2: the events with their results, and then the
+/// text of the books, which is the same for both.
 fn books_tell(alloc: Global, capacity: u32, slaves: &[u8], transcript: &str) -> Result<(), Fail> {
     let mut desk = fresh_desk(alloc, &line(alloc, 1, capacity, &[1, 2], slaves)?)?;
     let mut told = desk.take_rows(alloc, transcript)?;
@@ -163,7 +163,7 @@ fn books_tell(alloc: Global, capacity: u32, slaves: &[u8], transcript: &str) -> 
     is_told(told, transcript)
 }
 
-/// What is refused takes no place, and the halt is recorded in the stead of the second request.
+/// A refused event takes no place, and the halt is recorded in place of the second request.
 #[test]
 fn halt_at_last_place(rt: HostRuntime) -> Result<(), Fail> {
     books_tell(
@@ -202,7 +202,7 @@ at 4294967295: none = none
     )
 }
 
-/// FDL status, first on a fresh line, and a tick of 10 units that lets nobody go.
+/// A request for the FDL status on a fresh line, and then a tick of 10 units that releases no slave.
 #[test]
 fn two_entries(rt: HostRuntime) -> Result<(), Fail> {
     books_tell(
@@ -223,7 +223,7 @@ at 4294967295: none = none
     )
 }
 
-/// The record of a mark at a slave that exchanges data with master 1.
+/// The record of a busy mark at a slave that exchanges data with master 1.
 #[test]
 fn packed_mark(rt: HostRuntime) -> Result<(), Fail> {
     books_tell(
@@ -246,7 +246,7 @@ at 4294967295: none = none
     )
 }
 
-/// The record of a Global_Control to all by master 1, who holds slaves 7 and 126: the first waits for its
+/// The record of a Global_Control to all by master 1, which holds slaves 7 and 126. Slave 7 waits for its
 /// configuration.
 #[test]
 fn packed_spread(rt: HostRuntime) -> Result<(), Fail> {
@@ -274,7 +274,7 @@ at 4294967295: none = none
     )
 }
 
-/// Why a book of a line isn't opened.
+/// Checks why a book of a line is not opened.
 fn refused(alloc: Global, capacity: u32, masters: &[u8], expected: &str) -> Result<(), Fail> {
     match Book::open(alloc, &line(alloc, 1, capacity, masters, &[5])?) {
         Ok(_) => Err(Fail::new("opened")),

@@ -1,11 +1,11 @@
-//! The lines of the tests, and how a test compares what it was told.
+//! The lines of the tests, and how a test compares a text.
 
 use arrayvec::ArrayVec;
 use dp_line::{Device, LineSpec, Lists, SlaveSpec};
 use std::alloc::Global;
 use std::test::Fail;
 
-/// The text that was told is the expected one; where it isn't, the failure is that text.
+/// Checks that a text is the expected one. Fails with the text if it is not.
 pub(crate) fn is_told(told: String, expected: &str) -> Result<(), Fail> {
     if told.as_str() == expected {
         Ok(())
@@ -14,7 +14,7 @@ pub(crate) fn is_told(told: String, expected: &str) -> Result<(), Fail> {
     }
 }
 
-/// A line of this number, of so many places, with these masters, and with slaves of two octets of inputs and of
+/// Returns a line with this number, `capacity` places, these masters, and slaves with two octets of inputs and two of
 /// outputs at these addresses.
 pub(crate) fn line(
     alloc: Global,

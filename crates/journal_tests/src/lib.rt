@@ -1,7 +1,8 @@
-//! Tests of a line's journal (`dp_audit`): its entries, packed, and its audit text, and nothing else.
+//! Tests of a line's journal (`dp_audit`): its entries, its packed entries and its audit text. This crate has only
+//! tests.
 //!
-//! Most tests are a transcript: events, each with what it has to tell behind an arrow, and the book that is
-//! left. A helper, proved once, plays the events and tells the transcript anew.
+//! Most tests are a transcript: events, each with its result after an arrow, and then the book. A helper, proved
+//! once, gives the events to a book and writes the transcript that is compared.
 #![tactic(auto)]
 
 #[cfg(test)]

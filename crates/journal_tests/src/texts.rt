@@ -1,4 +1,4 @@
-//! Audit texts that are checked.
+//! The check of audit texts.
 
 ghost use Rattle.std.specs.Prelude.{◌≡◌, None, IfOk};
 ghost use Rattle.dp_line.specs.World.{description_of, opening_fault};
@@ -9,7 +9,7 @@ use dp_line::LineSpec;
 use std::alloc::{AllocError, Global};
 use std::test::Fail;
 
-/// A line of so many places that a book can be opened of, with masters 1 and 2 and slave 5.
+/// Returns a line with `capacity` places, masters 1 and 2 and slave 5, of which a book can be opened.
 fn opened_line(alloc: Global, capacity: u32) -> Result<LineSpec, Fail>
     ensures { IfOk result (λ line. opening_fault (description_of line) ≡ None) }
 {
@@ -20,7 +20,7 @@ fn opened_line(alloc: Global, capacity: u32) -> Result<LineSpec, Fail>
     }
 }
 
-/// How many entries the text has, `legal N`, or what is wrong with it, and the number of that fault.
+/// Checks a text. The result is `legal N` with the number of entries, or the fault and its number.
 fn checks(alloc: Global, capacity: u32, text: &str, expected: &str) -> Result<(), Fail> {
     let line = opened_line(alloc, capacity)?;
     let told = match check_text(alloc, &line, text) {
@@ -30,7 +30,7 @@ fn checks(alloc: Global, capacity: u32, text: &str, expected: &str) -> Result<()
     is_told(told, expected)
 }
 
-/// Checks each of these texts, of a line of 1000 places.
+/// Checks each of these texts on a line with 1000 places.
 fn all_check(alloc: Global, texts: &[&str], expected: &str) -> Result<(), Fail> {
     for text in texts {
         checks(alloc, 1000, text, expected)?;
@@ -38,7 +38,7 @@ fn all_check(alloc: Global, texts: &[&str], expected: &str) -> Result<(), Fail> 
     Ok(())
 }
 
-/// The run of a master that locks the slave at address 5, configures it and exchanges data once.
+/// The journal of a master that locks the slave at address 5, configures it and exchanges data once.
 const RUN: &str = "\
 rack-audit 2 line 1
 1 in 5 aa55 | WaitPrm none | done
@@ -54,7 +54,7 @@ fn run_is_accepted(rt: HostRuntime) -> Result<(), Fail> {
     checks(rt.alloc(), 1000, "rack-audit 2 line 1\n", "legal 0")
 }
 
-/// What is said of the beginning of a text that ends with this octet, behind so many whole rows.
+/// Returns the expected result for the beginning of a text that ends with this octet, after `rows` whole lines.
 fn told_of_beginning(alloc: Global, last: u8, rows: u32) -> Result<String, AllocError> {
     if last == b'\n' {
         format!(in alloc; "legal {rows}")
@@ -63,8 +63,8 @@ fn told_of_beginning(alloc: Global, last: u8, rows: u32) -> Result<String, Alloc
     }
 }
 
-/// Each beginning of the text that ends with a row is accepted with the entries of that row and those above it; each
-/// other one is wrong in the row that it ends in.
+/// Checks each beginning of the text. If it ends with a whole line, it is accepted with the entries up to that line.
+/// Otherwise it is wrong in the line that it ends in.
 fn beginnings_check(alloc: Global, text: &str) -> Result<(), Fail> {
     let octets = text.as_bytes();
     let mut rows: u32 = 0;
@@ -175,7 +175,7 @@ fn halt_at_last_place(rt: HostRuntime) -> Result<(), Fail> {
     )
 }
 
-/// A text of version 3 is judged on the endless line, which has places behind the last one of the description.
+/// A text of version 3 is checked on the endless line, which has places after the last one of the description.
 #[test]
 fn endless_line_goes_on_behind_the_last_place(rt: HostRuntime) -> Result<(), Fail> {
     checks(
@@ -186,7 +186,7 @@ fn endless_line_goes_on_behind_the_last_place(rt: HostRuntime) -> Result<(), Fai
     )
 }
 
-/// Also that the text of a full book is accepted.
+/// Tests also that the text of a full book is accepted.
 #[test]
 fn halt_releases(rt: HostRuntime) -> Result<(), Fail> {
     checks(
@@ -211,7 +211,7 @@ rack-audit 2 line 1
     )
 }
 
-/// Whether a row is a header of audit texts of line 1, and of line 2.
+/// Checks whether a line of text is a header of audit texts of line 1, and of line 2.
 fn heads(alloc: Global, row: &str, expected: &str) -> Result<(), Fail> {
     let own = is_header_of(row.as_bytes(), &line(alloc, 1, 1000, &[1], &[5])?);
     let other = is_header_of(row.as_bytes(), &line(alloc, 2, 1000, &[1], &[5])?);

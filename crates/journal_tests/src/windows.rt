@@ -1,4 +1,4 @@
-//! Endless books: which entries they keep after each event, and when they have an audit text.
+//! Endless books: the entries that they have after each event, and when they have an audit text.
 
 use crate::books::{place_of, record_of};
 use crate::described::{is_told, line};
@@ -40,7 +40,7 @@ fn fresh_books(alloc: Global, capacity: u32) -> Result<Books, Fail> {
 }
 
 impl Books {
-    /// Both books take the event of an entry.
+    /// Gives the event of an entry to both books.
     fn take(&mut self, entry: &str) -> Result<(), Fail> {
         let Some((front, _)) = entry.split_once(" | ") else {
             return Err(Fail::new("no facts"));
@@ -57,8 +57,8 @@ impl Books {
         Ok(())
     }
 
-    /// What the endless book has: the number of entries, the number of forgotten entries, and the entry and its record
-    /// at each place from 0 to the one after the last entry.
+    /// Returns what the endless book has: the number of entries, the number of forgotten entries, and the entry and its
+    /// record at each place from 0 to the one after the last entry.
     fn kept(&self, alloc: Global) -> Result<String, Fail> {
         let (count, forgotten) = (self.endless.count(), self.endless.forgotten());
         let mut text = format!(in alloc; "{count} entries, {forgotten} forgotten\n")?;
@@ -68,8 +68,8 @@ impl Books {
         Ok(text)
     }
 
-    /// What the endless book must have after `count` events if it forgot the first `forgotten`: the entries are those of
-    /// the list, and their records are those of the ordinary book.
+    /// Returns what the endless book must have after `count` events if it forgot the first `forgotten`: the entries of
+    /// the list, and the records of the ordinary book.
     fn expected(&self, alloc: Global, count: u32, forgotten: u32) -> Result<String, Fail> {
         let mut text = format!(in alloc; "{count} entries, {forgotten} forgotten\n")?;
         for place in 0..count.saturating_add(2) {
@@ -92,7 +92,7 @@ impl Books {
     }
 }
 
-/// The entry of the list at a place, if there are `count` entries and the first `forgotten` are forgotten.
+/// Returns the entry of the list at a place, if there are `count` entries and the first `forgotten` are forgotten.
 fn listed(place: u32, count: u32, forgotten: u32) -> Option<&'static str> {
     if place == 0 || place > count || place <= forgotten {
         return None;
@@ -130,7 +130,7 @@ fn lots_of_three(rt: HostRuntime) -> Result<(), Fail> {
     keeps(rt.alloc(), 6, &[0, 0, 0, 0, 0, 0, 0, 3, 3, 3, 6, 6, 6])
 }
 
-/// What a book writes, and then how the writing ended.
+/// Returns what a book writes, and then how the writing ended.
 fn written(alloc: Global, book: &Book) -> Result<String, Fail> {
     let mut taken: Vec<u8> = Vec::new(alloc);
     let end = match book.write_text(&mut taken) {
@@ -160,7 +160,7 @@ rack-audit 3 line 1
 4 tick 4 | none | released
 written";
 
-/// That of an ordinary book.
+/// The audit text of the first four entries of an ordinary book.
 const FOUR: &str = "\
 rack-audit 2 line 1
 1 tick 1 | none | released

@@ -1,4 +1,4 @@
-//! Audit texts that are written, whole or not.
+//! The writing of audit texts, whole or not.
 
 use crate::described::{is_told, line};
 use dp_audit::Book;
@@ -7,7 +7,7 @@ use std::alloc::Global;
 use std::io::{self, ErrorKind, Write};
 use std::test::Fail;
 
-/// Takes 7 octets at a call, as long as there is room; then it fails, or takes none.
+/// A writer that takes at most 7 octets at each call, as long as there is room. Then it fails, or takes none.
 #[derive(Drop)]
 struct Narrow {
     room: usize,
@@ -31,7 +31,7 @@ impl Write for Narrow {
     }
 }
 
-/// A book of a line of this number, of so many places, with masters 1 and 2 and slave 5, behind these events.
+/// Returns a book after these events, of a line with this number, `capacity` places, masters 1 and 2 and slave 5.
 fn book_behind(alloc: Global, number: u8, capacity: u32, events: &str) -> Result<Book, Fail> {
     let mut book = Book::open(alloc, &line(alloc, number, capacity, &[1, 2], &[5])?)?;
     for event in events.lines() {
@@ -43,7 +43,7 @@ fn book_behind(alloc: Global, number: u8, capacity: u32, events: &str) -> Result
     Ok(book)
 }
 
-/// The audit text of the book is this one.
+/// Checks the audit text of a book after these events.
 fn writes(
     alloc: Global,
     number: u8,
@@ -57,7 +57,7 @@ fn writes(
     is_told(String::from_utf8(written)?, expected)
 }
 
-/// What a writer with so much room took, and then how the writing ended, with the number of the fault.
+/// Checks what a writer with this room took, and then how the writing ended, with the number of the fault.
 fn writes_into(
     alloc: Global,
     room: usize,
@@ -94,7 +94,7 @@ rack-audit 2 line 1
     )
 }
 
-/// A tick, a slave that is locked, and the halt that lets it go.
+/// A tick, a request that locks a slave, and the halt that releases it.
 const HALTED: &str = "tick 10\nreq 1 680c0c6885815d3d3e8802050b80a1019a16\nhalt\n";
 
 #[test]

@@ -1,10 +1,10 @@
 //! A Global_Control to all stations. All slaves have two octets of inputs and two of outputs.
 //!
-//! In these rows `68070768ff81463a3e20005e16` is Sync of master 1, the telegram that ends in `5f16` the
-//! same of master 2, and the one that ends in `6016` that of master 1 to the slaves of group 2;
-//! `8802050b80a101` are parameters that lock, with a watchdog of 100 ms, `8002050b80a101` the same without a
-//! watchdog, `a000000b80a101` such that lock with Sync_Req and without a watchdog, and `40000000000000` such that
-//! unlock.
+//! In these rows `68070768ff81463a3e20005e16` is Sync of master 1, the telegram that ends in `5f16` is Sync of master
+//! 2, and the one that ends in `6016` is Sync of master 1 to the slaves of group 2. `8802050b80a101` are parameters
+//! that lock, with a watchdog of 100 ms; `8002050b80a101` are the same parameters without a watchdog.
+//! `a000000b80a101` are parameters that lock with Sync_Req and without a watchdog. `40000000000000` are parameters
+//! that unlock.
 
 use crate::rows::plays;
 use std::test::Fail;
@@ -44,7 +44,7 @@ walk => 0
     )
 }
 
-/// Three of four watchdogs run out, so the broadcast visits the slave that is left.
+/// Three of four watchdogs expire, so the broadcast visits only the slave that is left.
 #[test]
 fn one_of_four_locks_stays(rt: HostRuntime) -> Result<(), Fail> {
     plays(

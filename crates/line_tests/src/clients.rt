@@ -1,5 +1,5 @@
-//! Clients of a line: what a program that takes events and asks concludes from the contracts of a line
-//! and its laws alone. The prover reads them, and nothing runs them.
+//! Clients of a line: what a program that lets a line take events, and looks at it, concludes from the contracts of
+//! the line and its laws only. The prover reads these functions, and nothing runs them.
 
 ghost use Rattle.std.specs.Prelude.{◌≡◌, ◌≢◌, ◌+◌, ℕ, List, [], ◌∷◌, length, true, false, None, Some, IfOk, option_map};
 ghost use Rattle.std.specs.List.{AllByRecursion};
@@ -33,14 +33,14 @@ use dp_line::laws::take_each;
 use dp_line::{Event, LineSpec, LineState, Op, OpenFault, SlaveView, Step};
 use std::alloc::Global;
 
-/// What was shown of a slave before an event, the answer, and what is shown of it then.
+/// What is shown of a slave before and after an event, and the answer to the event.
 #[derive(Drop)]
 pub struct Looks {
-    /// Before.
+    /// What is shown before the event.
     pub before: Option<SlaveView>,
     /// The answer.
     pub answer: Step,
-    /// After.
+    /// What is shown after the event.
     pub after: Option<SlaveView>,
 }
 
@@ -78,7 +78,7 @@ pub fn look_around(line: &mut LineState, event: &Event, address: u8) -> Looks
     }
 }
 
-/// Opens a line, lets it take events, and asks it twice, with events in between.
+/// Opens a line, lets it take events, and sends it a request twice, with events in between.
 pub fn ask_again(
     alloc: Global,
     spec: &LineSpec,
@@ -104,7 +104,8 @@ pub fn ask_again(
     Ok((first, line.take(request)))
 }
 
-/// Asks again after time has passed, in which a watchdog may have released the slave: the same octets come.
+/// Sends a request again after time has passed, in which a watchdog may have released the slave. The repeat gets the
+/// same octets.
 pub fn ask_again_after_time(
     alloc: Global,
     spec: &LineSpec,
@@ -126,7 +127,8 @@ pub fn ask_again_after_time(
     Ok(answers)
 }
 
-/// Opens a line and lets it take events: no master that its description does not name as a locker holds the slave.
+/// Opens a line and lets it take events. A master that the description does not name as a locker does not hold the
+/// slave.
 pub fn open_and_take(
     alloc: Global,
     spec: &LineSpec,
@@ -144,8 +146,8 @@ pub fn open_and_take(
     Ok(line)
 }
 
-/// Opens a line, and lets it take events and then a request: if this is a Chk_Cfg with the octets of a slave's second
-/// configuration, and it is done, the slave has as many inputs as that configuration.
+/// Opens a line, and lets it take events and then a request. If the request is a Chk_Cfg with the octets of a slave's
+/// second configuration and it is done, the slave has as many inputs as that configuration.
 pub fn configure(
     alloc: Global,
     spec: &LineSpec,
@@ -180,8 +182,8 @@ pub fn a_slave_is_sound_after_further_events()
     dp_line::bus_laws::each_slave_stays_sound();
 }
 
-/// Opens a line and takes events. After them, and after any further events, the outputs of a cleared slave are
-/// zero, as many as its shape has. So they stay zero until the slave is no longer cleared.
+/// Opens a line and takes events. After them, and after any further events, the outputs of a cleared slave are zero,
+/// as many as its shape has. They stay zero until the slave is no longer cleared.
 pub fn outputs_while_cleared(
     alloc: Global,
     spec: &LineSpec,
@@ -233,7 +235,7 @@ pub fn agrees_with_itself(line: &LineState)
     line.holders_are_masters();
 }
 
-/// A line and its answer to the last request.
+/// A line, and its answer to the last request.
 #[derive(Drop)]
 pub struct Asked {
     /// The line after the request.
@@ -242,11 +244,11 @@ pub struct Asked {
     pub answer: Step,
 }
 
-/// Opens two lines of one description. Both take a first request, after which its master holds a slave. Only the
-/// first line then takes a request of another master. Finally both take the same request of the holder.
+/// Opens two lines of one description. Both take a first request, after which its master holds a slave. Only the first
+/// line then takes a request of another master. Finally both take the same request of the holder.
 ///
-/// The other master's request makes no difference to the holder: by the last request it sees the same of the
-/// slave on both lines (`seen_by`), if the lines are not halted and do not meet their last places.
+/// The other master's request makes no difference to the holder: what it sees of the slave by the last request
+/// (`seen_by`) is equal on both lines, if the lines are not halted and do not meet their last places.
 pub fn ask_beside_another(
     alloc: Global,
     spec: &LineSpec,
@@ -284,7 +286,7 @@ pub fn ask_beside_another(
     ))
 }
 
-/// Asks for the list of an address that is no master's.
+/// Gets the list of an address that is no master's, which is empty.
 pub fn list_of_a_stranger(line: &LineState, address: u8) -> bool
     ensures { result ≡ true }
 {

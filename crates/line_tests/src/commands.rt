@@ -1,4 +1,4 @@
-//! What a line answers to a command, in text.
+//! The answers of a line to commands, as text.
 
 use crate::lines::octets_of;
 use arrayvec::ArrayVec;
@@ -6,14 +6,14 @@ use dp_line::{Event, LineState, Outcome, SlaveView, Step};
 use dp_text::{Text, Words, event_in, is_text, octet_in, octets_in, only_octet_in};
 use std::test::Fail;
 
-/// Puts the answer to a command behind `told`:
+/// Appends the answer to a command to `told`:
 ///
 /// - an event as a journal writes it, or `ask M A FC POINT HEX` for a request of a master to the point
 ///   of a slave, with SSAP 62: `PLACE | FACTS | OUTCOME`, as [`push_step`] writes it
-/// - `owned M` and `show A`: as an operator is told
+/// - `owned M` and `show A`: as an operator gets it
 /// - `seen A`: what `show` leaves out, as [`push_seen`] writes it
-/// - `count`: how many events are recorded, and `halted` where the line is
-/// - `walk`: how many slaves the last broadcast visited
+/// - `count`: the number of events recorded, and `halted` if the line is halted
+/// - `walk`: the number of slaves that the last broadcast visited
 pub(crate) fn answer(
     state: &mut LineState,
     command: &[u8],
@@ -40,7 +40,7 @@ pub(crate) fn answer(
     push_step(&state.take(&event_of(command)?), told)
 }
 
-/// The event of a text.
+/// Returns the event of a text.
 pub(crate) fn event_of(text: &[u8]) -> Result<Event, Fail> {
     let mut words = Words::new(text);
     match words.next() {
@@ -49,13 +49,13 @@ pub(crate) fn event_of(text: &[u8]) -> Result<Event, Fail> {
     }
 }
 
-/// The next word as a number from 0 to 255.
+/// Reads the next word as a number from 0 to 255.
 fn next_number(words: &mut Words<'_>) -> Result<u8, Fail> {
     let word = words.next().ok_or("a number")?;
     Ok(octet_in(word).ok_or("a number")?)
 }
 
-/// The request that `M A FC POINT HEX` names.
+/// Returns the request that `M A FC POINT HEX` names.
 fn asked(words: &mut Words<'_>) -> Result<Event, Fail> {
     let master = next_number(words)?;
     let slave = next_number(words)?;
@@ -72,7 +72,7 @@ fn asked(words: &mut Words<'_>) -> Result<Event, Fail> {
     Ok(Event::Request { master, octets })
 }
 
-/// Puts a text behind what is told, without the LF that it may end with.
+/// Appends a text, without the LF that it may end with.
 fn push(told: &mut Vec<u8>, text: &Text) -> Result<(), Fail> {
     let octets = match text.as_bytes() {
         [front @ .., b'\n'] => front,
@@ -82,8 +82,8 @@ fn push(told: &mut Vec<u8>, text: &Text) -> Result<(), Fail> {
     Ok(())
 }
 
-/// `PLACE | FACTS | OUTCOME`, PLACE being `-` where the event is not recorded. Where the halt was recorded
-/// instead, ` | released` with ` A` for each slave that had a holder stands behind.
+/// Appends `PLACE | FACTS | OUTCOME`; PLACE is `-` if the event is not recorded. If the halt was recorded instead,
+/// appends ` | released` with ` A` for each slave that had a holder.
 pub(crate) fn push_step(step: &Step, told: &mut Vec<u8>) -> Result<(), Fail> {
     let mut text = Text::new();
     match step.place {
@@ -104,22 +104,22 @@ pub(crate) fn push_step(step: &Step, told: &mut Vec<u8>) -> Result<(), Fail> {
     Ok(())
 }
 
-/// `owned` with ` A` for each slave of a master.
+/// Appends `owned` with ` A` for each slave of a master.
 fn push_owned(state: &LineState, master: u8, told: &mut Vec<u8>) -> Result<(), Fail> {
     let mut text = Text::new();
     text.set_owned(&state.owned_by(master));
     push(told, &text)
 }
 
-/// `show A STATE HOLDER in HEX out HEX wd N`.
+/// Appends `show A STATE HOLDER in HEX out HEX wd N`.
 fn push_shown(state: &LineState, address: u8, told: &mut Vec<u8>) -> Result<(), Fail> {
     let mut text = Text::new();
     text.set_show(&state.view(address));
     push(told, &text)
 }
 
-/// `since N` with ` sync` in sync mode, ` ext` and ` unread` for a diagnosis that is so, and the octets of
-/// its extended diagnosis in brackets.
+/// Appends `since N`, then ` sync` in sync mode, ` ext` if Ext_Diag is set, ` unread` if the diagnosis is unread, and
+/// the octets of the extended diagnosis in brackets.
 fn push_seen(slave: &SlaveView, told: &mut Vec<u8>) -> Result<(), Fail> {
     let mut text = Text::new();
     text.push_str("since ");
@@ -133,7 +133,7 @@ fn push_seen(slave: &SlaveView, told: &mut Vec<u8>) -> Result<(), Fail> {
     push(told, &text)
 }
 
-/// `N`, or `N halted`.
+/// Appends `N`, or `N halted`.
 fn push_count(state: &LineState, told: &mut Vec<u8>) -> Result<(), Fail> {
     let mut text = Text::new();
     text.push_number(state.count());
@@ -141,7 +141,7 @@ fn push_count(state: &LineState, told: &mut Vec<u8>) -> Result<(), Fail> {
     push(told, &text)
 }
 
-/// `N`.
+/// Appends `N`.
 fn push_walk(state: &LineState, told: &mut Vec<u8>) -> Result<(), Fail> {
     let mut text = Text::new();
     text.push_number(state.last_walk());

@@ -1,4 +1,4 @@
-//! Tests of a line, in rows of text: a command and, behind ` => `, what the line answers.
+//! Tests of a line, as rows of text: a command, ` => ` and the answer of the line.
 #![tactic(auto)]
 
 #[cfg(test)]

@@ -1,4 +1,4 @@
-//! Lines from their texts.
+//! Lines that texts describe.
 
 use arrayvec::ArrayVec;
 use dp_line::{Device, LineSpec, LineState, Lists, SlaveSpec};
@@ -7,7 +7,7 @@ use dp_text::{Words, number_in, octet_in, octets_in};
 use std::alloc::Global;
 use std::test::Fail;
 
-/// The octets of a word of hex digits, `-` for none.
+/// Returns the octets of a word of hex digits, `-` for none.
 pub(crate) fn octets_of(word: &[u8]) -> Result<Octets, Fail> {
     match word {
         b"-" => Ok(Octets::new()),
@@ -15,7 +15,7 @@ pub(crate) fn octets_of(word: &[u8]) -> Result<Octets, Fail> {
     }
 }
 
-/// A slave with Sync and Freeze, and this configuration.
+/// Returns a slave with Sync and Freeze, and this configuration.
 fn slave(address: u8, configuration: &[u8]) -> Result<SlaveSpec, Fail> {
     let mut cfg = ArrayVec::new();
     cfg.try_extend_from_slice(configuration)?;
@@ -37,7 +37,7 @@ fn slave(address: u8, configuration: &[u8]) -> Result<SlaveSpec, Fail> {
     })
 }
 
-/// The slaves at the addresses that are left, all with this configuration.
+/// Returns the slaves at the addresses that are left, all with this configuration.
 fn slaves(
     alloc: Global,
     addresses: &mut Words<'_>,
@@ -76,7 +76,7 @@ pub(crate) fn described_with(
     })
 }
 
-/// The line of this description, at its start.
+/// Opens the line of this description.
 pub(crate) fn opened(alloc: Global, text: &str) -> Result<LineState, Fail> {
     Ok(LineState::open(alloc, &described(alloc, text)?)?)
 }

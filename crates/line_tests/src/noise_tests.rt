@@ -1,4 +1,4 @@
-//! Noise: pseudo-random octets through a cutter and a line.
+//! Pseudo-random octets through a cutter and a line.
 
 ghost use Rattle.std.specs.Prelude.{◌<◌, length, OnOk};
 
@@ -8,8 +8,8 @@ use dp_telegram::{Cut, Cutter};
 use std::alloc::{AllocError, Global};
 use std::test::Fail;
 
-/// How many frames and how many dropped pieces 100,000 pseudo-random octets have, and how many of the frames
-/// are short acknowledgements, tokens of other stations and tokens of station 1: as a program counted that was
+/// The number of frames and of dropped pieces in 100,000 pseudo-random octets, and the number of frames that are
+/// short acknowledgements, tokens of other stations and tokens of station 1. They were counted by a program that was
 /// written from the printed rules and shares nothing with these crates.
 const FRAMES: usize = 686;
 
@@ -21,7 +21,7 @@ const FOREIGN_TOKENS: usize = 347;
 
 const OWN_TOKENS: usize = 3;
 
-/// Bits 16 to 23 of each state of a linear congruential generator.
+/// Returns bits 16 to 23 of each state of a linear congruential generator.
 fn pseudo_random(alloc: Global, count: usize) -> Result<Vec<u8>, AllocError> {
     let mut octets = Vec::new(alloc);
     let mut state: u32 = 1;
@@ -32,7 +32,7 @@ fn pseudo_random(alloc: Global, count: usize) -> Result<Vec<u8>, AllocError> {
     Ok(octets)
 }
 
-/// Hands out all pieces that the octets held begin with.
+/// Adds all pieces with which the octets held begin.
 fn hand_out(cutter: &mut Cutter, cuts: &mut Vec<Cut>) -> Result<(), AllocError>
     ensures { OnOk result (length cutter.new < 255) }
 {
@@ -42,7 +42,7 @@ fn hand_out(cutter: &mut Cutter, cuts: &mut Vec<Cut>) -> Result<(), AllocError>
     Ok(())
 }
 
-/// Feeds all octets, and hands out all pieces.
+/// Feeds all octets, and adds all pieces.
 fn pass(cutter: &mut Cutter, octets: &[u8], cuts: &mut Vec<Cut>) -> Result<(), AllocError>
     requires { length cutter.old < 255 }
     ensures { OnOk result (length cutter.new < 255) }
@@ -56,7 +56,7 @@ fn pass(cutter: &mut Cutter, octets: &[u8], cuts: &mut Vec<Cut>) -> Result<(), A
     Ok(())
 }
 
-/// The pieces of a stream that is fed in parts of this size.
+/// Returns the pieces of a stream that is fed in parts of this size.
 fn cuts(alloc: Global, stream: &[u8], size: usize) -> Result<Vec<Cut>, AllocError>
     requires { 0 < size }
 {
@@ -68,7 +68,7 @@ fn cuts(alloc: Global, stream: &[u8], size: usize) -> Result<Vec<Cut>, AllocErro
     Ok(cuts)
 }
 
-/// How many of the pieces are frames.
+/// Returns the number of pieces that are frames.
 fn frame_count(cuts: &[Cut]) -> usize {
     cuts.iter()
         .filter(|cut| matches!(cut, Cut::Frame { .. }))
@@ -86,7 +86,8 @@ fn any_pieces_give_equal_cuts(rt: HostRuntime) -> Result<(), Fail> {
     Ok(())
 }
 
-/// Master 1 sends each frame to the line, which records it and is silent: the rules, in order.
+/// Sends each frame to the line as master 1, checks that the line records it and is silent, and returns the rules in
+/// order.
 fn silences(alloc: Global, line: &mut LineState, cuts: &[Cut]) -> Result<Vec<Rule>, Fail> {
     let mut rules = Vec::new(alloc);
     for cut in cuts {
@@ -104,7 +105,7 @@ fn silences(alloc: Global, line: &mut LineState, cuts: &[Cut]) -> Result<Vec<Rul
     Ok(rules)
 }
 
-/// How many of the rules are this one.
+/// Returns how many of the rules are this one.
 fn count_of(rules: &[Rule], wanted: Rule) -> usize {
     rules.iter().filter(|rule| **rule == wanted).count()
 }

@@ -1,7 +1,7 @@
-//! What the operator of a line does. Each slave has two octets of inputs and two of outputs.
+//! Events of the operator of a line. Each slave has two octets of inputs and two of outputs.
 //!
-//! In these rows `8802050b80a101` are parameters that lock, with a watchdog of 100 ms, and 60 is the point
-//! of Slave_Diag.
+//! In these rows `8802050b80a101` are parameters that lock, with a watchdog of 100 ms, and 60 is the point of
+//! Slave_Diag.
 
 ghost use Rattle.std.specs.Prelude.{◌<◌};
 
@@ -107,7 +107,7 @@ const ADDRESSES: &str = "20 21 22 23 24 25 26 27 28 29 30 31 32 33 34 35 \
     52 53 54 55 56 57 58 59 60 61 62 63 64 65 66 67 \
     68 69 70 71 72 73 74 75 76 77 78 79 80 81 82 83";
 
-/// Each of 16 masters locks a slave, with a watchdog of 100 ms: master M the one at 20 + 4 M + `nth`.
+/// Lets each of 16 masters lock a slave, with a watchdog of 100 ms. Master M locks the slave at 20 + 4 M + `nth`.
 fn lock_each(alloc: Global, state: &mut LineState, nth: u8) -> Result<(), Fail>
     requires { nth < 4 }
 {
@@ -119,8 +119,8 @@ fn lock_each(alloc: Global, state: &mut LineState, nth: u8) -> Result<(), Fail>
     Ok(())
 }
 
-/// 16 masters hold four slaves each, and one tick releases all 64. Then each list is empty forwards, as
-/// `owned` shows. It is empty backwards too: a list that kept its end would not show the next lock.
+/// 16 masters hold four slaves each, and one tick releases all 64. Then each list is empty forwards, as `owned`
+/// shows. It is empty backwards too: a list that still had its end would not show the next lock.
 #[test]
 fn mass_release(rt: HostRuntime) -> Result<(), Fail> {
     let alloc = rt.alloc();

@@ -1,8 +1,7 @@
 //! Requests of masters, and descriptions that are refused.
 //!
-//! In these rows `8802050b80a101` are parameters that lock, with a watchdog of 100 ms, and
-//! `40000000000000` such that unlock; 58 is the point of Global_Control, 60 of Slave_Diag, 61 of Set_Prm
-//! and 62 of Chk_Cfg.
+//! In these rows `8802050b80a101` are parameters that lock, with a watchdog of 100 ms, and `40000000000000` are
+//! parameters that unlock. 58 is the point of Global_Control, 60 of Slave_Diag, 61 of Set_Prm and 62 of Chk_Cfg.
 
 use crate::commands::{event_of, push_step};
 use crate::lines::{described, opened};
@@ -78,7 +77,7 @@ count => 2 halted
     )
 }
 
-/// Each of four slaves answers master 2, which names no SSAP, with its own address.
+/// Each of four slaves answers master 2 with its own address. The request names no SSAP.
 #[test]
 fn each_slave_by_its_address(rt: HostRuntime) -> Result<(), Fail> {
     plays(
@@ -159,7 +158,7 @@ ask 2 5 46 58 2000 => 7 | DataExch 1 | silence NotHolder
     )
 }
 
-/// Slave 5 of a line that answers these rows is in all the slave of one that answers the other rows.
+/// Checks that slave 5 of a line that answers `rows` is equal to slave 5 of a line that answers `other_rows`.
 fn leave_one_slave(alloc: Global, rows: &str, other_rows: &str) -> Result<(), Fail> {
     let mut state = opened(alloc, "1000 2111 5")?;
     play(alloc, &mut state, rows)?;
@@ -172,8 +171,8 @@ fn leave_one_slave(alloc: Global, rows: &str, other_rows: &str) -> Result<(), Fa
     }
 }
 
-/// The holder of a slave gets the same reply, and the slave is the same, with the requests of another master
-/// and without them.
+/// The holder of a slave gets the same reply with and without the requests of another master, and the slave is the
+/// same.
 #[test]
 fn two_worlds(rt: HostRuntime) -> Result<(), Fail> {
     leave_one_slave(
@@ -202,7 +201,7 @@ show 5 => show 5 DataExch 1 in aa55 out 1234 wd 9
     )
 }
 
-/// The events of a text, one in each line.
+/// Returns the events of a text, one in each line.
 fn events_of(alloc: Global, text: &str) -> Result<Vec<Event>, Fail> {
     let mut events = Vec::new(alloc);
     for line in text.lines() {
@@ -211,8 +210,8 @@ fn events_of(alloc: Global, text: &str) -> Result<Vec<Event>, Fail> {
     Ok(events)
 }
 
-/// After other events the headline tells this answer to one, no slave of master 1, and what is shown of
-/// slave 6.
+/// Checks [`headline`] after other events: the answer to one event, that master 1 holds no slave, and what is shown
+/// of slave 6.
 fn is_headline(
     alloc: Global,
     state: &mut LineState,
@@ -249,7 +248,7 @@ fn halt_lets_go(rt: HostRuntime) -> Result<(), Fail> {
     play(alloc, &mut state, "count => 4 halted")
 }
 
-/// Neither is a line opened of the description nor is it one that can be: `FAULT CODE` says why.
+/// Checks that a description is refused with `FAULT CODE`, both by its own check and by opening a line.
 fn is_refused(alloc: Global, description: &str, wanted: &str) -> Result<(), Fail> {
     let line = described(alloc, description)?;
     let fault = line.fault().ok_or("no fault")?;
@@ -265,7 +264,7 @@ fn is_refused(alloc: Global, description: &str, wanted: &str) -> Result<(), Fail
     same(told, wanted.as_bytes())
 }
 
-/// Each description is refused as its row `DESCRIPTION => FAULT CODE` says.
+/// Checks that each description is refused as its row `DESCRIPTION => FAULT CODE` says.
 fn are_refused(alloc: Global, rows: &str) -> Result<(), Fail> {
     for row in rows.lines() {
         let (description, wanted) = row.split_once(" => ").ok_or("no row")?;

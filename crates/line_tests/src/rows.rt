@@ -1,4 +1,4 @@
-//! Playing rows of commands and answers.
+//! Runs rows of commands and expected answers.
 
 use crate::commands::answer;
 use crate::lines::opened;
@@ -6,7 +6,7 @@ use dp_line::LineState;
 use std::alloc::Global;
 use std::test::Fail;
 
-/// The texts are equal; the fault is the one that is told.
+/// Compares two texts. Fails with the text `told` if they differ.
 pub(crate) fn same(told: Vec<u8>, wanted: &[u8]) -> Result<(), Fail> {
     if told.as_slice() == wanted {
         Ok(())
@@ -15,7 +15,7 @@ pub(crate) fn same(told: Vec<u8>, wanted: &[u8]) -> Result<(), Fail> {
     }
 }
 
-/// The line answers each command as its row `COMMAND => ANSWER` says, one after another.
+/// Gives the line the command of each row `COMMAND => ANSWER`, in order, and compares the answer.
 pub(crate) fn play(alloc: Global, state: &mut LineState, rows: &str) -> Result<(), Fail> {
     for row in rows.lines() {
         let (command, wanted) = row.split_once(" => ").ok_or("no row")?;
@@ -26,7 +26,7 @@ pub(crate) fn play(alloc: Global, state: &mut LineState, rows: &str) -> Result<(
     Ok(())
 }
 
-/// So does the line of this description, at its start.
+/// Opens the line of this description, and runs these rows on it. See [`play`].
 pub(crate) fn plays(alloc: Global, description: &str, rows: &str) -> Result<(), Fail> {
     play(alloc, &mut opened(alloc, description)?, rows)
 }

@@ -1,17 +1,17 @@
-//! What came of a call.
+//! The result of a call.
 
-/// What came of a call.
+/// The result of a call.
 #[derive(Clone, Copy, Debug, PartialEq, Eq)]
 pub(crate) enum Answer {
-    /// It succeeded, with all that it has to answer and to write.
+    /// The call succeeded, and answered and wrote all that it has to.
     Whole,
-    /// It answered that memory, or a thread, was refused; what it wrote is the beginning of the whole.
+    /// The call returned that memory, or a thread, was refused; what it wrote is the beginning of the whole.
     Refused,
-    /// It was refused, and wrote what isn't the beginning of the whole.
+    /// The call was refused, and what it wrote is not the beginning of the whole.
     NoBeginning,
-    /// It answered something else.
+    /// The call returned something else.
     Other,
-    /// What it takes could not be prepared, and it was not made.
+    /// The arguments could not be prepared, and the call was not made.
     Unprepared,
     /// There is no such call.
     NoCall,

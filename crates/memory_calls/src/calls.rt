@@ -1,4 +1,4 @@
-//! The calls that take memory, but for the pool.
+//! The calls that allocate memory, except the pool.
 
 ghost use Rattle.std.specs.Prelude.{◌≡◌, None};
 ghost use Rattle.dp_line.specs.World.{description_of, opening_fault};
@@ -13,7 +13,7 @@ use dp_shared::{Claims, ClaimsFault, Line};
 use rack_file::{RackFault, read_rack};
 use std::alloc::Global;
 
-/// Makes the call of this word.
+/// Makes the call with this word.
 pub(crate) fn made(alloc: Global, line: &LineSpec, word: &str) -> Answer
     requires { opening_fault (description_of line.now) ≡ None }
 {
@@ -32,7 +32,7 @@ pub(crate) fn made(alloc: Global, line: &LineSpec, word: &str) -> Answer
     }
 }
 
-/// What came of opening something.
+/// Returns the result of opening something.
 fn opened<T: Drop>(ended: Result<T, OpenFault>) -> Answer {
     match ended {
         Ok(_) => Answer::Whole,
@@ -100,7 +100,7 @@ fn check_run(alloc: Global) -> Answer {
     }
 }
 
-/// A call was refused that wrote this.
+/// Returns the result of a call that was refused and wrote this.
 pub(crate) fn refused(written: &Written) -> Answer {
     if written.is_beginning() {
         Answer::Refused

@@ -1,4 +1,4 @@
-//! The line, the rack and the texts that the calls take.
+//! The line, the rack and the texts that are passed to the calls.
 
 ghost use Rattle.std.specs.Prelude.{◌≡◌, [], ◌∷◌, true, false, IfOk, None};
 ghost use Rattle.dp_line.specs.World.{description_of, opening_fault};
@@ -48,10 +48,10 @@ rack-audit 2 line 1
 1 req 1 6805056885816d3c3eed16 | WaitPrm none | reply 680b0b688185083e3c020500ff80a1af16 Done
 ";
 
-/// What is written of this text.
+/// What is written for this text.
 pub(crate) const VERDICT: &[u8] = b"legal 1\n";
 
-/// Line 1, with masters 1 and 2 and slave 5.
+/// Returns line 1, with masters 1 and 2 and slave 5.
 pub(crate) fn described(alloc: Global) -> Result<LineSpec, AllocError>
     ensures { IfOk result (λ line. opening_fault (description_of line) ≡ None) }
 {
@@ -68,7 +68,7 @@ pub(crate) fn described(alloc: Global) -> Result<LineSpec, AllocError>
     })
 }
 
-/// A slave of two octets of inputs and of outputs.
+/// Returns a slave with two octets of inputs and two of outputs.
 fn slave() -> SlaveSpec
     ensures { result ≡ record {
       address = 5;

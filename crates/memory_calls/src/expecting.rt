@@ -7,14 +7,14 @@ use std::sync::atomic::Ordering::SeqCst;
 /// What was written.
 #[derive(Drop)]
 pub(crate) struct Written {
-    /// Octets that were the next ones of the whole.
+    /// The number of octets that were the next ones of the whole.
     taken: AtomicU64,
-    /// Pieces that weren't.
+    /// The number of pieces that were not.
     wrong: AtomicU64,
 }
 
 impl Written {
-    /// Nothing yet.
+    /// Returns a record of nothing written yet.
     pub(crate) fn nothing() -> Written {
         Written {
             taken: AtomicU64::new(0),
@@ -22,27 +22,27 @@ impl Written {
         }
     }
 
-    /// It is the beginning of the whole.
+    /// Returns whether what was written is the beginning of the whole.
     pub(crate) fn is_beginning(&self) -> bool {
         self.wrong.load(SeqCst) == 0
     }
 
-    /// It is the whole.
+    /// Returns whether what was written is the whole.
     pub(crate) fn is_whole(&self, whole: &[u8]) -> bool {
         self.is_beginning() && self.taken.load(SeqCst) == whole.len() as u64
     }
 }
 
-/// Takes the octets of the whole in their order, and no others.
+/// A writer that accepts the octets of the whole in their order, and no others.
 #[derive(Drop)]
 pub(crate) struct Expecting<'a> {
-    /// What is still to come.
+    /// The octets that are still expected.
     left: &'a [u8],
     written: &'a Written,
 }
 
 impl<'a> Expecting<'a> {
-    /// A writer for this whole, which notes what is written.
+    /// Returns a writer for this whole, which records what is written.
     pub(crate) fn new(whole: &'a [u8], written: &'a Written) -> Expecting<'a> {
         Expecting {
             left: whole,

@@ -1,5 +1,6 @@
-//! Makes one of the calls that take memory, by its word, and the same call again where memory was refused to it. What
-//! came of it is told by the exit status alone, since that takes no memory; `tests/memory-calls.sh` refuses the memory.
+//! Makes the call that a word names, one of those that allocate memory, and makes it again if memory was refused to it.
+//! The result is given by the exit status only, because that allocates no memory. `tests/memory-calls.sh` refuses the
+//! memory.
 #![tactic(auto)]
 
 ghost use Rattle.std.specs.Prelude.{◌≡◌, None};
@@ -17,22 +18,22 @@ use dp_line::LineSpec;
 use std::alloc::Global;
 use std::process::ExitCode;
 
-/// No call has this word.
+/// No call has the word.
 const NO_CALL: u8 = 2;
 
-/// The call answered that memory, or a thread, was refused; and when it was made again it succeeded.
+/// The call returned that memory, or a thread, was refused, and it succeeded when it was made again.
 const REFUSED_ONCE: u8 = 3;
 
-/// What the call takes couldn't be prepared.
+/// The arguments of the call could not be prepared.
 const UNPREPARED: u8 = 5;
 
-/// Another answer came.
+/// The call returned something else.
 const OTHER: u8 = 6;
 
-/// The call was refused, and when it was made again it didn't succeed.
+/// The call was refused, and it did not succeed when it was made again.
 const REFUSED_AGAIN: u8 = 7;
 
-/// What a refused call wrote isn't the beginning of what the whole call writes.
+/// What a refused call wrote is not the beginning of what the whole call writes.
 const NO_BEGINNING: u8 = 8;
 
 fn main(rt: HostRuntime) -> ExitCode {
@@ -53,7 +54,7 @@ fn main(rt: HostRuntime) -> ExitCode {
     ExitCode::from(status)
 }
 
-/// Makes the call of this word, and where it was refused once more: the exit status.
+/// Makes the call with this word, and makes it again if it was refused. Returns the exit status.
 fn status_of(alloc: Global, line: &LineSpec, word: &str) -> u8
     requires { opening_fault (description_of line.now) ≡ None }
 {
@@ -63,7 +64,7 @@ fn status_of(alloc: Global, line: &LineSpec, word: &str) -> u8
     }
 }
 
-/// The exit status where the first call answers so, and isn't made again.
+/// Returns the exit status for this result of the first call, which is not made again.
 fn status_at_once(answer: Answer) -> u8 {
     match answer {
         Answer::Whole => 0,
@@ -75,7 +76,7 @@ fn status_at_once(answer: Answer) -> u8 {
     }
 }
 
-/// The exit status where a call that was refused answers so when it is made again.
+/// Returns the exit status for this result of the second call, after the first was refused.
 fn status_behind(again: Answer) -> u8 {
     match again {
         Answer::Whole => REFUSED_ONCE,

@@ -1,4 +1,4 @@
-//! The pool of workers: two of them at one port, and a session.
+//! The pool of workers: two workers at one port, and a session.
 
 ghost use Rattle.std.specs.Prelude.{◌≡◌, ◌∷◌, [], IfOk, None};
 ghost use Rattle.dp_line.specs.World.{description_of, opening_fault};
@@ -41,7 +41,7 @@ struct Place {
     ghost fourth_is_ours: { IsSeatAt port.claims fourth },
 }
 
-/// A fresh place at the line of this description.
+/// Opens a line and its claims by this description, with four seats.
 fn fresh_place(alloc: Global, spec: &LineSpec) -> Result<Place, AllocError>
     requires { opening_fault (description_of spec.now) ≡ None }
 {
@@ -58,7 +58,7 @@ fn fresh_place(alloc: Global, spec: &LineSpec) -> Result<Place, AllocError>
     })
 }
 
-/// The claims of a line, and four seats.
+/// Opens the claims of a line, with four seats.
 fn four_seats(
     alloc: Global,
     spec: &LineSpec,
@@ -76,7 +76,7 @@ fn four_seats(
     Ok((claims, first, second, third, fourth))
 }
 
-/// A list of this alone.
+/// Returns a list of this element only.
 fn alone<T: Drop>(alloc: Global, first: T) -> Result<Vec<T>, AllocError>
     ensures { IfOk result (λ v. v.items ≡ first ∷ []) }
 {
@@ -85,7 +85,7 @@ fn alone<T: Drop>(alloc: Global, first: T) -> Result<Vec<T>, AllocError>
     Ok(list)
 }
 
-/// A list of these two.
+/// Returns a list of these two elements.
 fn both<T: Drop>(alloc: Global, first: T, second: T) -> Result<Vec<T>, AllocError>
     ensures { IfOk result (λ v. v.items ≡ first ∷ second ∷ []) }
 {
@@ -95,7 +95,7 @@ fn both<T: Drop>(alloc: Global, first: T, second: T) -> Result<Vec<T>, AllocErro
     Ok(list)
 }
 
-/// A channel that has the one session at the first port, and no sender any more.
+/// Returns a channel that has the one session at the first port, and no sender any more.
 fn one_job<'a, H: Wait>(
     rt: &H,
     alloc: Global,
@@ -113,7 +113,7 @@ fn one_job<'a, H: Wait>(
     }
 }
 
-/// Runs the pool, and where a start was refused once more at the same port: the exit status.
+/// Runs the pool, and runs it again at the same port if a start was refused. Returns the exit status.
 pub(crate) fn status<H: Threads + Wait + Sync>(
     rt: &H,
     alloc: Global,
@@ -146,7 +146,7 @@ pub(crate) fn status<H: Threads + Wait + Sync>(
     }
 }
 
-/// What came of a pool that ended so, when this was written.
+/// Returns the result of a pool that ended so, after this was written.
 fn answer_of(ended: Result<u32, PoolFault>, written: &Written) -> Answer {
     match ended {
         Ok(1) if written.is_whole(ANSWERED) => Answer::Whole,

@@ -1,18 +1,18 @@
-//! How a client ends early.
+//! Why a client ends early.
 
 use dp_cause::Cause;
 
-/// What kept a client from its work.
+/// Why a client ended early.
 #[derive(Clone, Copy)]
 pub enum ClientFault {
-    /// The port can't be connected to.
+    /// The client cannot connect to the port.
     CannotConnect(Cause),
-    /// The connection has ended before the input has, or before a line of it was answered.
+    /// The connection ended before the input did, or before a line of the input was answered.
     PortEnded,
-    /// The input can't be read.
+    /// The input cannot be read.
     CannotRead(Cause),
-    /// An answer can't be written.
+    /// An answer cannot be written.
     WriteFault,
-    /// Memory or a thread was refused.
+    /// Out of memory, or a thread could not be started.
     OutOfMemory,
 }

@@ -1,4 +1,4 @@
-//! Lines that come from two sides, handed on by a thread for each.
+//! Lines from two sides, each passed on by a thread of its own.
 
 use crossbeam_channel::{Receiver, Sender};
 use dp_cause::Cause;
@@ -6,10 +6,10 @@ use std::alloc::Global;
 use std::io::{BufRead, BufReader, ErrorKind, Read};
 use std::sync::Wait;
 
-/// What ends a line.
+/// The octet that ends a line.
 pub(crate) const LF: u8 = b'\n';
 
-/// Where something comes from.
+/// The side that something comes from.
 #[derive(Clone, Copy, PartialEq, Eq)]
 pub(crate) enum Side {
     /// Standard input.
@@ -18,30 +18,31 @@ pub(crate) enum Side {
     Port,
 }
 
-/// What comes.
+/// What was read.
 #[derive(Drop)]
 pub(crate) enum Taken {
-    /// A line with its LF; the last one of the input may lack it.
+    /// A line with its LF; the last line of the input may lack it.
     Line(Vec<u8>),
-    /// Nothing more comes.
+    /// The end of the side.
     End,
-    /// It can't be read, for this reason.
+    /// The side cannot be read, for this reason.
     Fault(Cause),
-    /// Memory was refused.
+    /// Out of memory.
     OutOfMemory,
 }
 
-/// What comes from one side.
+/// Something that was read from a side.
 #[derive(Drop)]
 pub(crate) struct Incoming {
     /// The side.
     pub(crate) side: Side,
-    /// What comes from it.
+    /// What was read from it.
     pub(crate) taken: Taken,
 }
 
-/// Hands on the lines of a side, until it ends or nobody takes them; where lines are asked for, one for each time.
-/// Behind a line that lacks its LF the side has ended, though a terminal may be read again.
+/// Passes on the lines of a side until the side ends or nobody receives them. If there is a channel `asked`, passes
+/// on one line for each message on it. A line without an LF is the last one, even if more could be read from a
+/// terminal.
 pub(crate) fn hand_on<H: Wait + Drop, R: Read + Drop>(
     rt: H,
     alloc: Global,
@@ -70,7 +71,8 @@ pub(crate) fn hand_on<H: Wait + Drop, R: Read + Drop>(
     }
 }
 
-/// The next line, or the end; the port ends each row by an LF, so one that lacks it is cut off.
+/// Returns the next line, or the end. The port ends each line by an LF, so a line of the port without one was cut off
+/// and counts as the end.
 fn next_line<R: Read + Drop>(alloc: Global, side: Side, lines: &mut BufReader<R>) -> Taken {
     let mut line = Vec::new(alloc);
     match lines.read_until(LF, &mut line) {
@@ -85,7 +87,7 @@ fn next_line<R: Read + Drop>(alloc: Global, side: Side, lines: &mut BufReader<R>
 }
 
 impl Taken {
-    /// It is a line with its LF.
+    /// Returns whether this is a line with its LF.
     fn is_whole_line(&self) -> bool {
         match self {
             Taken::Line(line) => is_whole(line),
@@ -94,12 +96,12 @@ impl Taken {
     }
 }
 
-/// The line has its LF.
+/// Returns whether the line has its LF.
 fn is_whole(line: &[u8]) -> bool {
     line.last() == Some(&LF)
 }
 
-/// The octets of a line without its LF.
+/// Returns the octets of a line without its LF.
 pub(crate) fn without_end(line: &[u8]) -> &[u8] {
     match line {
         [octets @ .., LF] => octets,

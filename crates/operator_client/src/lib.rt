@@ -1,8 +1,8 @@
-//! A client of the operator port of a line that is served: lines of standard input, and time and steps by the clock, go
-//! to it, and its answers come back.
+//! A client of the operator port of a line that is served. It sends lines of standard input to the port, and ticks and
+//! steps by the clock, and writes the answers.
 //!
-//! What is sent when, and which answers are shown, is decided by `dp_operate`, and proved there. What threads,
-//! sockets and the clock do here is tested.
+//! The crate `dp_operate` decides what is sent when and which answers are shown, and proves it. Tests show what
+//! threads, sockets and the clock do here.
 #![tactic(auto)]
 
 mod fault;

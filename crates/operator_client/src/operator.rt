@@ -1,4 +1,4 @@
-//! An operator at hand.
+//! The operator client.
 
 use crate::fault::ClientFault;
 use crate::incoming::{Incoming, LF, Side, Taken, hand_on, without_end};
@@ -15,28 +15,28 @@ use std::thread;
 use std::thread::Threads;
 use std::time::{Clock, Duration, Instant};
 
-/// How many things that came wait to be looked at, at most.
+/// The most items that were read and wait to be handled.
 const WAITING: usize = 4;
 
-/// After how many milliseconds without any answer the operator is told what it waits for.
+/// The milliseconds without any answer after which the client reports what it waits for.
 const PATIENCE: u64 = 2_000;
 
-/// How many milliseconds behind the end of the port the end of the input counts as before it: that of a file is
-/// read only once its last line is answered.
+/// The milliseconds for which the client waits for the end of the input after the end of the port. An end within that
+/// time counts as before the end of the port, because the end of a file is read only after its last line is answered.
 const LATE: u64 = 100;
 
-/// What is sent where, and how often.
+/// The port that a client sends to, and how often it sends ticks and steps.
 #[derive(Clone, Copy)]
 pub struct Operation {
     /// The operator port of the line, on this machine.
     pub port: u16,
-    /// Milliseconds from tick to tick, 10 or more; none is sent without them.
+    /// The milliseconds from tick to tick, 10 or more; if None, no tick is sent.
     pub tick: Option<u32>,
-    /// Milliseconds from step to step, 1 or more; none is sent without them.
+    /// The milliseconds from step to step, 1 or more; if None, no step is sent.
     pub step: Option<u32>,
 }
 
-/// What an answer is awaited to.
+/// The kind of request whose answer is awaited.
 #[derive(Clone, Copy, PartialEq, Eq)]
 enum Asked {
     /// A line of the input.
@@ -47,23 +47,24 @@ enum Asked {
     Step,
 }
 
-/// Where the input stands.
+/// The state of the input.
 #[derive(Clone, Copy, PartialEq, Eq)]
 enum Input {
-    /// No line of it was asked for.
+    /// No line was requested.
     Resting,
-    /// A line was asked for, and hasn't come.
+    /// A line was requested and has not come.
     Asked,
-    /// It has ended.
+    /// The input has ended.
     Ended,
 }
 
-/// Sends lines of the input to a port of this machine, and ticks and steps by the clock, each once the one before is
-/// answered, and writes the answers: each one to a line, and those to ticks and steps that tell something. It ends
-/// with the input, or, with ticks or steps, with the port.
+/// Sends lines of the input to a port of this machine, and ticks and steps by the clock, each after the one before
+/// was answered. Writes each answer to a line, and an answer to a tick or step if it is news (see [`is_news`]). Ends
+/// with the input or, if ticks or steps are sent, with the port.
 ///
-/// `CannotConnect` where nothing listens at the port; `PortEnded` where the connection ends before the input, or
-/// before a line is answered; `CannotRead` of the input; `WriteFault`; `OutOfMemory` also where a thread is refused.
+/// Returns `CannotConnect` if nothing listens at the port, `PortEnded` if the connection ends before the input or
+/// before a line is answered, `CannotRead` if the input cannot be read, `WriteFault` if an answer cannot be written,
+/// and `OutOfMemory` if memory or a thread is refused.
 pub fn operate<
     H: Net<Stream = TcpStream> + Threads + Wait + Clock + Log + Copy + Send + 'static,
     R: Read + Send + Drop + 'static,
@@ -97,7 +98,7 @@ pub fn operate<
     operator.run(output)
 }
 
-/// A connection to a port of this machine, to be written and to be read.
+/// Connects to a port of this machine, and returns the connection twice, to write to it and to read from it.
 fn connect<N: Net<Stream = TcpStream> + Wait>(
     net: &N,
     port: u16,
@@ -107,7 +108,7 @@ fn connect<N: Net<Stream = TcpStream> + Wait>(
         Err(error) => return Err(Cause::from_error(&error)),
     };
     match (stream.local_addr(), stream.peer_addr()) {
-        // Without a listener, the system may connect a socket at that port with itself.
+        // If nothing listens at that port, the system may connect a socket with itself.
         (Ok(own), Ok(other)) if own == other => return Err(Cause::NobodyListens),
         (Ok(_), Ok(_)) => {}
         (Err(error), _) | (_, Err(error)) => return Err(Cause::from_error(&error)),
@@ -121,7 +122,7 @@ fn connect<N: Net<Stream = TcpStream> + Wait>(
     }
 }
 
-/// A connection to a port of this machine. A call that a signal interrupted is made again.
+/// Connects to a port of this machine. Repeats a call that a signal interrupted.
 fn connect_once<N: Net<Stream = TcpStream> + Wait>(net: &N, port: u16) -> io::Result<TcpStream> {
     for _ in net.forever() {
         match TcpStream::connect(net, (Ipv4Addr::LOCALHOST, port)) {
@@ -132,7 +133,7 @@ fn connect_once<N: Net<Stream = TcpStream> + Wait>(net: &N, port: u16) -> io::Re
     unreachable!()
 }
 
-/// Starts the threads that read the input, a line each time that one is asked for, and the answers.
+/// Starts the thread that reads the input, one line for each request, and the thread that reads the answers.
 fn listen<
     H: Threads + Wait + Copy + Send + 'static,
     R: Read + Send + Drop + 'static,
@@ -157,7 +158,7 @@ fn listen<
     Ok((ask, incoming))
 }
 
-/// Starts the thread that reads a side.
+/// Starts the thread that reads one side. Returns `OutOfMemory` if memory or the thread is refused.
 fn read_on<H: Threads + Wait + Copy + Send + 'static, R: Read + Send + Drop + 'static>(
     rt: H,
     alloc: Global,
@@ -176,7 +177,7 @@ fn read_on<H: Threads + Wait + Copy + Send + 'static, R: Read + Send + Drop + 's
     }
 }
 
-/// An operator under way.
+/// A client at work.
 #[derive(Drop)]
 struct Operator<H: Copy> {
     rt: H,
@@ -188,10 +189,10 @@ struct Operator<H: Copy> {
     ask: Sender<()>,
     incoming: Receiver<Incoming>,
     input: Input,
-    /// A line that has come, and isn't sent.
+    /// A line that was read and has not been sent.
     line: Option<Vec<u8>>,
     awaited: Option<Asked>,
-    /// An answer has come, or what is waited for is told.
+    /// Whether an answer has come, or the client has reported what it waits for.
     is_served: bool,
     /// The last answers to a tick and to a step.
     ticked: Vec<u8>,
@@ -199,7 +200,7 @@ struct Operator<H: Copy> {
 }
 
 impl<H: Wait + Clock + Log + Copy> Operator<H> {
-    /// Sends and takes what comes, until it ends.
+    /// Sends, and handles what is read, until the client ends.
     fn run<W: Write>(&mut self, output: &mut W) -> Result<(), ClientFault> {
         let rt = self.rt;
         for _ in rt.forever() {
@@ -210,7 +211,7 @@ impl<H: Wait + Clock + Log + Copy> Operator<H> {
         unreachable!()
     }
 
-    /// Sends what can be sent, or takes what comes next; whether all is done.
+    /// Sends what can be sent, or handles what is read next. Returns whether the client has ended.
     fn go_on<W: Write>(&mut self, output: &mut W) -> Result<bool, ClientFault> {
         let moment = self.moment();
         if self.awaited.is_none() {
@@ -231,7 +232,7 @@ impl<H: Wait + Clock + Log + Copy> Operator<H> {
         }
     }
 
-    /// The moment, in milliseconds from the start; a clock that can't be read stands still.
+    /// Returns the milliseconds since the start, or 0 if the clock cannot be read.
     fn moment(&self) -> u64 {
         let Some(start) = self.start else {
             return 0;
@@ -242,7 +243,7 @@ impl<H: Wait + Clock + Log + Copy> Operator<H> {
         }
     }
 
-    /// Sends what is due by the clock; whether all is done.
+    /// Sends what is due by the clock. Returns whether the client has ended.
     fn send_due(&mut self, due: Due) -> Result<bool, ClientFault> {
         self.awaited = match due {
             Due::Tick(_) => Some(Asked::Tick),
@@ -254,7 +255,7 @@ impl<H: Wait + Clock + Log + Copy> Operator<H> {
         }
     }
 
-    /// Sends a line of the input, with an LF; whether all is done.
+    /// Sends a line of the input with an LF. Returns whether the client has ended.
     fn send_line(&mut self, mut line: Vec<u8>) -> Result<bool, ClientFault> {
         if without_end(&line).len() == line.len() && line.push(LF).is_err() {
             return Err(ClientFault::OutOfMemory);
@@ -265,7 +266,7 @@ impl<H: Wait + Clock + Log + Copy> Operator<H> {
         self.send(&line)
     }
 
-    /// Sends octets; whether all is done, since the port has ended.
+    /// Sends octets. Returns whether the client has ended, because the port has.
     fn send(&mut self, octets: &[u8]) -> Result<bool, ClientFault> {
         match self.stream.write_all(octets) {
             Ok(()) => Ok(false),
@@ -273,14 +274,15 @@ impl<H: Wait + Clock + Log + Copy> Operator<H> {
         }
     }
 
-    /// Asks for a line of the input, where none is asked for and it hasn't ended.
+    /// Requests a line of the input, unless one is requested already or the input has ended.
     fn ask_for_line(&mut self) {
         if self.input == Input::Resting && self.ask.send(&self.rt, ()).is_ok() {
             self.input = Input::Asked;
         }
     }
 
-    /// What comes next, if anything comes before something is due.
+    /// Returns what is read next, or None if something is due before that. If no answer has come for [`PATIENCE`]
+    /// milliseconds, logs a warning, once, and returns None.
     fn receive(&mut self, moment: u64) -> Option<Incoming> {
         let wait = match self.awaited {
             None => self.schedule.wait(moment),
@@ -299,7 +301,7 @@ impl<H: Wait + Clock + Log + Copy> Operator<H> {
         came
     }
 
-    /// Takes what came; whether all is done.
+    /// Handles what was read. Returns whether the client has ended.
     fn take<W: Write>(&mut self, incoming: Incoming, output: &mut W) -> Result<bool, ClientFault> {
         let Incoming { side, taken } = incoming;
         match (side, taken) {
@@ -319,7 +321,7 @@ impl<H: Wait + Clock + Log + Copy> Operator<H> {
         }
     }
 
-    /// Writes an answer, where it tells something; all isn't done.
+    /// Writes an answer, if it is to be shown. Always returns false: the client has not ended.
     fn show<W: Write>(&mut self, row: Vec<u8>, output: &mut W) -> Result<bool, ClientFault> {
         self.is_served = true;
         let asked = self.awaited.take();
@@ -344,7 +346,8 @@ impl<H: Wait + Clock + Log + Copy> Operator<H> {
         Ok(false)
     }
 
-    /// The port has ended: all is done where each line of the input is answered and the input has ended too.
+    /// Handles the end of the port: the client has ended if each line of the input is answered and the input has
+    /// ended too. Otherwise returns `PortEnded`.
     fn end_of_port(&mut self) -> Result<bool, ClientFault> {
         if self.line.is_some() || self.awaited == Some(Asked::Line) || !self.input_has_ended() {
             return Err(ClientFault::PortEnded);
@@ -353,7 +356,8 @@ impl<H: Wait + Clock + Log + Copy> Operator<H> {
         Ok(true)
     }
 
-    /// The input has ended, or does now.
+    /// Returns whether the input has ended. Waits at most [`LATE`] milliseconds for each item that may come before
+    /// its end.
     fn input_has_ended(&mut self) -> bool {
         self.ask_for_line();
         if self.input == Input::Ended {

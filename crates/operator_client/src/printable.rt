@@ -1,10 +1,10 @@
-//! Answers as they may be printed on a terminal.
+//! Answers in a form that may be printed on a terminal.
 
 use crate::incoming::LF;
 use std::alloc::{AllocError, Global};
 
-/// Returns an answer with an LF. Each octet that isn't printable ASCII is escaped by its number in hex, as `\x1b`, since a port
-/// may send what controls a terminal. Memory may be refused.
+/// Returns an answer with an LF. Each octet that is not printable ASCII is escaped by its number in hex, as `\x1b`,
+/// because a port may send control sequences of a terminal. Returns an error if memory is refused.
 pub(crate) fn printable(alloc: Global, answer: &[u8]) -> Result<Vec<u8>, AllocError> {
     let mut text = Vec::new(alloc);
     for octet in answer {

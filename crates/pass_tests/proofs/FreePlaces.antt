@@ -17,7 +17,7 @@ inside [] i x at = absurd cc
 inside (y ∷ ys) zero x at = omega arith
 inside (y ∷ ys) (suc i) x at = let rest = inside ys i x at in omega (arith, rest)
 
--- a number that stands at no place
+-- a number that is at no place
 never : (n : ℕ) (numbers : List ℕ) → ((index : ℕ) → get_elem? numbers index ≡ some n → ⊥) → times n numbers ≡ 0
 never n [] none = refl
 never n (number ∷ numbers) none = by (never n numbers (λ index at. none (suc index) at)) (cases_eq number n)
@@ -28,7 +28,7 @@ never n (number ∷ numbers) none = by (never n numbers (λ index at. none (suc 
         let skipped : cond (number == n) 1 0 + times n numbers ≡ 0 + times n numbers = ap (λ b. cond b 1 0 + times n numbers) (ne_eqb number n not) in
         omega (arith, skipped, rest)
 
--- no entry is the halt
+-- no entry is the halt at the last place
 pub none_halted : (closed : Content) → IsHistory closed → IsNumbered closed → length closed.book.entries < closed.book.opening.capacity → times 0 closed.numbers ≡ 0
 none_halted closed history numbered free = never 0 closed.numbers (λ index at.
     let last = (numbered index 0 at).0.0 refl in
@@ -36,7 +36,7 @@ none_halted closed history numbered free = never 0 closed.numbers (λ index at.
     let long = history.long in
     omega (arith, last, within, long, free))
 
--- what holds of all looks of a pass holds of its last one
+-- what holds for all looks of a pass holds for the last one
 of_last : {A : Type 0} (P : A → Type 0) (xs : List A) (x : A) → AllByRecursion P (xs ++ x ∷ []) → P x
 of_last P [] x all = all.0
 of_last P (y ∷ ys) x all = of_last P ys x all.1
@@ -44,13 +44,13 @@ of_last P (y ∷ ys) x all = of_last P ys x all.1
 pub of_look : (P : Look → Type 0) (pass after : PassView) (look : Look) → after ≡ with_look pass look → AllByRecursion P after.looks → P look
 of_look P pass after look is all = of_last P pass.looks look (subst (λ (view : PassView). AllByRecursion P view.looks) is all)
 
--- what the law `the_passes_have_all_entries` says of this journal
+-- the law `the_passes_have_all_entries` for this journal
 abbrev pub Counts : Content → Type 0
 Counts closed =
     (passes : List PassView) → IsHistory closed → IsNumbered closed → AllByRecursion (IsPassOf closed) passes → AllDiffer (map (λ pass. pass.number) passes)
     → length passes ≡ closed.last → length closed.book.entries ≡ sum_by (λ pass. length pass.receipts) passes + times 0 closed.numbers
 
--- two passes are all that were opened, and the last place is free
+-- only two passes were opened, and the last place is free
 pub two_have_all : (closed : Content) (pass other : PassView) → Counts closed → IsHistory closed → IsNumbered closed → IsPassOf closed pass → IsPassOf closed other
     → AllDiffer (pass.number ∷ other.number ∷ []) → closed.last ≡ 2 → length closed.book.entries < closed.book.opening.capacity
     → length closed.book.entries ≡ length pass.receipts + length other.receipts

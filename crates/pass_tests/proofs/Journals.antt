@@ -16,7 +16,7 @@ use Rattle.dp_sessions.specs.Sessions.{IsAccepted, Streams}
 use Rattle.dp_sessions.specs.Tied.{HasAnsweredMaster}
 use Rattle.pass_tests.specs.Threads.{IsInJournal, IsServed, passes_in}
 
--- what the law `a_master_has_its_entries` says of this journal
+-- the law `a_master_has_its_entries` for this journal
 abbrev pub Fits : Content → Type 0
 Fits closed =
     (masters : List ℕ) (turns : ℕ) (streams : Streams) (before after : ClaimView) (pass : PassView) (end : SessionEnd)
@@ -27,7 +27,7 @@ Fits closed =
 abbrev pub AreOfLine : Content → List PassIn → Type 0
 AreOfLine closed = AllByRecursion (λ pass. IsPassOf closed pass.view)
 
--- ---- one session, whose pass stands in front of others
+-- ---- one session, whose pass is before the others
 
 one : (closed : Content) (table : TableId) (masters : List ℕ) (turns : ℕ) (streams : Streams) (end : SessionEnd) (note : Option (Snapshot PassIn)) (spent : Option PassIn) (others : List PassIn)
     → Fits closed → IsServed table masters turns streams end note spent → AreOfLine closed (cons_option spent others)
@@ -55,7 +55,7 @@ one_noted table masters turns streams end None None notes others served rest = r
 one_noted table masters turns streams end (Some note) None notes others served rest = absurd served
 one_noted table masters turns streams end None (Some spent) notes others served rest = absurd served
 
--- ---- all sessions: each is of a task, and has ended; it was noted which pass served it, and that pass is there too
+-- ---- all sessions: each is of a task and has ended; the pass that served it was noted and is in the list
 
 module _ {T D E : Type 0} (streams : T → E → Streams) (end : E → SessionEnd) (note : E → Option (Snapshot PassIn)) (ended : D → E) (spent : D → Option PassIn) (table : TableId) (masters : List ℕ) (turns : ℕ) where
   abbrev pub AreServed : List T → List D → Type 0
@@ -83,7 +83,7 @@ module _ {T D E : Type 0} (streams : T → E → Streams) (end : E → SessionEn
   all_noted (t ∷ ts) (d ∷ ds) each =
       one_noted table masters turns (streams t (ended d)) (end (ended d)) (note (ended d)) (spent d) (map note (map ended ds)) (filter_map spent ds) each.0 (all_noted ts ds each.1)
 
--- ---- passes, and what is known of them
+-- ---- passes, and what is known about them
 
 pub views_of_line : (closed : Content) (passes : List PassIn) → AreOfLine closed passes → AllByRecursion (IsPassOf closed) (map (λ pass. pass.view) passes)
 views_of_line closed [] all = tt
@@ -93,7 +93,7 @@ pub numbers_of_views : (passes : List PassIn) → map (λ (pass : PassView). pas
 numbers_of_views [] = refl
 numbers_of_views (pass ∷ passes) = ap (λ numbers. pass.view.number ∷ numbers) (numbers_of_views passes)
 
--- ---- how many passes there are
+-- ---- the number of passes
 
 one_counted : (note : Option (Snapshot PassIn)) (notes : List (Option (Snapshot PassIn))) (n : ℕ) → length (passes_in notes) ≡ n → length (passes_in (note ∷ notes)) ≡ cond (is_some note) 1 0 + n
 one_counted (Some note) notes n rest = omega (arith, rest)
@@ -105,7 +105,7 @@ passes_counted note (session ∷ sessions) =
     one_counted (note session) (map note sessions) (count_by (λ one. is_some (note one)) sessions) (passes_counted note sessions)
     ∙ sym (sum_by-cons (λ one. cond (is_some (note one)) 1 0) session sessions)
 
--- ---- what holds of each task and its session, by a part of the task
+-- ---- what holds for each task and its session, shown by a part of the task
 
 pub all_of_parts : {T C E : Type 0} (part : T → C) (R : C → E → Type 0) (tasks : List T) (sessions : List E) → AllZip (λ task session. R (part task) session) tasks sessions → AllZip R (map part tasks) sessions
 all_of_parts part R [] [] each = tt

@@ -14,16 +14,16 @@ use Rattle.dp_sessions.specs.declared.session_end.SessionEnd.{SessionEnd}
 use Rattle.dp_sessions.specs.Sessions.{IsAccepted, Streams}
 use Rattle.dp_sessions.specs.Tied.{HasAnsweredMaster}
 
--- a session with the line of this table: accepted, with the pass that served it and a note of that pass; or turned away, and then it has no
--- pass and wrote nothing
+-- A session with the line of this table. It was accepted, with the pass that served it and a note of that pass; or it was turned away, and has no
+-- pass and wrote nothing.
 abbrev pub IsServed : TableId → List ℕ → ℕ → Streams → SessionEnd → Option (Snapshot PassIn) → Option PassIn → Type 0
 IsServed table masters turns streams end (Some note) (Some spent) =
     (note.value ≡ spent) × (spent.table ≡ table) × ((before after : ClaimView) × IsAccepted masters turns streams before after spent.view end)
 IsServed table masters turns streams end None None = Keeps streams.written streams.written_after
 IsServed table masters turns streams end _ _ = ⊥
 
--- a session, by the journal of its closed line: accepted, and it wrote E5 and the replies of the entries under the number of its pass; or
--- turned away, and then it has no pass and wrote nothing
+-- A session, by the journal of its closed line. It was accepted, and wrote E5 and the replies of the entries under the number of its pass; or it was
+-- turned away, and has no pass and wrote nothing.
 abbrev pub IsInJournal : Content → ℕ → Streams → SessionEnd → Option (Snapshot PassIn) → Type 0
 IsInJournal closed turns streams end (Some note) =
     HasAnsweredMaster turns streams note.value.view.saw_halt (under note.value.view.number closed.numbers closed.book.entries) end
@@ -35,8 +35,8 @@ passes_in [] = []
 passes_in (Some note ∷ notes) = note.value.view ∷ passes_in notes
 passes_in (None ∷ notes) = passes_in notes
 
--- each entry of the journal is under the number of exactly one of these passes, or is the halt at the last place; so there are as many entries
--- as these passes have receipts, and one more for that halt
+-- Each entry of the journal is under the number of exactly one of these passes, or is the halt at the last place. So there are as many entries as
+-- these passes have receipts, and one more for that halt.
 pub record HaveAllEntries (closed : Content) (passes : List PassView) : Type 0 where
   pub each : (index n : ℕ) → get_elem? closed.numbers index ≡ some n → (n ≡ 0) ⊎ (times n (map (λ pass. pass.number) passes) ≡ 1)
   pub long : length closed.book.entries ≡ sum_by (λ pass. length pass.receipts) passes + times 0 closed.numbers

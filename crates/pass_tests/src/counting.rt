@@ -15,7 +15,7 @@ pub(crate) struct Counting<'a> {
 }
 
 impl<'a> Counting<'a> {
-    /// A reader of these octets, of which no read was made.
+    /// Returns a reader of these octets that has made no read.
     pub(crate) fn new(octets: &'a [u8]) -> Counting<'a>
         ensures left { result.left.now ≡ octets.now }
         ensures made { result.made ≡ 0 }
@@ -41,7 +41,7 @@ impl Read for Counting<'_> {
     }
 }
 
-/// Reads by the count of a [`Counting`] reader, of which no read fails.
+/// Reads by the count of a [`Counting`] reader. None of its reads fails.
 pub(crate) struct ByCount;
 
 impl<'a> Reads<Counting<'a>> for ByCount {

@@ -13,7 +13,8 @@ use std::alloc::Global;
 use std::sync::Wait;
 use std::test::Fail;
 
-/// How many entries a pass counted before and after another pass was handed back, and the line after it was closed.
+/// The numbers of entries that a pass counted before and after another pass was handed back, and the line after it was
+/// closed.
 #[derive(Drop)]
 struct Counted {
     before: u32,
@@ -81,7 +82,7 @@ fn hand_back_adds_no_entry<T: Wait>(
     count_around_hand_back(rt, alloc, line, pass, other)
 }
 
-/// What was counted, as a text.
+/// Returns the counts as a text.
 fn counted_text(alloc: Global, counted: &Counted) -> Result<String, Fail> {
     let (before, after) = (counted.before, counted.after);
     let entries = counted.closed.book().count();
@@ -99,7 +100,7 @@ fn a_hand_back_adds_no_entry(rt: HostRuntime) -> Result<(), Fail> {
     )
 }
 
-/// Each pass sends one request before.
+/// Each pass sends one request before the first count.
 #[test]
 fn a_hand_back_leaves_two_entries(rt: HostRuntime) -> Result<(), Fail> {
     let alloc = rt.alloc();

@@ -1,4 +1,4 @@
-//! Sessions by a pass that is lent, and the number of reads that a session makes.
+//! Sessions by a given pass, and the number of reads that a session makes.
 
 ghost use Rattle.std.specs.Prelude.{◌≡◌, ◌≢◌};
 ghost use Rattle.dp_shared.specs.Passes.{line_of, table_of};
@@ -17,7 +17,7 @@ use std::alloc::Global;
 use std::sync::Wait;
 use std::test::Fail;
 
-/// Serves a master by its pass, and counts the reads in the contract too or not.
+/// Serves a master by its pass, either with the reads counted in the contract or without.
 fn serve_master<T: Wait>(
     rt: &T,
     counted: bool,
@@ -40,8 +40,8 @@ fn serve_master<T: Wait>(
     }
 }
 
-/// Serves master 2 at a new line by a pass, hands the pass back and closes the line: how the session ended, how many reads
-/// it made, what it wrote, and the journal.
+/// Serves master 2 on a fresh line by a pass, hands the pass back and closes the line. Checks how the session ended, how
+/// many reads it made, what it wrote, and the journal.
 fn check_master<T: Wait>(
     rt: &T,
     alloc: Global,
@@ -73,7 +73,7 @@ fn check_master<T: Wait>(
     )
 }
 
-/// Serves an operator by its pass, and counts the reads in the contract too or not.
+/// Serves an operator by its pass, either with the reads counted in the contract or without.
 fn serve_lines<T: Wait>(
     rt: &T,
     counted: bool,
@@ -98,8 +98,8 @@ fn serve_lines<T: Wait>(
     }
 }
 
-/// Serves an operator at a new line by a pass, hands the pass back and closes the line: how the session ended, how many
-/// reads it made, what it wrote, and the journal.
+/// Serves an operator on a fresh line by a pass, hands the pass back and closes the line. Checks how the session ended,
+/// how many reads it made, what it wrote, and the journal.
 fn check_operator<T: Wait>(
     rt: &T,
     alloc: Global,
@@ -132,8 +132,8 @@ fn check_operator<T: Wait>(
     )
 }
 
-/// Serves a master at a new port by a reader that counts its reads: how the session ended, how many reads it made, and
-/// what it wrote.
+/// Serves a master at a new port with a reader that counts its reads. Checks how the session ended, how many reads it
+/// made, and what it wrote.
 fn check_port<T: Wait>(
     rt: &T,
     alloc: Global,
@@ -164,7 +164,7 @@ fn check_port<T: Wait>(
     )
 }
 
-/// The first read returns the address of master 1, the second one the request, and the third one nothing.
+/// The first read returns the address of master 1, the second read the request, and the third read nothing.
 #[test]
 fn serve_by_answers_a_master(rt: HostRuntime) -> Result<(), Fail> {
     check_port(
@@ -188,8 +188,8 @@ fn serve_by_makes_one_read(rt: HostRuntime) -> Result<(), Fail> {
     )
 }
 
-/// A request to no station, and a request for the FDL status of the slave. The first read returns both, and the second one
-/// nothing.
+/// A request to no station, and a request for the FDL status of the slave. The first read returns both, and the second
+/// read returns nothing.
 const TWO_REQUESTS: &str = "100902495416100502495016";
 
 #[test]
@@ -226,7 +226,7 @@ rack-audit 2 line 1
     )
 }
 
-/// Three lines of an operator. The first read returns them, and the second one nothing.
+/// Three lines of an operator. The first read returns them, and the second read returns nothing.
 const THREE_LINES: &str = "tick 1\nin 9 aa\nshow 5\n";
 
 #[test]

@@ -1,4 +1,5 @@
-//! Tests of sessions by passes that are lent or handed back (`dp_sessions`, `dp_shared`), and nothing else.
+//! Tests of sessions by passes that are given to them or handed back (`dp_sessions`, `dp_shared`). This crate has
+//! only tests.
 #![tactic(auto)]
 
 #[cfg(test)]

@@ -1,4 +1,4 @@
-//! The claims of a line, and a seat of them.
+//! The claims of a line, and one of their seats.
 
 ghost use Rattle.std.specs.Prelude.{◌≡◌, IfOk, None};
 ghost use Rattle.dp_line.specs.World.{description_of, opening_fault};

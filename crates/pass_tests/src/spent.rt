@@ -15,7 +15,7 @@ use std::alloc::{AllocError, Global};
 use std::sync::Wait;
 use std::test::Fail;
 
-/// Serves a master, by a reader that counts its reads, and returns the pass that served it.
+/// Serves a master with a reader that counts its reads, and returns the pass that served it.
 fn master_session<T: Wait>(
     rt: &T,
     port: &Port,
@@ -36,7 +36,7 @@ fn master_session<T: Wait>(
     }
 }
 
-/// Serves an operator, by a reader that counts its reads, and returns the pass that served it.
+/// Serves an operator with a reader that counts its reads, and returns the pass that served it.
 fn operator_session<T: Wait>(
     rt: &T,
     port: &Port,
@@ -57,7 +57,7 @@ fn operator_session<T: Wait>(
     }
 }
 
-/// A list of these two.
+/// Returns a list of these two elements.
 fn both(alloc: Global, first: Spent, second: Spent) -> Result<Vec<Spent>, AllocError>
     ensures { IfOk result (λ v. v.items ≡ first ∷ second ∷ []) }
 {
@@ -67,8 +67,8 @@ fn both(alloc: Global, first: Spent, second: Spent) -> Result<Vec<Spent>, AllocE
     Ok(list)
 }
 
-/// Serves a master and then an operator at a new port, and closes the line with their passes: how many reads each
-/// session made, how many passes were opened, how many are left in the list, and the journal.
+/// Serves a master and then an operator at a new port, and closes the line with their passes. Checks how many reads
+/// each session made, how many passes were opened, how many are left in the list, and the journal.
 fn check_both<T: Wait>(
     rt: &T,
     alloc: Global,
@@ -100,7 +100,8 @@ fn check_both<T: Wait>(
     )
 }
 
-/// The sessions read the address, the octets behind it and the end; and the lines and the end.
+/// The master's session reads the address, the octets after it and the end; the operator's session reads the lines
+/// and the end.
 #[test]
 fn spent_passes_have_the_journal(rt: HostRuntime) -> Result<(), Fail> {
     check_both(

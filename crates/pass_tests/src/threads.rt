@@ -1,4 +1,4 @@
-//! Sessions of masters at one port, each in a thread of its own, and what the journal of the closed line says of each.
+//! Sessions of masters at one port, each in a thread of its own, and what the journal of the closed line shows of each.
 
 ghost use Rattle.std.specs.Prelude.{◌≡◌, ℕ, ◌++◌, List, All, IfOk, OnOk, None, count_by, is_some, length, map};
 ghost use Rattle.std.specs.List.{AllZip, filter_map};
@@ -29,7 +29,7 @@ use std::test::Fail;
 use std::thread;
 use std::thread::Threads;
 
-/// Where the octets of a master are read and written.
+/// The reader and the writer of a master.
 #[derive(Drop)]
 struct Client<R, W> {
     reader: R,
@@ -59,13 +59,13 @@ struct Served<R, W> {
     spent: Option<Spent>,
 }
 
-/// What threads serve sessions at. It stands for a port where threads start, since the check finds that threads may share a
-/// port only where nothing else is handed to them.
+/// Something at which threads serve sessions. It stands for a port when threads start, because the checker proves that
+/// threads may share a port only if nothing else is passed to them.
 trait Serve<T, D> {
     /// The task may be served here.
     ghost accepts: { Self → T → Type 0 };
 
-    /// The task was served here, in at most so many reads.
+    /// The task was served here, in at most this number of reads.
     ghost serves: { Self → ℕ → T → D → Type 0 };
 
     fn serve<H: Wait, G: Gate>(&self, rt: &H, task: T, gate: &G, turns: u32) -> D
@@ -109,7 +109,7 @@ impl<R: Read, W: Write> Serve<Task<R, W>, Served<R, W>> for Port {
     }
 }
 
-/// The session of a client, beside the pass that served it.
+/// Returns the session of a client, with the pass that served it.
 fn served_as<R, W>(session: Session, client: Client<R, W>) -> Served<R, W>
     ensures client { result.ended.client ≡ client }
     ensures session { (table : TableId) (masters : List ℕ) (turns : ℕ) (streams : Streams) (before after : ClaimView)
@@ -171,7 +171,7 @@ fn serve_all<
     serve_each(rt, port, tasks, gate, turns)
 }
 
-/// Adds a pass to these, if there is one.
+/// Adds a pass to the list, if there is one.
 fn add(passes: &mut Vec<Spent>, spent: Option<Spent>) -> Result<(), AllocError>
     ensures { OnOk result (passes.new.items ≡ passes.old.items ++ option_to_list spent) }
 {
@@ -181,7 +181,7 @@ fn add(passes: &mut Vec<Spent>, spent: Option<Spent>) -> Result<(), AllocError>
     Ok(())
 }
 
-/// The sessions, and the passes that served them.
+/// Returns the sessions, and the passes that served them.
 fn parted<R: Drop, W: Drop>(
     alloc: Global,
     served: Vec<Served<R, W>>,
@@ -198,12 +198,13 @@ fn parted<R: Drop, W: Drop>(
     Ok((ended, passes))
 }
 
-/// Serves each task at a port, in a thread of its own, and closes the line with the passes of all sessions. It fails if
+/// Serves each task at a port, in a thread of its own, and closes the line with the passes of all sessions. Fails if
 /// memory is refused or another pass is out.
 ///
-/// By the journal of the closed line, a session that was accepted wrote E5 and then the replies of the entries under the
-/// number of its pass, in order. A session that was turned away has no pass, and wrote nothing. The numbers of the passes
-/// differ. If no other pass was opened at the line, the journal has no other entries but the halt at the last place.
+/// By the journal of the closed line, a session that was accepted wrote E5 and then the replies of the entries under
+/// the number of its pass, in order. A session that was turned away has no pass, and wrote nothing. The numbers of the
+/// passes differ. If no other pass was opened on the line, the journal has no other entries except the halt at the last
+/// place.
 fn serve_and_close_all<
     H: Threads + Wait + Sync,
     R: Read + Send + Drop,
@@ -235,7 +236,7 @@ fn serve_and_close_all<
     }
 }
 
-/// A task for each client, with a seat of its own.
+/// Returns a task for each client, with a seat of its own.
 fn tasks_of<R: Drop, W: Drop>(
     alloc: Global,
     claims: &Claims,
@@ -263,11 +264,11 @@ fn accepted<R, W>(ended: &[Ended<R, W>]) -> usize
     ended.iter().filter(|one| one.pass.is_some()).count()
 }
 
-/// Opens a line, serves each client in a thread of its own, and closes the line. It fails if memory is refused.
+/// Opens a line, serves each client in a thread of its own, and closes the line. Fails if memory is refused.
 ///
-/// By the journal of the closed line, a session that was accepted wrote E5 and then the replies of the entries under the
-/// number of its pass, in order. A session that was turned away has no pass, and wrote nothing. The numbers of the passes
-/// differ. The journal has no other entries but the halt at the last place.
+/// By the journal of the closed line, a session that was accepted wrote E5 and then the replies of the entries under
+/// the number of its pass, in order. A session that was turned away has no pass, and wrote nothing. The numbers of the
+/// passes differ. The journal has no other entries except the halt at the last place.
 fn open_and_serve_all<
     H: Threads + Wait + Sync,
     R: Read + Send + Drop,
@@ -302,7 +303,7 @@ fn open_and_serve_all<
     Ok((closed, ended))
 }
 
-/// The replies of a master's entries in a journal, one after another.
+/// Returns the replies of a master's entries in a journal, one after another.
 fn replies_to(alloc: Global, book: &Book, address: u8) -> Result<String, Fail> {
     let mut replies: Vec<u8> = Vec::new(alloc);
     for index in 0..book.count() {
@@ -321,7 +322,7 @@ fn replies_to(alloc: Global, book: &Book, address: u8) -> Result<String, Fail> {
     Ok(hex_of(alloc, &replies)?)
 }
 
-/// A client for each stream of octets.
+/// Returns a client for each stream of octets.
 fn clients_of<'a>(
     alloc: Global,
     streams: &[&'a [u8]],
@@ -336,7 +337,7 @@ fn clients_of<'a>(
     Ok(clients)
 }
 
-/// How each session ended, what it wrote, and what the journal's entries of its address reply; a line for each session.
+/// Returns a line for each session: how it ended, what it wrote, and what the journal's entries of its address reply.
 fn told_of(
     alloc: Global,
     book: &Book,
@@ -354,8 +355,8 @@ fn told_of(
     Ok(told)
 }
 
-/// Serves these streams at a new line, each in a thread of its own. Reports the sessions, how many passes were opened, and
-/// how many entries the journal has.
+/// Serves these streams on a fresh line, each in a thread of its own. Checks the sessions, how many passes were opened,
+/// and how many entries the journal has.
 fn check_threads<H: Threads + Wait + Sync>(
     rt: &H,
     alloc: Global,
@@ -373,7 +374,7 @@ fn check_threads<H: Threads + Wait + Sync>(
     )
 }
 
-/// The frames of two masters are answered, and an address that is no master's is turned away.
+/// The frames of two masters are answered, and a session whose address is no master's is turned away.
 #[test]
 fn three_sessions_in_threads(rt: HostRuntime) -> Result<(), Fail> {
     let first = octets_of("016805056885816d3c3eed16")?;

@@ -22,7 +22,7 @@ use std::io::{Read, Write};
 use std::sync::Wait;
 use std::test::Fail;
 
-/// A list of this pass.
+/// Returns this pass as a list.
 pub(crate) fn listed<P: Drop>(alloc: Global, pass: P) -> Result<Vec<P>, AllocError>
     ensures { IfOk result (λ v. v.items ≡ pass ∷ []) }
 {
@@ -31,9 +31,9 @@ pub(crate) fn listed<P: Drop>(alloc: Global, pass: P) -> Result<Vec<P>, AllocErr
     Ok(passes)
 }
 
-/// Serves a master's session by a pass, and closes the line. It fails if memory is refused or another pass is out.
+/// Serves a master's session by a pass, and closes the line. Fails if memory is refused or another pass is out.
 ///
-/// What was written is the replies of the entries that the session left in the journal of the closed line.
+/// The session wrote the replies of the entries that it left in the journal of the closed line.
 fn serve_and_close<T: Wait, R: Read, C: Reads<R>, W: Write, G: Gate>(
     rt: &T,
     alloc: Global,
@@ -62,11 +62,11 @@ fn serve_and_close<T: Wait, R: Read, C: Reads<R>, W: Write, G: Gate>(
     }
 }
 
-/// Claims the address of a master at a new line, opens a pass, serves the master's session, closes the line, and
+/// Claims the address of a master on a fresh line, opens a pass, serves the master's session, closes the line, and
 /// releases the address.
 ///
-/// The session made at most `turns` reads, none of which failed. What was written is the replies of the entries that the
-/// journal of the closed line has under the number of the pass.
+/// The session made at most `turns` reads, none of which failed. It wrote the replies of the entries that the journal
+/// of the closed line has under the number of the pass.
 fn claim_and_serve<T: Wait>(
     rt: &T,
     alloc: Global,
@@ -100,7 +100,7 @@ fn claim_and_serve<T: Wait>(
     Ok(closed)
 }
 
-/// The replies of all entries of a journal, one after another.
+/// Returns the replies of all entries of a journal, one after another.
 fn replies_in(alloc: Global, book: &Book) -> Result<String, Fail> {
     let mut replies: Vec<u8> = Vec::new(alloc);
     for index in 0..book.count() {
@@ -114,8 +114,8 @@ fn replies_in(alloc: Global, book: &Book) -> Result<String, Fail> {
     Ok(hex_of(alloc, &replies)?)
 }
 
-/// Serves the session of a master at a new line: the number of reads, what was written, and what the closed line has: the
-/// replies of its entries, and its journal.
+/// Serves the session of a master on a fresh line. Checks the number of reads, what was written, the replies of the
+/// entries of the closed line, and its journal.
 fn check_client<T: Wait>(
     rt: &T,
     alloc: Global,

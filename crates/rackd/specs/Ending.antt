@@ -9,7 +9,7 @@ use Rattle.rack_server.specs.AuditPaths.{audit_path_text}
 use Rattle.rackd.specs.declared.ending.Fault.{Fault}
 use Rattle.rackd.specs.declared.ending.Fault.TheVariants as faults
 
--- 2 for words, files, input and ports that can't be used, 3 where memory is out, 4 for a fault of standard output, 5 where a row can't be
+-- 2 for words, files, input and ports that cannot be used, 3 for out of memory, 4 for a fault of standard output, 5 if an audit text cannot be
 -- written to its file
 abbrev pub status_of : Fault → ℕ
 status_of faults.BadWord = 2
@@ -25,7 +25,7 @@ status_of (faults.Run (runs.Script line)) = 2
 status_of (faults.Run runs.OutOfMemory) = 3
 status_of (faults.Run runs.WriteFault) = 4
 
--- the line on standard error, without its LF
+-- the line on standard error without its LF
 abbrev pub fault_text : Fault → List ℕ
 fault_text faults.BadWord = codes "rackd: a word is not UTF-8"
 fault_text (faults.CannotRead path cause) = codes "rackd: cannot read " ++ path.now
@@ -36,7 +36,7 @@ fault_text (faults.CannotMake path cause) = codes "rackd: cannot make " ++ audit
 fault_text (faults.CannotWrite path cause) = codes "rackd: cannot write " ++ audit_path_text path
 fault_text (faults.Run fault) = codes "rackd: " ++ run_fault_text fault
 
--- why a file or a port can't be had, where that is the fault
+-- why the program cannot open, read or write a file, or use a port, if that is the fault
 abbrev pub cause_of : Fault → Option Cause
 cause_of faults.BadWord = None
 cause_of (faults.CannotRead path cause) = Some cause

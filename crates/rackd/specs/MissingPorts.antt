@@ -1,4 +1,4 @@
--- Which port a line of a rack lacks, so that it can't be served (own).
+-- The port that a line of a rack lacks, so that the line cannot be served (own).
 use Rattle.std.specs.Prelude.{codes, ℕ, ◌+◌, List, [], ◌∷◌, ◌++◌, Option, Some, None}
 use Rattle.std.specs.Fmt.{decimal}
 use Rattle.rack_file.specs.Rack.{LineDescription}
@@ -16,7 +16,7 @@ abbrev pub missing_at : ℕ → Option PortKey → Option MissingPort → Option
 missing_at position None others = others
 missing_at position (Some key) others = Some (record { line = position; key = key })
 
--- the first line that lacks a port, where the first one has this position
+-- the first line that lacks a port; the first line of the list has this position
 abbrev pub missing_from : ℕ → List LineDescription → Option MissingPort
 missing_from position [] = None
 missing_from position (line ∷ lines) = missing_at position (lacked line.listen line.operator) (missing_from (position + 1) lines)

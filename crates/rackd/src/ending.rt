@@ -11,23 +11,23 @@ use rack_server::{AuditPath, ServeFault};
 use rackd_words::WordsFault;
 use std::fmt;
 
-/// What kept the program from its work. Its `Display` is the line on standard error without its LF, and
-/// takes no memory.
+/// Why the program could not do its work. Its `Display` is the line on standard error without its LF, and allocates
+/// no memory.
 #[derive(Clone, Copy)]
 pub enum Fault<'a> {
-    /// A word isn't UTF-8.
+    /// A word is not UTF-8.
     BadWord,
-    /// The file at this path, or standard input for `-`, can't be read, or isn't UTF-8.
+    /// The file at this path, or standard input for `-`, cannot be read or is not UTF-8.
     CannotRead(&'a str, Cause),
-    /// This port can't be listened at.
+    /// The program cannot listen at this port.
     CannotListen(u16, Cause),
-    /// This port can't be connected to.
+    /// The program cannot connect to this port.
     CannotConnect(u16, Cause),
-    /// The connection to this port has ended before standard input has, or before a line of it was answered.
+    /// The connection to this port ended before standard input did, or before a line of standard input was answered.
     PortEnded(u16),
-    /// The folder of audit texts, or a file of it, can't be had, or doesn't take its header.
+    /// The folder of audit texts or a file in it cannot be made, or the header cannot be written to the file.
     CannotMake(AuditPath<'a>, Cause),
-    /// A row can't be written to this file.
+    /// The audit text cannot be written to this file.
     CannotWrite(AuditPath<'a>, Cause),
     /// The run ended early.
     Run(RunFault),
@@ -60,7 +60,7 @@ impl<'a> From<ServeFault<'a>> for Fault<'a> {
 }
 
 impl<'a> Fault<'a> {
-    /// What kept a client of this port from its work, by which the program ends.
+    /// Returns the fault of the program for the fault of a client of this port.
     pub fn of_client(port: u16, fault: ClientFault) -> Fault<'a> {
         match fault {
             ClientFault::CannotConnect(cause) => Fault::CannotConnect(port, cause),
@@ -72,8 +72,8 @@ impl<'a> Fault<'a> {
     }
 }
 
-/// The exit status: 2 for words, files, input and ports that can't be used, 3 where memory is out, 4 for a
-/// fault of standard output, 5 where a row of an audit text can't be written to its file.
+/// Returns the exit status: 2 for words, files, input and ports that cannot be used, 3 for out of memory, 4 for a
+/// fault of standard output, 5 if an audit text cannot be written to its file.
 pub fn status(fault: Fault<'_>) -> u8
     ensures { result ≡ status_of fault.entry }
 {
@@ -88,7 +88,7 @@ pub fn status(fault: Fault<'_>) -> u8
     }
 }
 
-/// Why a file or a port can't be had, where that is the fault.
+/// Returns why the program cannot open, read or write a file, or use a port, if that is the fault.
 pub fn cause(fault: Fault<'_>) -> Option<Cause>
     ensures { result ≡ cause_of fault.entry }
 {

@@ -1,9 +1,10 @@
 //! The rack of simulated DP slaves: the program.
 //!
-//! Without words it reads a rack text, a line `%%` and a script from standard input, and writes the
-//! answers of the script. `run` reads rack and script from two files, `check` a rack and an audit text,
-//! which it checks, and `serve` a rack, whose lines it serves at sockets. `operate` is an operator at hand of a line that
-//! is served. `--help` and `--version` are answered on standard output.
+//! Without words it reads a rack text, a line `%%` and a script from standard input, and writes the answers of the
+//! script. `run` reads the rack and the script from two files. `check` reads a rack and an audit text, and checks the
+//! text. `explain` reads a rack and an audit text, and explains the text. `serve` reads a rack, and serves its lines at
+//! sockets. `operate` is a client of the operator port of a line that is served. `--help` and `--version` are answered
+//! on standard output.
 #![tactic(auto)]
 
 mod ending;
@@ -31,17 +32,17 @@ use std::rt::Runtime;
 use std::sync::Wait;
 use std::thread::Threads;
 
-/// How every audit text begins.
+/// The first characters of every audit text.
 const HEADER: &str = "rack-audit ";
 
-/// A file that has no octets.
+/// A file that has no bytes.
 const NOTHING: &str = "/dev/null";
 
-/// What is told of a text that isn't legal and has no header.
+/// What is reported of a text that is not legal and has no header.
 const NO_HEADER: &str = "  row 1: no header; does the text begin with \"ready\"?";
 
 fn main(rt: HostRuntime) -> ExitCode {
-    // The check of this function wants the types named that `Host` fixes.
+    // The checker requires that this function names the types that `Host` fixes.
     let _named: (Option<TcpListener>, Option<TcpStream>, Option<File>) = (None, None, None);
     let words = match words_of(&rt) {
         Ok(words) => words,
@@ -87,7 +88,7 @@ fn ended(errors: &impl Eprint, done: Result<ExitCode, Fault<'_>>) -> ExitCode {
     }
 }
 
-/// Reports a fault on standard error, and its cause in a second row, and answers its exit status.
+/// Reports a fault on standard error, and its cause in a second row, and returns its exit status.
 fn report(errors: &impl Eprint, fault: Fault<'_>) -> ExitCode {
     // A closed or full standard error changes no status.
     let _ = errors.eprintln(Escaped(fault));
@@ -97,8 +98,8 @@ fn report(errors: &impl Eprint, fault: Fault<'_>) -> ExitCode {
     ExitCode::from(status(fault))
 }
 
-/// The exit status of what was done with a rack. Where the rack isn't accepted, that is reported here, and where it
-/// is wrong in a second row.
+/// Returns the exit status of what was done with a rack. If the rack is not accepted, reports this here, with its place
+/// and reason in a second row.
 fn reported<'a>(
     errors: &impl Eprint,
     alloc: Global,
@@ -128,7 +129,7 @@ fn answer_words<'a>(
     Ok(tell(rt, &answer)?)
 }
 
-/// Returns what `clap` answers to words. If a word has control characters, `clap` is asked again with these escaped.
+/// Returns what `clap` answers to words. If a word has control characters, reads the words again with these escaped.
 fn escaped_answer<'a>(
     alloc: Global,
     words: &[String],
@@ -155,8 +156,7 @@ fn escaped_answer<'a>(
     }
 }
 
-/// Tells what `clap` answers: help and the version on standard output, what is wrong with the words on
-/// standard error.
+/// Prints what `clap` answers: help and the version on standard output, what is wrong with the words on standard error.
 fn tell(rt: &(impl Print + Eprint), answer: &clap::Error) -> Result<ExitCode, RunFault> {
     match answer.kind() {
         Answer::OutOfMemory => Err(RunFault::OutOfMemory),
@@ -171,14 +171,14 @@ fn tell(rt: &(impl Print + Eprint), answer: &clap::Error) -> Result<ExitCode, Ru
     }
 }
 
-/// Runs the script of standard input on its rack.
+/// Runs the script of standard input on the rack of standard input.
 fn run_input<'a>(rt: &(impl Runtime + AllocGlobal)) -> Result<ExitCode, Fault<'a>> {
     let text = io::read_to_string(rt.alloc(), rt.reader()).map_err(|error| read_fault(error, "-"))?;
     let (rack, script) = split_input(text.as_str());
     reported(rt, rt.alloc(), rack, run_out(rt, rack, script))
 }
 
-/// Runs the script of a file on the rack of another.
+/// Runs the script of one file on the rack of another.
 fn run_files<'a>(
     rt: &(impl Runtime + AllocGlobal),
     rack: &'a str,
@@ -215,7 +215,8 @@ fn explain_files<'a>(
     reported(rt, rt.alloc(), rack.as_str(), explained)
 }
 
-/// Reads the rack file, and starts the queue of rows for standard error, so that serving never waits until these are read.
+/// Reads the rack file, and starts the queue of rows for standard error. With the queue, serving never waits until
+/// these rows are read.
 fn before_serving<'a, H: Runtime + AllocGlobal + Threads + Wait + Copy + Send + 'static>(
     rt: &H,
     rack: &'a str,
@@ -239,7 +240,7 @@ fn serve_rack<H: Print + Host + Sync>(
     ended(errors, reported(errors, alloc, rack, served))
 }
 
-/// Serves a rack, writes what it leaves on standard output, and notes how many sessions were served.
+/// Serves a rack, writes its output on standard output, and logs the number of sessions served.
 fn serve_out<'a, H: Print + Host + Sync>(
     rt: &H,
     alloc: Global,
@@ -255,14 +256,14 @@ fn serve_out<'a, H: Print + Host + Sync>(
     }
 }
 
-/// Notes how many sessions were served.
+/// Logs the number of sessions served.
 fn note_served(rt: &impl Log, served: Served) -> ExitCode {
     let Served { masters, operators } = served;
     info!(rt; "served {masters} sessions of masters and {operators} of operators");
     ExitCode::SUCCESS
 }
 
-/// Is an operator at hand of a line, by standard input and output.
+/// Operates a line that is served, and writes the answers on standard output.
 fn operate_line<
     'a,
     H: Runtime + AllocGlobal + Host + Copy + Send + 'static,
@@ -276,8 +277,8 @@ fn operate_line<
     }
 }
 
-/// Files that give and take nothing, one for each standard stream: a stream that is closed has its descriptor taken
-/// by one of them, and so by no connection.
+/// Opens files that are always empty, one for each standard stream. If a stream is closed, one of these files gets its
+/// descriptor, so no connection does.
 fn stand_ins<F: Files>(files: &F) -> [Option<F::File>; 3] {
     [stand_in(files), stand_in(files), stand_in(files)]
 }
@@ -286,12 +287,12 @@ fn stand_in<F: Files>(files: &F) -> Option<F::File> {
     File::open(files, NOTHING).ok()
 }
 
-/// All of a file.
+/// Returns the text of a file.
 fn read_file<'a>(rt: &(impl Runtime + AllocGlobal), path: &'a str) -> Result<String, Fault<'a>> {
     fs::read_to_string(rt, path).map_err(|error| read_fault(error, path))
 }
 
-/// The text of these files, one after another.
+/// Returns the text of these files, one after another.
 fn read_files<'a>(
     rt: &(impl Runtime + AllocGlobal),
     paths: &[&'a str],
@@ -309,7 +310,7 @@ fn read_files<'a>(
     Ok(text)
 }
 
-/// The fault of a file that can't be read, for this reason.
+/// Returns the fault of a file that cannot be read, for this reason.
 fn read_fault(error: io::Error, path: &str) -> Fault<'_> {
     match error.kind() {
         ErrorKind::OutOfMemory => Fault::Run(RunFault::OutOfMemory),
@@ -330,7 +331,7 @@ fn run_out<'a>(
     Ok(ExitCode::SUCCESS)
 }
 
-/// Checks an audit text on a rack, and writes what it is found to be on standard output.
+/// Checks an audit text on a rack, and writes the result on standard output.
 fn check_out<'a>(
     rt: &(impl Runtime + AllocGlobal),
     rack: &str,
@@ -342,7 +343,7 @@ fn check_out<'a>(
     Ok(noted_header(rt, audit, checked?))
 }
 
-/// Explains an audit text on a rack, and writes that on standard output.
+/// Explains an audit text on a rack, and writes the explanation on standard output.
 fn explain_out<'a>(
     rt: &(impl Runtime + AllocGlobal),
     rack: &str,
@@ -356,7 +357,7 @@ fn explain_out<'a>(
     Ok(noted_header(rt, audit, explained?))
 }
 
-/// The entries that the words choose.
+/// Returns the entries that the words choose.
 fn choice_of(entries: Entries) -> Choice {
     Choice {
         from: entries.from,
@@ -368,21 +369,21 @@ fn choice_of(entries: Entries) -> Choice {
     }
 }
 
-/// The exit status of an audit text; where it begins as none, that is noted.
+/// Returns the exit status of an audit text. If the text does not begin as an audit text, reports that.
 fn noted_header(rt: &impl Eprint, audit: &str, status: u8) -> ExitCode {
-    // A text that is cut in its header is told on standard output alone.
+    // A text that ends within its header is reported on standard output only.
     if status != 0 && !audit.starts_with(HEADER) && !HEADER.starts_with(audit) {
         let _ = rt.eprintln(NO_HEADER);
     }
     ExitCode::from(status)
 }
 
-/// Standard output behind a buffer.
+/// Returns standard output with a buffer.
 fn buffered<H: Print>(rt: &H, alloc: Global) -> Result<BufWriter<Printer<'_, H>>, RunFault> {
     BufWriter::new(alloc, io::writer(rt)).map_err(|_| RunFault::OutOfMemory)
 }
 
-/// Writes what the buffer has left. A fault of it goes before any other.
+/// Writes what is left in the buffer. Its fault takes precedence over any other.
 fn flushed<W: Write + Drop>(mut output: BufWriter<W>) -> Result<(), RunFault> {
     output.flush().map_err(|_| RunFault::WriteFault)
 }

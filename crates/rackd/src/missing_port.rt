@@ -1,4 +1,4 @@
-//! A port that a line of a rack lacks, so that it can't be served.
+//! A port that a line of a rack lacks, so that the line cannot be served.
 
 ghost use Rattle.std.specs.Prelude.{◌≡◌, ◌+◌, ◌<◌, Some, is_none, length, map};
 ghost use Rattle.std.specs.List.{list_all};
@@ -12,14 +12,14 @@ use std::fmt;
 /// Which port of a line is missing.
 #[derive(Clone, Copy, Debug, PartialEq, Eq)]
 pub(crate) enum PortKey {
-    /// That for masters.
+    /// The port for masters.
     Listen,
-    /// That for its operator.
+    /// The port for the operator.
     Operator,
 }
 
 impl PortKey {
-    /// The key in a rack file.
+    /// Returns the key of the port in a rack file.
     fn name(self) -> &'static str
         ensures { result.now ≡ key_text self }
     {
@@ -30,12 +30,12 @@ impl PortKey {
     }
 }
 
-/// A port that a line of a rack lacks. Its `Display` says which.
+/// A port that a line of a rack lacks. Its `Display` names the line and the key.
 #[derive(Clone, Copy, Debug, PartialEq, Eq)]
 pub(crate) struct MissingPort {
     /// The position of the line in the file, from 1.
     pub(crate) line: u8,
-    /// The key that it lacks.
+    /// The key that the line lacks.
     pub(crate) key: PortKey,
 }
 
@@ -48,11 +48,12 @@ impl fmt::Display for MissingPort {
     }
 }
 
-/// The first line that lacks a port, and which; the first of these lines has this position.
+/// Returns the first line that lacks a port, and the key that it lacks. `position` is the position of the first of
+/// these lines.
 pub(crate) fn first_missing(position: u8, lines: &[RackLine]) -> Option<MissingPort>
     requires { position + length lines.now < 256 }
     ensures first { result ≡ missing_from position (map line_described lines.now) }
-    // There is none exactly where each line has both.
+    // There is none exactly if each line has both ports.
     ensures none { is_none result ≡ list_all has_ports (map line_described lines.now) }
 {
     match lines {
@@ -67,7 +68,7 @@ pub(crate) fn first_missing(position: u8, lines: &[RackLine]) -> Option<MissingP
     }
 }
 
-/// The key that a line lacks, if it lacks one.
+/// Returns the key that a line lacks, if it lacks one.
 fn lacked_key(line: &RackLine) -> Option<PortKey>
     ensures key { result ≡ lacked (line.now).listen (line.now).operator }
     ensures none { is_none result ≡ has_ports (line_described line.now) }

@@ -1,4 +1,4 @@
-//! Where a rack file is wrong, and how.
+//! The place in a rack file that is wrong, and the reason.
 
 use crate::missing_port::first_missing;
 use dp_line::OpenFault;
@@ -6,8 +6,9 @@ use rack_file::laws::accepted_racks_have_1_to_8_lines;
 use rack_file::{RackFault, cause_in, read_rack};
 use std::alloc::{AllocError, Global};
 
-/// What is told of a rack text behind the fault that it isn't accepted for: where it is wrong and how. A text that
-/// can be read lacks a port that `serve` needs. Memory may be refused.
+/// Returns the place and the reason for which a rack text is not accepted, to be reported after the fault. If the
+/// text can be read, the reason is that a line lacks a port that `serve` needs. Returns an error if memory is
+/// refused.
 pub(crate) fn rack_cause(
     alloc: Global,
     text: &str,
@@ -25,12 +26,12 @@ pub(crate) fn rack_cause(
     }
 }
 
-/// A text of its own.
+/// Returns these words as a text of its own.
 fn said(alloc: Global, words: &str) -> Result<Option<String>, AllocError> {
     Ok(Some(String::from_str(alloc, words)?))
 }
 
-/// Which port a line of a rack lacks.
+/// Returns which port a line of a rack lacks.
 fn missing_port_in(alloc: Global, text: &str) -> Result<Option<String>, AllocError> {
     accepted_racks_have_1_to_8_lines();
     match read_rack(alloc, text) {
@@ -43,7 +44,7 @@ fn missing_port_in(alloc: Global, text: &str) -> Result<Option<String>, AllocErr
     }
 }
 
-/// The rule that a line breaks which isn't opened for this reason.
+/// Returns the rule that a line breaks which is not opened for this reason.
 fn rule_of(fault: OpenFault) -> &'static str {
     match fault {
         OpenFault::OutOfMemory => "memory was refused",

@@ -1,17 +1,17 @@
-//! The words that are known, as `clap` takes them.
+//! The words that are known, in the form that `clap` requires.
 
 use clap::builder::ValueParser;
 use clap::{Arg, ArgAction, Command};
 use std::alloc::{AllocError, Global};
 
-/// The names of files.
+/// The names of the arguments for files.
 pub(crate) const RACK: &str = "RACK";
 
 pub(crate) const SCRIPT: &str = "SCRIPT";
 
 pub(crate) const AUDIT: &str = "AUDIT";
 
-/// The options of `explain`: which entries, of whom, and how.
+/// The options of `explain`: which entries are chosen, and how they are shown.
 pub(crate) const FROM: &str = "from";
 
 pub(crate) const TO: &str = "to";
@@ -24,10 +24,10 @@ pub(crate) const REFUSED: &str = "refused";
 
 pub(crate) const SUMMARY: &str = "summary";
 
-/// The most entries of an audit text, that of an endless line.
+/// The most entries of an audit text, which only an endless line has.
 const MOST_ENTRIES: u64 = 4_294_967_295;
 
-/// The options of `serve`, and the most sessions that it may name.
+/// The options of `serve`, and the most sessions that `--sessions` may name.
 pub(crate) const SESSIONS: &str = "sessions";
 
 const MOST_SESSIONS: u64 = 1_000_000;
@@ -43,7 +43,7 @@ const MOST_PART: u64 = 4_096;
 
 pub(crate) const LOG: &str = "log";
 
-/// The word and the options of `operate`, and the least milliseconds of each.
+/// The word and the options of `operate`, and the least milliseconds of each option.
 pub(crate) const PORT: &str = "PORT";
 
 pub(crate) const TICK: &str = "tick";
@@ -54,16 +54,16 @@ const LEAST_TICK: u64 = 10;
 
 const LEAST_STEP: u64 = 1;
 
-/// The most milliseconds: a day.
+/// The most milliseconds of an option: a day.
 const MOST_MILLISECONDS: u64 = 86_400_000;
 
-/// What may be named behind `--log`; the first one is meant where nothing is.
+/// What may follow `--log`. The first one is meant if nothing follows.
 const TOLD: [&str; 2] = ["sessions", "requests"];
 
-/// What `--version` answers, behind the program's name.
+/// What `--version` prints after the program's name.
 const VERSION: &str = "0.1.0";
 
-/// What `--help` answers.
+/// What `--help` prints.
 const HELP: &str = "\
 rackd simulates a rack of PROFIBUS DP slaves.
 
@@ -150,7 +150,8 @@ Exit statuses:
   5  an audit text cannot be written to its file
 ";
 
-/// The words that are known: `run`, `check`, `explain` and `serve` with their files, `operate`, `--help` and `--version`.
+/// Returns the words that are known: `run`, `check`, `explain` and `serve` with their files, `operate`, `--help` and
+/// `--version`.
 pub(crate) fn known<'a>(alloc: Global) -> Result<Command<'a>, AllocError> {
     let words = Command::new(alloc, "rackd")
         .version(VERSION)
@@ -163,7 +164,7 @@ pub(crate) fn known<'a>(alloc: Global) -> Result<Command<'a>, AllocError> {
     with_ports(alloc, words)
 }
 
-/// With the options that are answered.
+/// Adds the options `--help` and `--version`, which `clap` answers.
 fn with_answers<'a>(alloc: Global, words: Command<'a>) -> Result<Command<'a>, AllocError> {
     let help = Arg::new(alloc, "help").long("help").action(ArgAction::Help);
     let version = Arg::new(alloc, "version")
@@ -172,7 +173,7 @@ fn with_answers<'a>(alloc: Global, words: Command<'a>) -> Result<Command<'a>, Al
     words.arg(help)?.arg(version)
 }
 
-/// With the words that take a rack and another file.
+/// Adds the words that take a rack and another file.
 fn with_racks<'a>(alloc: Global, words: Command<'a>) -> Result<Command<'a>, AllocError> {
     let script = Arg::new(alloc, SCRIPT).required(true);
     let run = with_rack(alloc, "run")?.arg(script)?;
@@ -184,45 +185,45 @@ fn with_racks<'a>(alloc: Global, words: Command<'a>) -> Result<Command<'a>, Allo
         .subcommand(explain)
 }
 
-/// With the words that have to do with ports.
+/// Adds the words that use ports.
 fn with_ports<'a>(alloc: Global, words: Command<'a>) -> Result<Command<'a>, AllocError> {
     let serve = serving(alloc)?;
     let operate = operating(alloc)?;
     words.subcommand(serve)?.subcommand(operate)
 }
 
-/// A word that has no options yet.
+/// Returns a word that has no options yet.
 fn plain<'a>(alloc: Global, name: &'a str) -> Command<'a> {
     Command::new(alloc, name)
         .disable_help_flag(true)
         .disable_version_flag(true)
 }
 
-/// A word behind which the file of a rack stands.
+/// Returns a word that the file of a rack follows.
 fn with_rack<'a>(alloc: Global, name: &'a str) -> Result<Command<'a>, AllocError> {
     let rack = Arg::new(alloc, RACK).required(true);
     plain(alloc, name).arg(rack)
 }
 
-/// The files of an audit text, one or more.
+/// Returns the argument for the files of an audit text, one or more.
 fn audit<'a>(alloc: Global) -> Arg<'a> {
     Arg::new(alloc, AUDIT).required(true).num_args(1..)
 }
 
-/// The word `explain`: a rack, an audit text, and which entries are explained.
+/// Returns the word `explain`, with a rack, an audit text, and the options that choose entries.
 pub(crate) fn explaining<'a>(alloc: Global) -> Result<Command<'a>, AllocError> {
     let words = with_rack(alloc, "explain")?.arg(audit(alloc))?;
     with_choice(alloc, with_places(alloc, words)?)
 }
 
-/// With the options that choose entries by their places.
+/// Adds the options that choose entries by their places.
 fn with_places<'a>(alloc: Global, words: Command<'a>) -> Result<Command<'a>, AllocError> {
     let from = number(alloc, FROM, 1, MOST_ENTRIES);
     let to = number(alloc, TO, 1, MOST_ENTRIES);
     words.arg(from)?.arg(to)
 }
 
-/// With the options that choose entries by what they are.
+/// Adds the options that choose entries by slave, master and refusal, and `--summary`.
 fn with_choice<'a>(alloc: Global, words: Command<'a>) -> Result<Command<'a>, AllocError> {
     let slave = number(alloc, SLAVE, 0, u64::from(u8::MAX));
     let master = number(alloc, MASTER, 0, u64::from(u8::MAX));
@@ -230,19 +231,20 @@ fn with_choice<'a>(alloc: Global, words: Command<'a>) -> Result<Command<'a>, All
     words.arg(flag(alloc, REFUSED))?.arg(flag(alloc, SUMMARY))
 }
 
-/// An option that is there or not.
+/// Returns an option without a value.
 fn flag<'a>(alloc: Global, name: &'a str) -> Arg<'a> {
     Arg::new(alloc, name).long(name).action(ArgAction::SetTrue)
 }
 
-/// An option with a number within limits.
+/// Returns an option with a number within limits.
 fn number<'a>(alloc: Global, name: &'a str, least: u64, most: u64) -> Arg<'a> {
     Arg::new(alloc, name)
         .long(name)
         .value_parser(ValueParser::unsigned(least, most))
 }
 
-/// The word `serve`: a rack, how many sessions each port may have, where its audit texts go, and what is told.
+/// Returns the word `serve`, with a rack, the number of sessions of each port, the folder of its audit texts, and what
+/// is reported.
 pub(crate) fn serving<'a>(alloc: Global) -> Result<Command<'a>, AllocError> {
     let words = with_rack(alloc, "serve")?;
     words
@@ -253,12 +255,12 @@ pub(crate) fn serving<'a>(alloc: Global) -> Result<Command<'a>, AllocError> {
         .arg(log(alloc))
 }
 
-/// The option `--sessions N`.
+/// Returns the option `--sessions N`.
 fn sessions<'a>(alloc: Global) -> Arg<'a> {
     number(alloc, SESSIONS, 1, MOST_SESSIONS)
 }
 
-/// The option `--audit FOLDER`.
+/// Returns the option `--audit FOLDER`.
 fn folder<'a>(alloc: Global) -> Arg<'a> {
     Arg::new(alloc, FOLDER)
         .long(FOLDER)
@@ -266,18 +268,18 @@ fn folder<'a>(alloc: Global) -> Arg<'a> {
         .value_parser(ValueParser::NonEmptyString)
 }
 
-/// The option `--endless`, which requires `--audit`.
+/// Returns the option `--endless`, which requires `--audit`.
 fn endless<'a>(alloc: Global) -> Result<Arg<'a>, AllocError> {
     flag(alloc, ENDLESS).requires_arg(FOLDER)
 }
 
-/// The option `--part MB`, which requires `--endless`.
+/// Returns the option `--part MB`, which requires `--endless`.
 fn part<'a>(alloc: Global) -> Result<Arg<'a>, AllocError> {
     let part = number(alloc, PART, 1, MOST_PART).value_name("MB");
     part.requires_arg(ENDLESS)
 }
 
-/// The option `--log`, behind which may stand what is told.
+/// Returns the option `--log`, which may be followed by what is reported.
 fn log<'a>(alloc: Global) -> Arg<'a> {
     Arg::new(alloc, LOG)
         .long(LOG)
@@ -286,7 +288,7 @@ fn log<'a>(alloc: Global) -> Arg<'a> {
         .value_parser(ValueParser::Names(&TOLD))
 }
 
-/// The word `operate`: a port, and how often a tick and a step are sent.
+/// Returns the word `operate`, with a port, and how often a tick and a step are sent.
 pub(crate) fn operating<'a>(alloc: Global) -> Result<Command<'a>, AllocError> {
     let words = plain(alloc, "operate").arg(port(alloc))?;
     let tick = milliseconds(alloc, TICK, LEAST_TICK);
@@ -294,14 +296,14 @@ pub(crate) fn operating<'a>(alloc: Global) -> Result<Command<'a>, AllocError> {
     words.arg(tick)?.arg(step)
 }
 
-/// The port behind `operate`.
+/// Returns the argument for the port after `operate`.
 fn port<'a>(alloc: Global) -> Arg<'a> {
     Arg::new(alloc, PORT)
         .required(true)
         .value_parser(ValueParser::unsigned(1, u64::from(u16::MAX)))
 }
 
-/// An option with so many milliseconds or more.
+/// Returns an option with a number of milliseconds, `least` or more.
 fn milliseconds<'a>(alloc: Global, name: &'a str, least: u64) -> Arg<'a> {
     number(alloc, name, least, MOST_MILLISECONDS).value_name("MS")
 }

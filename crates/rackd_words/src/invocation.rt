@@ -1,9 +1,9 @@
 //! What words may ask for.
 
-/// How much is told on standard error while a rack is served.
+/// How much is reported on standard error while a rack is served.
 #[derive(Clone, Copy, PartialEq, Eq)]
 pub enum Telling {
-    /// That a line is halted.
+    /// Only that a line is halted.
     Little,
     /// Connections and sessions too.
     Sessions,
@@ -14,87 +14,87 @@ pub enum Telling {
 /// How a rack is served.
 #[derive(Clone, Copy)]
 pub struct Service<'a> {
-    /// How many connections each port accepts, 1 to 1,000,000; None where there's no end of them.
+    /// The number of connections that each port accepts, 1 to 1,000,000; None if it accepts them without limit.
     pub sessions: Option<u32>,
-    /// The folder in which each line has a file that gets its audit text while it is served; None where it has none.
+    /// The folder in which each line has a file for its audit text while it is served; None if there is no such file.
     pub audit: Option<&'a str>,
-    /// How many megabytes a part of an audit text has at least, 1 to 4,096, if the lines are endless; None if each line has
-    /// the places of the rack file.
+    /// The least megabytes of a part of an audit text, 1 to 4,096, if the lines are endless; None if each line has the
+    /// places of the rack file.
     pub endless: Option<u16>,
-    /// How much is told on standard error.
+    /// How much is reported on standard error.
     pub telling: Telling,
 }
 
-/// Which entries of an audit text are explained: all that meet each thing that is named.
+/// Which entries of an audit text are explained: those that meet each condition that is given.
 #[derive(Clone, Copy)]
 pub struct Entries {
-    /// Those from this place on, 1 to 4,294,967,295.
+    /// Only those from this place on, 1 to 4,294,967,295.
     pub from: Option<u32>,
-    /// Those up to this place, 1 to 4,294,967,295.
+    /// Only those up to this place, 1 to 4,294,967,295.
     pub to: Option<u32>,
-    /// Those that concern the slave at this address.
+    /// Only those that concern the slave at this address.
     pub slave: Option<u8>,
-    /// Those that this master sent.
+    /// Only those that this master sent.
     pub master: Option<u8>,
-    /// Those that were refused alone.
+    /// Only those that were refused.
     pub are_refused: bool,
-    /// None, but the summary of all.
+    /// No entries, only the summary of all.
     pub only_summary: bool,
 }
 
 /// What the words ask for.
 #[derive(Drop)]
 pub enum Invocation<'a> {
-    /// No words: the script of standard input is run on its rack.
+    /// No words: run the script of standard input on the rack of standard input.
     Input,
-    /// `run RACK SCRIPT`: the script of a file is run on the rack of another.
+    /// `run RACK SCRIPT`: run the script of one file on the rack of another.
     Run {
         /// The path of the rack.
         rack: &'a str,
         /// The path of the script.
         script: &'a str,
     },
-    /// `check RACK AUDIT..`: the audit text of one or more files is checked on the rack of another.
+    /// `check RACK AUDIT..`: check the audit text of one or more files on the rack of another.
     Check {
         /// The path of the rack.
         rack: &'a str,
-        /// The paths of the files that have the audit text, one after another.
+        /// The paths of the files that contain the audit text, in their order.
         audit: Vec<&'a str>,
     },
-    /// `explain RACK AUDIT..`: the audit text of one or more files is explained, on the rack of another.
+    /// `explain RACK AUDIT..`: explain the audit text of one or more files on the rack of another.
     Explain {
         /// The path of the rack.
         rack: &'a str,
-        /// The paths of the files that have the audit text, one after another.
+        /// The paths of the files that contain the audit text, in their order.
         audit: Vec<&'a str>,
-        /// Which entries are told.
+        /// The entries that are shown.
         entries: Entries,
     },
-    /// `serve RACK`: the rack of a file is served at sockets.
+    /// `serve RACK`: serve the rack of a file at sockets.
     Serve {
         /// The path of the rack.
         rack: &'a str,
         /// How it is served.
         service: Service<'a>,
     },
-    /// `operate PORT`: standard input and the clock operate a line that is served.
+    /// `operate PORT`: operate a line that is served, by standard input and the clock.
     Operate {
         /// The operator port of the line, 1 to 65,535.
         port: u16,
-        /// Milliseconds from tick to tick, 10 to 86,400,000; None where none is sent.
+        /// The milliseconds from tick to tick, 10 to 86,400,000; None if no tick is sent.
         tick: Option<u32>,
-        /// Milliseconds from step to step, 1 to 86,400,000; None where none is sent.
+        /// The milliseconds from step to step, 1 to 86,400,000; None if no step is sent.
         step: Option<u32>,
     },
-    /// `clap` answers: help, the version, or what is wrong with the words.
+    /// `clap` answers: with help, with the version, or with what is wrong with the words.
     Answer(clap::Error),
 }
 
-/// Why words can't be read.
+/// Why words cannot be read.
 #[derive(Clone, Copy)]
 pub enum WordsFault {
-    /// A word isn't UTF-8.
+    /// A word is not UTF-8.
     NotText,
-    /// Memory was refused.
+    /// Out of memory.
     OutOfMemory,
 }

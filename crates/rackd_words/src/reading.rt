@@ -1,4 +1,4 @@
-//! What the words of the command line ask for.
+//! Reads what the words of the command line ask for.
 
 use crate::commands::{
     AUDIT, ENDLESS, FOLDER, FROM, LOG, MASTER, PART, PORT, RACK, REFUSED, SCRIPT, SESSIONS, SLAVE,
@@ -11,7 +11,7 @@ use std::alloc::Global;
 use std::env::{self, Env};
 use std::io::ErrorKind;
 
-/// The words that are numbers, and how messages name them.
+/// The arguments that are numbers, and their names in messages.
 const NUMBERS: [(&str, &str); 9] = [
     (FROM, "--from <from>"),
     (TO, "--to <to>"),
@@ -27,17 +27,18 @@ const NUMBERS: [(&str, &str); 9] = [
 /// The least megabytes of a part of an audit text, if the words name none.
 const USUAL_PART: u16 = 16;
 
-/// A number that isn't written plainly.
+/// A number that is not written plainly.
 struct OddNumber<'a> {
-    /// The word that it stands behind.
+    /// The word that the number follows.
     command: &'a str,
-    /// How messages name what it is.
+    /// The name of its argument in messages.
     shown: &'a str,
     /// The number.
     number: &'a str,
 }
 
-/// The words, the program's own name among them.
+/// Returns the words of the command line, with the program's own name first. Returns `NotText` if a word is not
+/// UTF-8, and `OutOfMemory` if memory is refused.
 pub fn words_of(rt: &(impl Env + AllocGlobal)) -> Result<Vec<String>, WordsFault> {
     let words = match env::args(rt) {
         Ok(words) => words,
@@ -52,7 +53,8 @@ pub fn words_of(rt: &(impl Env + AllocGlobal)) -> Result<Vec<String>, WordsFault
     }
 }
 
-/// What the words ask for, the program's own name in front. `OutOfMemory` where memory is refused.
+/// Returns what the words ask for; the program's own name is the first word. Returns `OutOfMemory` if memory is
+/// refused.
 pub fn read_words<'a>(alloc: Global, words: &'a [String]) -> Result<Invocation<'a>, WordsFault> {
     let Ok(command) = known(alloc) else {
         return Err(WordsFault::OutOfMemory);
@@ -66,7 +68,7 @@ pub fn read_words<'a>(alloc: Global, words: &'a [String]) -> Result<Invocation<'
     }
 }
 
-/// A number with a sign or a leading zero, which `clap` lets pass, and how messages name what it is.
+/// Returns a number with a sign or a leading zero, which `clap` accepts, if there is one.
 fn odd_number<'a>(matches: &ArgMatches<'a>) -> Option<OddNumber<'a>> {
     let (command, words) = matches.subcommand()?;
     for (name, shown) in NUMBERS {
@@ -83,12 +85,12 @@ fn odd_number<'a>(matches: &ArgMatches<'a>) -> Option<OddNumber<'a>> {
     None
 }
 
-/// A number has no sign and no leading zero but that of 0 itself.
+/// Returns whether a number has no sign and no leading zero. The number 0 itself is allowed.
 fn is_plain(number: &str) -> bool {
     number == "0" || !number.starts_with('+') && !number.starts_with('0')
 }
 
-/// The answer to such a number.
+/// Returns the answer to a number that is not written plainly.
 fn refuse_number<'a>(alloc: Global, odd: OddNumber<'_>) -> Result<Invocation<'a>, WordsFault> {
     let OddNumber {
         command,
@@ -114,7 +116,7 @@ fn refuse_number<'a>(alloc: Global, odd: OddNumber<'_>) -> Result<Invocation<'a>
     }
 }
 
-/// What words that are accepted ask for.
+/// Returns what accepted words ask for.
 fn invocation_of<'a>(
     alloc: Global,
     matches: &ArgMatches<'a>,
@@ -148,7 +150,7 @@ fn invocation_of<'a>(
     }
 }
 
-/// The paths of this name, in their order. Returns `OutOfMemory` if memory is refused.
+/// Returns the paths of this name, in their order. Returns `OutOfMemory` if memory is refused.
 fn paths_in<'a>(
     alloc: Global,
     words: &ArgMatches<'a>,
@@ -166,7 +168,7 @@ fn paths_in<'a>(
     Ok(paths)
 }
 
-/// Which entries are explained, by the options of `explain`.
+/// Returns which entries are explained, by the options of `explain`.
 fn entries_of(words: &ArgMatches<'_>) -> Entries {
     Entries {
         from: words.get_one(FROM),
@@ -178,7 +180,7 @@ fn entries_of(words: &ArgMatches<'_>) -> Entries {
     }
 }
 
-/// How a rack is served, by the options of `serve`.
+/// Returns how a rack is served, by the options of `serve`.
 fn service_of<'a>(words: &ArgMatches<'a>) -> Service<'a> {
     Service {
         sessions: words.get_one(SESSIONS),
@@ -188,7 +190,7 @@ fn service_of<'a>(words: &ArgMatches<'a>) -> Service<'a> {
     }
 }
 
-/// How many megabytes a part of an audit text has at least, if `--endless` is there.
+/// Returns the least megabytes of a part of an audit text if `--endless` is given.
 fn part_of(words: &ArgMatches<'_>) -> Option<u16> {
     if words.get_flag(ENDLESS) {
         Some(words.get_one(PART).unwrap_or(USUAL_PART))
@@ -197,7 +199,7 @@ fn part_of(words: &ArgMatches<'_>) -> Option<u16> {
     }
 }
 
-/// How much is told, by what stands behind `--log`; little without it.
+/// Returns how much is reported, by what follows `--log`; little if `--log` is not given.
 fn telling_of(told: Option<&str>) -> Telling {
     match told {
         None => Telling::Little,
@@ -206,7 +208,7 @@ fn telling_of(told: Option<&str>) -> Telling {
     }
 }
 
-/// The path of this name, which `clap` has made sure of.
+/// Returns the path of this name. `clap` has checked that there is one.
 fn path_in<'a>(files: &ArgMatches<'a>, name: &str) -> &'a str {
     files.get_str(name).unwrap_or("")
 }

@@ -3,7 +3,7 @@
 use std::fmt;
 use std::fmt::Write;
 
-/// A value whose text has each control character escaped: an LF as `\n`, a CR as `\r`, a tab as `\t`, and any other one by
+/// A value whose text has each control character escaped: an LF as `\n`, a CR as `\r`, a tab as `\t`, and any other by
 /// its number in hex, as `\x1b` (own).
 #[derive(Clone, Copy)]
 pub struct Escaped<D>(pub D);
@@ -15,7 +15,7 @@ impl<D: fmt::Display> fmt::Display for Escaped<D> {
     }
 }
 
-/// What writes texts with their control characters escaped.
+/// A writer that escapes the control characters of texts.
 #[derive(Drop)]
 struct Escaping<'f, W> {
     inner: &'f mut W,

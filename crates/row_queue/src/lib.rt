@@ -1,4 +1,4 @@
-//! Rows for standard error, in a queue for which no thread waits.
+//! Rows for standard error, in a queue that no thread waits for.
 #![tactic(auto)]
 
 mod escaped;

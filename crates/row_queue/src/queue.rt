@@ -1,4 +1,4 @@
-//! The queue, and the thread that writes it.
+//! The queue of rows, and the thread that writes them.
 
 use crate::row::{Row, row_of};
 use crossbeam_channel::{Receiver, Sender, bounded};
@@ -14,32 +14,32 @@ use std::thread::Threads;
 use std::time::{Clock, Duration};
 use std::{io, thread};
 
-/// How many rows wait to be written at most.
+/// The most rows that wait to be written.
 const WAITING: usize = 1_024;
 
-/// How many milliseconds the end waits for standard error at most.
+/// The most milliseconds for which the end waits for standard error.
 const PATIENCE: u64 = 1_000;
 
-/// Why no queue is started (own).
+/// Why a queue was not started (own).
 #[derive(Clone, Copy, Debug, PartialEq, Eq)]
 pub enum QueueFault {
-    /// Memory was refused, or a thread.
+    /// Out of memory, or the thread could not be started.
     OutOfMemory,
 }
 
-/// Rows that wait to be written to standard error, as a log and as standard error itself. Threads share it, and none of
-/// them waits: if there is no room for a row, it is lost, and lost rows are counted. Their number is a row of its own, once
-/// there is room (own).
+/// A queue of rows that wait to be written to standard error. It can be used as a log and as standard error itself.
+/// Threads share it, and none waits for it: if there is no room for a row, the row is lost and counted. The number of
+/// lost rows becomes a row of its own when there is room again (own).
 #[derive(Drop)]
 pub struct RowQueue<R> {
     rt: R,
     sender: Sender<Row>,
-    /// For one row after all others.
+    /// The channel for one row after all others.
     last: Sender<Row>,
     lost: AtomicU32,
 }
 
-/// Whether all rows are written (own).
+/// Shows whether all rows have been written (own).
 #[derive(Drop)]
 pub struct Written {
     ended: Receiver<()>,
@@ -74,7 +74,8 @@ pub fn start<R: Threads + Wait + Eprint + Copy + Send + 'static>(
     Ok((queue, Written { ended }))
 }
 
-/// Writes each row in turn until the queue is dropped, and then the last row, if there is one. A failed write loses its row.
+/// Writes each row in turn until the queue is dropped, and then the last row, if there is one. If a write fails, its
+/// row is lost.
 fn write_rows<R: Wait + Eprint + Drop>(
     rt: R,
     rows: Receiver<Row>,
@@ -121,7 +122,7 @@ fn lost_row(lost: u32) -> Row {
 }
 
 impl<R: Wait + Clock + Drop> RowQueue<R> {
-    /// Ends the queue, and waits until all rows are written, at most one second.
+    /// Ends the queue, and waits for at most one second until all rows are written.
     pub fn end(self, written: Written) {
         let RowQueue {
             rt,

@@ -6,7 +6,7 @@ use std::alloc::Global;
 use std::fmt::Display;
 use std::test::Fail;
 
-/// The fault has this text and this number.
+/// Checks the text and the number of a fault.
 fn tells<F: Display + Drop>(alloc: Global, fault: F, code: u8, expected: &str) -> Result<(), Fail> {
     is_told(format!(in alloc; "{fault} {code}")?, expected)
 }

@@ -1,4 +1,4 @@
-//! When sessions call their gate.
+//! The calls of sessions to their gate.
 
 ghost use Rattle.dp_sessions.specs.Pools.{IsSeatAt};
 
@@ -17,8 +17,8 @@ use std::sync::atomic::Ordering::SeqCst;
 use std::sync::{Mutex, Wait};
 use std::test::Fail;
 
-/// What came, in order, as decimal digits: 1 `accepted`, 2 a write, 3 `enter`, 4 `answered`, 5 `ended`, 6 `dropped`,
-/// 7 `turned_away`, 8 `operates`, 9 `operated`.
+/// The calls and writes in order, as decimal digits: 1 `accepted`, 2 a write, 3 `enter`, 4 `answered`, 5 `ended`, 6
+/// `dropped`, 7 `turned_away`, 8 `operates`, 9 `operated`.
 #[derive(Drop)]
 struct Calls {
     digits: AtomicU64,
@@ -32,7 +32,7 @@ impl Calls {
     }
 }
 
-/// Counts each write as a call.
+/// A writer that notes each write.
 #[derive(Drop)]
 struct CountedWrites<'a> {
     calls: &'a Calls,
@@ -58,7 +58,7 @@ struct OtherSeat<'a> {
 }
 
 impl OtherSeat<'_> {
-    /// Serves a master that sends its address alone; how that ends.
+    /// Serves a master that sends only its address. Returns how the session ended.
     fn serve<T: Wait>(&mut self, rt: &T, address: u8, calls: &Calls) -> SessionEnd {
         let address = [address];
         let mut asks: &[u8] = &address;
@@ -181,15 +181,16 @@ fn operator_calls<T: Wait>(rt: &T, alloc: Global, lines: &str, expected: &str) -
     )
 }
 
-// The address, an octet that begins no frame, and a request for the FDL status of slave 5. At `ended` (5) the address 1 is
-// held (AddressHeld is 4); the pass is back, so that master 2 is accepted (2) and its input ends (EndOfInput is 1).
+// The master sends its address, an octet that begins no frame, and a request for the FDL status of slave 5. At `ended`
+// (5) the address 1 is still held (AddressHeld is 4). The pass is handed back, so master 2 is accepted (2) and its
+// input ends (EndOfInput is 1).
 #[test]
 fn master_session_calls_its_gate(rt: HostRuntime) -> Result<(), Fail> {
     let octets = [0x01, 0x33, 0x10, 0x05, 0x01, 0x49, 0x4F, 0x16];
     master_calls(&rt, rt.alloc(), &octets, "1263425421")
 }
 
-// Each event of the operator is between the calls of its gate, also the input of a step, and before its answer.
+// Each event of the operator, including the input of a step, is between the calls of its gate and before its answer.
 #[test]
 fn operator_session_calls_its_gate(rt: HostRuntime) -> Result<(), Fail> {
     operator_calls(&rt, rt.alloc(), "tick 1\nstep\nshow 5\n", "8928922")

@@ -1,8 +1,8 @@
-//! Tests of sessions with a line (`dp_sessions`), and what these tests and those of trails stand on: a port with seats
+//! Tests of sessions with a line (`dp_sessions`), and a helper of these tests and of those of trails: a port with seats
 //! ([`place`]).
 //!
-//! Most tests are a transcript: rows, each with its result behind an arrow, and what is left at the end. A helper, proved
-//! once, plays the rows and writes the transcript that is compared.
+//! Most tests are a transcript: rows, each with its result after an arrow, and the state at the end. A helper, proved
+//! once, carries out the rows and writes the transcript that is compared.
 #![tactic(auto)]
 
 #[cfg(test)]

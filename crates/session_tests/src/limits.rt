@@ -1,25 +1,26 @@
-//! How a session is served: readers and writers that end, fail or are narrow.
+//! Limits of sessions: readers and writers that end, fail, or pass few octets at once.
 
 use dp_sessions::SessionEnd;
 use std::alloc::{AllocError, Global};
 use std::io::{ErrorKind, Read, Write};
 use std::test::Fail;
 
-/// What limits a session.
+/// The limits of a session.
 #[derive(Clone, Copy)]
 pub(crate) struct Limits {
-    /// How many reads it may make.
+    /// The most reads that the session may make.
     pub(crate) turns: u32,
-    /// How many octets come by one read.
+    /// The most octets that one read returns.
     most: usize,
-    /// For how many octets the writer has room; then it fails.
+    /// The number of octets that the writer takes before it fails.
     room: usize,
-    /// The reader fails behind its octets, and doesn't end.
+    /// Whether the reader fails after its octets, instead of ending.
     fails: bool,
 }
 
 impl Limits {
-    /// `turns=N`, `by=N`, `room=N` and `fails`, parted by a space; what isn't named limits nothing.
+    /// Reads `turns=N`, `by=N`, `room=N` and `fails`, separated by spaces. A limit that is not named is 100 reads or
+    /// 100,000 octets, and the reader ends.
     pub(crate) fn new(text: &str) -> Result<Limits, Fail> {
         let mut limits = Limits {
             turns: 100,
@@ -53,7 +54,7 @@ impl Limits {
         Ok(())
     }
 
-    /// A reader of these octets.
+    /// Returns a reader of these octets.
     pub(crate) fn reader<'a>(&self, octets: &'a [u8]) -> Coming<'a> {
         Coming {
             left: octets,
@@ -62,7 +63,7 @@ impl Limits {
         }
     }
 
-    /// A writer to which nothing was written.
+    /// Returns a writer to which nothing was written.
     pub(crate) fn writer(&self, alloc: Global) -> Narrow {
         Narrow {
             room: self.room,
@@ -71,7 +72,7 @@ impl Limits {
     }
 }
 
-/// Gives its octets, so many at most by one read; then it ends, or fails.
+/// A reader that returns its octets, at most `most` in one read, and then ends or fails.
 #[derive(Drop)]
 pub(crate) struct Coming<'a> {
     left: &'a [u8],
@@ -92,7 +93,7 @@ impl Read for Coming<'_> {
     }
 }
 
-/// Takes as many octets as it has room for, and then fails.
+/// A writer that takes as many octets as it has room for, and then fails.
 #[derive(Drop)]
 pub(crate) struct Narrow {
     room: usize,
@@ -115,7 +116,7 @@ impl Write for Narrow {
     }
 }
 
-/// How a session ended, with its number, and `left N` where the reader has octets that weren't read.
+/// Returns how a session ended, with its number, and `left N` if the reader has octets that were not read.
 pub(crate) fn end_of(
     alloc: Global,
     end: SessionEnd,

@@ -10,8 +10,8 @@ use std::alloc::{AllocError, Global};
 use std::sync::Wait;
 use std::test::Fail;
 
-/// What an operator's session at a fresh port with this device tells: how it ended, what was written, and
-/// behind a bar the journal. So many passes of master 2 are out.
+/// Runs an operator's session at a new port with this device, while `out` passes of master 2 are out. Checks how it
+/// ended, what was written, and, after a bar, the journal.
 fn operates_with<T: Wait>(
     rt: &T,
     alloc: Global,
@@ -34,7 +34,7 @@ fn operates_with<T: Wait>(
     is_told(format!(in alloc; "{end}\n{written}|\n{journal}")?, expected)
 }
 
-/// Plays an operator's session where no other pass is out.
+/// Runs an operator's session while no other pass is out. See [`operates_with`].
 fn operates<T: Wait>(
     rt: &T,
     alloc: Global,
@@ -46,7 +46,7 @@ fn operates<T: Wait>(
     operates_with(rt, alloc, device, 0, limits, octets, expected)
 }
 
-/// What is told of so many octets of a comment, an LF, and these lines.
+/// Runs an operator's session that sends a comment of `count` octets, an LF, and these lines. See [`operates_with`].
 fn operates_behind_a_comment<T: Wait>(
     rt: &T,
     alloc: Global,

@@ -23,7 +23,7 @@ pub struct Place {
     ghost third_is_ours: { IsSeatAt port.claims third },
 }
 
-/// A fresh place at the line of this description.
+/// Opens a line and its claims by this description, with three seats.
 pub fn fresh_place(alloc: Global, spec: &LineSpec) -> Result<Place, Fail>
     requires { opening_fault (description_of spec.now) ≡ None }
     ensures { IfOk result (λ place. line_of place.port.line ≡ spec.now) }
@@ -38,7 +38,7 @@ pub fn fresh_place(alloc: Global, spec: &LineSpec) -> Result<Place, Fail>
     })
 }
 
-/// The claims of a line, and three seats.
+/// Opens the claims of a line, with three seats.
 fn three_seats(
     alloc: Global,
     spec: &LineSpec,

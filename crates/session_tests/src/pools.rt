@@ -21,18 +21,18 @@ use std::test::Fail;
 use std::thread;
 use std::thread::{Threads, yield_now};
 
-/// Master 1, and its request for the diagnosis of slave 5.
+/// The address of master 1, and its request for the diagnosis of slave 5.
 const ASKS_1: &str = "016805056885816d3c3eed16";
 
-/// The acceptance, and the diagnosis of a fresh slave for master 1.
+/// The acceptance, and the diagnosis of a new slave for master 1.
 const ANSWERED_1: &str = "e5680b0b688185083e3c020500ff80a1af16";
 
-/// Master 2, and its request for the diagnosis of slave 5.
+/// The address of master 2, and its request for the diagnosis of slave 5.
 const ASKS_2: &str = "026805056885826d3c3eee16";
 
 const ANSWERED_2: &str = "e5680b0b688285083e3c020500ff80a1b016";
 
-/// Takes the octets that are expected, and no others; how many it took is told.
+/// A writer that takes the expected octets and no others, and counts them in `taken`.
 #[derive(Drop)]
 struct Expecting<'a> {
     expected: &'a [u8],
@@ -57,7 +57,7 @@ impl Write for Expecting<'_> {
     }
 }
 
-/// A list of these two.
+/// Returns a list of these two elements.
 fn both<T: Drop>(alloc: Global, first: T, second: T) -> Result<Vec<T>, AllocError>
     ensures { IfOk result (λ v. v.items ≡ first ∷ second ∷ []) }
 {
@@ -67,7 +67,7 @@ fn both<T: Drop>(alloc: Global, first: T, second: T) -> Result<Vec<T>, AllocErro
     Ok(list)
 }
 
-/// Whether a seat that served no session has the addresses of both masters, one after another.
+/// Returns whether a seat that served no session can claim the addresses of both masters, one after the other.
 fn are_free(port: &Port, seat: WorkerSeat) -> bool
     requires { IsSeatAt port.now.claims seat }
 {
@@ -79,8 +79,8 @@ fn are_free(port: &Port, seat: WorkerSeat) -> bool
     port.claims.claim(&mut seat, 2).is_ok()
 }
 
-/// What two workers at lines 1 and 2 tell: how many of these jobs they served, and whether the addresses of
-/// either line are free behind them.
+/// Serves these jobs by two workers at lines 1 and 2. Returns how many jobs they served, and whether the addresses of
+/// both lines are free afterwards.
 fn served<H: Threads + Wait + Sync, R: Read + Send + Drop, W: Write + Send + Drop, G: Gate + Sync>(
     rt: &H,
     alloc: Global,
@@ -107,16 +107,16 @@ fn served<H: Threads + Wait + Sync, R: Read + Send + Drop, W: Write + Send + Dro
     Ok(format!(in alloc; "{count} served, free {free}")?)
 }
 
-/// What came to the gate of [`overlaps`].
+/// The sessions that came to the gate of [`overlaps`].
 #[derive(Drop)]
 struct Seen {
-    /// Master 1 of line 1, who is held up.
+    /// The number of times that master 1 of line 1 came and was held up.
     held: AtomicU64,
-    /// Sessions of master 1 that went on behind the whole of the other session.
+    /// The number of times that master 1 continued after the whole answer of the other session was written.
     went_on: AtomicU64,
-    /// The master of the other session.
+    /// The number of times that the master of the other session came.
     other: AtomicU64,
-    /// Anybody else.
+    /// The number of times that any other master came.
     stranger: AtomicU64,
 }
 
@@ -130,7 +130,7 @@ impl Seen {
         }
     }
 
-    /// How often who came.
+    /// Returns the counts as a text.
     fn told(&self, alloc: Global) -> Result<String, AllocError> {
         let (held, went_on) = (self.held.load(SeqCst), self.went_on.load(SeqCst));
         let (other, stranger) = (self.other.load(SeqCst), self.stranger.load(SeqCst));
@@ -138,8 +138,8 @@ impl Seen {
     }
 }
 
-/// Holds master 1 of line 1 up until so many octets are taken, or a million turns have passed; the other
-/// session is of this line and master.
+/// A gate that holds master 1 of line 1 up until `octets` octets are taken, or a million turns have passed. The other
+/// session is of `line` and `master`.
 #[derive(Drop)]
 struct Until<'a> {
     octets: u64,
@@ -150,7 +150,7 @@ struct Until<'a> {
 }
 
 impl Until<'_> {
-    /// Waits for the octets; false where they don't come.
+    /// Waits for the octets. Returns false if they do not come.
     fn come(&self) -> bool {
         for _ in 0..1_000_000 {
             if self.taken.load(SeqCst) == self.octets {
@@ -178,7 +178,8 @@ impl Gate for Until<'_> {
     }
 }
 
-/// A job at the port of this place: a session that reads these octets, and to which these are written.
+/// Returns a job at the port with this place: a session that reads the octets `asks`, and to which `answers` are
+/// written.
 fn job<'a>(
     port: u8,
     asks: &'a Octets,
@@ -195,8 +196,9 @@ fn job<'a>(
     }
 }
 
-/// What a pool tells of the session of master 1 at line 1, which is held up at its exchange until the whole of
-/// another one is written, of this line and master: the octets of both, and who came to the gate.
+/// Serves a session of master 1 at line 1 and another session of this line and master. The first is held up at its
+/// exchange until the whole answer of the other is written. Returns the octets of both, and which masters came to the
+/// gate.
 fn overlapped<H: Threads + Wait + Sync>(
     rt: &H,
     alloc: Global,
@@ -227,8 +229,8 @@ fn overlapped<H: Threads + Wait + Sync>(
     Ok(format!(in alloc; "{pool}, octets {held} and {other}, {came}")?)
 }
 
-/// The two sessions overlap: master 1 of line 1 was at the gate once, and went on once behind the other's
-/// octets.
+/// Checks that two sessions overlap: master 1 of line 1 was at the gate once, and continued once after the other
+/// session's octets.
 fn overlaps<H: Threads + Wait + Sync>(
     rt: &H,
     alloc: Global,
@@ -249,7 +251,7 @@ fn pool_overlaps(rt: HostRuntime) -> Result<(), Fail> {
     overlaps(&rt, rt.alloc(), 2, 1, ASKS_1, ANSWERED_1)
 }
 
-/// What a pool tells of jobs of master 2 at these ports, and how many octets were written.
+/// Serves jobs of master 2 at these ports. Returns the counts of [`served`] and how many octets were written.
 fn served_at<H: Threads + Wait + Sync>(
     rt: &H,
     alloc: Global,
@@ -273,20 +275,20 @@ fn jobs_of_no_port_are_dropped(rt: HostRuntime) -> Result<(), Fail> {
     )
 }
 
-/// What a client heard that spoke while it was served.
+/// What a client received between its requests.
 #[derive(Clone, Copy, Default)]
 struct Heard {
-    /// What came behind the address, before anything else was sent.
+    /// What was received after the address, before anything else was sent.
     acceptance: [u8; 1],
-    /// What came behind the first request, before the second one was sent.
+    /// What was received after the first request, before the second was sent.
     first: [u8; 17],
-    /// What came behind the second.
+    /// What was received after the second request.
     second: [u8; 17],
-    /// How many octets came behind these, after the client had ended.
+    /// The number of octets received after these, after the client had ended.
     behind: usize,
 }
 
-/// Sends the address of a master, and then a request twice, each once what is answered has come; then it ends.
+/// Sends the address of a master and then a request twice, each after the answer to the one before, and then ends.
 fn speak(client: &mut TcpStream, address: u8, request: &[u8]) -> std::io::Result<Heard> {
     let mut heard = Heard::default();
     client.write_all(&[address])?;
@@ -300,8 +302,8 @@ fn speak(client: &mut TcpStream, address: u8, request: &[u8]) -> std::io::Result
     Ok(heard)
 }
 
-/// What a client over TCP tells that speaks and listens in a thread of its own, while a pool serves its connection at
-/// line 1; and what the pool tells.
+/// Runs a client over TCP in a thread of its own, while a pool serves its connection at line 1. Returns the counts of
+/// [`served`], and what the client received.
 fn served_over_tcp<H: Net<Listener = TcpListener, Stream = TcpStream> + Threads + Wait + Sync>(
     rt: &H,
     alloc: Global,
@@ -334,7 +336,7 @@ fn served_over_tcp<H: Net<Listener = TcpListener, Stream = TcpStream> + Threads 
     )?)
 }
 
-/// What a pool tells that serves this connection at line 1.
+/// Serves this connection at line 1 by a pool. Returns the counts of [`served`].
 fn serve_one<H: Threads + Wait + Sync>(
     rt: &H,
     alloc: Global,

@@ -14,10 +14,10 @@ use std::alloc::{AllocError, Global};
 use std::sync::{Mutex, Wait};
 use std::test::Fail;
 
-/// What parts a session that comes while another is at the gate from what it tells.
+/// The text between a session that is served while another is at the gate and its result.
 const MEANWHILE: &str = " => ";
 
-/// A worker's seat at a port, what its sessions told, and the arrow of their rows.
+/// A worker's seat at a port, the results of its sessions, and the arrow of their rows.
 #[derive(Drop)]
 struct Worker<'a> {
     port: &'a Port,
@@ -28,7 +28,7 @@ struct Worker<'a> {
     ghost free: { seat.view.held ≡ None },
 }
 
-/// A session: its octets, what limits it, and the text of both.
+/// A session: its octets, its limits, and the text of both.
 #[derive(Drop)]
 struct Session<'a> {
     text: &'a str,
@@ -36,7 +36,7 @@ struct Session<'a> {
     limits: Limits,
 }
 
-/// The sessions of the rows that have the arrow.
+/// Returns the sessions of the rows that have the arrow.
 fn sessions_in<'a>(alloc: Global, rows: &'a str, arrow: &str) -> Result<Vec<Session<'a>>, Fail> {
     let mut sessions = Vec::new(alloc);
     for row in rows.lines() {
@@ -53,7 +53,7 @@ fn sessions_in<'a>(alloc: Global, rows: &'a str, arrow: &str) -> Result<Vec<Sess
 }
 
 impl Worker<'_> {
-    /// Serves a session, and tells how it ended and what was written.
+    /// Serves a session, and adds how it ended and what was written.
     fn serve<T: Wait, G: Gate>(
         &mut self,
         rt: &T,
@@ -97,7 +97,7 @@ impl Worker<'_> {
         Ok(())
     }
 
-    /// Tells who came to the gate, and serves these sessions.
+    /// Adds a row for the exchange at the gate, and serves these sessions.
     fn visit<T: Wait>(
         &mut self,
         rt: &T,
@@ -112,7 +112,7 @@ impl Worker<'_> {
     }
 }
 
-/// A gate that tells who comes, and has a visitor's sessions served meanwhile.
+/// A gate that notes each exchange, and then lets another worker serve its sessions.
 #[derive(Drop)]
 struct Beside<'a> {
     visitor: Mutex<Worker<'a>>,
@@ -130,7 +130,8 @@ impl Gate for Beside<'_> {
     }
 }
 
-/// What two workers tell: one of its sessions, and then one who visits while those are at the gate.
+/// Serves sessions by two workers: the first serves its own, and the second serves others while these are at the
+/// gate. Returns the results of the first, and then those of the second.
 fn told_at<T: Wait>(
     rt: &T,
     alloc: Global,
@@ -169,9 +170,9 @@ fn told_at<T: Wait>(
     Ok(told)
 }
 
-/// The transcript of a fresh port: sessions one after another, by ` -> `; `gate LINE MASTER` for each exchange,
-/// and behind it the sessions that another worker serves meanwhile, by ` => `; and the journal. So many passes
-/// of master 2 are out.
+/// Checks the transcript of a new port, while `out` passes of master 2 are out: sessions one after another, with
+/// ` -> `; then `gate LINE MASTER` for each exchange, followed by the sessions that another worker serves at that
+/// time, with ` => `; and the journal.
 fn serves_with<T: Wait>(rt: &T, alloc: Global, out: usize, transcript: &str) -> Result<(), Fail> {
     let Place {
         port,
@@ -185,13 +186,13 @@ fn serves_with<T: Wait>(rt: &T, alloc: Global, out: usize, transcript: &str) -> 
     is_told(told, transcript)
 }
 
-/// Plays sessions where no other pass is out.
+/// Checks the transcript of a new port while no other pass is out. See [`serves_with`].
 fn serves<T: Wait>(rt: &T, alloc: Global, transcript: &str) -> Result<(), Fail> {
     serves_with(rt, alloc, 0, transcript)
 }
 
-/// A diagnosis; a master that the line doesn't have; a dropped octet, a silence and a status. Then the address
-/// is free.
+/// A diagnosis; an address that is no master of the line; and a dropped octet, a silence and a status. The last
+/// session shows that address 1 is free again.
 #[test]
 fn serve_answers(rt: HostRuntime) -> Result<(), Fail> {
     serves(
@@ -213,7 +214,7 @@ rack-audit 2 line 1
     )
 }
 
-/// A diagnosis whose request comes octet by octet.
+/// A diagnosis whose request is read octet by octet.
 #[test]
 fn octet_by_octet(rt: HostRuntime) -> Result<(), Fail> {
     serves(
@@ -245,7 +246,7 @@ rack-audit 2 line 1
     )
 }
 
-/// Each read counts, whether it gives the address, one octet or two.
+/// Each read counts, whether it returns the address, one octet or two.
 #[test]
 fn turns(rt: HostRuntime) -> Result<(), Fail> {
     serves(

@@ -9,8 +9,8 @@ use std::alloc::Global;
 use std::sync::Wait;
 use std::test::Fail;
 
-/// What came to the line: two requests of master 1, one of master 2 between them, a tick, and what the operator
-/// is refused.
+/// The events of the line: two requests of master 1, one of master 2 between them, a tick, and an event of the
+/// operator that is refused.
 const PLAYED: &str = "\
 req 1 6805056885816d3c3eed16 -> first receipt
 req 2 6805056885826d3c3eee16 -> second
@@ -19,7 +19,7 @@ tick 1 -> fourth
 busy 9 default on -> fifth
 ";
 
-/// The receipts of these numbers from 1; behind `~` the first octet of the reply is another.
+/// Returns the receipts with these numbers, from 1. After `~` the first octet of the reply is changed.
 fn chosen(alloc: Global, receipts: &[Receipt], numbers: &str) -> Result<Vec<Receipt>, Fail> {
     let mut list = Vec::new(alloc);
     for word in numbers.split_whitespace() {
@@ -48,7 +48,7 @@ fn garble(outcome: &mut Outcome) -> Result<(), Fail> {
     Ok(())
 }
 
-/// Whether the receipts of a row, `ADDRESS: NUMBER ..`, agree.
+/// Returns whether the receipts of a row, `ADDRESS: NUMBER ..`, agree.
 fn agrees(alloc: Global, closed: &Closed, receipts: &[Receipt], row: &str) -> Result<bool, Fail> {
     let Some((address, numbers)) = row.split_once(':') else {
         return Err(Fail::new("no address"));
@@ -57,7 +57,7 @@ fn agrees(alloc: Global, closed: &Closed, receipts: &[Receipt], row: &str) -> Re
     Ok(closed.agrees(address.parse::<u8>()?, list.as_slice()))
 }
 
-/// The transcript of lists of receipts: whether each agrees with the journal of what was [`PLAYED`].
+/// Checks a transcript of lists of receipts: whether each list agrees with the journal after [`PLAYED`].
 fn agreements<R: Wait>(rt: &R, alloc: Global, transcript: &str) -> Result<(), Fail> {
     let mut desk = fresh_desk(rt, alloc, 1000)?;
     desk.play_rows(rt, alloc, PLAYED)?;

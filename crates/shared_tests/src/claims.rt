@@ -35,7 +35,7 @@ fn fresh_desk(alloc: Global) -> Result<Desk, Fail> {
     })
 }
 
-/// `claim A`, `look A` or `release` of a seat, and what came of it.
+/// Carries out `claim A`, `look A` or `release` of a seat, and returns the result.
 fn tells(
     alloc: Global,
     claims: &Claims,
@@ -52,7 +52,7 @@ fn tells(
     }
 }
 
-/// The text, and which address the seat holds then.
+/// Returns the text, followed by the address that the seat holds.
 fn holding(alloc: Global, text: &str, seat: &WorkerSeat) -> Result<String, Fail> {
     match seat.held() {
         Some(address) => Ok(format!(in alloc; "{text}holds {address}")?),
@@ -60,7 +60,7 @@ fn holding(alloc: Global, text: &str, seat: &WorkerSeat) -> Result<String, Fail>
     }
 }
 
-/// A seat claims an address.
+/// Claims an address for a seat.
 fn claim(alloc: Global, claims: &Claims, seat: &mut WorkerSeat, address: u8) -> Result<String, Fail>
     requires { seat.old.table ≡ claims.now.table }
     ensures { seat.new.table ≡ seat.old.table }
@@ -78,7 +78,7 @@ fn claim(alloc: Global, claims: &Claims, seat: &mut WorkerSeat, address: u8) -> 
     }
 }
 
-/// A seat looks whether an address is held.
+/// Looks by a seat whether an address is held.
 fn look(alloc: Global, claims: &Claims, seat: &mut WorkerSeat, address: u8) -> Result<String, Fail>
     requires { seat.old.table ≡ claims.now.table }
     ensures { seat.new.table ≡ seat.old.table }
@@ -89,7 +89,7 @@ fn look(alloc: Global, claims: &Claims, seat: &mut WorkerSeat, address: u8) -> R
     }
 }
 
-/// A seat gives back what it holds.
+/// Releases the address that a seat holds.
 fn release(alloc: Global, claims: &Claims, seat: &mut WorkerSeat) -> Result<String, Fail>
     requires { seat.old.table ≡ claims.now.table }
     ensures { seat.new.table ≡ seat.old.table }
@@ -102,7 +102,7 @@ fn release(alloc: Global, claims: &Claims, seat: &mut WorkerSeat) -> Result<Stri
 }
 
 impl Desk {
-    /// What a seat does, `1` or `2` and its action, and what came of it.
+    /// Carries out a row: `1` or `2` for the seat, and its action. Returns the result.
     fn play(&mut self, alloc: Global, row: &str) -> Result<String, Fail> {
         match row.split_once(' ') {
             Some(("1", action)) => tells(alloc, &self.claims, &mut self.first, action),
@@ -111,7 +111,7 @@ impl Desk {
         }
     }
 
-    /// Plays each row that has an arrow, and tells it with what came of it.
+    /// Carries out each row that has an arrow. Returns each row with its result.
     fn play_rows(&mut self, alloc: Global, rows: &str) -> Result<String, Fail> {
         let mut told = String::new(alloc);
         for row in rows.lines() {
@@ -124,7 +124,7 @@ impl Desk {
     }
 }
 
-/// The two seats, in a list.
+/// Returns the two seats as a list.
 fn listed(
     alloc: Global,
     first: WorkerSeat,
@@ -140,7 +140,7 @@ fn listed(
     Ok(seats)
 }
 
-/// The transcript of two seats, and how many held an address when the claims were closed.
+/// Checks the transcript of two seats, and how many held an address when the claims were closed.
 fn claims_tell(alloc: Global, transcript: &str) -> Result<(), Fail> {
     let mut desk = fresh_desk(alloc)?;
     let mut told = desk.play_rows(alloc, transcript)?;
@@ -154,7 +154,7 @@ fn claims_tell(alloc: Global, transcript: &str) -> Result<(), Fail> {
     is_told(told, transcript)
 }
 
-/// Also that either seat has an address which the other released.
+/// Tests also that each seat can claim an address that the other released.
 #[test]
 fn an_address_is_claimed_once(rt: HostRuntime) -> Result<(), Fail> {
     claims_tell(
@@ -179,18 +179,18 @@ closed, 2 held
     )
 }
 
-/// What threads counted that contended for an address.
+/// The counts of threads that contend for an address.
 #[derive(Drop)]
 struct Counts {
-    /// Claims that were held.
+    /// The number of claims that succeeded.
     claimed: AtomicU64,
-    /// Seats that hold it now.
+    /// The number of seats that hold the address now.
     holders: AtomicU64,
-    /// Claims at which another seat held it too.
+    /// The number of claims that succeeded while another seat held the address.
     clashes: AtomicU64,
 }
 
-/// Claims address 1 and gives it back, a thousand times.
+/// Claims address 1 and releases it if the claim succeeds, a thousand times.
 fn contend(claims: &Claims, seat: &mut WorkerSeat, counts: &Counts)
     requires { (seat.old.table ≡ claims.now.table) × (seat.old.view.held ≡ None) }
 {
@@ -208,7 +208,7 @@ fn contend(claims: &Claims, seat: &mut WorkerSeat, counts: &Counts)
     }
 }
 
-/// Lets all seats contend, each in a thread of its own. False where a thread wasn't started.
+/// Lets all seats contend, each in a thread of its own. Returns false if a thread could not be started.
 fn contend_all<R: Threads + Wait + Sync>(
     rt: &R,
     claims: &Claims,
@@ -235,8 +235,8 @@ fn contend_all<R: Threads + Wait + Sync>(
     )
 }
 
-/// What eight threads that contended for address 1 tell, and then a ninth seat: how many claims met another
-/// holder, whether some succeeded, how many hold it; what the ninth seat saw, and what its own claim came to.
+/// Lets eight threads contend for address 1. Returns how many claims met another holder, whether some succeeded, and
+/// how many seats hold it; then whether a ninth seat saw it held, and the result of the ninth seat's claim.
 fn contended<R: Threads + Wait + Sync>(rt: &R, alloc: Global) -> Result<String, Fail> {
     let spec = line_spec(alloc, 1, 1000, Device::Still)?;
     let (claims, mut seats) = Claims::open(alloc, &spec, 9)?;

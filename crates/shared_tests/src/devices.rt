@@ -7,7 +7,7 @@ use dp_line::{Device, LineSpec, Lists, SlaveSpec};
 use std::alloc::{AllocError, Global};
 use std::test::Fail;
 
-/// The device feeds these inputs next, by inputs and outputs; all are hex digits, `-` for none.
+/// Checks the next inputs of a device for these inputs and outputs; all are hex digits, `-` for none.
 fn feeds(
     alloc: Global,
     device: Device,
@@ -85,7 +85,7 @@ fn slave(address: u8, device: Device) -> SlaveSpec {
     }
 }
 
-/// Mirrored slave 9, still slave 7 and counting slave 3.
+/// Returns a line with slave 9 (a mirror), slave 7 (still) and slave 3 (a counter).
 fn line_of(alloc: Global) -> Result<LineSpec, AllocError> {
     let mut slaves = Vec::new(alloc);
     slaves.push(slave(9, Device::Mirror))?;
@@ -99,7 +99,7 @@ fn line_of(alloc: Global) -> Result<LineSpec, AllocError> {
     })
 }
 
-/// The slaves of a line that devices drive, `ADDRESS DEVICE` each.
+/// Returns the slaves of a line that devices drive, `ADDRESS DEVICE` each.
 fn driven_of(alloc: Global, line: &LineSpec) -> Result<String, AllocError> {
     let mut told = String::new(alloc);
     for slave in driven_slaves(line).as_slice() {

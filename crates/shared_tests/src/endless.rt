@@ -6,7 +6,7 @@ use std::alloc::Global;
 use std::sync::Wait;
 use std::test::Fail;
 
-/// Plays the transcript of a new endless line that keeps two entries at most, and closes the line with all its passes.
+/// Runs the transcript on a new endless line that stores at most two entries, and closes the line with all its passes.
 /// The last line of the transcript says whether the receipts of master 2, which has none, agree with the journal.
 fn check_line<R: Wait>(rt: &R, alloc: Global, transcript: &str) -> Result<(), Fail> {
     let mut desk = endless_desk(rt, alloc)?;

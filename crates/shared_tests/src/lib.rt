@@ -1,8 +1,8 @@
-//! Tests of what threads share of a rack's lines (`dp_shared`) and of what devices feed (`dp_devices`), and what these
-//! tests and those of sessions stand on: lines ([`line_specs`]) and rows of a transcript ([`rows`]).
+//! Tests of what threads share of a rack's lines (`dp_shared`) and of the inputs of devices (`dp_devices`), and
+//! helpers of these tests and of those of sessions: lines ([`line_specs`]) and rows of a transcript ([`rows`]).
 //!
-//! Most tests are a transcript: rows, each with what it has to tell behind an arrow, and what is left at the
-//! end. A helper, proved once, plays the rows and tells the transcript anew.
+//! Most tests are a transcript: rows, each with its result after an arrow, and the state at the end. A helper, proved
+//! once, carries out the rows and writes the transcript that is compared.
 #![tactic(auto)]
 
 #[cfg(test)]

@@ -9,15 +9,15 @@ use dp_line::{Device, LineSpec, Lists, SlaveSpec};
 use std::alloc::{AllocError, Global};
 use std::test::Fail;
 
-/// The description of a fresh line of this number, with 1000 places.
+/// Returns the description of a line with this number and 1000 places.
 pub fn ample_line(alloc: Global, number: u8, device: Device) -> Result<LineSpec, AllocError>
     ensures { IfOk result (λ line. opening_fault (description_of line) ≡ None) }
 {
     line_spec(alloc, number, 1000, device)
 }
 
-/// A line with masters 1 and 2 and a slave of two octets of inputs and of outputs at address 5, which has this
-/// device.
+/// Returns a line with masters 1 and 2 and a slave at address 5 that has two octets of inputs, two of outputs and
+/// this device.
 pub fn line_spec(
     alloc: Global,
     number: u8,
@@ -41,7 +41,8 @@ pub fn line_spec(
     })
 }
 
-/// A line of 2,000 places with masters 0 to 15, and slaves 20 to 83 of two octets of inputs and of outputs.
+/// Returns a line with 2,000 places, masters 0 to 15, and slaves 20 to 83, which have two octets of inputs and two of
+/// outputs.
 pub fn wide_line(alloc: Global) -> Result<LineSpec, Fail> {
     let mut masters = ArrayVec::new();
     for master in 0..16u8 {
@@ -59,7 +60,7 @@ pub fn wide_line(alloc: Global) -> Result<LineSpec, Fail> {
     })
 }
 
-/// A slave of two octets of inputs and of outputs.
+/// Returns a slave with two octets of inputs and two of outputs.
 fn slave_at(address: u8, device: Device) -> SlaveSpec
     ensures { result ≡ record {
       address = address;

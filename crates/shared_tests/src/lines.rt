@@ -1,4 +1,4 @@
-//! A line: events and looks by the passes of its masters and of an operator.
+//! Events and looks at a line by the passes of its masters and of an operator.
 
 ghost use Rattle.std.specs.Prelude.{◌≡◌, [], ◌∷◌, IfOk};
 ghost use Rattle.dp_shared.specs.Passes.{table_of};
@@ -25,13 +25,13 @@ pub(crate) struct Desk {
     ghost addresses: { (first.view.address ≡ 1) × (second.view.address ≡ 2) × (operator.view.address ≡ 127) },
 }
 
-/// A fresh line of so many places, 2 or more.
+/// Opens a line with this many places, at least 2, and its passes.
 pub(crate) fn fresh_desk<R: Wait>(rt: &R, alloc: Global, places: u16) -> Result<Desk, Fail> {
     let spec = line_spec(alloc, 1, u32::from(places.max(2)), Device::Still)?;
     desk_at(rt, alloc, Line::open(alloc, &spec)?)
 }
 
-/// A new endless line whose description has two places: it keeps two entries at most.
+/// Opens an endless line whose description has two places, so that it stores at most two entries, and its passes.
 pub(crate) fn endless_desk<R: Wait>(rt: &R, alloc: Global) -> Result<Desk, Fail> {
     let mut spec = line_spec(alloc, 1, 2, Device::Still)?;
     desk_at(rt, alloc, Line::open_endless(alloc, &mut spec)?)
@@ -51,7 +51,7 @@ fn desk_at<R: Wait>(rt: &R, alloc: Global, line: Line) -> Result<Desk, Fail> {
     })
 }
 
-/// This pass, in a list.
+/// Returns this pass as a list.
 fn listed(alloc: Global, pass: Pass) -> Result<Vec<Pass>, AllocError>
     ensures { IfOk result (λ v. v.items ≡ pass ∷ []) }
 {
@@ -60,14 +60,14 @@ fn listed(alloc: Global, pass: Pass) -> Result<Vec<Pass>, AllocError>
     Ok(passes)
 }
 
-/// How many receipts with a place these passes have.
+/// Returns the numbers of receipts with a place that these passes have.
 fn made_by(alloc: Global, first: &Pass, second: &Pass, third: &Pass) -> Result<String, AllocError> {
     let (one, two, three) = (first.made(), second.made(), third.made());
     format!(in alloc; "made {one} {two} {three}")
 }
 
 impl Desk {
-    /// An event comes: a request of master 1 or 2, or what the operator does.
+    /// Sends an event: a request of master 1 or 2, or an event of the operator.
     fn send<R: Wait>(&mut self, rt: &R, event: Event) -> Result<Receipt, Fail> {
         match event {
             Event::Request { master: 1, octets } => {
@@ -81,7 +81,7 @@ impl Desk {
         }
     }
 
-    /// The event of a text comes: its receipt, which is kept.
+    /// Sends the event of a text. Returns its receipt, which is also stored.
     fn take<R: Wait>(&mut self, rt: &R, alloc: Global, event: &str) -> Result<String, Fail> {
         let Some(event) = event_in(event.as_bytes()) else {
             return Err(Fail::new("no event"));
@@ -92,7 +92,7 @@ impl Desk {
         Ok(told)
     }
 
-    /// The operator looks at a slave: how many entries there were, and what is shown.
+    /// Looks at a slave as the operator. Returns the number of entries and what is shown.
     fn show<R: Wait>(&mut self, rt: &R, alloc: Global, address: u8) -> Result<String, Fail> {
         let seen = self.line.snapshot(rt, &mut self.operator, address);
         let mut text = Text::new();
@@ -100,7 +100,7 @@ impl Desk {
         seen_of(alloc, seen.count, &text)
     }
 
-    /// The operator looks at a master's slaves: how many entries there were, and which it holds.
+    /// Looks at a master's slaves as the operator. Returns the number of entries and the slaves that the master holds.
     fn owned<R: Wait>(&mut self, rt: &R, alloc: Global, master: u8) -> Result<String, Fail> {
         let seen = self.line.owned(rt, &mut self.operator, master);
         let mut text = Text::new();
@@ -108,7 +108,7 @@ impl Desk {
         seen_of(alloc, seen.count, &text)
     }
 
-    /// The operator looks at a place: how many entries there were, and the entry.
+    /// Looks at a place as the operator. Returns the number of entries and the entry.
     fn entry<R: Wait>(&mut self, rt: &R, alloc: Global, place: u32) -> Result<String, Fail> {
         let Seen { count, value } = self.line.entry(rt, &mut self.operator, place);
         let Some(entry) = value else {
@@ -123,18 +123,18 @@ impl Desk {
         Ok(format!(in alloc; "after {count}: {}", receipt_of(alloc, &receipt)?)?)
     }
 
-    /// How many entries there are.
+    /// Returns the number of entries.
     fn count<R: Wait>(&mut self, rt: &R) -> u32 {
         self.line.owned(rt, &mut self.operator, 1).count
     }
 
-    /// The operator reports one tick: the place of its receipt, which is not stored.
+    /// Reports one tick as the operator. Returns the place of the receipt, which is not stored.
     fn tick<R: Wait>(&mut self, rt: &R) -> Option<u32> {
         self.line.operate(rt, &mut self.operator, Op::Tick(1)).place
     }
 
-    /// The operator reports one tick `ticks` times: the first and the last place of the receipts, or the first receipt
-    /// that does not have the next place.
+    /// Reports one tick `ticks` times as the operator. Returns the first and the last place of the receipts, or the
+    /// first receipt that does not have the next place.
     fn ticks<R: Wait>(&mut self, rt: &R, alloc: Global, ticks: u32) -> Result<String, Fail> {
         let before = self.count(rt);
         let mut last = before;
@@ -149,7 +149,7 @@ impl Desk {
         Ok(format!(in alloc; "places {first} to {last}")?)
     }
 
-    /// `show A`, `owned M`, `entry P`, `ticks N` or an event, and what came of it.
+    /// Carries out `show A`, `owned M`, `entry P`, `ticks N` or an event, and returns the result.
     fn play<R: Wait>(&mut self, rt: &R, alloc: Global, row: &str) -> Result<String, Fail> {
         match row.split_once(' ') {
             Some(("show", address)) => self.show(rt, alloc, address.parse::<u8>()?),
@@ -160,7 +160,7 @@ impl Desk {
         }
     }
 
-    /// Plays each row that has an arrow, and tells it with what came of it.
+    /// Carries out each row that has an arrow. Returns each row with its result.
     pub(crate) fn play_rows<R: Wait>(
         &mut self,
         rt: &R,
@@ -178,13 +178,13 @@ impl Desk {
     }
 }
 
-/// A look at a line of so many entries, by the text that it gave.
+/// Returns the text of a look at a line with this many entries.
 fn seen_of(alloc: Global, count: u32, text: &Text) -> Result<String, Fail> {
     let seen = std::str::from_utf8(text.as_bytes())?.trim_end();
     Ok(format!(in alloc; "after {count}: {seen}")?)
 }
 
-/// `PLACE EVENT | FACTS | OUTCOME` of a receipt, `-` for no place.
+/// Returns `PLACE EVENT | FACTS | OUTCOME` of a receipt, with `-` for no place.
 fn receipt_of(alloc: Global, receipt: &Receipt) -> Result<String, Fail> {
     let mut text = Text::new();
     match receipt.place {
@@ -201,8 +201,8 @@ fn receipt_of(alloc: Global, receipt: &Receipt) -> Result<String, Fail> {
     Ok(format!(in alloc; "{told}")?)
 }
 
-/// A line that is closed, its receipts, and how many entries it had before the masters' passes were handed back and
-/// behind that.
+/// A line that is closed, its receipts, and the numbers of its entries before and after the masters' passes were
+/// handed back.
 #[derive(Drop)]
 pub(crate) struct ClosedDesk {
     pub(crate) closed: Closed,
@@ -235,8 +235,8 @@ pub(crate) fn closed_desk<R: Wait>(rt: &R, alloc: Global, desk: Desk) -> Result<
     }
 }
 
-/// The transcript of a fresh line of so many places: events and looks, how many receipts with a place masters 1
-/// and 2 and the operator have, how many entries there are before masters' passes are handed back and behind that,
+/// Checks the transcript of a new line with this many places: events and looks, the numbers of receipts with a place
+/// of masters 1 and 2 and the operator, the numbers of entries before and after the masters' passes are handed back,
 /// and the journal.
 fn lines_tell<R: Wait>(rt: &R, alloc: Global, places: u16, transcript: &str) -> Result<(), Fail> {
     let mut desk = fresh_desk(rt, alloc, places)?;

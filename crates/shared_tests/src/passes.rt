@@ -1,4 +1,4 @@
-//! Passes: opened, handed back, and given when the line is closed.
+//! Passes that are opened, handed back, and given to the closing of a line.
 
 ghost use Rattle.std.specs.Prelude.{◌≡◌, All, IfOk};
 ghost use Rattle.dp_shared.specs.Passes.{table_of};
@@ -11,7 +11,7 @@ use std::alloc::Global;
 use std::sync::Wait;
 use std::test::Fail;
 
-/// A line, and passes of it.
+/// A line, and some of its passes.
 #[derive(Drop)]
 struct Desk {
     line: Line,
@@ -19,7 +19,7 @@ struct Desk {
     ghost ours: { All (λ pass. pass.table ≡ table_of line) passes.items },
 }
 
-/// A fresh line, and so many passes of master 1.
+/// Opens a line, and this many passes of master 1.
 fn fresh_desk<R: Wait>(rt: &R, alloc: Global, count: usize) -> Result<Desk, Fail> {
     let line = Line::open(alloc, &line_spec(alloc, 1, 1000, Device::Still)?)?;
     let passes = many_passes(rt, alloc, &line, 1, count)?;
@@ -27,7 +27,8 @@ fn fresh_desk<R: Wait>(rt: &R, alloc: Global, count: usize) -> Result<Desk, Fail
 }
 
 impl Desk {
-    /// Opens a pass of this address: what it says its address is, or why it is refused, with its number.
+    /// Opens a pass of this address. Returns the address of the pass, or why it is refused, with the number of the
+    /// fault.
     fn open<R: Wait>(&mut self, rt: &R, alloc: Global, address: u8) -> Result<String, Fail> {
         match self.line.open_pass(rt, address) {
             Ok(pass) => {
@@ -39,7 +40,7 @@ impl Desk {
         }
     }
 
-    /// Hands the last pass back; how many are left.
+    /// Hands the last pass back. Returns how many are left.
     fn hand_back<R: Wait>(&mut self, rt: &R, alloc: Global) -> Result<String, Fail> {
         let Some(pass) = self.passes.pop() else {
             return Err(Fail::new("no pass"));
@@ -48,7 +49,7 @@ impl Desk {
         Ok(format!(in alloc; "{} left", self.passes.len())?)
     }
 
-    /// `back`, or the address of a pass to open.
+    /// Carries out `back`, or opens a pass of the address in the row.
     fn play<R: Wait>(&mut self, rt: &R, alloc: Global, row: &str) -> Result<String, Fail> {
         if row == "back" {
             self.hand_back(rt, alloc)
@@ -57,7 +58,7 @@ impl Desk {
         }
     }
 
-    /// Plays each row that has an arrow, and tells it with what came of it.
+    /// Carries out each row that has an arrow. Returns each row with its result.
     fn play_rows<R: Wait>(&mut self, rt: &R, alloc: Global, rows: &str) -> Result<String, Fail> {
         let mut told = String::new(alloc);
         for row in rows.lines() {
@@ -70,7 +71,7 @@ impl Desk {
     }
 }
 
-/// The transcript of a fresh line with so many passes of master 1: what is opened and handed back, and the
+/// Checks the transcript of a new line with this many passes of master 1: what is opened and handed back, and the
 /// journal of the line, closed with all passes.
 fn opens<R: Wait>(rt: &R, alloc: Global, count: usize, transcript: &str) -> Result<(), Fail> {
     let mut desk = fresh_desk(rt, alloc, count)?;
@@ -106,8 +107,8 @@ fn close_succeeds(rt: HostRuntime) -> Result<(), Fail> {
     opens(&rt, rt.alloc(), 0, "127 -> pass 127\nrack-audit 2 line 1\n")
 }
 
-/// What a line of two passes tells that is closed with one of them, and then with both: the fault, how many
-/// came back, and its journal.
+/// Closes a line of two passes with one of them, and then with both. Returns the fault, how many passes it gave back,
+/// and the journal.
 fn closed_late<R: Wait>(rt: &R, alloc: Global) -> Result<String, Fail> {
     let Desk { line, mut passes } = fresh_desk(rt, alloc, 2)?;
     let Some(last) = passes.pop() else {

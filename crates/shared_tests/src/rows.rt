@@ -1,4 +1,4 @@
-//! What the rows of several tests stand on.
+//! Helpers for the rows of several tests.
 
 ghost use Rattle.std.specs.Prelude.{◌≡◌, All, IfErr, IfOk};
 ghost use Rattle.dp_shared.specs.Passes.{table_of};
@@ -10,10 +10,10 @@ use std::alloc::{AllocError, Global};
 use std::sync::Wait;
 use std::test::Fail;
 
-/// What parts a row from what it tells.
+/// The text between a row and its result.
 pub const ARROW: &str = " -> ";
 
-/// The text that was told is the expected one; where it isn't, the failure is that text.
+/// Checks that a text is the expected one. Fails with the text if it is not.
 pub fn is_told(told: String, expected: &str) -> Result<(), Fail> {
     if told.as_str() == expected {
         Ok(())
@@ -22,7 +22,7 @@ pub fn is_told(told: String, expected: &str) -> Result<(), Fail> {
     }
 }
 
-/// The octets of a word of hex digits, `-` for none.
+/// Returns the octets of a word of hex digits, `-` for none.
 pub fn octets_of(word: &str) -> Result<Octets, Fail> {
     if word == "-" {
         return Ok(Octets::new());
@@ -33,7 +33,7 @@ pub fn octets_of(word: &str) -> Result<Octets, Fail> {
     }
 }
 
-/// The hex digits of octets, `-` for none.
+/// Returns the hex digits of octets, `-` for none.
 pub fn hex_of(alloc: Global, octets: &[u8]) -> Result<String, AllocError> {
     if octets.is_empty() {
         return format!(in alloc; "-");
@@ -41,7 +41,7 @@ pub fn hex_of(alloc: Global, octets: &[u8]) -> Result<String, AllocError> {
     hex::encode(alloc, octets)
 }
 
-/// The audit text of a journal.
+/// Returns the audit text of a journal.
 pub fn audit_of(alloc: Global, book: &Book) -> Result<String, Fail> {
     let mut written: Vec<u8> = Vec::new(alloc);
     book.write_text(&mut written)?;
@@ -57,7 +57,7 @@ pub fn close(line: Line, passes: Vec<Pass>) -> Result<Closed, CloseFault>
     line.close(passes)
 }
 
-/// The audit text of a line that is closed with these passes; it fails where others are out.
+/// Closes a line with these passes, and returns its audit text. Fails if other passes are out.
 pub fn closed_with(alloc: Global, line: Line, passes: Vec<Pass>) -> Result<String, Fail>
     requires { All (λ pass. pass.table ≡ table_of line) passes.items }
 {
@@ -67,7 +67,7 @@ pub fn closed_with(alloc: Global, line: Line, passes: Vec<Pass>) -> Result<Strin
     }
 }
 
-/// So many passes of an address.
+/// Opens this many passes of an address.
 pub fn many_passes<R: Wait>(
     rt: &R,
     alloc: Global,

@@ -15,12 +15,12 @@ use std::test::Fail;
 use std::thread;
 use std::thread::Threads;
 
-/// The first FC of a master that asks for a diagnosis, and one of a later request.
+/// The FC of a master's first request for a diagnosis, and the FC of a later request.
 const FIRST: u8 = 0x6D;
 
 const LATER: u8 = 0x4D;
 
-/// What a thread does with the sender that it is handed. The line is a type parameter where threads start.
+/// What a thread does with its sender. The line is a type parameter in functions that start threads.
 trait Sends<T, S> {
     ghost ours: { Self → T → Type 0 };
 
@@ -28,7 +28,7 @@ trait Sends<T, S> {
         requires { Self.ours self.now sender };
 }
 
-/// A pass, what a master asks by it, how often it does, and room for its receipts.
+/// A pass, the request that is sent by it, the number of times, and memory for the receipts.
 #[derive(Drop)]
 struct Sender {
     pass: Pass,
@@ -37,7 +37,7 @@ struct Sender {
     receipts: Vec<Receipt>,
 }
 
-/// What came of a sender, whose pass is handed back.
+/// The result of a sender whose pass was handed back.
 #[derive(Drop)]
 struct Sent {
     address: u8,
@@ -71,7 +71,7 @@ impl Sends<Sender, Sent> for Line {
     }
 }
 
-/// Sends a request so many times.
+/// Sends a request this many times.
 fn ask<R: Wait>(
     rt: &R,
     line: &Line,
@@ -89,8 +89,8 @@ fn ask<R: Wait>(
     }
 }
 
-/// Lets each sender send in a thread of its own, once all threads are there; what came of each is put into the
-/// list. False where a thread wasn't started.
+/// Lets each sender send in a thread of its own, after all threads have started, and adds its result to `sent`. Returns
+/// false if a thread could not be started.
 fn send_all<L: Sends<T, S> + Sync, T: Send + Drop, S: Send + Drop, R: Threads + Wait + Sync>(
     rt: &R,
     line: &L,
@@ -124,7 +124,7 @@ fn send_all<L: Sends<T, S> + Sync, T: Send + Drop, S: Send + Drop, R: Threads + 
     )
 }
 
-/// Lets each sender send at this line in a thread of its own.
+/// Lets each sender send to this line in a thread of its own. Returns false if a thread could not be started.
 fn send_in_threads<R: Threads + Wait + Sync>(
     rt: &R,
     line: &Line,
@@ -136,7 +136,7 @@ fn send_in_threads<R: Threads + Wait + Sync>(
     send_all(rt, line, senders, sent)
 }
 
-/// The request of a master for the diagnosis of a slave, by this FC.
+/// Returns the request of a master for the diagnosis of a slave, with this FC.
 fn diagnosis_of(slave: u8, master: u8, fc: u8) -> Result<Octets, Fail> {
     let (da, sa) = (slave | 0x80, master | 0x80);
     let mut fcs: u8 = 0;
@@ -148,7 +148,7 @@ fn diagnosis_of(slave: u8, master: u8, fc: u8) -> Result<Octets, Fail> {
     Ok(octets)
 }
 
-/// A pass of this address, which sends a request so many times.
+/// Opens a pass of this address that sends a request this many times.
 fn sender_of<R: Wait>(
     rt: &R,
     alloc: Global,
@@ -167,7 +167,7 @@ fn sender_of<R: Wait>(
     })
 }
 
-/// Masters 1 and 2, which ask slave 5 so many times each.
+/// Returns masters 1 and 2, which send slave 5 this many requests each.
 fn two_senders<R: Wait>(rt: &R, alloc: Global, line: &Line, times: u32) -> Result<Vec<Sender>, Fail>
     ensures { IfOk result (λ v. All (λ sender. sender.pass.table ≡ table_of line.now) v.items) }
 {
@@ -179,7 +179,7 @@ fn two_senders<R: Wait>(rt: &R, alloc: Global, line: &Line, times: u32) -> Resul
     Ok(senders)
 }
 
-/// Masters 0 to 15, each of which asks a slave of its own a hundred times.
+/// Returns masters 0 to 15, each of which sends a slave of its own a hundred requests.
 fn sixteen_senders<R: Wait>(rt: &R, alloc: Global, line: &Line) -> Result<Vec<Sender>, Fail>
     ensures { IfOk result (λ v. All (λ sender. sender.pass.table ≡ table_of line.now) v.items) }
 {
@@ -191,7 +191,7 @@ fn sixteen_senders<R: Wait>(rt: &R, alloc: Global, line: &Line) -> Result<Vec<Se
     Ok(senders)
 }
 
-/// How many of these receipts have a reply.
+/// Returns how many of these receipts have a reply.
 fn replies_in(receipts: &[Receipt]) -> u32 {
     let mut count: u32 = 0;
     for receipt in receipts {
@@ -202,8 +202,8 @@ fn replies_in(receipts: &[Receipt]) -> u32 {
     count
 }
 
-/// How many entries the journal of a closed line has, how many receipts with a place the senders have in all, how
-/// many with a reply, and how many senders have receipts that agree with the journal.
+/// Returns how many entries the journal of a closed line has, how many receipts with a place the senders have in all,
+/// how many receipts have a reply, and how many senders have receipts that agree with the journal.
 fn told_of(alloc: Global, closed: &Closed, sent: &[Sent]) -> Result<String, Fail> {
     let (mut made, mut replies, mut agreeing): (u32, u32, u32) = (0, 0, 0);
     for one in sent {
@@ -217,7 +217,8 @@ fn told_of(alloc: Global, closed: &Closed, sent: &[Sent]) -> Result<String, Fail
     Ok(format!(in alloc; "{count} entries, made {made}, {replies} replies, {agreeing} agree")?)
 }
 
-/// What these senders tell once their threads have ended: all passes are handed back, and the line is closed with none.
+/// Runs these senders in threads, which hand all passes back, and closes the line with no passes. Returns the counts of
+/// [`told_of`].
 fn senders_tell<R: Threads + Wait + Sync>(
     rt: &R,
     alloc: Global,
@@ -237,7 +238,8 @@ fn senders_tell<R: Threads + Wait + Sync>(
     }
 }
 
-/// What masters 1 and 2 report after `times` requests each to slave 5, and the operator after one tick.
+/// Returns the counts of [`told_of`] after masters 1 and 2 sent `times` requests each to slave 5, and the operator one
+/// tick.
 fn two_and_a_tick_tell<R: Threads + Wait + Sync>(
     rt: &R,
     alloc: Global,
@@ -257,7 +259,7 @@ fn two_masters(rt: HostRuntime) -> Result<(), Fail> {
     )
 }
 
-/// Each master sends so often that some take of the lock is lost, and is tried again.
+/// Each master sends so many requests that some attempt to take the lock fails and is repeated.
 #[test]
 fn contended_lock(rt: HostRuntime) -> Result<(), Fail> {
     is_told(
@@ -266,14 +268,14 @@ fn contended_lock(rt: HostRuntime) -> Result<(), Fail> {
     )
 }
 
-/// What masters 1 and 2 tell that each ask slave 5 ten times at a line of two places.
+/// Returns the counts of [`told_of`] after masters 1 and 2 sent slave 5 ten requests each on a line with two places.
 fn two_at_the_end_tell<R: Threads + Wait + Sync>(rt: &R, alloc: Global) -> Result<String, Fail> {
     let line = Line::open(alloc, &line_spec(alloc, 1, 2, Device::Still)?)?;
     let senders = two_senders(rt, alloc, &line, 10)?;
     senders_tell(rt, alloc, line, senders)
 }
 
-/// One request is recorded, whichever master's it is, and then the halt.
+/// One request is recorded, of either master, and then the halt.
 #[test]
 fn full_race(rt: HostRuntime) -> Result<(), Fail> {
     is_told(
@@ -282,7 +284,7 @@ fn full_race(rt: HostRuntime) -> Result<(), Fail> {
     )
 }
 
-/// What masters 0 to 15 tell that ask at one time.
+/// Returns the counts of [`told_of`] after masters 0 to 15 sent their requests at the same time.
 fn sixteen_tell<R: Threads + Wait + Sync>(rt: &R, alloc: Global) -> Result<String, Fail> {
     let line = Line::open(alloc, &wide_line(alloc)?)?;
     let senders = sixteen_senders(rt, alloc, &line)?;

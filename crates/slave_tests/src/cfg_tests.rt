@@ -1,4 +1,4 @@
-//! Configurations: the octets of inputs and of outputs that they announce, and the choice among several.
+//! Configurations: the octets of inputs and outputs that they announce, and the choice among several.
 
 ghost use Rattle.std.specs.Prelude.{◌≡◌, List};
 ghost use Rattle.dp_cfg.specs.Identifiers.{Identifier, IsSplit, input_sum, output_sum};
@@ -9,7 +9,7 @@ use dp_cfg::{CfgFault, CfgIds, MOST_OCTETS, choose, laws};
 use std::alloc::Global;
 use std::test::Fail;
 
-/// Inputs and outputs of these octets, or the fault.
+/// Returns the lengths of the inputs and outputs of these octets, or the fault.
 fn lengths(octets: &[u8]) -> Result<Result<(u8, u8), CfgFault>, Fail> {
     if octets.len() > MOST_OCTETS {
         return Err("no configuration")?;
@@ -22,7 +22,7 @@ fn lengths(octets: &[u8]) -> Result<Result<(u8, u8), CfgFault>, Fail> {
 struct Reading;
 
 impl Answers for Reading {
-    /// Commands are `read HEX`, answered by `INPUTS OUTPUTS` or `FAULT CODE`, and `each HEAD`.
+    /// Answers `read HEX` with `INPUTS OUTPUTS` or `FAULT CODE`, and `each HEAD`.
     fn answer(&mut self, alloc: Global, command: &str) -> Result<String, Fail> {
         let mut words = Words::new(command);
         match words.word()? {
@@ -36,8 +36,8 @@ impl Answers for Reading {
     }
 }
 
-/// `INPUTS/OUTPUTS` or the fault of each configuration of one octet with this number in bits 7 to 4, by
-/// bits 3 to 0.
+/// Returns `INPUTS/OUTPUTS` or the fault of each configuration of one octet with this number in bits 7 to 4, in the
+/// order of bits 3 to 0.
 fn each_text(alloc: Global, head: u8) -> Result<String, Fail> {
     if head > 15 {
         return Err("four bits")?;
@@ -56,8 +56,7 @@ fn each_text(alloc: Global, head: u8) -> Result<String, Fail> {
 }
 
 impl Answers for CfgIds {
-    /// Commands are `octets`, `equals HEX`, `inputs` as [`input_sum_of`] has them, and `sums` as [`sums_of`]
-    /// has them.
+    /// Answers `octets`, `equals HEX`, `inputs` by [`input_sum_of`], and `sums` by [`sums_of`].
     fn answer(&mut self, alloc: Global, command: &str) -> Result<String, Fail> {
         let mut words = Words::new(command);
         match words.word()? {
@@ -153,7 +152,7 @@ struct Choices {
 }
 
 impl Answers for Choices {
-    /// The command is `choose HEX`, answered by the number of a configuration or `none`.
+    /// Answers `choose HEX` with the number of a configuration or `none`.
     fn answer(&mut self, alloc: Global, command: &str) -> Result<String, Fail> {
         let mut words = Words::new(command);
         if words.word()? != "choose" {
@@ -166,7 +165,7 @@ impl Answers for Choices {
     }
 }
 
-/// The first and the last of these are equal.
+/// The first and the last of these configurations are equal.
 #[test]
 fn first_equal_one_is_chosen(rt: HostRuntime) -> Result<(), Fail> {
     let mut choices = Choices {
@@ -191,14 +190,14 @@ choose 211121 => none
     )
 }
 
-/// What a client proves of a configuration: it splits, and its inputs are the sum over the split.
+/// Shows what a client proves about a configuration: it splits, and its inputs are the sum over the split.
 fn input_sum_of(configuration: &CfgIds) -> u8
     ensures { (ids : List Identifier) × IsSplit configuration.now ids × (result ≡ input_sum ids) }
 {
     configuration.input_len()
 }
 
-/// And one split has both sums.
+/// Shows that the inputs and the outputs of a configuration are sums over one split.
 fn sums_of(configuration: &CfgIds) -> (u8, u8)
     ensures { (ids : List Identifier) × IsSplit configuration.now ids
         × (result.0 ≡ input_sum ids) × (result.1 ≡ output_sum ids) }

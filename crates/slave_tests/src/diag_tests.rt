@@ -1,4 +1,4 @@
-//! The octets of a diagnosis, and when it is due.
+//! The octets of a diagnosis, and when a diagnosis is due.
 
 use crate::rows::{Answers, play};
 use crate::words::{flag, hex_text, repeated};
@@ -7,7 +7,7 @@ use dp_diag::{Diag, DiagFacts, MOST_EXTENDED, State, octets};
 use std::alloc::Global;
 use std::test::Fail;
 
-/// Nobody holds the slave, and nothing has happened.
+/// Returns the facts of a slave that nobody holds and to which nothing has happened.
 fn fresh() -> DiagFacts {
     DiagFacts {
         state: State::WaitPrm,
@@ -25,8 +25,8 @@ fn fresh() -> DiagFacts {
 struct Diagnosis;
 
 impl Answers for Diagnosis {
-    /// A command is what holds of a slave, in words as [`hold`] takes them, and the answer the octets of
-    /// its diagnosis; ` due` stands behind where it is due.
+    /// Answers a command. The command says what holds of a slave, in words that [`hold`] reads. The answer is the
+    /// octets of its diagnosis, followed by ` due` if a diagnosis is due.
     fn answer(&mut self, alloc: Global, command: &str) -> Result<String, Fail> {
         let mut facts = fresh();
         for word in command.split_whitespace() {
@@ -38,8 +38,8 @@ impl Answers for Diagnosis {
     }
 }
 
-/// Makes a word hold: `fresh` nothing; `exchanging` that master 1 exchanges data with the slave; `report`
-/// and `long_report` that its application reported; `read` that the report is read.
+/// Sets the facts that a word names: `fresh` sets none; `exchanging` sets that master 1 exchanges data with the
+/// slave; `report` and `long_report` set that its application reported; `read` sets that the report is read.
 fn hold(facts: &mut DiagFacts, word: &str) -> Result<(), Fail> {
     match word {
         "fresh" => {}
@@ -63,7 +63,7 @@ fn hold(facts: &mut DiagFacts, word: &str) -> Result<(), Fail> {
     Ok(())
 }
 
-/// Sets a flag of what a slave keeps of its diagnosis.
+/// Sets a flag of a slave's diagnosis.
 fn hold_flag(diag: &mut Diag, word: &str) -> Result<(), Fail> {
     match word {
         "ext" => diag.ext = true,

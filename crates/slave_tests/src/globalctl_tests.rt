@@ -1,4 +1,4 @@
-//! A Global_Control on one slave.
+//! A Global_Control applied to one slave.
 
 use crate::rows::{Answers, play};
 use crate::slave_commands::slave;
@@ -13,8 +13,8 @@ use std::test::Fail;
 struct Reading;
 
 impl Answers for Reading {
-    /// Commands are `read HEX`, answered by what is asked for and the groups in hex, and
-    /// `selects HEX GROUPS`, whether a slave of these groups is selected.
+    /// Answers `read HEX` with what is asked for and the groups in hex, and `selects HEX GROUPS` with whether a slave
+    /// of these groups is selected.
     fn answer(&mut self, alloc: Global, command: &str) -> Result<String, Fail> {
         let mut words = Words::new(command);
         let kind = words.word()?;
@@ -34,7 +34,7 @@ impl Answers for Reading {
     }
 }
 
-/// The groups, and what is asked for.
+/// Returns the text of the groups, and of what is asked for.
 fn control_text(alloc: Global, control: Command) -> Result<String, Fail> {
     let clear_data = flag(control.clear_data, " clear_data");
     let unfreeze = flag(control.unfreeze, " unfreeze");
@@ -47,8 +47,8 @@ fn control_text(alloc: Global, control: Command) -> Result<String, Fail> {
     )?)
 }
 
-/// In data exchange with master 1, with Sync and Freeze and a watchdog of 2 times 5 units of 10 ms:
-/// outputs 12 34, inputs AA 55.
+/// Returns a slave in data exchange with master 1, with Sync and Freeze, a watchdog of 2 times 5 units of 10 ms,
+/// outputs 12 34 and inputs AA 55.
 fn exchanging(alloc: Global) -> Result<Slave, Fail> {
     let mut slave = slave();
     play(

@@ -1,4 +1,4 @@
-//! Tests of the crates below a line, in rows of text: a command and, behind ` => `, what is answered.
+//! Tests of the crates that a line is built on, as rows of text: a command, ` => ` and the answer.
 #![tactic(auto)]
 
 #[cfg(test)]

@@ -1,4 +1,4 @@
-//! Lists of cards: what a client proves of the calls, and what they give.
+//! Lists of cards: what a client proves about the calls, and what they return.
 
 ghost use Rattle.std.specs.Prelude.{◌≡◌, ℕ, ◌<◌, ◌≤◌, List, [], ◌∷◌, length, map, Some, None, IfOk};
 ghost use Rattle.dp_owners.specs.Chain.{HaveNoLinks};
@@ -12,7 +12,7 @@ use std::alloc::Global;
 use std::marker::Model;
 use std::test::Fail;
 
-/// A client's record: a card with a name of its own.
+/// A client's record: a card with a name.
 #[derive(Clone, Copy, Debug, Drop, PartialEq, Eq)]
 struct Card {
     name: u8,
@@ -35,7 +35,7 @@ impl Linked for Card {
     }
 }
 
-/// A card that is in no hand.
+/// Returns a card that is in no hand.
 fn fresh_card(name: u8) -> Card
     ensures { result ≡ record { name = name; links = record { prev = None; next = None } } }
 {
@@ -48,7 +48,7 @@ fn fresh_card(name: u8) -> Card
     }
 }
 
-/// Six calls whose conditions and result follow from the contracts of those before.
+/// Makes six calls, whose conditions and result follow from the contracts of the calls before.
 fn six_calls(cards: &mut [Card]) -> ArrayVec<u8, MOST_RECORDS>
     requires four { length cards.old ≡ 4 }
     requires fresh { HaveNoLinks (map (λ card. card.links) cards.old) }
@@ -65,7 +65,7 @@ fn six_calls(cards: &mut [Card]) -> ArrayVec<u8, MOST_RECORDS>
     owners.list(cards, 0)
 }
 
-/// Three steps of a walk and its count. Along a list of one card they are the card and twice none.
+/// Returns three steps of a walk, and its count. Along a list of one card the steps are the card and None twice.
 fn three_steps_along(hands: &Owners, cards: &[Card], player: usize) -> ([Option<u8>; 3], u32)
     requires threaded { HasLists hands.now (map (λ card. card.links) cards.now) }
     requires few { length cards.now ≤ MOST_RECORDS }
@@ -82,7 +82,7 @@ fn three_steps_along(hands: &Owners, cards: &[Card], player: usize) -> ([Option<
     ([first, second, third], cursor.visits())
 }
 
-/// A table at which each of 16 players has a hand of the 64 cards, in the order in which they came.
+/// A table at which each of 16 players has a hand of the 64 cards, in the order in which the player got them.
 #[derive(Drop)]
 struct Table {
     cards: [Card; MOST_RECORDS],
@@ -108,7 +108,7 @@ impl Table {
         }
     }
 
-    /// Gives a card to a player, where it is in no hand.
+    /// Gives a card to a player if it is in no hand. Returns whether it was.
     fn give(&mut self, player: usize, card: usize) -> bool
         requires player { player < MOST_MASTERS }
         requires card { card < MOST_RECORDS }
@@ -135,14 +135,14 @@ impl Table {
         }
     }
 
-    /// The first three steps of a walk along a player's hand, and how many cards it gave.
+    /// Returns the first three steps of a walk along a player's hand, and the number of cards that it visited.
     fn three_steps(&self, player: usize) -> ([Option<u8>; 3], u32)
         requires { player < MOST_MASTERS }
     {
         three_steps_along(&self.hands, &self.cards, player)
     }
 
-    /// A player's hand, in order and the other way round.
+    /// Returns a player's hand, in order and in reverse.
     fn hand(&self, player: usize) -> (ArrayVec<u8, MOST_RECORDS>, ArrayVec<u8, MOST_RECORDS>)
         requires { player < MOST_MASTERS }
     {
@@ -152,7 +152,7 @@ impl Table {
         )
     }
 
-    /// Gives four cards to each player in turn; how many were in no hand.
+    /// Gives four cards to each player in turn. Returns the number of cards that were in no hand.
     fn deal(&mut self) -> usize {
         let mut given = 0usize;
         for card in 0..MOST_RECORDS {
@@ -163,7 +163,7 @@ impl Table {
         given
     }
 
-    /// Takes each card, in ascending order; how many were in a hand.
+    /// Takes each card, in ascending order. Returns the number of cards that were in a hand.
     fn gather(&mut self) -> usize {
         let mut taken = 0usize;
         for card in 0..MOST_RECORDS {
@@ -174,7 +174,7 @@ impl Table {
         taken
     }
 
-    /// The first and the last card of a player's hand.
+    /// Returns the first and the last card of a player's hand.
     fn ends(&self, player: usize) -> (Option<u8>, Option<u8>)
         requires { player < MOST_MASTERS }
     {
@@ -183,8 +183,8 @@ impl Table {
 }
 
 impl Answers for Table {
-    /// Commands are `give PLAYER CARD`, `take CARD`, `deal`, `gather`, `hand PLAYER`, `hands`, `ends PLAYER`,
-    /// `walk PLAYER` and `six`, which has nothing to do with the table.
+    /// Answers `give PLAYER CARD`, `take CARD`, `deal`, `gather`, `hand PLAYER`, `hands`, `ends PLAYER`,
+    /// `walk PLAYER`, and `six`, which does not use the table.
     fn answer(&mut self, alloc: Global, command: &str) -> Result<String, Fail> {
         let mut words = Words::new(command);
         match words.word()? {
@@ -209,7 +209,7 @@ impl Answers for Table {
     }
 }
 
-/// The next word, the number of a player.
+/// Reads the next word: the number of a player.
 fn player_in(words: &mut Words<'_>) -> Result<usize, Fail>
     ensures { IfOk result (λ player. player < MOST_MASTERS) }
 {
@@ -221,7 +221,7 @@ fn player_in(words: &mut Words<'_>) -> Result<usize, Fail>
     }
 }
 
-/// The next word, the number of a card.
+/// Reads the next word: the number of a card.
 fn card_in(words: &mut Words<'_>) -> Result<usize, Fail>
     ensures { IfOk result (λ card. card < MOST_RECORDS) }
 {
@@ -233,7 +233,7 @@ fn card_in(words: &mut Words<'_>) -> Result<usize, Fail>
     }
 }
 
-/// A player's hand, and the same the other way round.
+/// Returns the text of a player's hand, in order and in reverse.
 fn hand_text(alloc: Global, table: &Table, player: usize) -> Result<String, Fail>
     requires { player < MOST_MASTERS }
 {
@@ -241,7 +241,7 @@ fn hand_text(alloc: Global, table: &Table, player: usize) -> Result<String, Fail
     Ok(format!(in alloc; "{:?} {:?}", list.as_slice(), back.as_slice())?)
 }
 
-/// The hands of all players, one behind the other, and each of them the other way round.
+/// Returns the text of the hands of all players, one after another, each in order and then each in reverse.
 fn hands_text(alloc: Global, table: &Table) -> Result<String, Fail> {
     let mut lists: Vec<u8> = Vec::new(alloc);
     let mut backs: Vec<u8> = Vec::new(alloc);
@@ -253,7 +253,7 @@ fn hands_text(alloc: Global, table: &Table) -> Result<String, Fail> {
     Ok(format!(in alloc; "{:?} {:?}", lists.as_slice(), backs.as_slice())?)
 }
 
-/// The first and the last card of a player's hand.
+/// Returns the text of the first and the last card of a player's hand.
 fn ends_text(alloc: Global, table: &Table, player: usize) -> Result<String, Fail>
     requires { player < MOST_MASTERS }
 {
@@ -261,7 +261,7 @@ fn ends_text(alloc: Global, table: &Table, player: usize) -> Result<String, Fail
     Ok(format!(in alloc; "{first:?} {last:?}")?)
 }
 
-/// Three steps along a player's hand, and how many cards they gave.
+/// Returns the text of three steps along a player's hand, and of the number of cards that they visited.
 fn walk_text(alloc: Global, table: &Table, player: usize) -> Result<String, Fail>
     requires { player < MOST_MASTERS }
 {
@@ -269,7 +269,7 @@ fn walk_text(alloc: Global, table: &Table, player: usize) -> Result<String, Fail
     Ok(format!(in alloc; "{steps:?} {visits}")?)
 }
 
-/// What six calls leave of four cards: a hand, and the names.
+/// Returns the text of four cards after six calls: a hand, and the names.
 fn six_text(alloc: Global) -> Result<String, Fail> {
     let mut cards = [
         fresh_card(b'a'),
@@ -348,7 +348,8 @@ fn six_calls_in_a_row(rt: HostRuntime) -> Result<(), Fail> {
     )
 }
 
-/// Sixteen players have four cards each; then all cards are taken, and all hands are empty both ways.
+/// Gives sixteen players four cards each, and then takes all cards. All hands are then empty, in order and in
+/// reverse.
 #[test]
 fn all_cards_are_taken(rt: HostRuntime) -> Result<(), Fail> {
     play(

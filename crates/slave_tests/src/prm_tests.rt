@@ -1,4 +1,4 @@
-//! What the octets of a parameter telegram mean.
+//! The meaning of the octets of a parameter telegram.
 
 use crate::rows::{Answers, play};
 use crate::words::{Words, flag, hex_text, repeated, text};
@@ -6,7 +6,7 @@ use dp_prm::{Limits, MOST_OCTETS, MOST_USER_PARAMETERS, Prm, PrmVerdict, read};
 use std::alloc::Global;
 use std::test::Fail;
 
-/// A slave that takes so many octets of user parameters, with Sync and Freeze or with neither.
+/// Returns a slave that takes at most `user_max` octets of user parameters, with Sync and Freeze or with neither.
 fn slave(user_max: u8, has_modes: bool) -> Limits {
     Limits {
         ident: 0x80A1,
@@ -17,8 +17,8 @@ fn slave(user_max: u8, has_modes: bool) -> Limits {
 }
 
 impl Answers for Limits {
-    /// A command is the octets of a parameter telegram in hex, and the answer what they mean to a slave
-    /// with these limits.
+    /// Answers a command. The command is the octets of a parameter telegram in hex; the answer is what they mean to a
+    /// slave with these limits.
     fn answer(&mut self, alloc: Global, command: &str) -> Result<String, Fail> {
         let octets = Words::new(command).octets(alloc)?;
         if octets.len() > MOST_OCTETS {
@@ -35,7 +35,7 @@ impl Answers for Limits {
     }
 }
 
-/// `lock` with the parameters.
+/// Returns `lock` with the parameters.
 fn lock_text(alloc: Global, prm: &Prm) -> Result<String, Fail> {
     let sync = flag(prm.sync_req, " sync");
     let freeze = flag(prm.freeze_req, " freeze");
@@ -65,7 +65,7 @@ c802050b80a101 => unlock
     )
 }
 
-/// Two factors with a watchdog and then without one.
+/// Each pair of factors with a watchdog and then without one.
 #[test]
 fn watchdog_factors(rt: HostRuntime) -> Result<(), Fail> {
     play(
@@ -88,7 +88,7 @@ fn watchdog_factors(rt: HostRuntime) -> Result<(), Fail> {
     )
 }
 
-/// Seven octets, and then the first six of them.
+/// Each case with seven octets, and then with the first six of them.
 #[test]
 fn sync_and_freeze_that_the_slave_has_not(rt: HostRuntime) -> Result<(), Fail> {
     play(

@@ -1,4 +1,4 @@
-//! What comes of a request, before it is served.
+//! The judgement of a request, before it is served.
 
 use crate::rows::{Answers, play};
 use crate::sap_tests::{lists_of, marked_text, no_lists};
@@ -10,7 +10,7 @@ use dp_telegram::{Function, Parts};
 use std::alloc::Global;
 use std::test::Fail;
 
-/// A slave with two octets of outputs that master 1 exchanges data with, on a line with master 2 too.
+/// A slave with two octets of outputs with which master 1 exchanges data, on a line that has master 2 too.
 #[derive(Drop)]
 struct Exchanging {
     points: Points,
@@ -21,7 +21,7 @@ fn in_exchange() -> Exchanging {
     in_state(State::DataExch, Some(1), false, &no_lists())
 }
 
-/// A slave with two octets of outputs; masters 1 and 2 have sent nothing yet.
+/// Returns a slave with two octets of outputs to which masters 1 and 2 have sent nothing yet.
 fn in_state(state: State, holder: Option<u8>, empty: bool, lists: &Lists) -> Exchanging {
     let mut masters = ArrayVec::new();
     masters.push(1);
@@ -33,8 +33,8 @@ fn in_state(state: State, holder: Option<u8>, empty: bool, lists: &Lists) -> Exc
 }
 
 impl Answers for Exchanging {
-    /// Commands are `judge SENDER FC POINT HEX`, `sdn` with the same, `remember SENDER FC HEX` and
-    /// `busy POINT on` or `off`. FC is in hex, and a point a number or `none` for the default one.
+    /// Answers `judge SENDER FC POINT HEX`, `sdn` with the same words, `remember SENDER FC HEX`, and `busy POINT on`
+    /// or `off`. FC is in hex. A point is a number, or `none` for the default point.
     fn answer(&mut self, alloc: Global, command: &str) -> Result<String, Fail> {
         let mut words = Words::new(command);
         match words.word()? {
@@ -65,7 +65,7 @@ impl Answers for Exchanging {
     }
 }
 
-/// The parts of a request with SSAP 62, from a point and the payload.
+/// Reads a point and the payload, and returns the parts of a request with SSAP 62.
 fn parts_of(alloc: Global, words: &mut Words<'_>) -> Result<Parts, Fail> {
     Ok(Parts {
         dsap: words.number_or_none()?,
@@ -74,7 +74,7 @@ fn parts_of(alloc: Global, words: &mut Words<'_>) -> Result<Parts, Fail> {
     })
 }
 
-/// `pass`, `repeat HEX`, `refuse FC RULE` with FC in hex, or `silent RULE`.
+/// Returns `pass`, `repeat HEX`, `refuse FC RULE` with FC in hex, or `silent RULE`.
 pub(crate) fn judged_text(alloc: Global, judged: &Judged) -> Result<String, Fail> {
     match judged {
         Judged::Pass => text(alloc, "pass"),
@@ -89,7 +89,7 @@ pub(crate) fn judged_text(alloc: Global, judged: &Judged) -> Result<String, Fail
     }
 }
 
-/// `pass` or the rule.
+/// Returns `pass`, or the rule.
 fn sdn_text(
     alloc: Global,
     points: &Points,
@@ -276,7 +276,7 @@ const EVERY_RULE: [Rule; 20] = [
 struct Rules;
 
 impl Answers for Rules {
-    /// A command is a place in [`EVERY_RULE`], from 0; the answer is the rule, its number and its name.
+    /// Answers a place in [`EVERY_RULE`], from 0, with the rule, its number and its name.
     fn answer(&mut self, alloc: Global, command: &str) -> Result<String, Fail> {
         let place = Words::new(command).number()?;
         let rule = EVERY_RULE.get(usize::from(place)).ok_or("a rule")?;

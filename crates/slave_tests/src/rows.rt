@@ -1,16 +1,16 @@
-//! Playing rows of commands and answers.
+//! Runs rows of commands and expected answers.
 
 use std::alloc::Global;
 use std::test::Fail;
 
-/// What is tested: it answers commands.
+/// Something under test that answers commands.
 pub(crate) trait Answers {
-    /// The answer to a command, in text.
+    /// Returns the answer to a command, as text.
     fn answer(&mut self, alloc: Global, command: &str) -> Result<String, Fail>;
 }
 
-/// The subject answers each command as its row `COMMAND => ANSWER` says, one after another; the fault is
-/// the first other answer.
+/// Gives the subject the command of each row `COMMAND => ANSWER`, in order, and compares the answer. Fails with the
+/// first answer that differs.
 pub(crate) fn play<S: Answers>(alloc: Global, subject: &mut S, rows: &str) -> Result<(), Fail> {
     for row in rows.lines() {
         let (command, wanted) = row.split_once(" => ").ok_or("no row")?;

@@ -25,7 +25,7 @@ const TABLE: [Option<u8>; 8] = [
     Some(62),
 ];
 
-/// Lists that let every master do what it may do without them.
+/// Returns lists that restrict no master.
 pub(crate) fn no_lists() -> Lists {
     Lists {
         lockers: None,
@@ -33,7 +33,7 @@ pub(crate) fn no_lists() -> Lists {
     }
 }
 
-/// Lists that let these masters alone set parameters, and those alone read.
+/// Returns lists with which only `lockers` may set parameters and only `readers` may read.
 pub(crate) fn lists_of(lockers: &[u8], readers: &[u8]) -> Result<Lists, Fail> {
     let (mut locking, mut reading) = (ArrayVec::new(), ArrayVec::new());
     locking.try_extend_from_slice(lockers)?;
@@ -44,21 +44,22 @@ pub(crate) fn lists_of(lockers: &[u8], readers: &[u8]) -> Result<Lists, Fail> {
     })
 }
 
-/// The points of a slave in this state that has five octets of outputs; master 3 holds it, if it is held.
+/// Returns the points of a slave in this state, with this holder and five octets of outputs.
 fn points(state: State, holder: Option<u8>) -> Points {
     Points::at_state(state, holder, 5, false, &no_lists())
 }
 
-/// The same points, of a slave that masters 1 and 3 alone may lock, and that no list lets read.
+/// Returns the points of a slave in this state, with this holder and five octets of outputs, that only masters 1 and
+/// 3 may lock. Its list of readers is empty.
 fn listed_points(state: State, holder: Option<u8>) -> Result<Points, Fail> {
     let lists = lists_of(&[1, 3], &[])?;
     Ok(Points::at_state(state, holder, 5, false, &lists))
 }
 
 impl Answers for Points {
-    /// Commands are `now`, `move STATE HOLDER LENGTH EMPTY`, `states POINT`, `find POINT`, `listed POINT
-    /// SENDER`, `busy POINT on` or `off`, `marks`, `table POINT`, `names`, `marked` and `marked_so POINT on` or `off`. A point is a
-    /// number, or `none` for the default one.
+    /// Answers a command: `now`, `move STATE HOLDER LENGTH EMPTY`, `states POINT`, `find POINT`,
+    /// `listed POINT SENDER`, `busy POINT on` or `off`, `marks`, `table POINT`, `names`, `marked` and
+    /// `marked_so POINT on` or `off`. A point is a number, or `none` for the default point.
     fn answer(&mut self, alloc: Global, command: &str) -> Result<String, Fail> {
         let mut words = Words::new(command);
         match words.word()? {
@@ -92,7 +93,7 @@ impl Answers for Points {
     }
 }
 
-/// The state of this name.
+/// Returns the state with this name.
 fn state_of(name: &str) -> Result<State, Fail> {
     match name {
         "WaitPrm" => Ok(State::WaitPrm),
@@ -102,7 +103,7 @@ fn state_of(name: &str) -> Result<State, Fail> {
     }
 }
 
-/// State, holder and output length, and ` or none` where none are accepted too.
+/// Returns the state, the holder and the output length, followed by ` or none` if no output data are accepted too.
 fn now_text(alloc: Global, points: &Points) -> Result<String, Fail> {
     let none = flag(points.empty(), " or none");
     Ok(format!(in alloc;
@@ -113,8 +114,8 @@ fn now_text(alloc: Global, points: &Points) -> Result<String, Fail> {
     )?)
 }
 
-/// `off`, or whose requests it takes, the service, and the least and the most octets, ` or none`
-/// where none are accepted too; and ` busy`.
+/// Returns `off`, or whose requests the point takes, the service, and the least and the most octets, followed by
+/// ` or none` if no octets are accepted too. Both are followed by ` busy` if the point is busy.
 pub(crate) fn point_text(alloc: Global, point: Point) -> Result<String, Fail> {
     let busy = flag(point.busy, " busy");
     if !point.active {
@@ -128,7 +129,7 @@ pub(crate) fn point_text(alloc: Global, point: Point) -> Result<String, Fail> {
     )?)
 }
 
-/// The point in each of the three states, where master 3 holds the slave.
+/// Returns the text of the point in each of the three states, if master 3 holds the slave.
 fn states_text(alloc: Global, number: Option<u8>) -> Result<String, Fail> {
     let first = point_text(alloc, points(State::WaitPrm, Some(3)).find(number))?;
     let second = point_text(alloc, points(State::WaitCfg, Some(3)).find(number))?;
@@ -136,7 +137,7 @@ fn states_text(alloc: Global, number: Option<u8>) -> Result<String, Fail> {
     Ok(format!(in alloc; "{first} | {second} | {third}")?)
 }
 
-/// `done`, or `FAULT CODE`.
+/// Returns `done`, or `FAULT CODE`.
 pub(crate) fn marked_text(alloc: Global, marked: Result<(), SapFault>) -> Result<String, Fail> {
     match marked {
         Ok(()) => text(alloc, "done"),
@@ -144,7 +145,7 @@ pub(crate) fn marked_text(alloc: Global, marked: Result<(), SapFault>) -> Result
     }
 }
 
-/// The point, or `FAULT CODE`.
+/// Returns the text of the point, or `FAULT CODE`.
 fn found_text(alloc: Global, found: Result<Point, SapFault>) -> Result<String, Fail> {
     match found {
         Ok(point) => point_text(alloc, point),
@@ -152,7 +153,7 @@ fn found_text(alloc: Global, found: Result<Point, SapFault>) -> Result<String, F
     }
 }
 
-/// Those points of the table that are marked.
+/// Returns the points of the table that are marked as busy.
 fn marks_text(alloc: Global, points: &Points) -> Result<String, Fail> {
     let mut told = text(alloc, "marks")?;
     for number in TABLE {
@@ -163,14 +164,14 @@ fn marks_text(alloc: Global, points: &Points) -> Result<String, Fail> {
     Ok(told)
 }
 
-/// The numbers of the named points, and the most octets of data.
+/// Returns the numbers of the named points, and the most octets of data.
 fn names_text(alloc: Global) -> Result<String, Fail> {
     Ok(format!(in alloc;
         "{RD_INP} {RD_OUTP} {GLOBAL_CONTROL} {GET_CFG} {SLAVE_DIAG} {SET_PRM} {CHK_CFG} {MOST_DATA}"
     )?)
 }
 
-/// What a client proves of a point by its name: it is marked, and is found busy.
+/// Shows what a client proves about a named point: after it is marked, it is found busy.
 fn marked(points: &mut Points) -> Result<Point, SapFault>
     ensures { IsOkAnd result (λ point. point.busy ≡ true) }
 {
@@ -178,7 +179,7 @@ fn marked(points: &mut Points) -> Result<Point, SapFault>
     Ok(points.find(Some(SET_PRM)))
 }
 
-/// What a client proves of any point and either mark: the point is found busy where it was marked so.
+/// Shows what a client proves about any point and either mark: the point is found busy exactly if it was marked so.
 fn marked_so(points: &mut Points, number: Option<u8>, busy: bool) -> Result<Point, SapFault>
     ensures known { is_ok result ≡ is_in_table number }
     ensures found { IfOk result (λ point. point.busy ≡ busy) }

@@ -1,4 +1,4 @@
-//! What a slave answers to commands.
+//! The answers of a slave to commands.
 
 ghost use Rattle.std.specs.Prelude.{◌≡◌, ◌∷◌, [], true};
 ghost use Rattle.std.specs.List.{list_all};
@@ -17,16 +17,16 @@ use dp_telegram::Parts;
 use std::alloc::Global;
 use std::test::Fail;
 
-/// A slave with two octets of outputs and two of inputs, with Sync and Freeze, on a line with masters
-/// 1 and 2.
+/// Returns a slave with two octets of outputs and two of inputs, with Sync and Freeze, on a line with masters 1 and
+/// 2.
 pub(crate) fn slave() -> Slave {
     let mut cfgs = ArrayVec::new();
     cfgs.push(of_two(0x21, 0x11));
     opened(&described(cfgs, false))
 }
 
-/// A slave that is fail-safe and has two configurations: that of [`slave`], and one of one octet each
-/// way.
+/// Returns a fail-safe slave that has two configurations: that of [`slave`], and one with one octet of inputs and one
+/// of outputs.
 pub(crate) fn slave_of_two() -> Slave {
     let mut cfgs = ArrayVec::new();
     cfgs.push(of_two(0x21, 0x11));
@@ -69,7 +69,7 @@ fn opened(description: &SlaveSpec) -> Slave
 }
 
 impl Answers for Slave {
-    /// Commands are those of [`shown`], [`change`], [`request`] and [`event`].
+    /// Answers a command of [`shown`], [`change`], [`request`] or [`event`].
     fn answer(&mut self, alloc: Global, command: &str) -> Result<String, Fail> {
         let mut words = Words::new(command);
         let kind = words.word()?;
@@ -86,7 +86,7 @@ impl Answers for Slave {
     }
 }
 
-/// What a slave shows, by its name.
+/// Returns what a slave shows under this name, or None if the name is no such command.
 fn shown(alloc: Global, slave: &Slave, kind: &str) -> Result<Option<String>, Fail> {
     let told = match kind {
         "address" => format!(in alloc; "{}", slave.address())?,
@@ -106,13 +106,13 @@ fn shown(alloc: Global, slave: &Slave, kind: &str) -> Result<Option<String>, Fai
     Ok(Some(told))
 }
 
-/// State, holder, and the place of the lock.
+/// Returns the state, the holder, and the place of the lock.
 fn hold_text(alloc: Global, slave: &Slave) -> Result<String, Fail> {
     let view = slave.view();
     Ok(format!(in alloc; "{:?} {:?} {}", view.state, view.holder, view.since)?)
 }
 
-/// Min TSDR, what the watchdog has left, and the configuration in force; and the modes.
+/// Returns min TSDR, the time left of the watchdog, the configuration in force, and the modes.
 fn parameters_text(alloc: Global, slave: &Slave) -> Result<String, Fail> {
     let view = slave.view();
     let sync = flag(view.sync_mode, " sync");
@@ -121,7 +121,7 @@ fn parameters_text(alloc: Global, slave: &Slave) -> Result<String, Fail> {
     Ok(format!(in alloc; "{} {left:?} {cfg:?}{sync}{freeze}", view.min_tsdr)?)
 }
 
-/// Does what has no more than a name; false where there is no such.
+/// Carries out a command that is only a name. Returns false if there is no such command.
 fn change(slave: &mut Slave, kind: &str) -> bool {
     match kind {
         "sync" => slave.sync(),
@@ -136,8 +136,8 @@ fn change(slave: &mut Slave, kind: &str) -> bool {
     true
 }
 
-/// Does what a master asks for: `set_prm SENDER PLACE HEX`, `chk_cfg HEX`, `exchange HEX`,
-/// `slave_diag SENDER` or `control HEX`.
+/// Carries out a request of a master: `set_prm SENDER PLACE HEX`, `chk_cfg HEX`, `exchange HEX`, `slave_diag SENDER`
+/// or `control HEX`. Returns None for any other command.
 fn request(
     alloc: Global,
     slave: &mut Slave,
@@ -162,7 +162,7 @@ fn request(
     Ok(Some(told))
 }
 
-/// Data of the holder: the priority of the reply.
+/// Passes data of the holder to the slave, and returns the priority of the reply.
 fn exchange(alloc: Global, slave: &mut Slave, data: &[u8]) -> Result<String, Fail> {
     text(
         alloc,
@@ -174,7 +174,7 @@ fn exchange(alloc: Global, slave: &mut Slave, data: &[u8]) -> Result<String, Fai
     )
 }
 
-/// A Global_Control.
+/// Applies a Global_Control to the slave.
 fn control(alloc: Global, slave: &mut Slave, octets: &[u8]) -> Result<String, Fail> {
     if octets.len() != 2 {
         return Err("two octets")?;
@@ -183,9 +183,9 @@ fn control(alloc: Global, slave: &mut Slave, octets: &[u8]) -> Result<String, Fa
     text(alloc, "done")
 }
 
-/// Does what else happens to a slave: `input HEX`, `report HEX` with Ext_Diag, `busy POINT on` or `off`,
-/// `tick N`, `find POINT`, `follow N` which sets a link, `remember SENDER FC HEX` and
-/// `judge SENDER FC HEX` at the default point.
+/// Carries out any other event of a slave: `input HEX`, `report HEX` with Ext_Diag, `busy POINT on` or `off`,
+/// `tick N`, `find POINT`, `follow N`, which sets a link, `remember SENDER FC HEX`, and `judge SENDER FC HEX` at the
+/// default point.
 fn event(
     alloc: Global,
     slave: &mut Slave,
@@ -218,7 +218,7 @@ fn event(
     }
 }
 
-/// The device's inputs: `done`, or `FAULT CODE`.
+/// Sets the device's inputs. Returns `done`, or `FAULT CODE`.
 fn input(alloc: Global, slave: &mut Slave, octets: &[u8]) -> Result<String, Fail> {
     match slave.input(octets) {
         Ok(()) => text(alloc, "done"),
@@ -226,7 +226,7 @@ fn input(alloc: Global, slave: &mut Slave, octets: &[u8]) -> Result<String, Fail
     }
 }
 
-/// Puts the slave behind another in a list.
+/// Puts the slave after another in a list.
 fn follow(alloc: Global, slave: &mut Slave, prev: u8) -> Result<String, Fail> {
     slave.set_links(Links {
         prev: Some(prev),
@@ -235,7 +235,7 @@ fn follow(alloc: Global, slave: &mut Slave, prev: u8) -> Result<String, Fail> {
     text(alloc, "done")
 }
 
-/// What comes of a request to the default point.
+/// Returns the judgement of a request to the default point.
 fn judged(alloc: Global, slave: &Slave, words: &mut Words<'_>) -> Result<String, Fail> {
     let (sender, fc) = (words.number()?, words.octet(alloc)?);
     let parts = Parts {

@@ -1,8 +1,8 @@
-//! What is done to a slave.
+//! Commands to a slave, and its answers.
 //!
-//! In these rows `8802050b80a101` are parameters that lock, with a watchdog of 2 times 5 units of 10 ms,
-//! min TSDR 11 and group 1; `b802050b80a101` the same with Sync_Req and Freeze_Req; and `2111` the
-//! slave's configuration.
+//! In these rows `8802050b80a101` are parameters that lock, with a watchdog of 2 times 5 units of 10 ms, min TSDR 11
+//! and group 1. `b802050b80a101` are the same parameters with Sync_Req and Freeze_Req. `2111` is the slave's
+//! configuration.
 
 use crate::rows::play;
 use crate::slave_commands::{slave, slave_of_two};
@@ -10,7 +10,7 @@ use dp_slave::Slave;
 use std::alloc::Global;
 use std::test::Fail;
 
-/// Locked by master 1 at place 2, configured and exchanging: outputs 12 34, inputs AA 55.
+/// Returns a slave that master 1 locked at place 2 and configured, in data exchange: outputs 12 34, inputs AA 55.
 fn exchanging(alloc: Global) -> Result<Slave, Fail> {
     let mut slave = slave();
     play(
@@ -26,7 +26,7 @@ exchange 1234 => low
     Ok(slave)
 }
 
-/// A slave in data exchange whose parameters have Sync_Req and Freeze_Req.
+/// Returns a slave in data exchange whose parameters have Sync_Req and Freeze_Req.
 fn exchanging_with_modes(alloc: Global) -> Result<Slave, Fail> {
     let mut slave = slave();
     play(
@@ -176,7 +176,7 @@ slave_diag 1 => 060500ff80a1
     )
 }
 
-/// Also that a release keeps the shape, and that a lock sets min TSDR.
+/// Tests also that a release leaves the shape unchanged, and that a lock sets min TSDR.
 #[test]
 fn second_configuration_is_chosen(rt: HostRuntime) -> Result<(), Fail> {
     play(

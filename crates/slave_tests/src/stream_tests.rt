@@ -1,4 +1,4 @@
-//! Streams of octets into frames.
+//! The cutting of streams of octets into frames.
 
 ghost use Rattle.std.specs.Prelude.{◌≡◌, OnSome};
 ghost use Rattle.dp_telegram.specs.Stream.{piece_of, left_of};
@@ -11,8 +11,7 @@ use std::alloc::Global;
 use std::test::Fail;
 
 impl Answers for Cutter {
-    /// Commands are `feed HEX`, `next`, `front`, `pass` as [`pass_front`] does, and `two` as
-    /// [`first_two`] does.
+    /// Answers `feed HEX`, `next`, `front`, `pass` by [`pass_front`], and `two` by [`first_two`].
     fn answer(&mut self, alloc: Global, command: &str) -> Result<String, Fail> {
         let mut words = Words::new(command);
         match words.word()? {
@@ -33,7 +32,7 @@ impl Answers for Cutter {
     }
 }
 
-/// `frame HEX FRAME`, `dropped FAULT COUNT` or `none`.
+/// Returns `frame HEX FRAME`, `dropped FAULT COUNT` or `none`.
 fn cut_text(alloc: Global, cut: &Option<Cut>) -> Result<String, Fail> {
     match cut {
         None => text(alloc, "none"),
@@ -48,7 +47,7 @@ fn cut_text(alloc: Global, cut: &Option<Cut>) -> Result<String, Fail> {
     }
 }
 
-/// The first piece where it lies, without what the octets of a frame say.
+/// Returns the text of the first piece in the cutter's memory, without the meaning of a frame's octets.
 fn front_text(alloc: Global, cutter: &Cutter) -> Result<String, Fail> {
     match cutter.front() {
         None => text(alloc, "none"),
@@ -125,7 +124,7 @@ feed {zeros} => 254
     play(rt.alloc(), &mut Cutter::new(), &rows)
 }
 
-/// Two calls in a row: the first two pieces of the octets held.
+/// Calls `next` twice, and returns the first two pieces of the octets held.
 fn first_two(cutter: &mut Cutter) -> (Option<Cut>, Option<Cut>)
     ensures first { result.0 ≡ piece_of cutter.old }
     ensures second { result.1 ≡ piece_of (left_of cutter.old) }
@@ -135,7 +134,7 @@ fn first_two(cutter: &mut Cutter) -> (Option<Cut>, Option<Cut>)
     (first, cutter.next())
 }
 
-/// Looks at the first piece where it lies and lets go of it, as `next` would: its size.
+/// Looks at the first piece in the cutter's memory and drops it, as `next` would. Returns its size.
 fn pass_front(cutter: &mut Cutter) -> Option<usize>
     ensures { OnSome result (cutter.new ≡ left_of cutter.old) }
 {

@@ -1,4 +1,4 @@
-//! Octets into frames, frames into octets, and the parts of telegrams.
+//! Octets decoded into frames, frames encoded into octets, and the parts of telegrams.
 
 use crate::rows::{Answers, play};
 use crate::words::{Words, flag, hex_text, repeated, text};
@@ -9,13 +9,13 @@ use dp_telegram::{
 use std::alloc::Global;
 use std::test::Fail;
 
-/// The codec, and a text that lies where others are written.
+/// The codec, and a text that is overwritten.
 #[derive(Drop)]
 struct Codec {
     text: Octets,
 }
 
-/// A codec at whose place a text of two octets lies.
+/// Returns a codec with a text of two octets to overwrite.
 fn over_a_text() -> Codec {
     let mut text = Octets::new();
     text.push(0x12);
@@ -24,9 +24,9 @@ fn over_a_text() -> Codec {
 }
 
 impl Answers for Codec {
-    /// Commands are `decode HEX`, `whole HEX`, `acknowledge`, `write TELEGRAM`, `reply DA SA FC SSAP DSAP HEX`,
+    /// Answers `decode HEX`, `whole HEX`, `acknowledge`, `write TELEGRAM`, `reply DA SA FC SSAP DSAP HEX`,
     /// `request DA SA FC DSAP SSAP HEX`, `parts TELEGRAM`, `addresses TELEGRAM`, `source FRAME`, `stations` and
-    /// `code FC`. A telegram is `DA SA FC DU` in hex, a frame `ack`, `token DA SA` or `telegram` and such.
+    /// `code FC`. A telegram is `DA SA FC DU` in hex. A frame is `ack`, `token DA SA`, or `telegram` and a telegram.
     fn answer(&mut self, alloc: Global, command: &str) -> Result<String, Fail> {
         let mut words = Words::new(command);
         match words.word()? {
@@ -55,7 +55,7 @@ impl Answers for Codec {
     }
 }
 
-/// The telegram of the next words.
+/// Reads a telegram from the next words.
 fn telegram_of(alloc: Global, words: &mut Words<'_>) -> Result<Telegram, Fail> {
     Ok(Telegram {
         da: words.octet(alloc)?,
@@ -65,7 +65,7 @@ fn telegram_of(alloc: Global, words: &mut Words<'_>) -> Result<Telegram, Fail> {
     })
 }
 
-/// The frame of the next words.
+/// Reads a frame from the next words.
 fn frame_of(alloc: Global, words: &mut Words<'_>) -> Result<Frame, Fail> {
     match words.word()? {
         "ack" => Ok(Frame::Ack),
@@ -77,7 +77,7 @@ fn frame_of(alloc: Global, words: &mut Words<'_>) -> Result<Frame, Fail> {
     }
 }
 
-/// The text of a frame.
+/// Returns the text of a frame.
 pub(crate) fn frame_text(alloc: Global, frame: &Frame) -> Result<String, Fail> {
     match frame {
         Frame::Ack => text(alloc, "ack"),
@@ -94,7 +94,7 @@ fn telegram_text(alloc: Global, telegram: &Telegram) -> Result<String, Fail> {
     )?)
 }
 
-/// `FRAME | HEX` with the octets that the frame is written in, or `FAULT CODE`.
+/// Returns `FRAME | HEX` with the octets that encode the frame, or `FAULT CODE`.
 fn decoded(alloc: Global, octets: &[u8]) -> Result<String, Fail> {
     match decode(octets) {
         Ok(frame) => {
@@ -106,7 +106,7 @@ fn decoded(alloc: Global, octets: &[u8]) -> Result<String, Fail> {
     }
 }
 
-/// `OCTETS SOURCE FRAME` of a frame where it lies, or `none`.
+/// Returns `OCTETS SOURCE FRAME` of a frame that is read in place, or `none`.
 fn whole_text(alloc: Global, octets: &[u8]) -> Result<String, Fail> {
     let Some(whole) = WholeFrame::read(octets) else {
         return text(alloc, "none");
@@ -117,7 +117,7 @@ fn whole_text(alloc: Global, octets: &[u8]) -> Result<String, Fail> {
     Ok(format!(in alloc; "{octets} {:?} {told}", frame.source())?)
 }
 
-/// The text of a frame that is lent.
+/// Returns the text of a frame that is read in place.
 fn lent_text(alloc: Global, frame: &FrameLent<'_>) -> Result<String, Fail> {
     match frame {
         FrameLent::Ack => text(alloc, "ack"),
@@ -126,7 +126,7 @@ fn lent_text(alloc: Global, frame: &FrameLent<'_>) -> Result<String, Fail> {
     }
 }
 
-/// `telegram DA SA FC FUNCTION DESTINATION SOURCE`, whether it is a request, and its parts.
+/// Returns `telegram DA SA FC FUNCTION DESTINATION SOURCE`, whether it is a request, and its parts.
 fn telegram_lent_text(alloc: Global, telegram: &TelegramLent<'_>) -> Result<String, Fail> {
     let (da, sa, fc) = (telegram.da(), telegram.sa(), telegram.fc());
     let (destination, source) = (telegram.destination(), telegram.source());
@@ -137,7 +137,7 @@ fn telegram_lent_text(alloc: Global, telegram: &TelegramLent<'_>) -> Result<Stri
     )?)
 }
 
-/// `DSAP SSAP HEX`, or `none`.
+/// Returns `DSAP SSAP HEX`, or `none`.
 fn lent_parts_text(alloc: Global, telegram: &TelegramLent<'_>) -> Result<String, Fail> {
     let Some(parts) = telegram.parts() else {
         return text(alloc, "none");
@@ -146,7 +146,7 @@ fn lent_parts_text(alloc: Global, telegram: &TelegramLent<'_>) -> Result<String,
     Ok(format!(in alloc; "{:?} {:?} {payload}", parts.dsap(), parts.ssap())?)
 }
 
-/// Writes the reply of the next words.
+/// Writes the reply that the next words name.
 fn write_reply(alloc: Global, words: &mut Words<'_>, text: &mut Octets) -> Result<(), Fail> {
     let (da, sa, fc) = (
         words.octet(alloc)?,
@@ -170,7 +170,7 @@ fn write_reply(alloc: Global, words: &mut Words<'_>, text: &mut Octets) -> Resul
     Ok(())
 }
 
-/// The request with the parts of the next words.
+/// Returns the octets of the request that the next words name.
 fn requested(alloc: Global, words: &mut Words<'_>) -> Result<String, Fail> {
     let (da, sa) = (words.number()?, words.number()?);
     let fc = words.octet(alloc)?;
@@ -185,7 +185,7 @@ fn requested(alloc: Global, words: &mut Words<'_>) -> Result<String, Fail> {
     frame_text(alloc, &request(da, sa, fc, dsap, ssap, &payload))
 }
 
-/// `DSAP SSAP HEX`, or `none`.
+/// Returns `DSAP SSAP HEX`, or `none`.
 fn parts_text(alloc: Global, telegram: &Telegram) -> Result<String, Fail> {
     let Some(parts) = telegram.parts() else {
         return text(alloc, "none");
@@ -194,7 +194,7 @@ fn parts_text(alloc: Global, telegram: &Telegram) -> Result<String, Fail> {
     Ok(format!(in alloc; "{:?} {:?} {payload}", parts.dsap, parts.ssap)?)
 }
 
-/// Destination and source.
+/// Returns destination and source.
 fn addresses_text(alloc: Global, telegram: &Telegram) -> Result<String, Fail> {
     Ok(format!(in alloc; "{} {}", telegram.destination(), telegram.source())?)
 }
@@ -203,13 +203,13 @@ fn source_text(alloc: Global, frame: &Frame) -> Result<String, Fail> {
     Ok(format!(in alloc; "{:?}", frame.source())?)
 }
 
-/// The last station's address and the global one, each with whether it is a station's.
+/// Returns the last station's address and the global address, each with whether it is a station's address.
 fn stations_text(alloc: Global) -> Result<String, Fail> {
     let (last, global) = (is_station(LAST_STATION), is_station(GLOBAL_ADDRESS));
     Ok(format!(in alloc; "{LAST_STATION} {last} {GLOBAL_ADDRESS} {global}")?)
 }
 
-/// What a function code says.
+/// Returns the meaning of a function code.
 fn code_text(alloc: Global, fc: u8) -> Result<String, Fail> {
     let telegram = Telegram {
         da: 5,

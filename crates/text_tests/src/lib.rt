@@ -1,5 +1,5 @@
-//! Tests of the texts that are read and written, of rack files, and of scripts and checks over memory. There is
-//! nothing else here: a test is a call of a helper with constants, since a test costs the proof of its body.
+//! Tests of the texts that are read and written, of rack files, and of scripts and checks over memory. This crate has
+//! only tests. A test calls helpers with constants and does nothing else, because a test costs the proof of its body.
 #![tactic(auto)]
 
 #[cfg(test)]

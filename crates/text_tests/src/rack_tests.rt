@@ -3,7 +3,7 @@ use rack_file::read_rack;
 use std::alloc::Global;
 use std::test::Fail;
 
-/// A rack file with these rows at its top, in its line and in its slave is read as expected.
+/// Checks that a rack file with these lines at its top, in its line and in its slave is read as expected.
 fn reads(alloc: Global, top: &str, line: &str, slave: &str, expected: &str) -> Result<(), Fail> {
     let text = format!(in alloc;
         "{top}[[line]]\nnumber = 1\ncapacity = 1000\nmasters = [1, 2]\n{line}[[line.slave]]\naddress = 5\nident = 0x80A1\n{slave}"
@@ -11,7 +11,7 @@ fn reads(alloc: Global, top: &str, line: &str, slave: &str, expected: &str) -> R
     is_shown(alloc, &read_rack(alloc, &text), expected)
 }
 
-/// A slave with these rows for its lists of masters is read with the lists that are expected.
+/// Checks that a slave with these lines for its lists of masters is read with the expected lists.
 fn reads_lists(alloc: Global, rows: &str, lists: &str) -> Result<(), Fail> {
     let slave = format!(in alloc; "cfg = \"\"\n{rows}")?;
     let expected = format!(in alloc;
@@ -20,14 +20,13 @@ fn reads_lists(alloc: Global, rows: &str, lists: &str) -> Result<(), Fail> {
     reads(alloc, "", "", &slave, &expected)
 }
 
-/// A slave with these rows for its lists of masters is refused as expected.
+/// Checks that a slave with these lines for its lists of masters is refused as expected.
 fn refuses_lists(alloc: Global, rows: &str, expected: &str) -> Result<(), Fail> {
     let slave = format!(in alloc; "cfg = \"\"\n{rows}")?;
     reads(alloc, "", "", &slave, expected)
 }
 
-/// A slave with these rows is read with the configurations, and with the fail-safe mode, that are
-/// expected.
+/// Checks that a slave with these lines is read with the expected configurations and fail-safe mode.
 fn reads_slave(
     alloc: Global,
     rows: &str,
@@ -40,7 +39,7 @@ fn reads_slave(
     reads(alloc, "", "", rows, &expected)
 }
 
-/// A slave with these rows is refused as a bad key.
+/// Checks that a slave with these lines is refused as a bad key.
 fn refuses_slave(alloc: Global, rows: &str) -> Result<(), Fail> {
     reads(alloc, "", "", rows, "Err(BadKey)")
 }

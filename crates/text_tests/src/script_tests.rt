@@ -1,4 +1,4 @@
-//! Scripts and checks over memory: how a call ended, and what it wrote.
+//! Scripts and checks over memory: the result of a call, and what it wrote.
 
 use crate::fixtures::is_same;
 use dp_script::{run_check, run_text};
@@ -6,7 +6,7 @@ use std::alloc::Global;
 use std::fmt::Debug;
 use std::test::Fail;
 
-/// A rack of line 1 with slave 5.
+/// A rack with line 1 and slave 5.
 const RACK: &str = "\
 [[line]]
 number = 1
@@ -20,13 +20,13 @@ sync = true
 freeze = true
 ";
 
-/// How a call ended and what it wrote, in this form, are as expected.
+/// Checks that the result of a call and what it wrote, in this form, are as expected.
 fn is_found<T: Debug>(alloc: Global, ended: &T, written: &str, expected: &str) -> Result<(), Fail> {
     let found = format!(in alloc; "{ended:?} {written}")?;
     is_same(alloc, &found, expected)
 }
 
-/// A script on the rack ends and writes as expected.
+/// Checks that a script on the rack ends and writes as expected.
 fn runs(alloc: Global, script: &str, expected: &str) -> Result<(), Fail> {
     let mut written = Vec::new(alloc);
     let ran = run_text(alloc, RACK, script, &mut written);
@@ -34,7 +34,7 @@ fn runs(alloc: Global, script: &str, expected: &str) -> Result<(), Fail> {
     is_found(alloc, &ran, &written, expected)
 }
 
-/// A check of an audit text on a rack ends and writes as expected.
+/// Checks that a check of an audit text on a rack ends and writes as expected.
 fn checks(alloc: Global, rack: &str, audit: &str, expected: &str) -> Result<(), Fail> {
     let mut written = Vec::new(alloc);
     let checked = run_check(alloc, rack, audit, &mut written);

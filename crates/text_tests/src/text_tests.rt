@@ -9,48 +9,48 @@ use rack_file::RackFault;
 use std::alloc::Global;
 use std::test::Fail;
 
-/// A text has these letters.
+/// Checks that a text has these letters.
 fn has(alloc: Global, text: &Text, letters: &str) -> Result<(), Fail> {
     let found = String::from_utf8(text.as_bytes().to_vec(alloc)?)?;
     is_same(alloc, &found, letters)
 }
 
-/// The answer to a master is this row.
+/// Checks that the answer to a master is this line.
 fn answers(alloc: Global, master: u8, outcome: &Outcome, row: &str) -> Result<(), Fail> {
     let mut text = Text::new();
     text.set_answer(master, outcome);
     has(alloc, &text, row)
 }
 
-/// The answer with one octet is this row.
+/// Checks that the answer with one octet is this line.
 fn replies(alloc: Global, master: u8, octet: u8, rule: Rule, row: &str) -> Result<(), Fail> {
     let mut octets = Octets::new();
     octets.push(octet);
     answers(alloc, master, &Outcome::Reply { octets, rule }, row)
 }
 
-/// The answer to a broadcast at 64 slaves, each with this address and this rule, is this row.
+/// Checks that the answer to a broadcast at 64 slaves, each with this address and this rule, is this line.
 fn spreads(alloc: Global, master: u8, address: u8, rule: Rule, row: &str) -> Result<(), Fail> {
     let mut pairs = ArrayVec::new();
     pairs.try_extend_from_slice(&[(address, rule); 64])?;
     answers(alloc, master, &Outcome::Spread(pairs), row)
 }
 
-/// What is dropped of a master's stream is told by this row.
+/// Checks that octets dropped from a master's stream are reported by this line.
 fn drops(alloc: Global, master: u8, fault: FrameFault, count: u8, row: &str) -> Result<(), Fail> {
     let mut text = Text::new();
     text.set_dropped(master, fault, count);
     has(alloc, &text, row)
 }
 
-/// A number is written so.
+/// Checks that a number is written with these letters.
 fn writes_number(alloc: Global, number: u32, letters: &str) -> Result<(), Fail> {
     let mut text = Text::new();
     text.push_number(number);
     has(alloc, &text, letters)
 }
 
-/// Two octets in hex, and a third as a number, are written so.
+/// Checks that two octets in hex, and a third as a number, are written with these letters.
 fn writes_octets(alloc: Global, octets: [u8; 2], number: u8, letters: &str) -> Result<(), Fail> {
     let mut text = Text::new();
     text.push_hex(&octets);
@@ -58,21 +58,21 @@ fn writes_octets(alloc: Global, octets: [u8; 2], number: u8, letters: &str) -> R
     has(alloc, &text, letters)
 }
 
-/// Two slaves of a master are told by this row.
+/// Checks that two slaves of a master are listed by this line.
 fn owns(alloc: Global, addresses: [u8; 2], row: &str) -> Result<(), Fail> {
     let mut text = Text::new();
     text.set_owned(&addresses);
     has(alloc, &text, row)
 }
 
-/// How many inputs were recorded is told by this row.
+/// Checks that the number of inputs recorded is reported by this line.
 fn steps(alloc: Global, recorded: u8, row: &str) -> Result<(), Fail> {
     let mut text = Text::new();
     text.set_stepped(recorded);
     has(alloc, &text, row)
 }
 
-/// The first three lines of a text are these, each shown as its octets.
+/// Checks that the first three lines of a text are these, each shown as its octets.
 fn parts_lines(alloc: Global, text: &str, expected: &str) -> Result<(), Fail> {
     let mut lines = Lines::new(text.as_bytes());
     let first = lines.next();
@@ -82,7 +82,7 @@ fn parts_lines(alloc: Global, text: &str, expected: &str) -> Result<(), Fail> {
     is_same(alloc, &found, expected)
 }
 
-/// The first two words of a line and the rest are these, each with a bar behind it.
+/// Checks that the first two words of a line and the rest are these, each followed by a bar.
 fn parts_words(alloc: Global, line: &str, expected: &str) -> Result<(), Fail> {
     let mut words = Words::new(line.as_bytes());
     let mut found = words.next().ok_or("a first word")?.to_vec(alloc)?;
@@ -94,7 +94,7 @@ fn parts_words(alloc: Global, line: &str, expected: &str) -> Result<(), Fail> {
     is_same(alloc, &String::from_utf8(found)?, expected)
 }
 
-/// None of these words is a number of one octet.
+/// Checks that none of these words is a number of one octet.
 fn are_no_octets(words: &[&str]) -> Result<(), Fail> {
     for word in words {
         if octet_in(word.as_bytes()).is_some() {
@@ -104,7 +104,7 @@ fn are_no_octets(words: &[&str]) -> Result<(), Fail> {
     Ok(())
 }
 
-/// None of these texts is words of hex digits.
+/// Checks that none of these texts is words of hex digits.
 fn are_no_hex_words(texts: &[&str]) -> Result<(), Fail> {
     for text in texts {
         if HexWords::new(text.as_bytes()).is_some() {
@@ -114,7 +114,8 @@ fn are_no_hex_words(texts: &[&str]) -> Result<(), Fail> {
     Ok(())
 }
 
-/// Three octets are filled three times with those of hex words: how many, and what they are then.
+/// Checks three calls that fill three octets from hex words: the number of octets filled, and the octets after each
+/// call.
 fn fills(alloc: Global, text: &str, expected: &str) -> Result<(), Fail> {
     let mut words = HexWords::new(text.as_bytes()).ok_or("no hex words")?;
     let mut octets = [0; 3];
@@ -128,8 +129,8 @@ fn fills(alloc: Global, text: &str, expected: &str) -> Result<(), Fail> {
     is_same(alloc, &found, expected)
 }
 
-/// Three octets are filled with the first of those of hex words, and then three others with the rest: how many, and
-/// what they are. A text that is no hex words is told as `none`.
+/// Checks that three octets are filled with the first octets of hex words, and three others with the rest: the
+/// numbers of octets filled, and the octets. The result for a text that is no hex words is `none`.
 fn reads_into(alloc: Global, text: &str, expected: &str) -> Result<(), Fail> {
     let mut octets = [0; 3];
     let Some((count, mut words)) = HexWords::of_into(text.as_bytes(), &mut octets) else {
@@ -141,7 +142,7 @@ fn reads_into(alloc: Global, text: &str, expected: &str) -> Result<(), Fail> {
     is_same(alloc, &found, expected)
 }
 
-/// None of these texts is an event.
+/// Checks that none of these texts is an event.
 fn are_no_events(texts: &[&str]) -> Result<(), Fail> {
     for text in texts {
         if event_in(text.as_bytes()).is_some() {
@@ -151,7 +152,7 @@ fn are_no_events(texts: &[&str]) -> Result<(), Fail> {
     Ok(())
 }
 
-/// Whether a request of so many octets is an event.
+/// Returns whether a request of this many octets is an event.
 fn is_event_of(alloc: Global, count: usize) -> Result<bool, Fail> {
     let mut text = String::from_str(alloc, "req 1 ")?;
     for _ in 0..count {
@@ -160,7 +161,7 @@ fn is_event_of(alloc: Global, count: usize) -> Result<bool, Fail> {
     Ok(event_in(text.as_bytes()).is_some())
 }
 
-/// None of these texts is a line of an operator.
+/// Checks that none of these texts is a line of an operator.
 fn are_no_lines_of_an_operator(alloc: Global, texts: &[&str]) -> Result<(), Fail> {
     for text in texts {
         is_shown(alloc, &read_op(text), "Err(NotACommand)")?;
@@ -325,7 +326,7 @@ fn reads_lines_of_an_operator(rt: HostRuntime) -> Result<(), Fail> {
 
 #[test]
 fn refuses_what_is_no_line_of_an_operator(rt: HostRuntime) -> Result<(), Fail> {
-    // the words of a script alone among them
+    // among them are the words that only a script has
     are_no_lines_of_an_operator(
         rt.alloc(),
         &[

@@ -1,4 +1,4 @@
-//! Trails of an endless line that keeps two entries at most.
+//! Trails of an endless line that stores at most two entries.
 
 ghost use Rattle.std.specs.Prelude.{◌≡◌};
 ghost use Rattle.dp_shared.specs.Passes.{table_of};
@@ -23,12 +23,13 @@ struct Desk<'l> {
 }
 
 impl Desk<'_> {
-    /// The operator reports one tick.
+    /// Reports one tick as the operator.
     fn tick<R: Wait>(&mut self, rt: &R) {
         self.line.operate(rt, &mut self.operator, Op::Tick(1));
     }
 
-    /// The operator reports one tick `ticks` times, and then the trail catches up: whether it could, and why it is broken.
+    /// Reports one tick `ticks` times as the operator, and then lets the trail catch up. Returns whether it could, and
+    /// why it is broken.
     fn play<R: Wait>(&mut self, rt: &R, alloc: Global, ticks: u32) -> Result<String, Fail> {
         for _ in 0..ticks {
             self.tick(rt);
@@ -38,7 +39,7 @@ impl Desk<'_> {
         Ok(format!(in alloc; "caught up {caught_up}, broken {why:?}")?)
     }
 
-    /// Plays each line of a transcript that has an arrow, and returns it with its result.
+    /// Carries out each line of a transcript that has an arrow. Returns each line with its result.
     fn play_rows<R: Wait>(&mut self, rt: &R, alloc: Global, rows: &str) -> Result<String, Fail> {
         let mut played = String::new(alloc);
         for row in rows.lines() {
@@ -51,7 +52,7 @@ impl Desk<'_> {
     }
 }
 
-/// Plays the transcript of a new line and its trail: in each line with an arrow the number of ticks before the trail
+/// Checks the transcript of a new line and its trail: in each line with an arrow the number of ticks before the trail
 /// catches up, and the result; then the text that the trail wrote.
 fn check_trail<R: Wait>(rt: &R, alloc: Global, transcript: &str) -> Result<(), Fail> {
     let mut spec = line_spec(alloc, 1, 2, Device::Still)?;

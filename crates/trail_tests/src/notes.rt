@@ -23,7 +23,7 @@ use std::sync::atomic::Ordering::SeqCst;
 use std::test::Fail;
 use std::time::{Clock, Duration};
 
-/// Asks for the FDL status of slave 5, as master 1.
+/// A request of master 1 for the FDL status of slave 5.
 const ASKS_STATUS: &[u8] = &[0x10, 0x05, 0x01, 0x49, 0x4F, 0x16];
 
 /// A log that expects these rows, in order, each without its time of day, at one millisecond before midnight.
@@ -85,7 +85,7 @@ impl Clock for Expecting<'_> {
     }
 }
 
-/// Takes all octets.
+/// A writer that takes all octets.
 #[derive(Drop)]
 struct Discard;
 
@@ -99,8 +99,8 @@ impl io::Write for Discard {
     }
 }
 
-/// Serves a master between each event of the operator and its report: the event of the operator has taken effect then,
-/// and is not answered.
+/// A gate that serves a master between each event of the operator and its report. At that time the event has taken
+/// effect and is not answered.
 #[derive(Drop)]
 struct MasterMeanwhile<'a> {
     notes: &'a Notes<'a, Expecting<'a>>,
@@ -125,7 +125,7 @@ impl Gate for MasterMeanwhile<'_> {
     }
 }
 
-/// The numbers of two lines.
+/// Returns the numbers of two lines.
 fn two_lines() -> LineNumbers {
     let mut numbers = LineNumbers::new();
     numbers.push(3);
@@ -133,7 +133,7 @@ fn two_lines() -> LineNumbers {
     numbers
 }
 
-/// Checks what is logged while an operator of line 3 sends these lines, and master 1 a request after each.
+/// Checks what is logged while an operator of line 3 sends these lines, and master 1 sends a request after each.
 fn reports<T: Wait>(
     rt: &T,
     alloc: Global,
@@ -157,7 +157,7 @@ fn reports<T: Wait>(
     log.is_met(alloc)
 }
 
-/// A token was answered so on line 3.
+/// Reports that a token of line 3 was answered with this outcome.
 fn answer_token<W: Wait, L: Log + Clock>(
     rt: &W,
     notes: &Notes<'_, L>,

@@ -1,7 +1,7 @@
-//! Trails: what is written beside sessions, and when.
+//! Trails: what is written besides the octets of sessions, and when.
 //!
-//! A log has the rows of the trail as they are written, `> HEX` for each read of the session, `> -` for its end,
-//! and `< HEX` for each write.
+//! A log has the text of the trail as it is written, `> HEX` for each read of the session, `> -` for its end, and
+//! `< HEX` for each write.
 
 ghost use Rattle.std.specs.Prelude.{◌≡◌, None};
 
@@ -18,7 +18,7 @@ use std::io::{ErrorKind, Read, Result as IoResult, Write};
 use std::sync::{Mutex, Wait};
 use std::test::Fail;
 
-/// What is noted, and for how many octets of the trail there is room.
+/// The log, and the number of octets of the trail for which it has room.
 #[derive(Drop)]
 struct Log {
     alloc: Global,
@@ -27,7 +27,7 @@ struct Log {
 }
 
 impl Log {
-    /// A row of this mark and the hex digits of octets.
+    /// Notes a row with this mark and the hex digits of octets.
     fn note(&mut self, mark: &str, octets: &[u8]) -> IoResult<()> {
         let hex = hex_of(self.alloc, octets)?;
         let row = format!(in self.alloc; "{mark} {hex}\n")?;
@@ -36,7 +36,7 @@ impl Log {
     }
 }
 
-/// A session's octets, a telegram at each read, noted where they are read.
+/// A reader of a session's octets that returns one telegram at each read, and notes each read.
 #[derive(Drop)]
 struct Telegrams<'a, H: Wait> {
     rt: &'a H,
@@ -58,7 +58,7 @@ impl<H: Wait> Read for Telegrams<'_, H> {
     }
 }
 
-/// What a session writes, noted.
+/// A writer that notes what a session writes.
 #[derive(Drop)]
 struct Replies<'a, H: Wait> {
     rt: &'a H,
@@ -76,7 +76,7 @@ impl<H: Wait> Write for Replies<'_, H> {
     }
 }
 
-/// The rows of a trail, noted as far as there is room.
+/// A writer that notes the text of a trail as far as there is room.
 #[derive(Drop)]
 struct Rows<'a, H: Wait> {
     rt: &'a H,
@@ -101,7 +101,7 @@ impl<H: Wait> Write for Rows<'_, H> {
     }
 }
 
-/// The octets of each read, in words that a space parts.
+/// Returns the octets of each read, from words that are separated by spaces.
 fn reads_in(alloc: Global, words: &str) -> Result<Vec<Octets>, Fail> {
     let mut reads = Vec::new(alloc);
     for word in words.split_whitespace() {
@@ -110,7 +110,7 @@ fn reads_in(alloc: Global, words: &str) -> Result<Vec<Octets>, Fail> {
     Ok(reads)
 }
 
-/// Serves a session of these reads, between streams before which a trail catches up.
+/// Serves a session of these reads. A trail catches up before each read and write.
 fn serve_between<T: Wait, C: CatchUp<K>, K: Drop>(
     rt: &T,
     trail: &C,
@@ -132,8 +132,8 @@ fn serve_between<T: Wait, C: CatchUp<K>, K: Drop>(
     serve(rt, &mut reader, &mut writer, port, seat, &OpenGate, 100)
 }
 
-/// Serves a session of these reads at a fresh line, with a trail that has room for so many octets or without one:
-/// the log, and how the session ended. Behind it the trail has room again, and catches up with a request of another.
+/// Serves a session of these reads on a fresh line, with a trail that has this much room or without one. Afterwards the
+/// trail has room again, and catches up with a request of another master. Returns the log, and how the session ended.
 fn log_of<T: Wait>(
     rt: &T,
     alloc: Global,
@@ -167,7 +167,7 @@ fn log_of<T: Wait>(
     Ok(told)
 }
 
-/// A log with nothing in it.
+/// Returns an empty log.
 fn empty_log(alloc: Global, room: usize) -> Mutex<Log> {
     Mutex::new(Log {
         alloc,
@@ -176,7 +176,7 @@ fn empty_log(alloc: Global, room: usize) -> Mutex<Log> {
     })
 }
 
-/// The row of a reply's entry stands before the reply, and that of a silence before the next read.
+/// The entry of a reply is written before the reply, and the entry of a silence before the next read.
 #[test]
 fn rows_come_first(rt: HostRuntime) -> Result<(), Fail> {
     let told = log_of(
@@ -203,7 +203,7 @@ EndOfInput
     )
 }
 
-/// Where a row can't be written whole, its reply isn't written either, and no row behind it, though there is room again.
+/// If an entry cannot be written whole, neither its reply nor any later entry is written, even if there is room again.
 #[test]
 fn no_reply_behind_a_cut_row(rt: HostRuntime) -> Result<(), Fail> {
     let told = log_of(
@@ -224,7 +224,7 @@ rack-audit 2 line 1
     )
 }
 
-/// Without a trail the same session is served, and no row is written.
+/// Without a trail the same session is served, and no entry is written.
 #[test]
 fn no_trail(rt: HostRuntime) -> Result<(), Fail> {
     let told = log_of(&rt, rt.alloc(), None, "01 6805056885816d3c3eed16")?;
@@ -241,8 +241,8 @@ EndOfInput
     )
 }
 
-/// Opens a trail that has room for so many octets where so many passes are out: what is written, and why it is
-/// refused.
+/// Opens a trail that has room for `room` octets while `out` passes are out. Returns what is written, why the trail is
+/// refused, and the journal.
 fn refused_with<T: Wait>(rt: &T, alloc: Global, room: usize, out: usize) -> Result<String, Fail> {
     let Place { port, .. } = fresh_place(alloc, &ample_line(alloc, 1, Device::Still)?)?;
     let passes = many_passes(rt, alloc, &port.line, 2, out)?;
@@ -256,7 +256,7 @@ fn refused_with<T: Wait>(rt: &T, alloc: Global, room: usize, out: usize) -> Resu
     Ok(told)
 }
 
-/// A trail without a pass, and one whose header is cut; its pass is back.
+/// A trail that gets no pass, and a trail whose header is cut and whose pass is handed back.
 #[test]
 fn no_header(rt: HostRuntime) -> Result<(), Fail> {
     let told = refused_with(&rt, rt.alloc(), 1000, 64)?;

@@ -1,4 +1,4 @@
-//! Requests of the web, which a browser sends to any port that a page names.
+//! Web requests, which a browser sends to any port that a web page names.
 #![tactic(auto)]
 
 mod screened;

@@ -1,4 +1,4 @@
-//! A reader that fails on a request of the web.
+//! A reader that fails on a web request.
 
 ghost use Rattle.std.specs.Prelude.{◌≤◌, length};
 ghost use Rattle.std.specs.Io.{ReadsAtMost};
@@ -7,31 +7,32 @@ use crate::words::{LONGEST, is_web_request, may_become_one};
 use arrayvec::ArrayVec;
 use std::io::{Error, ErrorKind, Read, Result};
 
-/// What the first octets show.
+/// What the octets that were read first show.
 #[derive(Clone, Copy, PartialEq, Eq)]
 enum Shown {
-    /// They may be those of a request of the web, as far as they are read.
+    /// They may be the beginning of a web request.
     Nothing,
-    /// They are no request of the web.
+    /// They are not the beginning of a web request.
     Other,
-    /// They are a request of the web.
+    /// They begin a web request.
     WebRequest,
 }
 
-/// A reader whose reads fail with `InvalidData` if its octets begin as a request of the web does. The octets before are
-/// handed on as they come, at most 7; if a whole word comes at once, none is.
+/// A reader whose reads fail with `InvalidData` if its octets begin like a web request. Until the first word of the
+/// request is complete, octets are passed on as they are read, at most 7. If the whole word is read at once, none are
+/// passed on.
 #[derive(Drop)]
 pub struct Screened<R: Drop> {
     reader: R,
     first: ArrayVec<u8, LONGEST>,
-    /// How many of the first octets were handed on.
+    /// The number of first octets that were passed on.
     given: usize,
     shown: Shown,
     ghost within: { given ≤ length first.items },
 }
 
 impl<R: Read + Drop> Screened<R> {
-    /// A reader of which nothing was read.
+    /// Returns a reader from which nothing was read yet.
     pub fn new(reader: R) -> Screened<R> {
         Screened {
             reader,
@@ -57,7 +58,7 @@ impl<R: Read + Drop> Screened<R> {
         Ok(())
     }
 
-    /// Hands on what waits of the first octets, as far as there is room.
+    /// Copies first octets that were not passed on yet to `buf`, as many as it takes. Returns their number.
     fn hand_on(&mut self, buf: &mut [u8]) -> Result<usize>
         ensures { ReadsAtMost result buf.new }
     {

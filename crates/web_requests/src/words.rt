@@ -1,9 +1,9 @@
-//! How requests of the web begin.
+//! The words with which web requests begin.
 
-/// The most octets of a word below.
+/// The most octets of a word in [`WORDS`].
 pub(crate) const LONGEST: usize = 8;
 
-/// The words by which a request of HTTP begins, each with its space.
+/// The words with which an HTTP request begins, each with its space.
 const WORDS: [&[u8]; 9] = [
     b"GET ",
     b"HEAD ",
@@ -16,12 +16,12 @@ const WORDS: [&[u8]; 9] = [
     b"PATCH ",
 ];
 
-/// Whether octets begin by one of the words.
+/// Returns whether octets begin with one of the words.
 pub(crate) fn is_web_request(octets: &[u8]) -> bool {
     WORDS.iter().any(|word| octets.starts_with(word))
 }
 
-/// Whether octets are the beginning of one of the words.
+/// Returns whether octets are the beginning of one of the words.
 pub(crate) fn may_become_one(octets: &[u8]) -> bool {
     WORDS.iter().any(|word| word.starts_with(octets))
 }

@@ -2,7 +2,7 @@ use Rattle.std.proofs.Common.{◌≡◌, ◌+◌, ◌≤◌, ◌++◌, length}
 use Rattle.dp_sessions.specs.SessionProgress.{IsServedTo}
 use Rattle.dp_sessions.proofs.exchange.pass_octets.Given as goal
 
--- what is held and left is ahead
+-- the octets held and those left are ahead
 abbrev pub invariant-loop-piece : goal.invariant-loop-piece
 invariant-loop-piece g l = record {
   ours : l.pass.table ≡ l.fn.pass.table;

@@ -3,7 +3,7 @@ use Rattle.dp_shared.specs.declared.line_view.PassView.{PassView}
 use Rattle.dp_sessions.specs.Operators.{AreFed}
 use Rattle.dp_sessions.proofs.operator_line.feed_each.Given as goal
 
--- what the slaves that are left do then makes the whole
+-- the inputs of the slaves that are left complete the whole
 abbrev pub invariant-loop-slave : goal.invariant-loop-slave
 invariant-loop-slave g l = record {
   ours : l.pass.table ≡ l.fn.pass.table;

@@ -8,7 +8,7 @@ use Rattle.dp_line.specs.World.{World, start_of}
 use Rattle.dp_line.specs.Steps.{run, step}
 use Rattle.line_tests.proofs.clients.a_slave_is_sound_after_further_events.Goals as goal
 
--- further events come behind the first ones
+-- a run of events that is followed by further events
 run-append : (world : World) (events further : List Event) → (run world (events ++ further)).world ≡ (run (run world events).world further).world
 run-append world [] further = refl
 run-append world (event ∷ events) further = run-append (step world event).world events further

@@ -28,7 +28,7 @@ close_with-requires-clause-spent g c =
     subst (AllByRecursion (λ (pass : PassIn). pass.table ≡ table_of c.args.port.line)) (sym c.in_ok-ended.ensures.spent)
     (all_ours (streams g) (λ session. session.end) (λ session. session.pass) (λ (one : Served g.row.R.Denot g.row.W.Denot). one.ended) (λ one. one.spent) (table_of c.args.port.line) c.args.port.claims.masters c.args.turns c.args.tasks.items c.in_ok-served.served.items c.in_ok-served.ensures)
 
--- the passes that were handed back are of the closed line, and their notes are of them
+-- the passes that were handed back, and their notes, are of the closed line
 of_line : (g : _) (c : In-Ok g) → AreOfLine c.in-Ok.closed c.in_ok-ended.passes.items
 of_line g c = c.in-Ok.ensures.closed.4
 

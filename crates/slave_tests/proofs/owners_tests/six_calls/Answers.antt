@@ -23,7 +23,7 @@ after_four = unlinked after_three 0 2
 abbrev after_five : ℕ → List ℕ
 after_five = appended after_four 0 3
 
--- what the contracts of the calls and of the law say
+-- the contracts of the calls and of the law
 abbrev Appends : ℕ → ℕ → Owners → List Links → Owners → List Links → Type 0
 Appends m at before own after later = (lists : ℕ → List ℕ) → IsThreaded before own lists → IsFree at lists → IsThreaded after later (appended lists m at)
 
@@ -36,7 +36,7 @@ StaysOut = (lists : ℕ → List ℕ) (m at other : ℕ) → m < MOST_MASTERS �
 abbrev StaysOutTaken : Type 0
 StaysOutTaken = (lists : ℕ → List ℕ) (m at other : ℕ) → m < MOST_MASTERS → IsFree other lists → IsFree other (unlinked lists m at)
 
--- which are free
+-- the records that are in no list
 free_zero : StaysOut → IsFree 0 after_one
 free_zero stays = stays (λ m. []) 0 2 0 (search rules) (λ e. omega arith) (λ m small. tt)
 
