@@ -14,8 +14,8 @@ use dp_line::{LineSpec, LineState, OpenFault};
 use dp_text::{Lines, Text};
 use std::alloc::Global;
 
-/// Opens the line on which an audit text is judged: the endless line if the header of the text names version 3, and else
-/// the line as it is described (own).
+/// Opens the line on which an audit text is judged: the endless line if the header of the text names version 3,
+/// otherwise the line as it is described (own).
 ///
 /// Returns the faults of [`LineState::open`].
 pub fn open_line(alloc: Global, line: &LineSpec, text: &str) -> Result<LineState, OpenFault>

@@ -11,7 +11,7 @@ use arrayvec::ArrayVec;
 use dp_text::Text;
 use std::marker::Model;
 
-/// The most octets of one record, with its head.
+/// The maximum number of octets in one record, with its head.
 pub(crate) const LONGEST: usize = 520;
 
 /// The packed record of an entry, copied from a journal; or of no entry.
@@ -55,7 +55,7 @@ impl Record {
         self.octets.try_extend_from_slice(octets).unwrap();
     }
 
-    /// Makes it a record of no entry.
+    /// Clears the record, so that it is one of no entry.
     #[tactic(auto, unfolding(crate::specs::Unpacked::entry_in))]
     pub(crate) fn clear(&mut self)
         ensures { self.new ≡ None }
@@ -63,15 +63,15 @@ impl Record {
         self.octets.clear();
     }
 
-    /// Returns the entry.
+    /// Returns the entry, or None if there is none.
     pub fn entry(&self) -> Option<Entry>
         ensures { result ≡ self.now }
     {
         read_entry(self.place, &self.octets)
     }
 
-    /// Makes a text the line of the entry, with its LF, and returns true. If there is no entry, the text is empty then, and
-    /// false is returned.
+    /// Sets a text to the line of the entry, with its LF, and returns true. If there is no entry, clears the
+    /// text and returns false.
     pub fn set_line(&self, text: &mut Text) -> bool
         ensures { MatchOption self.now ((result ≡ false) × (text.new ≡ [])) (λ entry. (result ≡ true) × (text.new ≡ line_text (entry_text entry))) }
     {
@@ -79,7 +79,8 @@ impl Record {
         self.put_line(text).is_some()
     }
 
-    /// Makes an empty text the line of the entry. If there is no entry, the text stays empty.
+    /// Sets an empty text to the line of the entry. If there is no entry, returns None and the text stays
+    /// empty.
     #[tactic(auto, unfolding(crate::specs::Unpacked::entry_in))]
     fn put_line(&self, text: &mut Text) -> Option<()>
         requires { text.old ≡ [] }
@@ -92,8 +93,8 @@ impl Record {
     }
 }
 
-/// Makes an empty text the line of the entry that the octets behind a record's head tell. If they tell none, the text stays
-/// empty.
+/// Sets an empty text to the line of the entry in the octets after a record's head. If they are no entry,
+/// returns None and the text stays empty.
 fn put_parts(text: &mut Text, place: u32, octets: &[u8]) -> Option<()>
     requires { text.old ≡ [] }
     ensures { MatchOption (parts_in place octets.now) ((result ≡ None) × (text.new ≡ [])) (λ entry. (result ≡ Some tt) × (text.new ≡ line_text (entry_text entry))) }

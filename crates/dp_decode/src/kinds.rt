@@ -6,7 +6,9 @@ ghost use Rattle.dp_telegram.specs.FunctionCode.{function_of};
 ghost use Rattle.dp_decode.specs.Kinds.{asked_text, bit_text, count_text, fault_text, format_text, frame_fault_words, frame_text, function_name, function_text, is_of_point as is_of_point_by, service_text, telegram_text};
 
 use crate::points::{Point, Source};
-use dp_telegram::{ADDRESS_BITS, Frame, FrameFault, Function, Parts, Telegram, decode, function_code};
+use dp_telegram::{
+    ADDRESS_BITS, Frame, FrameFault, Function, Parts, Telegram, decode, function_code,
+};
 use std::fmt;
 use std::marker::Model;
 

@@ -113,5 +113,8 @@ fn write_wrong_end<W: fmt::Write>(f: &mut fmt::Formatter<W>, end: WrongEnd) -> f
     if check_sequence == expected {
         return write!(f, ", the end delimiter is {end_delimiter:02x}, not 16");
     }
-    write!(f, ", the check sequence is {check_sequence:02x}, not {expected:02x}")
+    write!(
+        f,
+        ", the check sequence is {check_sequence:02x}, not {expected:02x}"
+    )
 }

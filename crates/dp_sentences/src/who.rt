@@ -96,7 +96,10 @@ impl Who {
         ensures { result ≡ who_of event.now }
     {
         match event {
-            Event::Request { master, octets } => Who::Master(*master, Whom::from_octets(octets.as_slice())),
+            Event::Request { master, octets } => Who::Master(
+                *master,
+                Whom::from_octets(octets.as_slice()),
+            ),
             Event::Operator(Op::Input { address, .. }) => Who::Operator(Some(*address)),
             Event::Operator(Op::Diag { address, .. }) => Who::Operator(Some(*address)),
             Event::Operator(Op::Busy { address, .. }) => Who::Operator(Some(*address)),

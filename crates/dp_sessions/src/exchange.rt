@@ -153,7 +153,17 @@ fn pass_octets<T: Wait, W: Write, G: Gate>(
         if let Some(piece) = cutter.front() {
             let count = piece.size();
             let octets = &cutter.held()[..count];
-            answer(rt, writer, line, gate, pass, piece, octets, &mut dropped, step)?;
+            answer(
+                rt,
+                writer,
+                line,
+                gate,
+                pass,
+                piece,
+                octets,
+                &mut dropped,
+                step,
+            )?;
             cutter.pass(count);
         } else if left.is_empty() {
             report(rt, gate, pass, &mut dropped);

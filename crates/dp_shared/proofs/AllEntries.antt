@@ -1,4 +1,4 @@
--- Passes of which there are as many as were opened have all entries.
+-- All entries belong to the passes, if there are as many passes as were opened.
 use Rattle.std.proofs.Common.{◌≡◌, ◌≢◌, ◌⊎◌, inl, inr, ℕ, zero, suc, ◌+◌, ◌<◌, ◌≤◌, Bool, true, false, cond, List, [], ◌∷◌, map, length, sym, refl, ap, ◌∙◌, arith, eq-eqb, ne_eqb}
 use Rattle.std.specs.Prelude.{◌==◌, sum_by}
 use Rattle.std.specs.List.{AllByRecursion}
@@ -13,7 +13,7 @@ use Rattle.dp_shared.specs.Content.{Content, IsHistory}
 use Rattle.dp_shared.specs.LineLock.{IsNumbered, IsPassOf, receipt_for}
 use Rattle.dp_shared.specs.declared.line_view.PassView.{PassView}
 
--- ---- one number more
+-- ---- one more number
 
 zero_more : (m : ℕ) → 0 + m ≡ m
 zero_more m = omega arith
@@ -89,7 +89,7 @@ upto_fewer (suc last) number numbers differ above within none = by (λ within'. 
         let rest = before (omega (arith, within, not)) in
         omega (arith, here, rest)
 
--- as many numbers as there may be: each is one of them
+-- if there are as many numbers as there may be, each number occurs
 each_there : (last number : ℕ) (numbers : List ℕ) → AllByRecursion (IsWithin last) numbers → AllDiffer numbers → length numbers ≡ last
     → 0 < number → number ≤ last → times number numbers ≡ 1
 each_there last number numbers all differ long above within = by (cases_eq (times number numbers) 0)

@@ -14,7 +14,7 @@ module _ {P : Type 0} (pass_of : P → PassIn) where
   ours_left table left rest p is all =
       each_front (λ q. (pass_of q).table ≡ table) rest p (subst (AllByRecursion (λ q. (pass_of q).table ≡ table)) is all)
 
-  -- where the passes joined fit, so do those of before, and with those left all that were given
+  -- if the joined passes fit, so do the earlier ones; and if those that are left fit too, all given passes fit
   abbrev pub Given : Content → List PassView → List PassView → List P → List P → Type 0
   Given content before joined left all =
       AllByRecursion (IsPassOf content) joined

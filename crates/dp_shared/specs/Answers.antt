@@ -1,4 +1,4 @@
--- The receipt of a lent event and its answer. No public clause cites this module.
+-- The receipt of a borrowed event and its answer. No public clause cites this module.
 use Rattle.dp_audit.specs.declared.entry.Receipt.{Receipt}
 use Rattle.dp_audit.specs.Journal.{receipt_of}
 use Rattle.dp_audit.specs.Lent.{event_lent}

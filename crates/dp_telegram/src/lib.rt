@@ -15,7 +15,6 @@ mod cutter;
 mod decoding;
 mod delimiter;
 mod encoding;
-
 mod fault;
 mod frame;
 pub mod function_code;
@@ -23,9 +22,9 @@ pub mod laws;
 mod lent;
 pub mod stream_laws;
 
-
 pub use access::{Parts, request};
 pub use address::{ADDRESS_BITS, GLOBAL_ADDRESS, LAST_STATION, is_station};
+pub use bad_end::{WrongEnd, wrong_end};
 pub use cutter::{Cut, Cutter, Piece};
 pub use decoding::decode;
 pub use delimiter::SC;
@@ -34,4 +33,3 @@ pub use fault::FrameFault;
 pub use frame::{Frame, MOST_OCTETS, Octets, Telegram};
 pub use function_code::Function;
 pub use lent::{FrameLent, PartsLent, TelegramLent, WholeFrame};
-pub use bad_end::{WrongEnd, wrong_end};

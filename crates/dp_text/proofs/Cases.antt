@@ -20,7 +20,7 @@ use Rattle.dp_text.proofs.ReadBack.{is_written, all_written, text_is_written, ne
 
 -- ---- digits
 
--- what no letter is stays so
+-- in lower case an octet has a value below 65 exactly if it has that value before
 lower_keeps : (digit value : ℕ) → value < 65 → eqb (to_ascii_lowercase digit) value ≡ eqb digit value
 lower_keeps digit value small = grind (arith, nat_tests)
 

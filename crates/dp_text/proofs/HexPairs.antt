@@ -134,7 +134,7 @@ not_paired [] long other = absurd (omega (arith, long))
 not_paired (digit ∷ []) long other = absurd (omega (arith, long))
 not_paired (high ∷ low ∷ rest) long other = other_pair high low rest other
 
--- what is behind the first pair
+-- the text after the first pair
 abbrev pub behind_pair : List ℕ → List ℕ
 behind_pair text = take (length text - 2) (drop 2 text)
 
@@ -185,9 +185,9 @@ goes_on (high ∷ low ∷ rest) long pair some other =
     ap are_hex (rest_is high low rest)
     ∙ on_by high low rest (omega (arith, some, ap length (rest_is high low rest))) (λ e. other (ap (λ (r : List ℕ). slice_index_or r 0 0) (rest_is high low rest) ∙ e)) first second
 
--- ---- what is behind a pair
+-- ---- the text after a pair
 
--- it is words behind the digits 00, and so behind any pair
+-- it makes words after the digits 00, and so after any pair
 abbrev pub are_behind : List ℕ → Bool
 are_behind left = are_hex (48 ∷ 48 ∷ left)
 

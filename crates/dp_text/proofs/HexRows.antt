@@ -1,4 +1,4 @@
--- Texts of words of hex digits, decoded in the pass that looks at them.
+-- Texts of words of hex digits, decoded in the pass that checks them.
 use Rattle.std.proofs.Common.{◌≡◌, ℕ, ◌+◌, ◌-◌, ◌<◌, ◌≤◌, ◌==◌, true, false, ◌&&◌, Bool, List, [], ◌∷◌, ◌++◌, length, take, drop, set, Option, Some, None, is_some, inl, inr, refl, sym, ap, ◌∙◌, arith, append_assoc}
 use Rattle.std.specs.Prelude.{slice_index_or}
 use Rattle.std.proofs.lemmas.List.{take_rest, take_more_set}
@@ -18,7 +18,7 @@ first_true : (a b : Bool) → (a && b) ≡ true → a ≡ true
 first_true true b e = refl
 first_true false b e = absurd cc
 
--- what a pair in front and the digits behind it spell
+-- what a pair in front and the digits after it spell
 pub pair_spelt : (high low : ℕ) (rest : List ℕ) → (is_hex_digit high && is_hex_digit low) ≡ true
     → spelt_behind None (high ∷ low ∷ rest) ≡ pair_octet high low ∷ spelt_behind None rest
 pair_spelt high low rest pair =
@@ -39,7 +39,7 @@ one_more all octets before behind count octet room so_far next =
     ∙ sym (append_assoc (take count octets) (octet ∷ []) behind)
     ∙ ap (λ (front : List ℕ). front ++ behind) (sym (take_more_set octets count octet room))
 
--- what is decoded, and what the digits behind it spell, are the octets of the words
+-- what is decoded, and what the digits after it spell, are the octets of the words
 pub decoded : (text octets : List ℕ) → are_hex text ≡ true → spelt_behind None text ≡ octets → Some octets ≡ octets_of_words (words_in text)
 decoded text octets hex spelt =
     let (found, is) = some_value (octets_of_words (words_in text)) hex in

@@ -40,7 +40,7 @@ is_some-joined None others = refl
 is_some-joined (Some octets) None = refl
 is_some-joined (Some octets) (Some more) = refl
 
--- a word, and the words behind it
+-- a word, and the words after it
 pub some_words : (word : List ℕ) (words : List (List ℕ)) → is_some (octets_of_words (word ∷ words)) ≡ (is_some (octets_of_word word) && is_some (octets_of_words words))
 unfolding joined_by
 some_words word words = is_some-joined (octets_of_word word) (octets_of_words words)
@@ -128,7 +128,7 @@ tail_of : List (List ℕ) → List (List ℕ)
 tail_of [] = []
 tail_of (first ∷ others) = others
 
--- text behind a high digit or none: its first word, behind that digit, and the words behind it spell these octets
+-- text after a high digit or none: its first word, after that digit, and the words after it spell these octets
 record Spells (high : Option ℕ) (i : ℕ) (text octets more : List ℕ) : Type 0 where
   first : List ℕ
   others : List (List ℕ)
@@ -241,7 +241,7 @@ in_its_room word room half = elim (cases_eq (length word % 2) 1) [
   | inr even ↦ decode_sized-twice word room (omega arith)
 ]
 
--- what a word of some octets gives, where they are few enough
+-- the result of a word of some octets, if there are at most `most` of them
 pub given : (most : ℕ) (word octets : List ℕ) → Some octets ≡ result_ok (decode_of word) → length octets ≤ most → length word ≢ 0 → Some octets ≡ octets_up_to most word
 given most word octets read few filled =
     sym (cond-true (leb (length octets) most) (Some octets) None (le-leb (length octets) most few))

@@ -34,7 +34,7 @@ high_value digit = 16 * digit_value digit
 abbrev pub low_value : ℕ → ℕ
 low_value digit = if is_hex_digit digit then digit_value digit else 511
 
--- what stands in the table
+-- the value at a place of the table
 value_in : ℕ → ℕ
 value_in place = if nat_lt place 256 then high_value place else low_value (place - 256)
 
@@ -57,7 +57,7 @@ low_at digit below =
     ∙ cond-false (nat_lt (256 + digit) 256) (high_value (256 + digit)) (low_value (256 + digit - 256)) (le-ltb (256 + digit) 256 (omega arith))
     ∙ ap low_value place
 
--- the sum, by whether each of the two is a digit
+-- the sum of the two values in the table, by the value of each octet as a digit, or None if it is not a digit
 sum_by : Option ℕ → Option ℕ → ℕ
 sum_by high low = 16 * unwrap_or high 255 + (if is_some low then unwrap_or low 255 else 511)
 

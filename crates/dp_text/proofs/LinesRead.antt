@@ -179,7 +179,7 @@ halt_is [] op e =
     subst (λ o. IsOpWithinLimits o × IsOpText (codes "halt") o) is (tt, refl)
 halt_is (more ∷ words) op e = absurd cc
 
--- a row of the table of first words: it is that word, or another row
+-- a row of the table of first words: the word is that of this row, or of another row
 row : {X : Type 0} (test : Bool) (here others : Option X) (x : X) (P : Type 0) → cond test here others ≡ Some x → (test ≡ true → here ≡ Some x → P) → (others ≡ Some x → P) → P
 row true here others x P e yes_here elsewhere = yes_here refl e
 row false here others x P e yes_here elsewhere = elsewhere e

@@ -1,4 +1,4 @@
--- What a search of many octets at once finds, as the place of the first octet.
+-- The result of a search of many octets at once is the place of the first octet found.
 use Rattle.std.proofs.Common.{◌≡◌, ℕ, ◌<◌, Bool, true, false, ltb, List, length, get_or, Some, None, refl, sym, ap, ◌∙◌, le_refl, arith}
 use Rattle.std.specs.Prelude.{◌==◌, position}
 use Rattle.std.specs.List.{position_or_len}

@@ -164,7 +164,7 @@ same_is (x ∷ xs) (y ∷ ys) e =
     let (first, others) = and_parts (nat_eq x y) (pointwise nat_eq xs ys) e in
     ap (λ z. z ∷ xs) (eqb-true x y first) ∙ ap (λ zs. y ∷ zs) (same_is xs ys others)
 
--- a number begins with no letter
+-- a number does not begin with a letter
 is_no_name : (number : ℕ) → number < 2 ^ 64 → same_text (decimal number) (codes "default") ≡ false
 is_no_name number small = elim (cases_Bool (same_text (decimal number) (codes "default"))) [
   | inl same ↦
@@ -269,7 +269,7 @@ op_read (Busy address point on) limits = busy_read address point on limits.0 lim
 op_read (Tick units) limits = tick_read units limits
 op_read Halt limits = refl
 
--- the text of what an operator does begins with no `req`
+-- the text of an operator's event does not begin with `req`
 by_operator : (op : Op) → event_of_words (words_of (op_text op)) ≡ option_map Operator (op_of_words Lower (words_of (op_text op)))
 by_operator (Input address octets) = refl
 by_operator (Diag address ext stat overflow octets) = refl

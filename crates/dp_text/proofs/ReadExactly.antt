@@ -259,7 +259,7 @@ halt_is : (words : List (List ℕ)) (op : Op) → halt_of words ≡ Some op → 
 halt_is [] op e = let is : Halt ≡ op = some_same e in ap op_text is
 halt_is (more ∷ words) op e = absurd cc
 
--- a row of the table of first words: it is that word, or another row
+-- a row of the table of first words: the word is that of this row, or of another row
 pub row : (test : Bool) (here others : Option Op) (op : Op) (P : Type 0) → cond test here others ≡ Some op → (test ≡ true → here ≡ Some op → P) → (others ≡ Some op → P) → P
 row true here others op P e yes_here elsewhere = yes_here refl e
 row false here others op P e yes_here elsewhere = elsewhere e

@@ -16,27 +16,27 @@ use Rattle.dp_text.specs.Texts.{flags_text, on_or_off_text}
 
 -- ---- words
 
--- so many octets at most
+-- the octets if there are at most `most`
 abbrev pub octets_within : ℕ → List ℕ → Option (List ℕ)
 octets_within most octets = if nat_le (length octets) most then Some octets else None
 
--- the octets of a word of hex digits, in either case, so many octets at most
+-- the octets of a word of hex digits in either case, at most `most` octets
 abbrev pub octets_up_to : ℕ → List ℕ → Option (List ℕ)
 octets_up_to most word = option_and_then (octets_within most) (octets_of_word word)
 
--- a word has letters of a case that isn't taken
+-- a word has letters of a case that is not accepted
 abbrev pub has_other_case : HexCase → List ℕ → Bool
 has_other_case Lower word = list_any is_ascii_uppercase word
 has_other_case Either word = false
 
--- octets as texts have them, so many at most: `-` for none, else pairs of digits in this case
+-- at most `most` octets as texts write them: `-` for none, else pairs of hex digits in this case
 abbrev pub event_octets : HexCase → ℕ → List ℕ → Option (List ℕ)
 event_octets case most word =
     if same_text word (codes "-") then Some []
     else if has_other_case case word then None
     else octets_up_to most word
 
--- the first of these values whose text a word is
+-- the first of these values whose text is the word
 abbrev pub first_with_text : {A : Type 0} → (A → List ℕ) → List A → List ℕ → Option A
 first_with_text text_of [] word = None
 first_with_text text_of (value ∷ values) word =
@@ -69,7 +69,7 @@ point_of word = if same_text word (codes "default") then Some None else option_m
 
 -- ---- what an operator does
 
--- `A HEX`, behind `in`
+-- `A HEX`, after `in`
 abbrev pub input_of : HexCase → List (List ℕ) → Option Op
 input_of case (address ∷ octets ∷ []) =
     option_and_then (λ number. option_map (λ items. Input number (record { items = items })) (event_octets case 244 octets)) (octet_number address)
@@ -79,29 +79,29 @@ input_of case other = None
 abbrev pub diag_with : ℕ → Flags → List ℕ → Op
 diag_with address flags items = Diag address flags.0 flags.1 flags.2 (record { items = items })
 
--- `A FLAGS HEX`, behind `diag`
+-- `A FLAGS HEX`, after `diag`
 abbrev pub diag_of : HexCase → List (List ℕ) → Option Op
 diag_of case (address ∷ flags ∷ octets ∷ []) =
     option_and_then (λ number. option_and_then (λ set. option_map (diag_with number set) (event_octets case 238 octets)) (flags_of flags)) (octet_number address)
 diag_of case other = None
 
--- `A POINT on` or `A POINT off`, behind `busy`
+-- `A POINT on` or `A POINT off`, after `busy`
 abbrev pub busy_of : List (List ℕ) → Option Op
 busy_of (address ∷ point ∷ state ∷ []) =
     option_and_then (λ number. option_and_then (λ at. option_map (Busy number at) (on_or_off state)) (point_of point)) (octet_number address)
 busy_of other = None
 
--- `N`, behind `tick`
+-- `N`, after `tick`
 abbrev pub tick_of : List (List ℕ) → Option Op
 tick_of (units ∷ []) = option_map Tick (number_to 4294967295 units)
 tick_of other = None
 
--- nothing, behind `halt`
+-- nothing, after `halt`
 abbrev pub halt_of : List (List ℕ) → Option Op
 halt_of [] = Some Halt
 halt_of other = None
 
--- by the first word
+-- what an operator does, by the first word
 abbrev pub op_of_words : HexCase → List (List ℕ) → Option Op
 op_of_words case [] = None
 op_of_words case (word ∷ words) =
@@ -114,25 +114,25 @@ op_of_words case (word ∷ words) =
 
 -- ---- events
 
--- `M HEX`, behind `req`
+-- `M HEX`, after `req`
 abbrev pub request_of : List (List ℕ) → Option Event
 request_of (master ∷ octets ∷ []) =
     option_and_then (λ number. option_map (λ items. Request number (record { items = items })) (event_octets Lower 255 octets)) (octet_number master)
 request_of other = None
 
--- by the first word; digits of an event's octets are in lower case
+-- an event, by the first word; the hex digits of its octets are in lower case
 abbrev pub event_of_words : List (List ℕ) → Option Event
 event_of_words [] = None
 event_of_words (word ∷ words) =
     if same_text word (codes "req") then request_of words else option_map Operator (op_of_words Lower (word ∷ words))
 
--- the event whose text this is; None where it is none's
+-- the event that has this text; None if no event has it
 abbrev pub event_of : List ℕ → Option Event
 event_of text = event_of_words (words_of text)
 
 -- ---- the events that have texts
 
--- octets, so many at most
+-- at most `most` octets
 abbrev pub AreOctets : ℕ → List ℕ → Type 0
 AreOctets most octets = (length octets ≤ most) × IsBytes octets
 

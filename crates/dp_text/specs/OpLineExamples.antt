@@ -51,7 +51,7 @@ an_empty_line = refl
 pub a_comment : op_line_of (codes "# step") ≡ Some Nothing
 a_comment = refl
 
--- ---- no command
+-- ---- not a command
 
 pub a_space : op_line_of (codes " ") ≡ None
 unfolding text_on_literals
@@ -109,7 +109,7 @@ pub too_long_a_time : op_line_of (codes "tick 4294967296") ≡ None
 unfolding text_on_literals
 too_long_a_time = refl
 
--- the words of a script alone
+-- words of scripts only
 
 pub a_request : op_line_of (codes "req 1 e5") ≡ None
 unfolding text_on_literals

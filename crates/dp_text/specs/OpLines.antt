@@ -20,7 +20,7 @@ use Rattle.dp_text.specs.Events.{IsOpWithinLimits, op_of_words}
 abbrev pub IsOctetsWord : List ℕ → List ℕ → Type 0
 IsOctetsWord word octets = map to_ascii_lowercase word ≡ octets_text octets
 
--- what an operator does is written as in an audit text, but for the case of the hex digits: `in A HEX`, `diag A FLAGS HEX`,
+-- what an operator does is written as in an audit text, except for the case of the hex digits: `in A HEX`, `diag A FLAGS HEX`,
 -- `busy A POINT on` or `off`, `tick N`, `halt`
 abbrev pub IsOpText : List ℕ → Op → Type 0
 IsOpText text (Input address octets) =
@@ -51,12 +51,12 @@ abbrev pub only_octet : List (List ℕ) → Option ℕ
 only_octet (number ∷ []) = octet_number number
 only_octet other = None
 
--- nothing, behind `step`
+-- nothing, after `step`
 abbrev pub step_of : List (List ℕ) → Option OpLine
 step_of [] = Some Step
 step_of other = None
 
--- by the first word; hex digits are in either case
+-- what a line asks for, by the first word; hex digits are in either case
 abbrev pub op_line_of_words : List (List ℕ) → Option OpLine
 op_line_of_words [] = None
 op_line_of_words (word ∷ words) =
@@ -65,12 +65,12 @@ op_line_of_words (word ∷ words) =
     else if same_text word (codes "step") then step_of words
     else option_map Event (op_of_words Either (word ∷ words))
 
--- what a line asks for; None where it is no command
+-- what a line asks for; None if it is not a command
 abbrev pub op_line_of : List ℕ → Option OpLine
 op_line_of [] = Some Nothing
 op_line_of (first ∷ others) = if first == 35 then Some Nothing else op_line_of_words (words_of (first ∷ others))
 
--- what is asked for, where this is what the operator does
+-- what a line asks for, if this is what the operator does
 abbrev pub line_asked : Op → Asked → OpLine
 line_asked op asked.Event = Event op
 line_asked op (asked.Owned master) = Owned master

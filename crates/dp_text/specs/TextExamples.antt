@@ -19,7 +19,7 @@ use Rattle.dp_text.specs.HexWords.{octets_of_words}
 use Rattle.dp_text.specs.Texts.{event_text, facts_text, answer_text, outcome_line, dropped_text, owned_text, show_text}
 use Rattle.dp_text.specs.Events.{op_of_words, event_of}
 
--- what computes a text
+-- the definitions that compute a text
 unfoldable pub text_on_literals : ⊤
 unfolding hex_on_literals digits
 text_on_literals = tt

@@ -22,12 +22,12 @@ abbrev pub octets_text : List ℕ → List ℕ
 octets_text [] = codes "-"
 octets_text (octet ∷ octets) = encode_lower (octet ∷ octets)
 
--- a letter where its flag is set
+-- a letter if its flag is set
 abbrev pub letter_where : Bool → List ℕ → List ℕ
 letter_where true letter = letter
 letter_where false letter = []
 
--- the flags of a diagnosis: of `e` (ext), `s` (stat) and `o` (overflow) those that are set, `-` for none
+-- the flags of a diagnosis: those of `e` (ext), `s` (stat) and `o` (overflow) that are set, `-` for none
 abbrev pub flags_text : Bool → Bool → Bool → List ℕ
 flags_text ext stat overflow =
     if ext || stat || overflow
@@ -68,7 +68,7 @@ abbrev pub facts_text : Option (State × Option ℕ) → List ℕ
 facts_text None = codes "none"
 facts_text (Some facts) = state_name facts.0 ++ codes " " ++ holder_text facts.1
 
--- addresses, each behind a space
+-- addresses, each after a space
 abbrev pub addresses_text : List ℕ → List ℕ
 addresses_text [] = []
 addresses_text (address ∷ addresses) = codes " " ++ decimal address ++ addresses_text addresses
@@ -77,13 +77,13 @@ addresses_text (address ∷ addresses) = codes " " ++ decimal address ++ address
 abbrev pub pair_text : ℕ × Rule → List ℕ
 pair_text pair = codes " " ++ decimal pair.0 ++ codes ":" ++ rule_name pair.1
 
--- such pairs, in this order
+-- pairs of an address and a rule, in this order
 abbrev pub pairs_text : List (ℕ × Rule) → List ℕ
 pairs_text [] = []
 pairs_text (pair ∷ pairs) = pair_text pair ++ pairs_text pairs
 
 -- an outcome: `reply HEX RULE`, `silence RULE`, `spread` with ` A:RULE` for each slave of the sender, `released` with ` A` for each
--- slave let go, `done` or `refused FAULT`
+-- released slave, `done` or `refused FAULT`
 abbrev pub outcome_text : Outcome → List ℕ
 outcome_text (Reply octets rule) = codes "reply " ++ encode_lower octets.items ++ codes " " ++ rule_name rule
 outcome_text (Silence rule) = codes "silence " ++ rule_name rule
@@ -100,25 +100,25 @@ outcome_line outcome = outcome_text outcome ++ codes "\n"
 abbrev pub answer_text : ℕ → Outcome → List ℕ
 answer_text master outcome = decimal master ++ codes ": " ++ outcome_text outcome ++ codes "\n"
 
--- the line that tells a master what of its stream was dropped: `M: dropped FAULT COUNT`
+-- the line that reports to a master what was dropped from its stream: `M: dropped FAULT COUNT`
 abbrev pub dropped_text : ℕ → FrameFault → ℕ → List ℕ
 dropped_text master fault count =
     decimal master ++ codes ": dropped " ++ frame_fault_name fault ++ codes " " ++ decimal count ++ codes "\n"
 
--- the line that tells the slaves of a master, in the order of the list: `owned` with ` A` each
+-- the line that lists the slaves of a master, in the order of the list: `owned` with ` A` for each
 abbrev pub owned_text : List ℕ → List ℕ
 owned_text addresses = codes "owned" ++ addresses_text addresses ++ codes "\n"
 
--- the line that tells how many inputs of devices were recorded: `stepped N`
+-- the line that reports the number of device inputs recorded: `stepped N`
 abbrev pub stepped_text : ℕ → List ℕ
 stepped_text recorded = codes "stepped " ++ decimal recorded ++ codes "\n"
 
--- what a watchdog has left, or `off`
+-- the time that a watchdog has left, in units of 10 ms, or `off`
 abbrev pub watchdog_text : Option ℕ → List ℕ
 watchdog_text None = codes "off"
 watchdog_text (Some left) = decimal left
 
--- the line that shows a slave: `show A STATE HOLDER in HEX out HEX wd N`, its device's inputs and its outputs
+-- the line that shows a slave, with the inputs of its device and its outputs: `show A STATE HOLDER in HEX out HEX wd N`
 abbrev pub slave_text : SlaveView → List ℕ
 slave_text slave =
     codes "show " ++ decimal slave.address ++ codes " " ++ facts_text (Some (slave.state, slave.holder))

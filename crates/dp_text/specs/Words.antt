@@ -15,7 +15,7 @@ words_of line = slice_split (λ octet. octet == 32) line
 abbrev pub same_text : List ℕ → List ℕ → Bool
 same_text = pointwise nat_eq
 
--- the parts of what is left of a text, if any is
+-- the parts of the text that is left; none if no text is left
 abbrev pub parts_left : (List ℕ → List (List ℕ)) → Option (Bor (List ℕ)) → List (List ℕ)
 parts_left parts_of None = []
 parts_left parts_of (Some text) = parts_of text.now

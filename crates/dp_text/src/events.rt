@@ -9,14 +9,15 @@ use crate::words::{Words, is_text};
 use dp_line::Event;
 use dp_telegram::Octets;
 
-/// The event whose text this is, exactly as [`crate::Text::push_event`] writes it.
+/// Returns the event that has this text, exactly as [`crate::Text::push_event`] writes it, or None if no event
+/// has it.
 pub fn event_in(text: &[u8]) -> Option<Event>
     ensures { result ≡ event_of text.now }
 {
     event_in_words(&mut Words::new(text))
 }
 
-/// The event by its first word.
+/// Reads an event by its first word.
 fn event_in_words(words: &mut Words<'_>) -> Option<Event>
     ensures { result ≡ event_of_words words.old }
 {
@@ -27,7 +28,7 @@ fn event_in_words(words: &mut Words<'_>) -> Option<Event>
     Some(Event::Operator(op_in(HexCase::Lower, kind, words)?))
 }
 
-/// A request, by its master and its octets.
+/// Reads a request: its master and its octets.
 fn request_in(words: &mut Words<'_>) -> Option<Event>
     ensures { result ≡ request_of words.old }
 {
@@ -42,7 +43,8 @@ fn request_in(words: &mut Words<'_>) -> Option<Event>
     })
 }
 
-/// The octets of a word of whole pairs of hex digits, in either case, 1 to 255 octets.
+/// Returns the octets of a word of whole pairs of hex digits in either case, 1 to 255 octets, or None for any
+/// other word.
 pub fn octets_in(word: &[u8]) -> Option<Octets>
     ensures { option_map (λ octets. octets.items) result ≡ octets_up_to 255 word.now }
 {

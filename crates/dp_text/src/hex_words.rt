@@ -8,9 +8,9 @@ ghost use Rattle.dp_text.specs.HexWords.{octets_of_words, digit_value, pair_octe
 use crate::words::SPACE;
 use std::marker::Model;
 
-/// Of each octet 16 times its value as a hex digit in either case, and 16 times 255 where it is none. Then of each octet
-/// its value, and 511 where it is none. So a sum of one of each is below 256 where both octets are digits, and nowhere
-/// else. A second table would cost an instruction more for each octet.
+/// For each octet, 16 times its value as a hex digit in either case, or 16 times 255 if it is not a digit. Then
+/// for each octet its value, or 511 if it is not a digit. So the sum of one value of each half is below 256 if
+/// and only if both octets are digits. A second table would cost one more instruction per octet.
 const VALUES: [u32; 512] = [
     4080, 4080, 4080, 4080, 4080, 4080, 4080, 4080, 4080, 4080, 4080, 4080, 4080, 4080, 4080, 4080,
     4080, 4080, 4080, 4080, 4080, 4080, 4080, 4080, 4080, 4080, 4080, 4080, 4080, 4080, 4080, 4080,
@@ -43,8 +43,7 @@ const VALUES: [u32; 512] = [
     511, 511, 511, 511, 511, 511, 511, 511, 511, 511, 511, 511, 511, 511, 511, 511, 511, 511, 511,
 ];
 
-/// The octets of words of hex digits, decoded where they are asked for. Contracts see those that are
-/// left.
+/// The octets of words of hex digits, decoded when they are read. Contracts see the octets that are left.
 #[derive(Debug, Drop)]
 pub struct HexWords<'a> {
     digits: &'a [u8],
@@ -60,8 +59,8 @@ impl<'a> Model for HexWords<'a> {
 }
 
 impl<'a> HexWords<'a> {
-    /// The octets of a text of words, each of whole pairs of hex digits in either case; None where one
-    /// of the words is empty or isn't such.
+    /// Returns the octets of a text of words, each of whole pairs of hex digits in either case. Returns None if
+    /// one of the words is empty or is not whole pairs.
     pub fn new(text: &'a [u8]) -> Option<HexWords<'a>>
         ensures { result ≡ octets_of_words (words_of text.now) }
     {
@@ -75,7 +74,7 @@ impl<'a> HexWords<'a> {
     /// Looks at all of a text of words, as [`HexWords::new`] does, and decodes in the same pass as many octets as have
     /// room: how many these are, and the octets that are left.
     ///
-    /// It is not inlined, as [`HexWords::fill`].
+    /// It is not inlined, for the same reason as [`HexWords::fill`].
     #[inline(never)]
     pub fn of_into(text: &'a [u8], octets: &mut [u8]) -> Option<(usize, HexWords<'a>)>
         ensures read { option_map (λ read. take read.0 octets.new ++ read.1) result ≡ octets_of_words (words_of text.now) }
@@ -83,7 +82,7 @@ impl<'a> HexWords<'a> {
         ensures rest { IfSome result (λ read. read.0 < length octets.new → read.1 ≡ []) }
     {
         let mut count = pairs_into(text, octets);
-        // Behind the test of the count, this would cost each octet an instruction more.
+        // After the test of the count, this would cost one more instruction per octet.
         let (_, mut left) = text.split_at(2 * count);
         if count == 0 {
             return Some((0, HexWords::new(text)?));
@@ -108,9 +107,9 @@ impl<'a> HexWords<'a> {
         }
     }
 
-    /// Decodes as many octets as there are or as have room, and says how many.
+    /// Decodes octets until none is left or the room is full, and returns the number of decoded octets.
     ///
-    /// It is not inlined: its loop wants registers that a caller has in use.
+    /// It is not inlined: its loop needs registers that a caller uses.
     #[inline(never)]
     pub fn fill(&mut self, octets: &mut [u8]) -> usize
         ensures count { result ≡ min (length self.old) (length octets.old) }
@@ -134,9 +133,10 @@ impl<'a> HexWords<'a> {
     }
 }
 
-/// Decodes the pairs that the first word begins with, as many as have room, and says how many.
+/// Decodes the pairs that the first word begins with, as many as there is room for, and returns their number.
 ///
-/// It goes by an index, with one test of room and text: most texts are one word, and each octet counts.
+/// It uses an index, so that one test covers both the room and the text: most texts are one word, and the time
+/// per octet matters.
 fn pairs_into(text: &[u8], octets: &mut [u8]) -> usize
     ensures room { result ≤ length octets.new }
     ensures within { 2 * result ≤ length text.now }
@@ -158,7 +158,8 @@ fn pairs_into(text: &[u8], octets: &mut [u8]) -> usize
     count
 }
 
-/// Decodes the pair that a text begins with, and gives what is behind it. None where it begins with none.
+/// Decodes the pair that a text begins with, and returns the text after it, or None if the text does not begin
+/// with a pair.
 fn pair_into<'a>(text: &'a [u8], octet: &mut u8) -> Option<&'a [u8]>
     ensures octet { IfSome result (λ rest. spelt_behind None text.now ≡ octet.new ∷ spelt_behind None rest.now) }
     ensures words { IfSome result (λ rest. goes_on rest.now ≡ is_some (octets_of_words (words_of text.now))) }
@@ -174,7 +175,7 @@ fn pair_into<'a>(text: &'a [u8], octet: &mut u8) -> Option<&'a [u8]>
     Some(rest)
 }
 
-/// What is behind a pair may be there: nothing, more digits of its word, or a space and more words.
+/// Returns whether this text may follow a pair: nothing, more digits of its word, or a space and more words.
 fn goes_on_in_words(left: &[u8]) -> bool
     ensures { result ≡ goes_on left.now }
 {
@@ -185,8 +186,8 @@ fn goes_on_in_words(left: &[u8]) -> bool
     }
 }
 
-/// Each word of the text is one or more whole pairs of hex digits. A pair ends the text, or a word, or
-/// another one follows.
+/// Returns whether each word of the text is one or more whole pairs of hex digits. After a pair the text ends,
+/// its word ends, or another pair follows.
 fn are_hex_words(text: &[u8]) -> bool
     ensures { result ≡ is_some (octets_of_words (words_of text.now)) }
 {
@@ -212,14 +213,15 @@ fn is_pair(high: u8, low: u8) -> bool
     sum_of(high, low) < 256
 }
 
-/// The octet of two hex digits.
+/// Returns the octet of two hex digits.
 fn octet_of(high: u8, low: u8) -> u8
     ensures { result ≡ pair_octet high low }
 {
     (sum_of(high, low) % 256) as u8
 }
 
-/// The octet of two hex digits, and more than an octet where one is none: one test is enough for both.
+/// Returns the octet of two hex digits, or at least 256 if one of them is not a digit: one test is enough for
+/// both.
 fn sum_of(high: u8, low: u8) -> u32
     ensures octet { result % 256 ≡ pair_octet high low }
     ensures digits { nat_lt result 256 ≡ (is_digit_of_hex high && is_digit_of_hex low) }

@@ -1,7 +1,7 @@
 //! The texts that more than one crate reads or writes: numbers, hex words, events and answers.
 //!
-//! Nothing here takes memory: the words of a line are lent in place, and a [`Text`] has room for the
-//! longest.
+//! Nothing in this crate allocates memory: words are borrowed from their line, and a [`Text`] has room for the
+//! longest text.
 #![tactic(auto)]
 
 mod events;

@@ -8,8 +8,8 @@ ghost use Rattle.dp_text.specs.OpLines.{only_octet};
 
 use crate::words::Words;
 
-/// The number, 0 to the most, that a word is in plain decimal: digits without a sign, and no leading
-/// zero but 0 itself.
+/// Returns the number, 0 to `most`, that a word is in plain decimal: digits without a sign and without a
+/// leading zero, except 0 itself. Returns None for any other word.
 pub fn number_in(word: &[u8], most: u32) -> Option<u32>
     ensures number { result ≡ number_to most word.now }
     ensures bound { IfSome result (λ number. number ≤ most) }
@@ -21,7 +21,7 @@ pub fn number_in(word: &[u8], most: u32) -> Option<u32>
     }
 }
 
-/// The number from 0 to 255 that a word is in plain decimal.
+/// Returns the number from 0 to 255 that a word is in plain decimal, or None for any other word.
 pub fn octet_in(word: &[u8]) -> Option<u8>
     ensures { result ≡ octet_number word.now }
 {
@@ -31,7 +31,7 @@ pub fn octet_in(word: &[u8]) -> Option<u8>
     }
 }
 
-/// The number from 0 to 255 that is the only word in plain decimal.
+/// Returns the number from 0 to 255 that the only word is in plain decimal, or None for any other words.
 pub fn only_octet_in(words: &mut Words<'_>) -> Option<u8>
     ensures { result ≡ only_octet words.old }
 {
@@ -42,7 +42,7 @@ pub fn only_octet_in(words: &mut Words<'_>) -> Option<u8>
     }
 }
 
-/// The number, 0 to the most, that a word of digits writes.
+/// Returns the number, 0 to `most`, that a word of digits is, or None for any other word.
 fn digits_in(word: &[u8], most: u32) -> Option<u32>
     ensures number { result ≡ (if all_ascii_digits word.now && nat_le (digits_value 10 word.now) most then Some (digits_value 10 word.now) else None) }
     ensures bound { IfSome result (λ number. number ≤ most) }

@@ -15,9 +15,9 @@ use thiserror::Error;
 pub enum OpLine {
     /// The operator does something.
     Event(Op),
-    /// `owned M`: which slaves a master holds, by its address, 0 to 255.
+    /// `owned M`: lists the slaves that the master with this address, 0 to 255, holds.
     Owned(u8),
-    /// `show A`: the slave at this address, 0 to 255.
+    /// `show A`: shows the slave at this address, 0 to 255.
     Show(u8),
     /// `step`: the devices of the line set the inputs of their slaves.
     Step,
@@ -25,10 +25,10 @@ pub enum OpLine {
     Nothing,
 }
 
-/// What a line of an operator asks for, where what the operator does lies apart ([`op_line_into`]) (own).
+/// What a line of an operator asks for, if the operator's event is stored separately ([`op_line_into`]) (own).
 #[derive(Clone, Copy, Debug, PartialEq, Eq)]
 pub enum Asked {
-    /// The operator does what lies there.
+    /// The operator does what [`op_line_into`] has written.
     Event,
     /// `owned M`, as [`OpLine::Owned`].
     Owned(u8),
@@ -40,16 +40,16 @@ pub enum Asked {
     Nothing,
 }
 
-/// Why a line of an operator isn't read.
+/// The reason why a line of an operator is not read.
 #[derive(Clone, Copy, Debug, PartialEq, Eq, Error)]
 #[error("{}", self.name())]
 pub enum TextFault {
-    /// The line is no command (own).
+    /// The line is not a command (own).
     NotACommand,
 }
 
 impl TextFault {
-    /// The number of the fault (own).
+    /// Returns the number of the fault (own).
     pub const fn code(self) -> u8
         ensures { result ≡ text_fault_code self }
     {
@@ -58,7 +58,7 @@ impl TextFault {
         }
     }
 
-    /// Its name in texts (own).
+    /// Returns the name of the fault in texts (own).
     pub const fn name(self) -> &'static str
         ensures { result.now ≡ text_fault_name self }
     {
@@ -68,14 +68,15 @@ impl TextFault {
     }
 }
 
-/// What a line of an operator, without its LF, asks for: `in A HEX`, `diag A FLAGS HEX`,
-/// `busy A POINT on` or `off`, `tick N`, `halt`, `owned M`, `show A`, `step`, or nothing where it is
-/// empty or begins with `#`.
+/// Returns what a line of an operator, without its LF, asks for: `in A HEX`, `diag A FLAGS HEX`,
+/// `busy A POINT on` or `off`, `tick N`, `halt`, `owned M`, `show A`, `step`, or nothing if it is empty or
+/// begins with `#`.
 ///
-/// The words are parted by one space. A and M are 0 to 255, POINT that or `default`, and N 0 to
-/// 4,294,967,295 units of 10 ms, all in plain decimal. HEX is `-` or pairs of digits in either case, of
-/// at most 244 octets of inputs and 238 of a diagnosis. FLAGS are of `e` (ext), `s` (stat) and `o`
-/// (overflow) those that are set, in this order, or `-`. `NotACommand` exactly for any other line (own).
+/// One space separates two words. A and M are 0 to 255, POINT is 0 to 255 or `default`, and N is 0 to
+/// 4,294,967,295 units of 10 ms, all in plain decimal. HEX is `-` or pairs of hex digits in either case: at
+/// most 244 octets for inputs and 238 for a diagnosis. FLAGS are the letters of the flags that are set, `e`
+/// (ext), `s` (stat) and `o` (overflow) in this order, or `-` for none. Returns `NotACommand` for every other
+/// line (own).
 pub fn read_op(line: &str) -> Result<OpLine, TextFault>
     ensures { result ≡ ok_or (op_line_of line.now) TextFault.NotACommand }
 {
@@ -85,7 +86,7 @@ pub fn read_op(line: &str) -> Result<OpLine, TextFault>
     }
 }
 
-/// What the octets of a line ask for; None where they are no command.
+/// Returns what the octets of a line ask for, or None if they are not a command.
 pub fn op_line_in(line: &[u8]) -> Option<OpLine>
     ensures { result ≡ op_line_of line.now }
 {
@@ -99,8 +100,8 @@ pub fn op_line_in(line: &[u8]) -> Option<OpLine>
     }
 }
 
-/// Like [`op_line_in`], but writes what the operator does where an `Op` lies, which spares its copies. What lies there
-/// after any other line is left open.
+/// Reads a line as [`op_line_in`] does, but writes what the operator does to `op`, which avoids copies. After
+/// any other line the content of `op` is unspecified.
 pub fn op_line_into(line: &[u8], op: &mut Op) -> Option<Asked>
     ensures { option_map (line_asked op.new) result ≡ op_line_of line.now }
 {
@@ -111,7 +112,7 @@ pub fn op_line_into(line: &[u8], op: &mut Op) -> Option<Asked>
     }
 }
 
-/// The line by its first word.
+/// Reads a line by its first word.
 fn op_line_in_words(words: &mut Words<'_>, op: &mut Op) -> Option<Asked>
     ensures { option_map (line_asked op.new) result ≡ op_line_of_words words.old }
 {

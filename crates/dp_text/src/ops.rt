@@ -13,10 +13,10 @@ use arrayvec::ArrayVec;
 use dp_line::Op;
 use dp_telegram::MOST_OCTETS;
 
-/// What stands in octets until they are decoded.
+/// The content of octets before they are decoded.
 const BLANK: [u8; MOST_OCTETS] = [0; MOST_OCTETS];
 
-/// Which hex digits a text may have.
+/// The hex digits that a text may have.
 #[derive(Clone, Copy, Debug, PartialEq, Eq)]
 pub enum HexCase {
     /// Letters in lower case only, as in an audit text.
@@ -25,12 +25,13 @@ pub enum HexCase {
     Either,
 }
 
-/// What an operator does, by the first word of a line and the words behind it: `in A HEX`,
+/// Returns what an operator does, from the first word of a line and the words after it: `in A HEX`,
 /// `diag A FLAGS HEX`, `busy A POINT on` or `off`, `tick N` or `halt`.
 ///
-/// A is 0 to 255, POINT that or `default`, and N 0 to 4,294,967,295 units of 10 ms. HEX is `-` or pairs
-/// of digits, of at most 244 octets of inputs and 238 of a diagnosis. FLAGS are of `e` (ext), `s` (stat)
-/// and `o` (overflow) those that are set, in this order, or `-`. None for any other words.
+/// A is 0 to 255, POINT is 0 to 255 or `default`, and N is 0 to 4,294,967,295 units of 10 ms. HEX is `-` or
+/// pairs of hex digits: at most 244 octets for inputs and 238 for a diagnosis. FLAGS are the letters of the
+/// flags that are set, `e` (ext), `s` (stat) and `o` (overflow) in this order, or `-` for none. Returns None
+/// for any other words.
 pub fn op_in(case: HexCase, kind: &[u8], words: &mut Words<'_>) -> Option<Op>
     ensures { result ≡ op_of_words case (kind.now ∷ words.old) }
 {
@@ -39,8 +40,8 @@ pub fn op_in(case: HexCase, kind: &[u8], words: &mut Words<'_>) -> Option<Op>
     Some(op)
 }
 
-/// Writes what an operator does where an `Op` lies. One of the same kind gives its room, so that inputs and ticks, which
-/// come often, are not copied.
+/// Writes what an operator does to `op`, or returns None as [`op_in`] does. If `op` already has the same kind,
+/// its room is reused, so that inputs and ticks, which come often, are not copied.
 pub(crate) fn op_into(case: HexCase, kind: &[u8], words: &mut Words<'_>, op: &mut Op) -> Option<()>
     ensures { option_map (λ done. op.new) result ≡ op_of_words case (kind.now ∷ words.old) }
 {
@@ -62,7 +63,7 @@ pub(crate) fn op_into(case: HexCase, kind: &[u8], words: &mut Words<'_>, op: &mu
     None
 }
 
-/// The inputs of a slave's device.
+/// Reads the inputs of a slave's device: `A HEX`.
 fn input_into(case: HexCase, words: &mut Words<'_>, op: &mut Op) -> Option<()>
     ensures { option_map (λ done. op.new) result ≡ input_of case words.old }
 {
@@ -84,7 +85,7 @@ fn input_into(case: HexCase, words: &mut Words<'_>, op: &mut Op) -> Option<()>
     }
 }
 
-/// The inputs of a slave's device, where something else lies.
+/// Replaces an `op` of another kind with the inputs of a slave's device.
 fn input_anew(case: HexCase, address: u8, word: &[u8], op: &mut Op) -> Option<()>
     ensures { option_map (λ done. op.new) result
         ≡ option_map (λ items. Op.Input address (record { items = items })) (event_octets case 244 word.now) }
@@ -96,7 +97,7 @@ fn input_anew(case: HexCase, address: u8, word: &[u8], op: &mut Op) -> Option<()
     Some(())
 }
 
-/// A diagnosis.
+/// Reads a diagnosis: `A FLAGS HEX`.
 fn diag_into(case: HexCase, words: &mut Words<'_>, op: &mut Op) -> Option<()>
     ensures { option_map (λ done. op.new) result ≡ diag_of case words.old }
 {
@@ -118,7 +119,7 @@ fn diag_into(case: HexCase, words: &mut Words<'_>, op: &mut Op) -> Option<()>
     Some(())
 }
 
-/// A mark of a point.
+/// Reads whether a point is busy: `A POINT on` or `A POINT off`.
 fn busy_into(words: &mut Words<'_>, op: &mut Op) -> Option<()>
     ensures { option_map (λ done. op.new) result ≡ busy_of words.old }
 {
@@ -136,7 +137,7 @@ fn busy_into(words: &mut Words<'_>, op: &mut Op) -> Option<()>
     Some(())
 }
 
-/// Time, in units of 10 ms.
+/// Reads a time: `N`, in units of 10 ms.
 fn tick_into(words: &mut Words<'_>, op: &mut Op) -> Option<()>
     ensures { option_map (λ done. op.new) result ≡ tick_of words.old }
 {
@@ -152,7 +153,7 @@ fn tick_into(words: &mut Words<'_>, op: &mut Op) -> Option<()>
     Some(())
 }
 
-/// Time, where something else lies.
+/// Replaces an `op` of another kind with a time, in units of 10 ms.
 fn tick_anew(units: u32, op: &mut Op)
     ensures { op.new ≡ Op.Tick units }
 {
@@ -169,7 +170,7 @@ fn halt_into(words: &mut Words<'_>, op: &mut Op) -> Option<()>
     Some(())
 }
 
-/// The flags of a diagnosis: ext, stat and overflow.
+/// Returns the flags of a diagnosis (ext, stat and overflow), or None for any other word.
 fn flags_in(word: &[u8]) -> Option<(bool, bool, bool)>
     ensures { result ≡ flags_of word.now }
 {
@@ -212,7 +213,7 @@ fn on_or_off_in(word: &[u8]) -> Option<bool>
     None
 }
 
-/// A point: None is the default one.
+/// Returns a point, or None for any other word. `Some(None)` is the default point.
 fn point_in(word: &[u8]) -> Option<Option<u8>>
     ensures { result ≡ point_of word.now }
 {
@@ -222,7 +223,8 @@ fn point_in(word: &[u8]) -> Option<Option<u8>>
     Some(Some(octet_in(word)?))
 }
 
-/// The octets of a word as texts have them: `-` for none, else pairs of digits in this case.
+/// Returns the octets of a word as texts write them: `-` for none, else pairs of hex digits in this case, at
+/// most `MOST` octets. Returns None for any other word.
 pub(crate) fn event_octets_in<const MOST: usize>(
     case: HexCase,
     word: &[u8],
@@ -235,7 +237,7 @@ pub(crate) fn event_octets_in<const MOST: usize>(
     Some(octets)
 }
 
-/// Writes the octets of a word as texts have them where octets lie.
+/// Replaces `octets` with the octets of a word, as [`event_octets_in`] reads them.
 fn event_octets_into<const MOST: usize>(
     case: HexCase,
     word: &[u8],
@@ -254,7 +256,8 @@ fn event_octets_into<const MOST: usize>(
     octets_into(word, octets)
 }
 
-/// The octets of a word of whole pairs of hex digits, in either case, at least one.
+/// Returns the octets of a word of whole pairs of hex digits in either case, 1 to `MOST` octets, or None for
+/// any other word.
 pub(crate) fn octets_of<const MOST: usize>(word: &[u8]) -> Option<ArrayVec<u8, MOST>>
     requires { MOST ≤ MOST_OCTETS }
     ensures { option_map (λ octets. octets.items) result ≡ octets_up_to MOST word.now }
@@ -264,7 +267,7 @@ pub(crate) fn octets_of<const MOST: usize>(word: &[u8]) -> Option<ArrayVec<u8, M
     Some(octets)
 }
 
-/// Writes the octets of a word of whole pairs of hex digits, in either case, at least one, where no octet lies.
+/// Writes the octets of a word to the empty `octets`, as [`octets_of`] reads them.
 fn octets_into<const MOST: usize>(word: &[u8], octets: &mut ArrayVec<u8, MOST>) -> Option<()>
     requires most { MOST ≤ MOST_OCTETS }
     requires empty { octets.old.items ≡ [] }
@@ -285,7 +288,7 @@ fn octets_into<const MOST: usize>(word: &[u8], octets: &mut ArrayVec<u8, MOST>) 
     }
 }
 
-/// Decodes a word into room for as many octets as it has pairs, where it is hex digits.
+/// Decodes a word into one octet for each of its pairs, and returns whether it is whole pairs of hex digits.
 #[tactic(auto, using(crate::proofs::HexSpellings::in_its_room))]
 fn decodes(word: &[u8], octets: &mut [u8]) -> bool
     requires { length octets.old ≡ length word.now / 2 }
@@ -294,7 +297,7 @@ fn decodes(word: &[u8], octets: &mut [u8]) -> bool
     hex::decode_to_slice(word, octets).is_ok()
 }
 
-/// The word has letters of a case that isn't taken.
+/// Returns whether the word has letters of a case that is not accepted.
 fn is_in_other_case(case: HexCase, word: &[u8]) -> bool
     ensures { result ≡ has_other_case case word.now }
 {

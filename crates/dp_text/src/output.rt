@@ -1,4 +1,4 @@
-//! Writing a text whole.
+//! Writing a whole text.
 
 ghost use Rattle.std.specs.Prelude.{◌≡◌, OnOk, OnErr};
 ghost use Rattle.std.specs.Io.KnownBytes.{Appends};
@@ -7,13 +7,13 @@ ghost use Rattle.dp_text.specs.Writes.{WritesPrefix, write_fault_code};
 use std::io::{ErrorKind, Write};
 use thiserror::Error;
 
-/// A write failed, or took no octet. A prefix of the text may be out.
+/// The fault of a write that failed or accepted no byte. A prefix of the text may have been written.
 #[derive(Clone, Copy, Debug, PartialEq, Eq, Error)]
 #[error("cannot write")]
 pub struct WriteFault;
 
 impl WriteFault {
-    /// The number of the fault, 1 (own).
+    /// Returns the number of the fault, 1 (own).
     pub const fn code(self) -> u8
         ensures { result ≡ write_fault_code }
     {
@@ -21,7 +21,8 @@ impl WriteFault {
     }
 }
 
-/// Writes all of the octets, or a prefix of them where a write fails or takes no octet.
+/// Writes all of the bytes, or returns `WriteFault` if a write fails or accepts no byte. A prefix of the bytes
+/// is then written. An interrupted write is repeated.
 pub fn write_whole<W: Write>(writer: &mut W, bytes: &[u8]) -> Result<(), WriteFault>
     ensures ok { OnOk result (Appends (W.contents writer.old) (W.contents writer.new) bytes.now) }
     ensures err { OnErr result (WritesPrefix (W.contents writer.old) (W.contents writer.new) bytes.now) }

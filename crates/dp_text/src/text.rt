@@ -1,4 +1,4 @@
-//! A text of bounded length that takes no memory.
+//! A text of bounded length that allocates no memory.
 
 ghost use Rattle.std.specs.Prelude.{◌≡◌, ◌+◌, ◌*◌, ◌≤◌, ◌<◌, ℕ, List, [], ◌∷◌, ◌++◌, length, take};
 ghost use Rattle.std.specs.Fmt.{decimal};
@@ -6,14 +6,14 @@ ghost use Rattle.hex.specs.Hex.{encode_lower};
 
 use std::marker::Model;
 
-/// The most octets of a text.
+/// The maximum number of octets in a text.
 ///
-/// The longest that contracts allow is the journal's line
-/// `4294967295 req 255 HEX | DataExch 255 | spread 255:ForeignSender ..` with 510 digits for HEX and 64
-/// pairs of 18 octets: 1,706 with its LF.
+/// The longest text that contracts allow is the journal line
+/// `4294967295 req 255 HEX | DataExch 255 | spread 255:ForeignSender ..`. With 510 digits for HEX and 64 pairs
+/// of 18 octets it has 1,706 octets, its LF included.
 pub const LONGEST: usize = 1_800;
 
-/// A text, of which contracts see the octets. It is made once, and cleared where another begins.
+/// A text of bounded length. Contracts see its octets. It is made once, and cleared before another text begins.
 #[derive(Drop)]
 pub struct Text {
     octets: [u8; LONGEST],
@@ -32,7 +32,7 @@ impl Model for Text {
 }
 
 impl Text {
-    /// The empty text.
+    /// Returns the empty text.
     pub fn new() -> Text
         ensures { result ≡ [] }
     {
@@ -42,21 +42,21 @@ impl Text {
         }
     }
 
-    /// Makes it the empty text.
+    /// Clears the text.
     pub fn clear(&mut self)
         ensures { self.new ≡ [] }
     {
         self.length = 0;
     }
 
-    /// Its octets.
+    /// Returns the octets of the text.
     pub fn as_bytes(&self) -> &[u8]
         ensures { result.now ≡ self.now }
     {
         &self.octets[..self.length]
     }
 
-    /// Puts an octet behind it.
+    /// Appends an octet.
     pub fn push(&mut self, octet: u8)
         requires { length self.old < LONGEST }
         ensures text { self.new ≡ self.old ++ octet ∷ [] }
@@ -66,7 +66,7 @@ impl Text {
         self.length += 1;
     }
 
-    /// Puts a text behind it.
+    /// Appends a text.
     pub fn push_str(&mut self, text: &str)
         requires { length self.old + length text.now ≤ LONGEST }
         ensures text { self.new ≡ self.old ++ text.now }
@@ -77,7 +77,7 @@ impl Text {
         self.length = end;
     }
 
-    /// Puts octets behind it, as pairs of hex digits in lower case.
+    /// Appends octets as pairs of hex digits in lower case.
     #[tactic(auto, using(crate::proofs::Lengths::hex_length))]
     pub fn push_hex(&mut self, octets: &[u8])
         requires { length self.old + 2 * length octets.now ≤ LONGEST }
@@ -89,7 +89,7 @@ impl Text {
         self.length = end;
     }
 
-    /// Puts a number behind it, in plain decimal.
+    /// Appends a 32-bit number in plain decimal.
     #[tactic(auto, using(crate::proofs::Decimals::are_short))]
     pub fn push_number(&mut self, number: u32)
         requires { length self.old + 10 ≤ LONGEST }
@@ -99,7 +99,7 @@ impl Text {
         self.push_decimal(u64::from(number));
     }
 
-    /// Puts a number from 0 to 255 behind it, in plain decimal.
+    /// Appends a number from 0 to 255 in plain decimal.
     #[tactic(auto, using(crate::proofs::Decimals::are_short))]
     pub fn push_octet(&mut self, number: u8)
         requires { length self.old + 3 ≤ LONGEST }
@@ -109,7 +109,7 @@ impl Text {
         self.push_decimal(u64::from(number));
     }
 
-    /// Puts a long number behind it, in plain decimal.
+    /// Appends a 64-bit number in plain decimal.
     #[tactic(auto, using(crate::proofs::Decimals::are_short))]
     pub fn push_long(&mut self, number: u64)
         requires { length self.old + 20 ≤ LONGEST }

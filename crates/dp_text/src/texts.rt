@@ -12,7 +12,7 @@ use dp_line::{Event, Facts, Op, OperatorFault, Outcome, Rule, SlaveView};
 use dp_telegram::FrameFault;
 
 impl Text {
-    /// Makes it the line that answers a master: `M: OUTCOME`, with its LF.
+    /// Sets the text to the line that answers a master: `M: OUTCOME`, with its LF.
     #[tactic(auto, using(crate::proofs::Lengths::lengths))]
     pub fn set_answer(&mut self, master: u8, outcome: &Outcome)
         ensures { self.new ≡ answer_text master outcome.now }
@@ -24,7 +24,7 @@ impl Text {
         self.push_str("\n");
     }
 
-    /// Makes it the line that answers an operator: `OUTCOME`, with its LF.
+    /// Sets the text to the line that answers an operator: `OUTCOME`, with its LF.
     #[tactic(auto, using(crate::proofs::Lengths::lengths))]
     pub fn set_outcome(&mut self, outcome: &Outcome)
         ensures { self.new ≡ outcome_line outcome.now }
@@ -34,8 +34,8 @@ impl Text {
         self.push_str("\n");
     }
 
-    /// Makes it the line that tells a master what of its stream was dropped: `M: dropped FAULT COUNT`,
-    /// with its LF.
+    /// Sets the text to the line that reports to a master what was dropped from its stream:
+    /// `M: dropped FAULT COUNT`, with its LF.
     #[tactic(auto, using(crate::proofs::Lengths::lengths))]
     pub fn set_dropped(&mut self, master: u8, fault: FrameFault, count: u8)
         ensures { self.new ≡ dropped_text master fault count }
@@ -49,7 +49,7 @@ impl Text {
         self.push_str("\n");
     }
 
-    /// Makes it the line that tells the slaves of a master: `owned` with ` A` for each, and its LF.
+    /// Sets the text to the line that lists the slaves of a master: `owned` with ` A` for each, and its LF.
     #[tactic(auto, using(crate::proofs::Lengths::lengths))]
     pub fn set_owned(&mut self, addresses: &[u8])
         requires { length addresses.now ≤ 64 }
@@ -61,7 +61,7 @@ impl Text {
         self.push_str("\n");
     }
 
-    /// Makes it the line that tells how many inputs of devices were recorded: `stepped N`, with its LF.
+    /// Sets the text to the line that reports the number of device inputs recorded: `stepped N`, with its LF.
     #[tactic(auto, using(crate::proofs::Lengths::lengths))]
     pub fn set_stepped(&mut self, recorded: u8)
         ensures { self.new ≡ stepped_text recorded }
@@ -72,8 +72,8 @@ impl Text {
         self.push_str("\n");
     }
 
-    /// Makes it the line that shows a slave, `show A STATE HOLDER in HEX out HEX wd N`, or for an address
-    /// that no slave has `refused NoStation`, with its LF.
+    /// Sets the text to the line that shows a slave, `show A STATE HOLDER in HEX out HEX wd N`, or to
+    /// `refused NoStation` for an address that no slave has, with its LF.
     #[tactic(auto, using(crate::proofs::Lengths::lengths))]
     pub fn set_show(&mut self, slave: &Option<SlaveView>)
         ensures { self.new ≡ show_text slave.now }
@@ -85,8 +85,8 @@ impl Text {
         }
     }
 
-    /// Puts an outcome behind it: `reply HEX RULE`, `silence RULE`, `spread` with ` A:RULE` for each slave
-    /// of the sender, `released` with ` A` for each slave let go, `done` or `refused FAULT`.
+    /// Appends an outcome: `reply HEX RULE`, `silence RULE`, `spread` with ` A:RULE` for each slave of the
+    /// sender, `released` with ` A` for each released slave, `done` or `refused FAULT`.
     pub fn push_outcome(&mut self, outcome: &Outcome)
         requires { length self.old + 1_158 ≤ LONGEST }
         ensures text { self.new ≡ self.old ++ outcome_text outcome.now }
@@ -136,7 +136,7 @@ impl Text {
         self.push_pairs(pairs);
     }
 
-    /// Puts addresses with their rules behind it, each pair behind a space.
+    /// Appends addresses with their rules, each pair after a space.
     #[tactic(auto, using(crate::proofs::Lengths::lengths))]
     fn push_pairs(&mut self, pairs: &[(u8, Rule)])
         requires { length self.old + 18 * length pairs.now ≤ LONGEST }
@@ -150,7 +150,7 @@ impl Text {
         }
     }
 
-    /// Puts an address and the rule of its slave behind it.
+    /// Appends an address and the rule of its slave, after a space.
     #[tactic(auto, using(crate::proofs::Lengths::lengths))]
     fn push_pair(&mut self, pair: (u8, Rule))
         requires { length self.old + 18 ≤ LONGEST }
@@ -184,7 +184,7 @@ impl Text {
         self.push_str(fault.name());
     }
 
-    /// Puts the facts of an event behind it: `none`, or the state of the slave and then its holder.
+    /// Appends the facts of an event: `none`, or the state of the slave and then its holder.
     #[tactic(auto, using(crate::proofs::Lengths::lengths))]
     pub fn push_facts(&mut self, facts: &Facts)
         requires { length self.old + 13 ≤ LONGEST }
@@ -213,8 +213,8 @@ impl Text {
         }
     }
 
-    /// Puts an event behind it: `req M HEX`, `in A HEX`, `diag A FLAGS HEX`, `busy A POINT on` or `off`,
-    /// `tick N` in units of 10 ms, or `halt`.
+    /// Appends an event: `req M HEX`, `in A HEX`, `diag A FLAGS HEX`, `busy A POINT on` or `off`, `tick N` in
+    /// units of 10 ms, or `halt`.
     pub fn push_event(&mut self, event: &Event)
         requires { length self.old + 518 ≤ LONGEST }
         ensures text { self.new ≡ self.old ++ event_text event.now }
@@ -249,7 +249,7 @@ impl Text {
         }
     }
 
-    /// Puts the kind of an event with its space, an address and octets behind it.
+    /// Appends the kind of an event with its space, an address and octets.
     #[tactic(auto, using(crate::proofs::Lengths::lengths))]
     fn push_data(&mut self, kind: &str, address: u8, octets: &[u8])
         requires kind { length kind.now ≤ 4 }
@@ -264,7 +264,7 @@ impl Text {
         self.push_octets(octets);
     }
 
-    /// Puts a diagnosis without its octets behind it.
+    /// Appends a diagnosis without its octets.
     #[tactic(auto, using(crate::proofs::Lengths::lengths))]
     fn push_diag(&mut self, address: u8, ext: bool, stat: bool, overflow: bool)
         requires { length self.old + 13 ≤ LONGEST }
@@ -293,7 +293,7 @@ impl Text {
         }
     }
 
-    /// Puts a letter behind it where its flag is set.
+    /// Appends a letter if its flag is set.
     #[tactic(auto, using(crate::proofs::Lengths::lengths))]
     fn push_letter(&mut self, set: bool, letter: &str)
         requires letter { length letter.now ≤ 1 }
@@ -353,7 +353,7 @@ impl Text {
         }
     }
 
-    /// Puts addresses behind it, each behind a space.
+    /// Appends addresses, each after a space.
     #[tactic(auto, using(crate::proofs::Lengths::lengths))]
     fn push_addresses(&mut self, addresses: &[u8])
         requires { length self.old + 4 * length addresses.now ≤ LONGEST }

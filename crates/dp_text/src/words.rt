@@ -1,4 +1,4 @@
-//! The lines of a text and the words of a line, lent where they lie.
+//! The lines of a text and the words of a line, borrowed and not copied.
 
 ghost use Rattle.std.specs.Prelude.{◌≡◌, ◌<◌, ◌==◌, [], ◌∷◌, length, position, MatchOption, IfSome};
 ghost use Rattle.std.specs.List.{slice_split};
@@ -7,10 +7,10 @@ ghost use Rattle.dp_text.specs.Words.{lines_of, words_of, same_text, parts_left}
 use memchr::memchr;
 use std::marker::Model;
 
-/// What ends a line.
+/// The octet that ends a line.
 const LF: u8 = 10;
 
-/// What parts the words of a line.
+/// The octet that separates the words of a line.
 pub(crate) const SPACE: u8 = 32;
 
 /// The lines of a text, one after another. Contracts see those that are left.
@@ -29,14 +29,14 @@ impl<'a> Model for Lines<'a> {
 }
 
 impl<'a> Lines<'a> {
-    /// The lines of a text, which end in LF; what follows the last LF is a line too.
+    /// Returns the lines of a text. Lines end in LF; what follows the last LF is a line too.
     pub fn new(text: &'a [u8]) -> Lines<'a>
         ensures { result ≡ lines_of text.now }
     {
         Lines { rest: Some(text) }
     }
 
-    /// The next line, without its LF.
+    /// Returns the next line without its LF, or None if no line is left.
     pub fn next(&mut self) -> Option<&'a [u8]>
         ensures { MatchOption result ((self.old ≡ []) × (self.new ≡ [])) (λ line. self.old ≡ line.now ∷ self.new) }
     {
@@ -63,14 +63,14 @@ impl<'a> Model for Words<'a> {
 }
 
 impl<'a> Words<'a> {
-    /// The words of a line, which one space each parts.
+    /// Returns the words of a line. One space separates two words.
     pub fn new(line: &'a [u8]) -> Words<'a>
         ensures { result ≡ words_of line.now }
     {
         Words { rest: Some(line) }
     }
 
-    /// The next word.
+    /// Returns the next word, or None if no word is left.
     pub fn next(&mut self) -> Option<&'a [u8]>
         ensures { MatchOption result ((self.old ≡ []) × (self.new ≡ [])) (λ word. self.old ≡ word.now ∷ self.new) }
     {
@@ -80,7 +80,7 @@ impl<'a> Words<'a> {
         Some(word)
     }
 
-    /// The text of the words that are left, if any is.
+    /// Returns the text of the words that are left, or None if no word is left.
     pub fn rest(&self) -> Option<&'a [u8]>
         ensures { self.now ≡ parts_left words_of result }
     {
@@ -88,7 +88,7 @@ impl<'a> Words<'a> {
     }
 }
 
-/// The first line of a text, and the text behind its LF, where there is one.
+/// Returns the first line of a text, and the text after its LF, if it has an LF.
 ///
 /// A line is long, so it is searched many octets at once; a word is short.
 fn first_line(text: &[u8]) -> (&[u8], Option<&[u8]>)
@@ -100,7 +100,7 @@ fn first_line(text: &[u8]) -> (&[u8], Option<&[u8]>)
     }
 }
 
-/// The text before the first octet of this value, and the text behind it, where there is one.
+/// Returns the text before the first octet of this value, and the text after that octet, if there is one.
 fn first_part(text: &[u8], separator: u8) -> (&[u8], Option<&[u8]>)
     ensures { slice_split (λ octet. octet == separator) text.now
         ≡ result.0.now ∷ parts_left (slice_split (λ octet. octet == separator)) result.1 }
@@ -111,7 +111,7 @@ fn first_part(text: &[u8], separator: u8) -> (&[u8], Option<&[u8]>)
     }
 }
 
-/// Where the first octet of this value stands.
+/// Returns the index of the first octet of this value.
 fn index_of(text: &[u8], value: u8) -> Option<usize>
     ensures index { result ≡ position (λ octet. octet == value) text.now }
     ensures bound { IfSome result (λ index. index < length text.now) }
@@ -119,7 +119,7 @@ fn index_of(text: &[u8], value: u8) -> Option<usize>
     text.iter().position(|octet| *octet == value)
 }
 
-/// The word is this text.
+/// Returns whether the word is this text.
 pub fn is_text(word: &[u8], text: &[u8]) -> bool
     ensures { result ≡ same_text word.now text.now }
 {
