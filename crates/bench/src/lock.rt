@@ -3,7 +3,7 @@
 ghost use Rattle.std.specs.Prelude.{◌≡◌};
 ghost use Rattle.dp_shared.specs.Passes.{table_of};
 
-use crate::line::slave;
+use crate::described::slave;
 use arrayvec::ArrayVec;
 use dp_audit::{Book, Receipt};
 use dp_line::{Event, LineSpec, OpenFault, Outcome};

@@ -4,7 +4,7 @@
 ghost use Rattle.std.specs.Prelude.{◌≡◌};
 
 use crate::ROUNDS;
-use crate::line::slave;
+use crate::described::slave;
 use crate::sockets::{Bare, Connection, Recorded, Served, ask_all, connect};
 use arrayvec::ArrayVec;
 use dp_line::{LineSpec, OpenFault};

@@ -2,7 +2,6 @@
 
 ghost use Rattle.dp_sessions.specs.Pools.{IsSeatAt};
 
-use crate::cutter::SLAVE_DIAG;
 use dp_sessions::{OpenGate, Port, serve};
 use dp_shared::WorkerSeat;
 use dp_trail::{Tail, Trail, Trailed};
@@ -19,6 +18,11 @@ const MASTER: [u8; 1] = [1];
 
 /// The octet that accepts the master.
 const ACCEPTANCE: [u8; 1] = [0xE5];
+
+/// A Slave_Diag request of master 1 to slave 5.
+const SLAVE_DIAG: [u8; 11] = [
+    0x68, 0x05, 0x05, 0x68, 0x85, 0x81, 0x6D, 0x3C, 0x3E, 0xED, 0x16,
+];
 
 /// The reply to Slave_Diag of a slave that nobody holds.
 const DIAGNOSIS: [u8; 17] = [
