@@ -32,6 +32,8 @@ REQUESTS = 4000
 STOPS, STOPPED = 30, 0.02
 # Seconds after which the program has seen what a client did, also on a machine that is busy.
 SETTLED = 1
+# The octets of noise, each sent alone.
+NOISE = 300
 # The words by which requests of the web begin.
 WEB = ("GET", "HEAD", "POST", "PUT", "DELETE", "CONNECT", "OPTIONS", "TRACE", "PATCH")
 # The flag of a network that is up, and the calls that get and set flags.
@@ -338,9 +340,61 @@ def exchange_at(path, number):
     time.sleep(0.2)
 
 
+# ---- octets that are no frame
+
+
+def dropped_octets_are_reported(trial):
+    """What a session drops with no frame between is one row, with the first octets and the reason."""
+    rack = trial.rack(1)
+    status = bytes.fromhex("100501494f16")
+    with trial.serve(rack, "--log") as server:
+        master = Master(rack.masters[1], 1)
+        for noise in "3368050468", "100501494e16", "100501494f17", "33" * 20, "33100501494e16":
+            master.send(bytes.fromhex(noise) + status)
+            expect("the reply", bytes.fromhex("100105000616"), master.answer())
+        # the first octet of a frame that never comes is not dropped
+        master.send(bytes.fromhex("3368"))
+        time.sleep(SETTLED)
+        master.hang_up()
+        time.sleep(SETTLED)
+        server.process.terminate()
+        rows = [row.split("line 1 master 1: ")[1] for row in errors_of(server).splitlines() if "dropped" in row]
+    expect("the rows", [
+        "dropped 5 octets: NoStart, BadHead (33 68 05 04 68)",
+        "dropped 6 octets: BadEnd (10 05 01 49 4e 16), the check sequence is 4e, not 4f",
+        "dropped 6 octets: BadEnd (10 05 01 49 4f 17), the end delimiter is 17, not 16",
+        "dropped 20 octets: NoStart (33 33 33 33 33 33 33 33 33 33 33 33 33 33 33 33 ..)",
+        "dropped 7 octets: NoStart, BadEnd (33 10 05 01 49 4e 16), the check sequence is 4e, not 4f",
+        "dropped 1 octet: NoStart (33)",
+    ], rows)
+
+
+def dropped_octets_are_summed_up(trial):
+    """A session has at most ten rows of dropped octets in a second, and no octet is left out."""
+    rack = trial.rack(1)
+    with trial.serve(rack, "--log") as server:
+        master = Master(rack.masters[1], 1)
+        began = time.time()
+        for _ in range(NOISE):
+            master.send(b"\x33")
+            time.sleep(0.002)
+        took = time.time() - began
+        time.sleep(SETTLED)
+        master.hang_up()
+        time.sleep(SETTLED)
+        server.process.terminate()
+        rows = [row for row in errors_of(server).splitlines() if "dropped" in row]
+    found = [re.search(r"dropped (\d+) octets?(?: in (\d+) runs)?: NoStart \((?:33 ?)+(?:\.\.)?\)$", row) for row in rows]
+    hold(f"the rows: {rows[:3]}", all(found))
+    expect("all octets", NOISE, sum(int(row.group(1)) for row in found))
+    hold(f"{len(rows)} rows in {took} s", 10 <= len(rows) <= 10 * (int(took) + 2) + 1)
+    hold("the rest is summed up", any(row.group(2) for row in found))
+
+
 CASES = (error_output_is_not_read, lost_rows_are_counted, stopped_server_goes_on, stopped_operator_goes_on,
          web_requests_are_closed, control_characters_are_escaped, answers_are_printable, nobody_listens_but_itself,
-         leaves_with_a_reply_unread, busy_workers_are_reported, bridge_opens_again)
+         leaves_with_a_reply_unread, busy_workers_are_reported, bridge_opens_again, dropped_octets_are_reported,
+         dropped_octets_are_summed_up)
 
 
 def main(words):

@@ -573,7 +573,7 @@ for words in --log '--log requests'; do
   tells 1 'INFO line 1: master 9 refused: UnknownMaster'
   tells 1 'WARN line 1: a connection waits, all 2 workers are busy'
   tells 2 'INFO line 1: no address came: EndOfInput'
-  tells 1 'INFO line 1 master 1: dropped NoStart 1'
+  tells 1 'INFO line 1 master 1: dropped 1 octet: NoStart (01)'
   tells 1 'INFO line 1: master 1 ended: EndOfInput, 2 requests, 1 refused'
   tells 5 'INFO line 1: operator connected'
   tells 5 'INFO line 1: operator ended: EndOfInput'
