@@ -11,6 +11,8 @@ use crate::identifier::{Lengths, first_identifier};
 
 /// The greatest number of octets of inputs, of outputs and of a configuration (IEC 61158-6-3, data
 /// unit).
+///
+/// dp_cfg, dp_prm and dp_sap each define this limit, because none of them uses another.
 pub const MOST_OCTETS: usize = 244;
 
 const MOST: u32 = MOST_OCTETS as u32;

@@ -3,6 +3,9 @@
 //! For the octets of a request, [`Kind`] shows the frame and its function, [`Addressed`] the receiver, and [`Contents`]
 //! the data. [`Reply`] shows the data of a reply. The parts of these texts, such as [`Hex`], are public for other texts
 //! about telegrams. Contracts see the text that each of them displays. Nothing here allocates memory.
+//!
+//! It is a crate of its own, so that these words can be used without a line, and so that the gate proves it beside
+//! dp_line.
 #![tactic(auto)]
 
 mod addressing;

@@ -51,6 +51,9 @@ impl DrivenSlave {
 
 /// Returns the slaves of a line that devices drive, in ascending order of address: those whose device isn't still, with
 /// or without inputs.
+///
+/// Devices are part of the description, so this is called once, when a line of a script or a session of an operator
+/// begins.
 pub fn driven_slaves(line: &LineSpec) -> ArrayVec<DrivenSlave, MOST_DRIVEN>
     ensures { result.items ≡ all_driven line.now.slaves.items }
 {

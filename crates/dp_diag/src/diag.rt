@@ -41,6 +41,9 @@ impl Diag {
     /// Stores a report of the application: Ext_Diag, Stat_Diag, Ext_Diag_Overflow and the extended
     /// octets (IEC 61158-6-3, Slave_Diag response). The diagnosis is unread then, and the three
     /// faults stay (own).
+    ///
+    /// A report is passed as three flags and octets, here and by its callers: a record would be
+    /// built and taken apart again at each of three calls.
     pub fn update(
         &mut self,
         ext: bool,

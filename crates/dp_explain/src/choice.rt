@@ -26,6 +26,9 @@ pub struct Choice {
 }
 
 /// Returns whether the choice includes the entry.
+///
+/// A refusal is decided by the rule. So a wrong Set_Prm or Chk_Cfg, which is Done, is left out: the slave took it and
+/// was released.
 pub(crate) fn is_chosen(choice: &Choice, place: u64, event: &Event, outcome: &Outcome) -> bool
     ensures { result ≡ is_chosen choice.now place event.now outcome.now }
 {

@@ -1,4 +1,11 @@
 //! The explanation of an audit text.
+//!
+//! The text is checked first and explained afterwards, so the explanation of a text that isn't legal stops where the
+//! check does. The program reads the text whole, as a check does, because several passes go over it, and a file may
+//! change between two readings. The holds of each slave are a pass of their own, so that no list grows with the text.
+//!
+//! The summary is always of the whole text, whatever is chosen: someone who asks for the entries of one slave sees
+//! its holds there.
 
 ghost use Rattle.std.specs.Prelude.{◌≡◌, ◌++◌, None, take, drop};
 ghost use Rattle.std.specs.List.{flat_map};

@@ -19,6 +19,8 @@ const WAY_COLUMNS: usize = 14;
 const COUNT_COLUMNS: usize = 8;
 
 /// The number of requests of one sender that were answered in one way.
+///
+/// Senders that are no master of the line are counted together, because they may have any of 256 addresses.
 #[derive(Drop)]
 pub(crate) struct Counted {
     /// A master of the line, 0 to 126; None stands for all other senders.

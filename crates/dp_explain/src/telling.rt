@@ -1,4 +1,7 @@
 //! Writes the entries of an audit text, one after another.
+//!
+//! Each event is taken by two lines, one after the other, because its sentences are about the state before and after
+//! it.
 
 ghost use Rattle.std.specs.Prelude.{◌≡◌, ◌+◌, if◌then◌else◌, [], take, None, Some, IfSome, OnOk, MatchResult};
 ghost use Rattle.dp_text.specs.Words.{lines_of};

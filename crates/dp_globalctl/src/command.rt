@@ -1,4 +1,8 @@
 //! Reads and executes a Global_Control.
+//!
+//! The octets of Global_Control have one definition, `control_of` of dp_slave, to which
+//! `command_of` adds the group, and one reader, which texts use too. [`Command`] is another record
+//! than that of the act in dp_slave, because a slave knows no groups.
 
 ghost use Rattle.std.specs.Prelude.{◌≡◌, ◌<◌, length};
 ghost use Rattle.dp_telegram.specs.FunctionCode.{is_set as is_set_of};
@@ -66,6 +70,10 @@ impl Command {
 
     /// Executes the command on a slave in Data_Exch, in this order (own): Clear_Data; Unsync, or
     /// else Sync; Unfreeze, or else Freeze. A running watchdog is set to its full time.
+    ///
+    /// There is no must-fail edit that does Clear_Data after Unsync or Sync, because no contract
+    /// can refuse that body: Clear_Data sets outputs and latest data to zero, and Unsync and Sync
+    /// copy one to the other. A body that leaves out Clear_Data beside Sync is refused.
     #[tactic(auto, unfolding(dp_slave::specs::Fields::acted))]
     pub fn apply(&self, slave: &mut Slave)
         ensures { slave.new ≡ with_slave slave.old (acted slave.old.slave (is_controlled (control_in self.now))) }

@@ -152,6 +152,7 @@ impl<'a, L: Log + Clock> Notes<'a, L> {
 
     /// Reports once that a line is halted, with the cause. While a halt of its operator is not answered yet, only the answer
     /// to that halt shows the cause: a master that is answered `Halted` meanwhile may have come after the operator's halt.
+    /// That is exact for one operator at a time, which is what `serve` has.
     fn tell_halt<W: Wait>(&self, rt: &W, line: u8, is_halt: bool, outcome: &Outcome) {
         let Some(cause) = cause_of_halt(is_halt, outcome) else {
             return;

@@ -1,4 +1,6 @@
 //! The time of day.
+//!
+//! It is UTC, because the host has no time zones.
 
 use std::fmt;
 use std::time::Clock;

@@ -31,6 +31,9 @@ fn asks(op_line: &OpLine) -> bool
 
 /// Returns whether the answer to a command that the clock sent, without its LF, is new: it doesn't only say that no
 /// slave was released or that inputs were recorded, and it differs from the answer before.
+///
+/// A repeated answer isn't news even if it shows a release: then the same slave was released by two ticks in a row,
+/// and the log of its master or the audit text shows how often.
 pub fn is_news(answer: &[u8], before: &[u8]) -> bool
     ensures { result ≡ is_news_behind answer.now before.now }
 {

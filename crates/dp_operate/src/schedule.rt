@@ -1,4 +1,8 @@
 //! The commands that the clock sends.
+//!
+//! Ticks and steps are due at multiples of their milliseconds, so a late one delays none after it. A tick sends the
+//! time that has passed, less what was sent before. Steps that were missed aren't made up for: a device that is late
+//! updates its inputs once.
 
 ghost use Rattle.std.specs.Prelude.{◌≡◌, Some, option_map};
 ghost use Rattle.dp_operate.specs.Moments.{due_at, due_text, first_schedule, schedule_after, schedule_units_at, ticks_after, wait_for_both};

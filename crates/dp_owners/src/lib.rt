@@ -6,6 +6,9 @@
 //! and a [`Cursor`] walks along one. `IsThreaded` in `specs/Threaded` defines when lists are
 //! threaded. The contracts hold for all lists that are threaded so, and [`laws`] shows that each
 //! master has only one such list.
+//!
+//! The contracts don't name a function that computes the list, because that would put the walk over
+//! the links into the proofs of each client.
 #![tactic(auto)]
 
 mod cursor;

@@ -148,6 +148,9 @@ impl Owners {
     }
 
     /// Returns the master in whose list the record is; `None` if it is in no list.
+    ///
+    /// A client, which can't see the lists, checks the preconditions of [`Owners::append`] and
+    /// [`Owners::unlink`] by this call.
     pub fn owner_of<T: Linked>(&self, records: &[T], at: usize) -> Option<usize>
         requires threaded { HasLists self.now (map T.links_of records.now) }
         requires few { length records.now ≤ MOST_RECORDS }

@@ -9,6 +9,9 @@ use crate::limits::Limits;
 use crate::prm::PrmVerdict;
 
 /// The greatest number of octets of a parameter telegram (IEC 61158-6-3, data unit).
+///
+/// dp_prm uses no other crate of rackd, so it defines this limit, which dp_sap and dp_cfg have too,
+/// and `is_set`, which dp_telegram has too.
 pub const MOST_OCTETS: usize = 244;
 
 /// The bit of the first octet that locks the slave (IEC 61158-6-3, Set_Prm request, Station_status).

@@ -47,6 +47,9 @@ pub enum JudgedLent<'a> {
 ///
 /// `sender` is a master of the line, `fc` the function code of an SRD or an SDN, 0 to 255, and
 /// `parts` the access points and the payload of the request. The first row that applies decides.
+///
+/// It has no precondition: its result for a function that is neither SRD nor SDN, or for a sender
+/// that is no master, is defined, but never used.
 pub fn judge(points: &Points, memory: &FrameMemory, sender: u8, fc: u8, parts: &Parts) -> Judged
     ensures { result ≡ judgement points.now (remembered_of memory.now sender) sender fc parts.now }
 {

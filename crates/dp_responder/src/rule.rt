@@ -110,6 +110,9 @@ impl Rule {
 
     /// Returns whether the rule refuses what a request asks for (own). Status, Repeat and Done answer it; a token and a
     /// response ask for nothing.
+    ///
+    /// NoFrame, NoMaster and NotSelected are refusals, so that a search for a fault of the bus or
+    /// of groups finds them.
     pub const fn is_refusal(self) -> bool
         ensures { result ≡ is_refusal self }
     {

@@ -1,4 +1,7 @@
 //! The busy marks of a slave's points.
+//!
+//! The marks are a record of eight named fields. The length of a list would be hidden, and then
+//! nobody could conclude that a point is busy after `set_busy`.
 
 ghost use Rattle.std.specs.Prelude.{◌≡◌};
 ghost use Rattle.dp_sap.specs.AccessTable.{is_busy, is_in_table, no_marks, with_mark};

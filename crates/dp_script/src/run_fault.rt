@@ -1,4 +1,7 @@
 //! The reasons why a run ends early.
+//!
+//! [`RunFault`] writes its text itself, and not by `thiserror`, because the text is a clause (`run_fault_text`), and
+//! what the derive writes has none.
 
 ghost use Rattle.std.specs.Prelude.{◌≡◌, Some};
 ghost use Rattle.dp_script.specs.Codes.{run_fault_code};

@@ -29,6 +29,8 @@ use std::io::Write;
 use std::marker::Model;
 
 /// The largest number of octets that are decoded at a time.
+/// The octets after these are checked before any octet is used, so that nothing is written for a line that is no
+/// command.
 const CHUNK: usize = 64;
 
 /// The stream of a master, which may arrive in any pieces, and a buffer for the result of a step. Each result

@@ -4,6 +4,8 @@
 //! [`Block`] displays the rows of an event that has an outcome. It reads what was known before the event ([`Scene`])
 //! and the line after it. Other texts about events use the parts: the sender and the receiver ([`Who`]), how a hold
 //! ended ([`Ending`]), and columns. Contracts see the text that each of them displays.
+//!
+//! It uses no audit text: texts are in dp_explain. So the gate proves it beside dp_text and dp_audit.
 #![tactic(auto)]
 
 mod block;

@@ -10,6 +10,8 @@ use std::sync::Wait;
 /// What a session calls before and after each exchange and event, and at its end. A call may hold up its own session,
 /// and no other. No lock is held during a call. Unless stated otherwise, a call gives the number of the line and, for
 /// a master, its address. Each call except `enter` does nothing unless it is implemented.
+///
+/// Reports of a served rack are calls of the gate, so that the contracts of sessions don't mention reports.
 pub trait Gate {
     /// Called before each exchange of a master with a line.
     fn enter<W: Wait>(&self, rt: &W, line: u8, master: u8);

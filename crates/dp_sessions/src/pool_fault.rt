@@ -9,6 +9,8 @@ use thiserror::Error;
 #[derive(Clone, Copy, Debug, PartialEq, Eq, Error)]
 pub enum PoolFault {
     /// Out of memory, before a worker started.
+    /// It never comes, because the caller has the lists of seats and a pool takes no memory. The variant stays,
+    /// because the number 1 is assigned to it.
     #[error("out of memory")]
     OutOfMemory,
     /// A worker could not be started. Those that had started served jobs until the channel closed.

@@ -6,6 +6,9 @@ use dp_shared::{Claims, Line};
 ///
 /// The type is generic, because the checker decides from the facts of the type parameters whether threads may share
 /// it. It could not decide this from the types of a line.
+///
+/// The caller has to give both the same masters. If they differ, the session of a master that only the claims have
+/// ends with `NoPass`.
 #[derive(Drop)]
 pub struct LineAndClaims<L, C> {
     /// The line.

@@ -10,6 +10,9 @@ use std::io::Read;
 ///
 /// A client whose reader counts its reads implements this trait for it. The bound on reads in the contracts of
 /// [`serve_by`](crate::serve_by) and of the other calls with a `C: Reads<R>` is then a bound on that count.
+///
+/// The count is a trait beside the reader, because `Read` has no ghost member for it, and a wrapper by the session
+/// would not count in the caller's terms. The method is static and takes the reader by `&mut`, so nothing is wrapped.
 pub trait Reads<R: Read> {
     /// The number of reads that a reader has counted.
     ghost reads: { R → ℕ };

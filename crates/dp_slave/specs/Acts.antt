@@ -1,4 +1,7 @@
 -- What can happen to one slave (own).
+-- An act is data, and Fields has one equation by cases on the act for each field. The record after an act is built only of these equations, so
+-- no service can change a field that the table of the rules does not name. The acts of setting min TSDR and of reading the diagnosis carry their
+-- sender, because they retrigger the watchdog only for the holder.
 use Rattle.std.specs.Prelude.{ℕ, nat_le, Bool, true, false, List, Option}
 use Rattle.std.specs.Option.{option_map_or}
 use Rattle.dp_prm.specs.declared.prm.Prm.{Prm}

@@ -188,6 +188,9 @@ impl Slave {
     /// wait in sync mode. A cleared slave also takes an empty request, which stands for zeros. Any
     /// other length never arrives, because the verdict refuses it. The reply has the inputs of
     /// `rd_inp`. Returns true if the reply is of high priority, because a diagnosis is due.
+    ///
+    /// It has no precondition: octets of any other number have the effect of none. Without outputs, an empty
+    /// request is one of the whole length, so it ends that a fail-safe slave is cleared.
     pub fn data_exchange(&mut self, octets: &[u8]) -> bool
         ensures slave { self.new ≡ with_slave self.old (acted self.old.slave (exchange_act self.old.slave octets.now)) }
         ensures high { result ≡ is_due_high self.old.slave.diag }

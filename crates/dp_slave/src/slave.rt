@@ -25,6 +25,8 @@ const FIRST_MIN_TSDR: u8 = 11;
 
 /// A DP-V0 slave of a line (IEC 61158-6-3, slave state machine). Contracts see its record, and its
 /// links, which thread it into the list of the master that holds it.
+///
+/// State and holder are stored only in `points`.
 #[derive(Drop)]
 pub struct Slave {
     pub(crate) description: SlaveSpec,

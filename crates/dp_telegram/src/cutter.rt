@@ -1,4 +1,8 @@
 //! Streams of octets into frames.
+//!
+//! The cutter lends a piece by two calls: [`Cutter::front`] lends it, and [`Cutter::pass`] drops
+//! it. One call that returns a borrow of `&mut self` would need a contract about a value that is
+//! still borrowed. [`Cutter::next`] is for a client that needs the piece as a value.
 
 ghost use Rattle.std.specs.Prelude.{◌≡◌, ◌+◌, ◌-◌, ◌<◌, ◌≤◌, ◌↔◌, ℕ, List, [], ◌++◌, length, take, drop, min, slice_range, option_map, IfSome, OnSome, IfNone, IsNone, IsTrue, Some};
 ghost use Rattle.dp_telegram.specs.declared.cutter.Cut.TheVariants as pieces;

@@ -43,6 +43,8 @@ pub enum Function {
     /// Request LSAP Status: 15.
     LsapStatus,
     /// Every other number is treated as reserved (own).
+    /// It has no number, because nothing needs one. So a client can't make a reserved function of a
+    /// number that has a meaning.
     Reserved,
 }
 

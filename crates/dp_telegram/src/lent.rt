@@ -1,4 +1,11 @@
 //! Frames, telegrams and their parts, read in place: nothing is copied.
+//!
+//! [`WholeFrame`] is a type of its own, so that no other call has to require that octets are a
+//! frame, and a script or a session judges each frame once.
+//!
+//! Frames, telegrams and their parts have an owned and a lent form. The definitions use only the
+//! owned forms, and each lent form stands for an owned one in contracts, so no definition exists
+//! twice.
 
 ghost use Rattle.std.specs.Prelude.{◌≡◌, ◌≤◌, if◌then◌else◌, is_none, length, IsTrue, None, Some};
 ghost use Rattle.dp_telegram.specs.Access.{address_of, parts_of, source_of};

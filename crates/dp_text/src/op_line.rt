@@ -1,4 +1,7 @@
 //! Reading the lines of an operator.
+//!
+//! A session, which has text, and a script, which has octets, use the same reader. So hex digits in either
+//! case, empty lines and comments have one rule.
 
 ghost use Rattle.std.specs.Prelude.{◌≡◌, ok_or, option_map};
 ghost use Rattle.dp_text.specs.Codes.{text_fault_code, text_fault_name};

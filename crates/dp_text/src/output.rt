@@ -23,6 +23,8 @@ impl WriteFault {
 
 /// Writes all of the bytes, or returns `WriteFault` if a write fails or accepts no byte. A prefix of the bytes
 /// is then written. An interrupted write is repeated.
+///
+/// It replaces std's `write_all`, whose contract doesn't say what was written if it fails.
 pub fn write_whole<W: Write>(writer: &mut W, bytes: &[u8]) -> Result<(), WriteFault>
     ensures ok { OnOk result (Appends (W.contents writer.old) (W.contents writer.new) bytes.now) }
     ensures err { OnErr result (WritesPrefix (W.contents writer.old) (W.contents writer.new) bytes.now) }

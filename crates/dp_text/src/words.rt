@@ -1,4 +1,7 @@
 //! The lines of a text and the words of a line, borrowed and not copied.
+//!
+//! [`Lines`] and [`Words`] are two types of the same form, so that the lines of a text can't be mistaken for
+//! the words of a line.
 
 ghost use Rattle.std.specs.Prelude.{◌≡◌, ◌<◌, ◌==◌, [], ◌∷◌, length, position, MatchOption, IfSome};
 ghost use Rattle.std.specs.List.{slice_split};

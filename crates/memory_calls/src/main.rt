@@ -1,6 +1,9 @@
 //! Makes the call that a word names, one of those that allocate memory, and makes it again if memory was refused to it.
 //! The result is given by the exit status only, because that allocates no memory. `tests/memory-calls.sh` refuses the
 //! memory.
+//!
+//! A program of its own makes the call, because rackd makes several such calls, and ends with status 3 whichever of
+//! them was refused.
 #![tactic(auto)]
 
 ghost use Rattle.std.specs.Prelude.{◌≡◌, None};

@@ -1,4 +1,10 @@
 //! The operator client.
+//!
+//! The client sends one thing at a time and waits for its answer. So answers come in the order of the lines, a slow
+//! line gets few ticks, and nothing has to be matched.
+//!
+//! A thread reads standard input, one line for each request, because a read can't be ended: the program ends while
+//! that thread waits.
 
 use crate::fault::ClientFault;
 use crate::incoming::{Incoming, LF, Side, Taken, hand_on, without_end};

@@ -253,6 +253,8 @@ fn required_masters<'a>(
 }
 
 /// Reads a port, 0 to 65,535.
+///
+/// Equal ports are accepted here: `serve` finds them when it listens.
 #[tactic(auto, unfolding(crate::specs::RackFile::port_of))]
 fn port_in(value: &Value) -> Result<Option<u16>, Cause>
     ensures { result ≡ port_of (view value.now) }

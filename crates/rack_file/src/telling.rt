@@ -1,4 +1,7 @@
 //! Shows where and why a rack text is refused.
+//!
+//! The second row on standard error is found by another reading of the text, after the fault: a fault is a small
+//! value that is copied, and a user's key is a text of any length. One reading gives both ([`Misread`]).
 
 ghost use Rattle.std.specs.Prelude.{◌≡◌, ◌≤◌, Some, codes, ◌++◌, length, IfOk, option_map, string_bytes};
 ghost use Rattle.std.specs.Fmt.{decimal};

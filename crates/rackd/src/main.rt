@@ -130,6 +130,8 @@ fn answer_words<'a>(
 }
 
 /// Returns what `clap` answers to words. If a word has control characters, reads the words again with these escaped.
+///
+/// The text of `clap` has LFs of its own, so it can't be escaped as a whole.
 fn escaped_answer<'a>(
     alloc: Global,
     words: &[String],
@@ -279,6 +281,8 @@ fn operate_line<
 
 /// Opens files that are always empty, one for each standard stream. If a stream is closed, one of these files gets its
 /// descriptor, so no connection does.
+///
+/// `serve` doesn't need them: it listens first, and a write to a socket that listens fails.
 fn stand_ins<F: Files>(files: &F) -> [Option<F::File>; 3] {
     [stand_in(files), stand_in(files), stand_in(files)]
 }

@@ -1,4 +1,7 @@
 //! Texts without control characters.
+//!
+//! Control characters are escaped where a row is written: in `row_of` for all rows of the queue, and in `main` of
+//! rackd for all other rows on standard error.
 
 use std::fmt;
 use std::fmt::Write;

@@ -1,4 +1,11 @@
 //! The queue of rows, and the thread that writes them.
+//!
+//! The queue is the log of the host (the sink of a `Logged` of the crate `log`), so no code that reports or serves
+//! knows of it. A row has fixed room, so none takes memory.
+//!
+//! The thread is started by `thread::spawn`, and not in a scope: a thread that writes to a full pipe can't be ended,
+//! and the program ends without it. `main` starts it, because the check proves that threads may share such a host
+//! only if its type is fixed.
 
 use crate::row::{Row, row_of};
 use crossbeam_channel::{Receiver, Sender, bounded};

@@ -23,6 +23,10 @@ enum Shown {
 /// A reader whose reads fail with `InvalidData` if its octets begin like a web request. Until the first word of the
 /// request is complete, octets are passed on as they are read, at most 7. If the whole word is read at once, none are
 /// passed on.
+///
+/// A web request is recognized by its first eight octets at most. A master sends its address, one octet, and waits
+/// for the acceptance before it sends more, and no telegram and no command of an operator begins as a web request
+/// does. The letters of a word that comes in pieces are passed on, because the first may be an address.
 #[derive(Drop)]
 pub struct Screened<R: Drop> {
     reader: R,
