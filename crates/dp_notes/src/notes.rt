@@ -9,7 +9,7 @@ use dp_sessions::{DroppedOctets, Gate, SessionEnd};
 use dp_telegram::WholeFrame;
 use dp_text::Text;
 use log::{Log, info, warn};
-use rackd_words::Telling;
+use rackd_words::LogDetail;
 use std::fmt::Display;
 use std::io::Error;
 use std::sync::atomic::AtomicU32;
@@ -53,7 +53,7 @@ struct Noted {
 #[derive(Drop)]
 pub struct Notes<'a, L> {
     log: &'a L,
-    telling: Telling,
+    log_detail: LogDetail,
     lines: LineNumbers,
     workers: u32,
     attended: AtomicU32,
@@ -62,10 +62,15 @@ pub struct Notes<'a, L> {
 
 impl<'a, L: Log + Clock> Notes<'a, L> {
     /// Returns the reports of these lines, which `workers` workers serve. Nothing has been reported yet.
-    pub fn new(log: &'a L, telling: Telling, lines: LineNumbers, workers: u32) -> Notes<'a, L> {
+    pub fn new(
+        log: &'a L,
+        log_detail: LogDetail,
+        lines: LineNumbers,
+        workers: u32,
+    ) -> Notes<'a, L> {
         Notes {
             log,
-            telling,
+            log_detail,
             lines,
             workers,
             attended: AtomicU32::new(0),
@@ -143,7 +148,7 @@ impl<'a, L: Log + Clock> Notes<'a, L> {
 
     /// Reports something about connections, sessions or requests, unless only halts are reported.
     fn tell<W: Wait>(&self, rt: &W, row: impl Display + Drop) {
-        if self.telling != Telling::Little {
+        if self.log_detail != LogDetail::Warnings {
             let _one_row_at_a_time = self.noted.lock(rt);
             let time = TimeOfDay::now(self.log);
             info!(self.log; target: "rackd", "{time} {row}");
@@ -240,7 +245,7 @@ impl<L: Log + Clock> Gate for Notes<'_, L> {
     fn enter<W: Wait>(&self, _rt: &W, _line: u8, _master: u8) {}
 
     fn accepted<W: Wait>(&self, rt: &W, line: u8, master: u8) {
-        if self.telling != Telling::Little {
+        if self.log_detail != LogDetail::Warnings {
             self.begin(rt, line, master);
             self.tell(rt, format_args!("line {line}: master {master} connected"));
         }
@@ -255,10 +260,10 @@ impl<L: Log + Clock> Gate for Notes<'_, L> {
         answer: &Step,
     ) {
         self.tell_halt(rt, line, false, &answer.outcome);
-        if self.telling != Telling::Little {
+        if self.log_detail != LogDetail::Warnings {
             self.count(rt, line, master, &answer.outcome);
         }
-        if self.telling == Telling::Requests
+        if self.log_detail == LogDetail::Requests
             && let Ok(octets) = ArrayVec::try_from(frame.octets())
         {
             let event = Event::Request { master, octets };
@@ -267,7 +272,7 @@ impl<L: Log + Clock> Gate for Notes<'_, L> {
     }
 
     fn dropped<W: Wait>(&self, rt: &W, line: u8, master: u8, dropped: &DroppedOctets) {
-        if self.telling == Telling::Little {
+        if self.log_detail == LogDetail::Warnings {
             return;
         }
         let mut noted = self.noted.lock(rt);
@@ -281,7 +286,7 @@ impl<L: Log + Clock> Gate for Notes<'_, L> {
 
     fn ended<W: Wait>(&self, rt: &W, line: u8, master: u8, end: SessionEnd) {
         self.leaves(rt);
-        if self.telling != Telling::Little {
+        if self.log_detail != LogDetail::Warnings {
             let MasterSession {
                 requests,
                 refused,
@@ -317,7 +322,7 @@ impl<L: Log + Clock> Gate for Notes<'_, L> {
 
     fn operated<W: Wait>(&self, rt: &W, line: u8, receipt: &Receipt) {
         self.tell_halt(rt, line, is_halt(&receipt.event), &receipt.outcome);
-        if self.telling == Telling::Requests {
+        if self.log_detail == LogDetail::Requests {
             self.tell_answer(rt, line, &receipt.event, &receipt.outcome);
         }
     }

@@ -1,10 +1,12 @@
 //! What words may ask for.
 
+use thiserror::Error;
+
 /// How much is reported on standard error while a rack is served.
 #[derive(Clone, Copy, PartialEq, Eq)]
-pub enum Telling {
-    /// Only that a line is halted.
-    Little,
+pub enum LogDetail {
+    /// Only warnings: that a line is halted, and that a connection waits because all workers are busy.
+    Warnings,
     /// Connections and sessions too.
     Sessions,
     /// Each request and its answer too.
@@ -22,7 +24,7 @@ pub struct Service<'a> {
     /// places of the rack file.
     pub endless: Option<u16>,
     /// How much is reported on standard error.
-    pub telling: Telling,
+    pub log_detail: LogDetail,
 }
 
 /// Which entries of an audit text are explained: those that meet each condition that is given.
@@ -91,10 +93,12 @@ pub enum Invocation<'a> {
 }
 
 /// Why words cannot be read.
-#[derive(Clone, Copy)]
+#[derive(Clone, Copy, Debug, PartialEq, Eq, Error)]
 pub enum WordsFault {
     /// A word is not UTF-8.
+    #[error("a word is not UTF-8")]
     NotText,
     /// Out of memory.
+    #[error("out of memory")]
     OutOfMemory,
 }

@@ -5,5 +5,5 @@ mod commands;
 mod invocation;
 mod reading;
 
-pub use invocation::{Entries, Invocation, Service, Telling, WordsFault};
+pub use invocation::{Entries, Invocation, LogDetail, Service, WordsFault};
 pub use reading::{read_words, words_of};

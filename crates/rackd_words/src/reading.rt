@@ -4,7 +4,7 @@ use crate::commands::{
     AUDIT, ENDLESS, FOLDER, FROM, LOG, MASTER, PART, PORT, RACK, REFUSED, SCRIPT, SESSIONS, SLAVE,
     STEP, SUMMARY, TICK, TO, explaining, known, operating, serving,
 };
-use crate::invocation::{Entries, Invocation, Service, Telling, WordsFault};
+use crate::invocation::{Entries, Invocation, LogDetail, Service, WordsFault};
 use clap::ArgMatches;
 use clap::error::ErrorKind as Refused;
 use std::alloc::Global;
@@ -186,7 +186,7 @@ fn service_of<'a>(words: &ArgMatches<'a>) -> Service<'a> {
         sessions: words.get_one(SESSIONS),
         audit: words.get_str(FOLDER),
         endless: part_of(words),
-        telling: telling_of(words.get_str(LOG)),
+        log_detail: log_detail_of(words.get_str(LOG)),
     }
 }
 
@@ -200,11 +200,11 @@ fn part_of(words: &ArgMatches<'_>) -> Option<u16> {
 }
 
 /// Returns how much is reported, by what follows `--log`; little if `--log` is not given.
-fn telling_of(told: Option<&str>) -> Telling {
-    match told {
-        None => Telling::Little,
-        Some("requests") => Telling::Requests,
-        Some(_) => Telling::Sessions,
+fn log_detail_of(word: Option<&str>) -> LogDetail {
+    match word {
+        None => LogDetail::Warnings,
+        Some("requests") => LogDetail::Requests,
+        Some(_) => LogDetail::Sessions,
     }
 }
 

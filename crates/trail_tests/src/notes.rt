@@ -11,7 +11,7 @@ use dp_telegram::WholeFrame;
 use log::kv::Source;
 use log::span::Spans;
 use log::{Log, Metadata, Record};
-use rackd_words::Telling;
+use rackd_words::LogDetail;
 use session_tests::place::{Place, fresh_place};
 use shared_tests::line_specs::line_spec;
 use std::alloc::Global;
@@ -147,7 +147,7 @@ fn reports<T: Wait>(
     let spec = line_spec(alloc, 3, capacity, Device::Still)?;
     let Place { port, .. } = fresh_place(alloc, &spec)?;
     let log = Expecting::new(rows);
-    let notes = Notes::new(&log, Telling::Little, two_lines(), 1);
+    let notes = Notes::new(&log, LogDetail::Warnings, two_lines(), 1);
     let gate = MasterMeanwhile {
         notes: &notes,
         port: &port,
@@ -193,7 +193,7 @@ fn sessions_are_counted_by_line_and_master(rt: HostRuntime) -> Result<(), Fail> 
         "line 3: master 1 ended: ReadFault, 2 requests, 1 refused",
     ];
     let log = Expecting::new(&rows);
-    let notes = Notes::new(&log, Telling::Sessions, two_lines(), 2);
+    let notes = Notes::new(&log, LogDetail::Sessions, two_lines(), 2);
     notes.accepted(&rt, 3, 1);
     notes.accepted(&rt, 7, 1);
     answer_token(&rt, &notes, Outcome::Silence(Rule::Token))?;
@@ -210,7 +210,7 @@ fn waiting_connection_names_its_line(rt: HostRuntime) -> Result<(), Fail> {
         "line 7: no address came: ReadFault",
     ];
     let log = Expecting::new(&rows);
-    let notes = Notes::new(&log, Telling::Sessions, two_lines(), 1);
+    let notes = Notes::new(&log, LogDetail::Sessions, two_lines(), 1);
     notes.waits(&rt, 0);
     notes.waits(&rt, 1);
     notes.turned_away(&rt, 1, None, SessionEnd::ReadFault);
@@ -224,7 +224,7 @@ fn busy_workers_are_reported_once_until_one_is_free(rt: HostRuntime) -> Result<(
         "line 3: a connection waits, all 1 workers are busy",
     ];
     let log = Expecting::new(&rows);
-    let notes = Notes::new(&log, Telling::Little, two_lines(), 1);
+    let notes = Notes::new(&log, LogDetail::Warnings, two_lines(), 1);
     notes.waits(&rt, 0);
     notes.waits(&rt, 1);
     notes.waits(&rt, 0);
