@@ -15,7 +15,7 @@ const TOO_MANY_FILES_IN_ALL: u32 = 23;
 
 /// Why the program cannot open, read or write a file, or use a port. Its `Display` is the second row on standard
 /// error, without its LF.
-#[derive(Clone, Copy)]
+#[derive(Clone, Copy, Debug, PartialEq, Eq)]
 pub enum Cause {
     /// There is no file or folder with this path.
     NotThere,

@@ -44,7 +44,7 @@ pub struct Operation {
 
 /// The kind of request whose answer is awaited.
 #[derive(Clone, Copy, PartialEq, Eq)]
-enum Asked {
+enum Awaited {
     /// A line of the input.
     Line,
     /// A tick.
@@ -197,7 +197,7 @@ struct Operator<H: Copy> {
     input: Input,
     /// A line that was read and has not been sent.
     line: Option<Vec<u8>>,
-    awaited: Option<Asked>,
+    awaited: Option<Awaited>,
     /// Whether an answer has come, or the client has reported what it waits for.
     is_served: bool,
     /// The last answers to a tick and to a step.
@@ -252,8 +252,8 @@ impl<H: Wait + Clock + Log + Copy> Operator<H> {
     /// Sends what is due by the clock. Returns whether the client has ended.
     fn send_due(&mut self, due: Due) -> Result<bool, ClientFault> {
         self.awaited = match due {
-            Due::Tick(_) => Some(Asked::Tick),
-            Due::Step => Some(Asked::Step),
+            Due::Tick(_) => Some(Awaited::Tick),
+            Due::Step => Some(Awaited::Step),
         };
         match format!(in self.alloc; "{due}\n") {
             Ok(text) => self.send(text.as_bytes()),
@@ -267,7 +267,7 @@ impl<H: Wait + Clock + Log + Copy> Operator<H> {
             return Err(ClientFault::OutOfMemory);
         }
         if is_answered(without_end(&line)) {
-            self.awaited = Some(Asked::Line);
+            self.awaited = Some(Awaited::Line);
         }
         self.send(&line)
     }
@@ -332,9 +332,9 @@ impl<H: Wait + Clock + Log + Copy> Operator<H> {
         self.is_served = true;
         let asked = self.awaited.take();
         let is_shown = match asked {
-            Some(Asked::Line) | None => true,
-            Some(Asked::Tick) => is_news(without_end(&row), without_end(&self.ticked)),
-            Some(Asked::Step) => is_news(without_end(&row), without_end(&self.stepped)),
+            Some(Awaited::Line) | None => true,
+            Some(Awaited::Tick) => is_news(without_end(&row), without_end(&self.ticked)),
+            Some(Awaited::Step) => is_news(without_end(&row), without_end(&self.stepped)),
         };
         if is_shown {
             let Ok(shown) = printable(self.alloc, without_end(&row)) else {
@@ -345,9 +345,9 @@ impl<H: Wait + Clock + Log + Copy> Operator<H> {
             }
         }
         match asked {
-            Some(Asked::Tick) => self.ticked = row,
-            Some(Asked::Step) => self.stepped = row,
-            Some(Asked::Line) | None => {}
+            Some(Awaited::Tick) => self.ticked = row,
+            Some(Awaited::Step) => self.stepped = row,
+            Some(Awaited::Line) | None => {}
         }
         Ok(false)
     }
@@ -355,7 +355,7 @@ impl<H: Wait + Clock + Log + Copy> Operator<H> {
     /// Handles the end of the port: the client has ended if each line of the input is answered and the input has
     /// ended too. Otherwise returns `PortEnded`.
     fn end_of_port(&mut self) -> Result<bool, ClientFault> {
-        if self.line.is_some() || self.awaited == Some(Asked::Line) || !self.input_has_ended() {
+        if self.line.is_some() || self.awaited == Some(Awaited::Line) || !self.input_has_ended() {
             return Err(ClientFault::PortEnded);
         }
         info!(&self.rt; "port {} has ended", self.port);
