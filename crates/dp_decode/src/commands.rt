@@ -9,9 +9,9 @@ use std::fmt;
 
 /// A Global_Control, in words.
 #[derive(Drop)]
-pub(crate) struct Asked<'a>(pub(crate) &'a Command);
+pub(crate) struct CommandWords<'a>(pub(crate) &'a Command);
 
-impl<'a> fmt::Display for Asked<'a> {
+impl<'a> fmt::Display for CommandWords<'a> {
     ghost output = { λ asked. Some (asked_of asked.0.now) };
 
     #[tactic(auto, unfolding(crate::specs::Commands::asked_of))]

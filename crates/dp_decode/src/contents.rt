@@ -4,7 +4,7 @@ ghost use Rattle.std.specs.Prelude.{◌≡◌, ◌≤◌, Some, length};
 ghost use Rattle.dp_telegram.specs.Access.{parts_of};
 ghost use Rattle.dp_decode.specs.Contents.{control_row, frame_row, row_where_any, subject_at, subject_of as subject_by, telegram_row};
 
-use crate::commands::Asked;
+use crate::commands::CommandWords;
 use crate::configurations::Configuration;
 use crate::kinds::is_of_point;
 use crate::parameters::Parameters;
@@ -167,7 +167,7 @@ impl<'a> fmt::Display for Control<'a> {
     fn fmt<W: fmt::Write>(&self, f: &mut fmt::Formatter<W>) -> fmt::Result {
         if self.0.len() == 2 {
             let command = Command::read(self.0);
-            let asked = Asked(&command);
+            let asked = CommandWords(&command);
             write!(f, "command     {asked}")
         } else {
             let octets = Hex(self.0);

@@ -146,7 +146,7 @@ impl<'a> fmt::Display for Said<'a> {
         if !telegram.is_request() {
             return f.write_str("response");
         }
-        let asked = Asked(telegram.fc);
+        let asked = FunctionWords(telegram.fc);
         let service = Service {
             of_point: is_of_point(telegram.function()),
             parts: &telegram.parts(),
@@ -180,9 +180,9 @@ impl<'a> fmt::Display for Service<'a> {
 
 /// The function of a request with this FC, with FCB and FCV if it uses them.
 #[derive(Clone, Copy)]
-struct Asked(u8);
+struct FunctionWords(u8);
 
-impl fmt::Display for Asked {
+impl fmt::Display for FunctionWords {
     ghost output = { λ fc. Some (asked_text fc.0) };
 
     #[tactic(auto, unfolding(crate::specs::Kinds::asked_text))]

@@ -23,7 +23,7 @@ use dp_audit::Book;
 use dp_devices::{DrivenSlave, MOST_DRIVEN, driven_slaves};
 use dp_line::{Event, LineSpec, Op, Step};
 use dp_telegram::{Cutter, Piece};
-use dp_text::{Asked, HexWords, Text, op_line_into};
+use dp_text::{HexWords, OpLineKind, Text, op_line_into};
 use std::alloc::{AllocError, Global};
 use std::io::Write;
 use std::marker::Model;
@@ -129,11 +129,11 @@ impl ScriptLine {
         ensures { option_map (λ done. record { script_line = self.new; text = text.new }) result ≡ option_map (operated self.old) (op_line_of line.now) }
     {
         match asked_in(line, &mut self.room.event)? {
-            Asked::Event => answer_op(text, &mut self.book, &mut self.room),
-            Asked::Owned(master) => self.list_owned(master, text),
-            Asked::Show(address) => self.show_slave(address, text),
-            Asked::Step => self.step(text),
-            Asked::Nothing => text.clear(),
+            OpLineKind::Event => answer_op(text, &mut self.book, &mut self.room),
+            OpLineKind::Owned(master) => self.list_owned(master, text),
+            OpLineKind::Show(address) => self.show_slave(address, text),
+            OpLineKind::Step => self.step(text),
+            OpLineKind::Nothing => text.clear(),
         }
         Some(())
     }
@@ -272,7 +272,7 @@ fn answer_piece(text: &mut Text, book: &mut Book, master: u8, piece: Piece<'_>, 
 
 /// Reads a line of the operator; None if it is no command. If the line asks for an event, `event` becomes that event.
 /// If `event` already is one of the operator's, it is overwritten in place.
-fn asked_in(line: &[u8], event: &mut Event) -> Option<Asked>
+fn asked_in(line: &[u8], event: &mut Event) -> Option<OpLineKind>
     ensures { IsAsked (op_line_of line.now) result event.new }
 {
     match event {
@@ -282,7 +282,7 @@ fn asked_in(line: &[u8], event: &mut Event) -> Option<Asked>
 }
 
 /// Reads a line of the operator into an event that is a request. See [`asked_in`].
-fn asked_anew(line: &[u8], event: &mut Event) -> Option<Asked>
+fn asked_anew(line: &[u8], event: &mut Event) -> Option<OpLineKind>
     ensures { IsAsked (op_line_of line.now) result event.new }
 {
     let mut op = Op::Halt;

@@ -12,7 +12,7 @@ ghost use Rattle.dp_sentences.specs.Results.{told_of_slave, told_of_telegram, to
 
 use crate::meeting::Meeting;
 use crate::notes::place_noted;
-use crate::scene::{Asked, Scene};
+use crate::scene::{Scene, SlaveRequest};
 use crate::sentences::{LineWords, SlaveWords};
 use crate::words::{Spaces, digits_of};
 use dp_line::{Outcome, described};
@@ -27,7 +27,7 @@ const LABEL_COLUMNS: usize = 12;
 #[derive(Clone, Copy)]
 struct OfSlave<'a> {
     scene: &'a Scene<'a>,
-    asked: &'a Asked<'a>,
+    asked: &'a SlaveRequest<'a>,
     /// The address of the slave.
     address: u8,
     /// Whether nobody replies.
@@ -81,7 +81,7 @@ impl<'a> fmt::Display for OfTelegram<'a> {
         let Some(parts) = self.telegram.parts() else {
             return Ok(());
         };
-        let asked = Asked {
+        let asked = SlaveRequest {
             master: self.master,
             telegram: self.telegram,
             parts,
@@ -168,7 +168,7 @@ fn concerns_a_slave(rule: Rule) -> bool
 #[derive(Clone, Copy)]
 struct PairRow<'a> {
     scene: &'a Scene<'a>,
-    asked: &'a Asked<'a>,
+    asked: &'a SlaveRequest<'a>,
     pair: (u8, Rule),
 }
 
@@ -193,7 +193,7 @@ impl<'a> fmt::Display for PairRow<'a> {
 #[derive(Clone, Copy)]
 struct PairRows<'a> {
     scene: &'a Scene<'a>,
-    asked: &'a Asked<'a>,
+    asked: &'a SlaveRequest<'a>,
     pairs: &'a [(u8, Rule)],
 }
 
@@ -233,7 +233,7 @@ impl<'a> fmt::Display for SpreadRows<'a> {
         let Some(parts) = telegram.parts() else {
             return Ok(());
         };
-        let asked = Asked {
+        let asked = SlaveRequest {
             master: self.master,
             telegram,
             parts,

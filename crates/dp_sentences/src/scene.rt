@@ -30,14 +30,14 @@ impl<'a> Model for Scene<'a> {
 
 /// A request on its way to slaves. Contracts see what it holds.
 #[derive(Drop)]
-pub(crate) struct Asked<'a> {
+pub(crate) struct SlaveRequest<'a> {
     /// The address of the sender.
     pub(crate) master: u8,
     pub(crate) telegram: &'a Telegram,
     pub(crate) parts: Parts,
 }
 
-impl<'a> Model for Asked<'a> {
+impl<'a> Model for SlaveRequest<'a> {
     ghost use Rattle.dp_sentences.specs.Scenes.{AskedView};
 
     ghost Value = { AskedView };

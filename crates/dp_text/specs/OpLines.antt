@@ -7,8 +7,8 @@ use Rattle.dp_line.specs.declared.event.Op.TheVariants.{Input, Diag, Busy, Tick,
 use Rattle.dp_text.specs.declared.ops.HexCase.TheVariants.{Either}
 use Rattle.dp_text.specs.declared.op_line.OpLine.{OpLine}
 use Rattle.dp_text.specs.declared.op_line.OpLine.TheVariants.{Event, Owned, Show, Step, Nothing}
-use Rattle.dp_text.specs.declared.op_line.Asked.{Asked}
-use Rattle.dp_text.specs.declared.op_line.Asked.TheVariants as asked
+use Rattle.dp_text.specs.declared.op_line.OpLineKind.{OpLineKind}
+use Rattle.dp_text.specs.declared.op_line.OpLineKind.TheVariants as asked
 use Rattle.dp_text.specs.Numbers.{octet_number}
 use Rattle.dp_text.specs.Words.{words_of, same_text}
 use Rattle.dp_text.specs.Texts.{octets_text, flags_text, op_text}
@@ -71,7 +71,7 @@ op_line_of [] = Some Nothing
 op_line_of (first ∷ others) = if first == 35 then Some Nothing else op_line_of_words (words_of (first ∷ others))
 
 -- what a line asks for, if this is what the operator does
-abbrev pub line_asked : Op → Asked → OpLine
+abbrev pub line_asked : Op → OpLineKind → OpLine
 line_asked op asked.Event = Event op
 line_asked op (asked.Owned master) = Owned master
 line_asked op (asked.Show address) = Show address

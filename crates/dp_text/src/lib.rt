@@ -19,7 +19,7 @@ mod words;
 pub use events::{event_in, octets_in};
 pub use hex_words::HexWords;
 pub use number::{number_in, octet_in, only_octet_in};
-pub use op_line::{Asked, OpLine, TextFault, op_line_in, op_line_into, read_op};
+pub use op_line::{OpLine, OpLineKind, TextFault, op_line_in, op_line_into, read_op};
 pub use operator_line::{LONGEST_LINE, LineFault, read_line};
 pub use ops::{HexCase, op_in};
 pub use output::{WriteFault, write_whole};

@@ -30,7 +30,7 @@ pub enum OpLine {
 
 /// What a line of an operator asks for, if the operator's event is stored separately ([`op_line_into`]) (own).
 #[derive(Clone, Copy, Debug, PartialEq, Eq)]
-pub enum Asked {
+pub enum OpLineKind {
     /// The operator does what [`op_line_into`] has written.
     Event,
     /// `owned M`, as [`OpLine::Owned`].
@@ -95,43 +95,43 @@ pub fn op_line_in(line: &[u8]) -> Option<OpLine>
 {
     let mut op = Op::Halt;
     match op_line_into(line, &mut op)? {
-        Asked::Event => Some(OpLine::Event(op)),
-        Asked::Owned(master) => Some(OpLine::Owned(master)),
-        Asked::Show(address) => Some(OpLine::Show(address)),
-        Asked::Step => Some(OpLine::Step),
-        Asked::Nothing => Some(OpLine::Nothing),
+        OpLineKind::Event => Some(OpLine::Event(op)),
+        OpLineKind::Owned(master) => Some(OpLine::Owned(master)),
+        OpLineKind::Show(address) => Some(OpLine::Show(address)),
+        OpLineKind::Step => Some(OpLine::Step),
+        OpLineKind::Nothing => Some(OpLine::Nothing),
     }
 }
 
 /// Reads a line as [`op_line_in`] does, but writes what the operator does to `op`, which avoids copies. After
 /// any other line the content of `op` is unspecified.
-pub fn op_line_into(line: &[u8], op: &mut Op) -> Option<Asked>
+pub fn op_line_into(line: &[u8], op: &mut Op) -> Option<OpLineKind>
     ensures { option_map (line_asked op.new) result ≡ op_line_of line.now }
 {
     match line {
-        [] => Some(Asked::Nothing),
-        [b'#', ..] => Some(Asked::Nothing),
+        [] => Some(OpLineKind::Nothing),
+        [b'#', ..] => Some(OpLineKind::Nothing),
         [_, ..] => op_line_in_words(&mut Words::new(line), op),
     }
 }
 
 /// Reads a line by its first word.
-fn op_line_in_words(words: &mut Words<'_>, op: &mut Op) -> Option<Asked>
+fn op_line_in_words(words: &mut Words<'_>, op: &mut Op) -> Option<OpLineKind>
     ensures { option_map (line_asked op.new) result ≡ op_line_of_words words.old }
 {
     let kind = words.next()?;
     if is_text(kind, b"owned") {
-        return only_octet_in(words).map(|master| Asked::Owned(master));
+        return only_octet_in(words).map(|master| OpLineKind::Owned(master));
     }
     if is_text(kind, b"show") {
-        return only_octet_in(words).map(|address| Asked::Show(address));
+        return only_octet_in(words).map(|address| OpLineKind::Show(address));
     }
     if is_text(kind, b"step") {
         return match words.next() {
-            None => Some(Asked::Step),
+            None => Some(OpLineKind::Step),
             Some(_) => None,
         };
     }
     op_into(HexCase::Either, kind, words, op)?;
-    Some(Asked::Event)
+    Some(OpLineKind::Event)
 }

@@ -237,7 +237,7 @@ pub fn agrees_with_itself(line: &LineState)
 
 /// A line, and its answer to the last request.
 #[derive(Drop)]
-pub struct Asked {
+pub struct LineAndAnswer {
     /// The line after the request.
     pub line: LineState,
     /// The answer.
@@ -255,7 +255,7 @@ pub fn ask_beside_another(
     first: &Event,
     other: &Event,
     last: &Event,
-) -> Result<(Asked, Asked), OpenFault>
+) -> Result<(LineAndAnswer, LineAndAnswer), OpenFault>
     ensures { IfOk result (λ both. (master stranger address : ℕ) (sent asked : Vectors ℕ) (slave : SlaveRecord)
         → let held = (step (start_of (description_of spec.now)) first.now).world in
         slave_at held address ≡ Some slave
@@ -278,8 +278,8 @@ pub fn ask_beside_another(
     let answer = line.take(last);
     let alone = another.take(last);
     Ok((
-        Asked { line, answer },
-        Asked {
+        LineAndAnswer { line, answer },
+        LineAndAnswer {
             line: another,
             answer: alone,
         },

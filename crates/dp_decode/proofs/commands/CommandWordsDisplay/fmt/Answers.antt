@@ -2,7 +2,7 @@
 use Rattle.std.proofs.Common.{append_assoc, refl}
 use Rattle.std.proofs.Output.{has_written_of_eq}
 use Rattle.dp_decode.specs.Commands.{asked_of}
-use Rattle.dp_decode.proofs.commands.AskedDisplay.fmt.Goals as goal
+use Rattle.dp_decode.proofs.commands.CommandWordsDisplay.fmt.Goals as goal
 
 pub returns-clause-writes : goal.returns-clause-writes
 unfolding asked_of
