@@ -18,13 +18,13 @@ use std::sync::{Mutex, Wait};
 use std::time::Clock;
 
 /// The most lines of a rack.
-const MOST_LINES: usize = 8;
+const MOST_LINES: usize = rack_file::MOST_LINES as usize;
 
 /// The numbers of lines, in the order of their ports.
 pub type LineNumbers = ArrayVec<u8, MOST_LINES>;
 
 /// The most sessions of masters at one time: one for each worker.
-const MOST_SESSIONS: usize = 32;
+const MOST_SESSIONS: usize = rack_file::MOST_WORKERS as usize;
 
 /// A session of a master: what it has asked for, and what it has dropped.
 #[derive(Default, Drop)]

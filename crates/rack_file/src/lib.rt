@@ -15,5 +15,5 @@ mod toml_keys;
 
 pub use fault::RackFault;
 pub use rack::{Rack, RackLine};
-pub use reading::read_rack;
+pub use reading::{MOST_LINES, MOST_WORKERS, read_rack};
 pub use telling::cause_in;

@@ -28,13 +28,13 @@ use toml::{Table, Value};
 const WORKERS: u8 = 4;
 
 /// The largest number of workers of a rack.
-const MOST_WORKERS: u32 = 32;
+pub const MOST_WORKERS: u32 = 32;
 
 /// The largest number of user parameters that a slave takes, in octets, if its description doesn't say how many.
 const USER_PARAMETERS: u8 = MOST_USER_PARAMETERS as u8;
 
 /// The largest number of lines of a rack.
-const MOST_LINES: u8 = 8;
+pub const MOST_LINES: u8 = 8;
 
 /// Reads the addresses of masters, 0 to 255.
 fn addresses_in(values: &[Value]) -> Result<ArrayVec<u8, MOST_MASTERS>, Cause>
