@@ -247,40 +247,23 @@ sdn 2 46 58 2000 => NotHolder
     )
 }
 
-/// Every rule.
-const EVERY_RULE: [Rule; 20] = [
-    Rule::Halted,
-    Rule::NoFrame,
-    Rule::NoMaster,
-    Rule::ForeignSender,
-    Rule::Token,
-    Rule::NotRequest,
-    Rule::BadFunction,
-    Rule::BadExtension,
-    Rule::BadBroadcast,
-    Rule::NoStation,
-    Rule::Status,
-    Rule::NoService,
-    Rule::Repeat,
-    Rule::NotActive,
-    Rule::NotHolder,
-    Rule::Busy,
-    Rule::Length,
-    Rule::NotSelected,
-    Rule::Done,
-    Rule::NotListed,
-];
-
-/// The rules in the order of their variants.
+/// The rules, by their places and by their numbers.
 #[derive(Drop)]
 struct Rules;
 
 impl Answers for Rules {
-    /// Answers a place in [`EVERY_RULE`], from 0, with the rule, its number and its name.
+    /// Answers `at N`, a place in [`Rule::ALL`] from 0, with the rule, its number, its name and whether it refuses, and
+    /// `of N` with the rule of this number.
     fn answer(&mut self, alloc: Global, command: &str) -> Result<String, Fail> {
-        let place = Words::new(command).number()?;
-        let rule = EVERY_RULE.get(usize::from(place)).ok_or("a rule")?;
-        Ok(format!(in alloc; "{rule:?} {} {}", rule.code(), rule.name())?)
+        let mut words = Words::new(command);
+        let word = words.word()?;
+        let number = words.number()?;
+        if word == "of" {
+            return Ok(format!(in alloc; "{:?}", Rule::from_code(number))?);
+        }
+        let rule = Rule::ALL.get(usize::from(number)).ok_or("a rule")?;
+        let refuses = if rule.is_refusal() { "refuses" } else { "-" };
+        Ok(format!(in alloc; "{rule:?} {} {} {refuses}", rule.code(), rule.name())?)
     }
 }
 
@@ -290,26 +273,49 @@ fn rules_have_numbers_and_names(rt: HostRuntime) -> Result<(), Fail> {
         rt.alloc(),
         &mut Rules,
         "\
-0 => Halted 1 Halted
-1 => NoFrame 2 NoFrame
-2 => NoMaster 3 NoMaster
-3 => ForeignSender 4 ForeignSender
-4 => Token 5 Token
-5 => NotRequest 6 NotRequest
-6 => BadFunction 7 BadFunction
-7 => BadExtension 8 BadExtension
-8 => BadBroadcast 9 BadBroadcast
-9 => NoStation 10 NoStation
-10 => Status 11 Status
-11 => NoService 12 NoService
-12 => Repeat 13 Repeat
-13 => NotActive 14 NotActive
-14 => NotHolder 15 NotHolder
-15 => Busy 16 Busy
-16 => Length 17 Length
-17 => NotSelected 18 NotSelected
-18 => Done 19 Done
-19 => NotListed 20 NotListed
+at 0 => Halted 1 Halted refuses
+at 1 => NoFrame 2 NoFrame refuses
+at 2 => NoMaster 3 NoMaster refuses
+at 3 => ForeignSender 4 ForeignSender refuses
+at 4 => Token 5 Token -
+at 5 => NotRequest 6 NotRequest -
+at 6 => BadFunction 7 BadFunction refuses
+at 7 => BadExtension 8 BadExtension refuses
+at 8 => BadBroadcast 9 BadBroadcast refuses
+at 9 => NoStation 10 NoStation refuses
+at 10 => Status 11 Status -
+at 11 => NoService 12 NoService refuses
+at 12 => Repeat 13 Repeat -
+at 13 => NotActive 14 NotActive refuses
+at 14 => NotHolder 15 NotHolder refuses
+at 15 => NotListed 20 NotListed refuses
+at 16 => Busy 16 Busy refuses
+at 17 => Length 17 Length refuses
+at 18 => NotSelected 18 NotSelected refuses
+at 19 => Done 19 Done -
+of 0 => None
+of 1 => Some(Halted)
+of 2 => Some(NoFrame)
+of 3 => Some(NoMaster)
+of 4 => Some(ForeignSender)
+of 5 => Some(Token)
+of 6 => Some(NotRequest)
+of 7 => Some(BadFunction)
+of 8 => Some(BadExtension)
+of 9 => Some(BadBroadcast)
+of 10 => Some(NoStation)
+of 11 => Some(Status)
+of 12 => Some(NoService)
+of 13 => Some(Repeat)
+of 14 => Some(NotActive)
+of 15 => Some(NotHolder)
+of 16 => Some(Busy)
+of 17 => Some(Length)
+of 18 => Some(NotSelected)
+of 19 => Some(Done)
+of 20 => Some(NotListed)
+of 21 => None
+of 255 => None
 ",
     )
 }

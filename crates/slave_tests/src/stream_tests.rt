@@ -6,12 +6,13 @@ ghost use Rattle.dp_telegram.specs.Stream.{piece_of, left_of};
 use crate::rows::{Answers, play};
 use crate::telegram_tests::frame_text;
 use crate::words::{Words, hex_text, repeated, text};
-use dp_telegram::{Cut, Cutter, Piece};
+use dp_telegram::{Cut, Cutter, Piece, WrongEnd, wrong_end};
 use std::alloc::Global;
 use std::test::Fail;
 
 impl Answers for Cutter {
-    /// Answers `feed HEX`, `next`, `front`, `pass` by [`pass_front`], and `two` by [`first_two`].
+    /// Answers `feed HEX`, `next`, `front`, `held` with the octets held, `end` with a wrong end of the frame in front,
+    /// `pass` by [`pass_front`], and `two` by [`first_two`].
     fn answer(&mut self, alloc: Global, command: &str) -> Result<String, Fail> {
         let mut words = Words::new(command);
         match words.word()? {
@@ -21,6 +22,8 @@ impl Answers for Cutter {
             }
             "next" => cut_text(alloc, &self.next()),
             "front" => front_text(alloc, self),
+            "held" => hex_text(alloc, self.held()),
+            "end" => end_text(alloc, wrong_end(self.held())),
             "pass" => Ok(format!(in alloc; "{:?}", pass_front(self))?),
             "two" => {
                 let (first, second) = first_two(self);
@@ -59,6 +62,53 @@ fn front_text(alloc: Global, cutter: &Cutter) -> Result<String, Fail> {
             Ok(format!(in alloc; "dropped {} {count}", fault.name())?)
         }
     }
+}
+
+/// Returns `CHECK EXPECTED END` in hex, or `none`.
+fn end_text(alloc: Global, end: Option<WrongEnd>) -> Result<String, Fail> {
+    match end {
+        None => text(alloc, "none"),
+        Some(end) => Ok(format!(in alloc;
+            "{:02x} {:02x} {:02x}",
+            end.check_sequence, end.expected, end.end_delimiter
+        )?),
+    }
+}
+
+#[test]
+fn wrong_ends(rt: HostRuntime) -> Result<(), Fail> {
+    play(
+        rt.alloc(),
+        &mut Cutter::new(),
+        "\
+held => -
+end => none
+feed 100501494e16 => 6
+held => 100501494e16
+end => 4e 4f 16
+pass => Some(6)
+held => -
+feed 6805056885816d3c3eed17e5 => 12
+end => ed ed 17
+pass => Some(11)
+held => e5
+end => none
+pass => Some(1)
+feed a20501490102030405060708ff00 => 14
+end => ff 73 00
+pass => Some(14)
+feed 100501494f16 => 6
+end => none
+pass => Some(6)
+feed dc0201 => 3
+end => none
+pass => Some(3)
+feed 6805 => 2
+end => none
+feed 0468 => 2
+end => none
+",
+    )
 }
 
 #[test]
