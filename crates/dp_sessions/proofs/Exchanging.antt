@@ -71,6 +71,10 @@ seen_then : (pass : PassView) (receipts others : List Receipt) → AreReceivedBy
 seen_then pass [] others first second = second
 seen_then pass (receipt ∷ receipts) others first second = (first.0, seen_then (with_receipt pass receipt receipt.place) receipts others first.1 second)
 
+-- a piece without a request is exchanged by no receipt
+pub none_exchanged : (master : ℕ) (cut : Cut) (pass : PassView) → requests_in master (cut ∷ []) ≡ [] → AreExchanged master (cut ∷ []) [] pass pass
+none_exchanged master cut pass none = record { events = sym none; gained = refl; received = tt }
+
 exchanged_then : (master : ℕ) (cuts more : List Cut) (receipts others : List Receipt) (p q r : PassView)
     → AreExchanged master cuts receipts p q → AreExchanged master more others q r → AreExchanged master (cuts ++ more) (receipts ++ others) p r
 exchanged_then master cuts more receipts others p q r first second = record {

@@ -6,3 +6,4 @@ pub mod Operating
 pub mod Listening
 pub mod Tying
 pub mod TyingOperators
+pub mod Dropping

@@ -1,9 +1,7 @@
 -- What a session has dropped of its stream (own).
 use Rattle.std.specs.Prelude.{ℕ, ◌+◌, ◌-◌, ◌^◌, min, Bool, true, false, ◌||◌, List, ◌++◌, length, take, Option, Some, None}
-use Rattle.arrayvec.specs.ArrayVec.{ArrayVec}
 use Rattle.dp_telegram.specs.declared.fault.FrameFault.{FrameFault}
 use Rattle.dp_telegram.specs.declared.fault.FrameFault.TheVariants.{NoStart, BadHead, BadEnd, Short, Long}
-use Rattle.dp_telegram.specs.declared.bad_end.WrongEnd.{WrongEnd}
 use Rattle.dp_telegram.specs.WrongEnd.{wrong_end_of}
 use Rattle.dp_sessions.specs.declared.dropped.DroppedOctets.{DroppedOctets}
 
@@ -39,7 +37,7 @@ with_piece dropped fault octets = record {
   no_start = dropped.no_start || is_no_start fault;
   bad_head = dropped.bad_head || is_bad_head fault;
   bad_end = dropped.bad_end || is_bad_end fault;
-  first = record { items = take 16 (dropped.first.items ++ octets) };
+  first = record { items = dropped.first.items ++ take (16 - length dropped.first.items) octets };
   wrong_end = first_of_two dropped.wrong_end (wrong_end_of octets);
 }
 
@@ -50,6 +48,6 @@ with_later dropped later = record {
   no_start = dropped.no_start || later.no_start;
   bad_head = dropped.bad_head || later.bad_head;
   bad_end = dropped.bad_end || later.bad_end;
-  first = record { items = take 16 (dropped.first.items ++ later.first.items) };
+  first = record { items = dropped.first.items ++ take (16 - length dropped.first.items) later.first.items };
   wrong_end = first_of_two dropped.wrong_end later.wrong_end;
 }

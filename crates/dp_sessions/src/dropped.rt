@@ -1,6 +1,6 @@
 //! Octets that a session drops.
 
-ghost use Rattle.std.specs.Prelude.{◌≡◌, ◌≤◌, ◌++◌, length, take};
+ghost use Rattle.std.specs.Prelude.{◌≡◌, ◌-◌, ◌≤◌, ◌++◌, length, take};
 ghost use Rattle.dp_sessions.specs.Dropped.{with_later, with_piece};
 
 use arrayvec::ArrayVec;
@@ -10,7 +10,7 @@ use dp_telegram::{FrameFault, WrongEnd, wrong_end};
 const MOST_FIRST: usize = 16;
 
 /// Octets of a master that are no frame and were dropped, with no frame between them (own). By default there are none.
-#[derive(Clone, Debug, Default, Drop, PartialEq, Eq)]
+#[derive(Debug, Default, Drop, PartialEq, Eq)]
 pub struct DroppedOctets {
     /// The number of octets. It stops at 4,294,967,295.
     pub count: u32,
@@ -55,8 +55,7 @@ impl DroppedOctets {
 
 /// Appends the octets, as far as there is room.
 fn keep_first(first: &mut ArrayVec<u8, MOST_FIRST>, octets: &[u8])
-    requires { length first.old.items ≤ 16 }
-    ensures { first.new.items ≡ take 16 (first.old.items ++ octets.now) }
+    ensures { first.new.items ≡ first.old.items ++ take (16 - length first.old.items) octets.now }
 {
     let room = MOST_FIRST.saturating_sub(first.len()).min(octets.len());
     let _ = first.try_extend_from_slice(&octets[..room]);

@@ -11,7 +11,7 @@ ghost use Rattle.dp_sessions.specs.Operating.{BreaksOff, GoesOn, kept};
 ghost use Rattle.dp_sessions.specs.Ended.{IsOperatorSessionOf, end_of};
 
 use crate::gate::{Gate, OpenGate};
-use crate::operator_line::{LONGEST_LINE, answer_line};
+use crate::operator_line::answer_line;
 use crate::port::Port;
 use crate::reads::{Reads, Uncounted};
 use crate::session::Session;
@@ -21,7 +21,7 @@ use dp_devices::{DrivenSlave, MOST_DRIVEN, driven_slaves};
 use dp_line::LineSpec;
 use dp_shared::{Line, Pass};
 use dp_telegram::GLOBAL_ADDRESS;
-use dp_text::{Text, WriteFault, write_whole};
+use dp_text::{LONGEST_LINE, Text, WriteFault, write_whole};
 use std::io::{Read, Write};
 use std::sync::Wait;
 
