@@ -2,7 +2,7 @@
 
 use dp_sessions::DroppedOctets;
 use dp_telegram::WrongEnd;
-use std::fmt;
+use std::{fmt, mem};
 
 /// How many rows a session may have in one second.
 const MOST_ROWS: u32 = 10;
@@ -40,13 +40,10 @@ impl DroppedRows {
             return None;
         }
         self.rows = self.rows.saturating_add(1);
-        let row = DroppedRow {
-            dropped: self.waiting.clone(),
-            runs: self.runs,
-        };
-        self.waiting = DroppedOctets::default();
-        self.runs = 0;
-        Some(row)
+        Some(DroppedRow {
+            dropped: mem::take(&mut self.waiting),
+            runs: mem::take(&mut self.runs),
+        })
     }
 }
 
@@ -93,10 +90,12 @@ impl DroppedRow {
 
     /// Writes the first octets, and two dots if there are more.
     fn write_octets<W: fmt::Write>(&self, f: &mut fmt::Formatter<W>) -> fmt::Result {
-        let mut before = " (";
-        for octet in &self.dropped.first {
-            write!(f, "{before}{octet:02x}")?;
-            before = " ";
+        f.write_str(" (")?;
+        for (place, octet) in self.dropped.first.iter().enumerate() {
+            if place > 0 {
+                f.write_str(" ")?;
+            }
+            write!(f, "{octet:02x}")?;
         }
         let are_all = self.dropped.count as usize == self.dropped.first.len();
         f.write_str(if are_all { ")" } else { " ..)" })
