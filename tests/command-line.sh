@@ -114,25 +114,127 @@ run "${rack}# %%%%\n%%%%\n$slave_diag\n"; expect 'two percent signs within a lin
 run "$rack%%%%\n\n"; expect 'an empty line as script' 0 '' ''
 run "${rack%'\n'}"; expect 'a rack without its last LF' 0 '' ''
 
-# ---- words
+# ---- help
 
-run '' --help
-hold 'help' eval '[ "$status" = 0 ] && [ ! -s "$work/err" ] && [[ $(cat "$work/out") == *"rackd run RACK SCRIPT"*"rackd check RACK AUDIT.."*"rackd explain RACK AUDIT.. [--summary]"*"rackd serve RACK [--sessions N] [--audit FOLDER [--endless [--part MB]]]"*"rackd operate PORT [--tick MS] [--step MS]"*"exactly %%"*"'journal'"*"Exit statuses"*"  1  a check that is not legal"* ]]'
-cp "$work/out" "$work/help"
-help=$(cat "$work/help")
-hold 'no row of the help has more than 102 characters' eval '[ "$status" = 0 ] && ! grep -n ".\{103\}" "$work/help"'
+# first lines of the help: of the program, and of each word
+about='rackd simulates a rack of PROFIBUS DP slaves, so that a master can be tried without hardware.'
+declare -A does=(
+  [run]="Run a script on a rack, from two files; 'rackd < INPUT' reads both from standard input"
+  [check]='Check whether a line of the rack would have answered as an audit text says'
+  [explain]="Explain an audit text in words, and check it as 'check' does"
+  [serve]='Serve the lines of a rack to masters and operators at TCP ports of 127.0.0.1'
+  [operate]='Operate a line that is served: send commands and time, and print the answers'
+)
+known=(run check explain serve operate)
+
+# helped NAME FIRST WORD..: the words print the help with this first line, always the same text, which is left in NAME.help
+helped() {
+  local name=$1 first=$2
+  run '' "${@:3}"
+  if [ ! -e "$work/$name.help" ]; then cp "$work/out" "$work/$name.help"; fi
+  hold "help: ${*:3}" eval \
+    '[ "$status" = 0 ] && [ ! -s "$work/err" ] && [ "$(head -n 1 "$work/out")" = "$first" ] && cmp -s "$work/out" "$work/$name.help"'
+}
+
+# has FILE TEXT..: whether a file of $work has these texts, one after another
+has() {
+  local text rest
+  rest=$(cat "$work/$1")
+  for text in "${@:2}"; do
+    [[ $rest == *"$text"* ]] || return 1
+    rest=${rest#*"$text"}
+  done
+}
+
+for form in --help -h help '--help word' '-h run'; do
+  read -ra list <<<"$form"
+  helped rackd "$about" "${list[@]}"
+done
+for word in "${known[@]}"; do
+  helped "$word" "${does[$word]}" "$word" --help
+  helped "$word" "${does[$word]}" "$word" -h
+  helped "$word" "${does[$word]}" help "$word"
+  hold "the help of the program describes $word" has rackd.help "$(printf '\n  %-7s  %s\n' "$word" "${does[$word]}")"
+done
+helped check "${does[check]}" check rack --help
+helped serve "${does[serve]}" serve rack --sessions 1 -h
+helped operate "${does[operate]}" operate 7 --help
+hold 'each word has a help of its own' [ "$(sha256sum "$work"/*.help | cut -d ' ' -f 1 | sort -u | wc -l)" = 6 ]
+hold 'the help of the program has at most 45 lines' [ "$(wc -l <"$work/rackd.help")" -le 45 ]
+hold 'no line of the help has more than 100 characters' eval '! grep -n ".\{101\}" "$work"/*.help'
+hold 'the help of the program: usage, words, options, exit statuses, an example' has rackd.help 'Usage: rackd < INPUT' \
+  'rackd run RACK SCRIPT' 'rackd check RACK AUDIT..' 'rackd explain RACK AUDIT.. [OPTIONS]' 'rackd serve RACK [OPTIONS]' \
+  'rackd operate PORT [OPTIONS]' 'rackd WORD --help' '-h, --help' '-V, --version' 'Exit statuses:' \
+  '  0  ' '  1  ' '  2  ' '  3  ' '  4  ' '  5  ' $'\nExample:\n  rackd '
+hold 'the help of run: usage, arguments, the commands of a script' has run.help 'Usage: rackd run RACK SCRIPT' 'rackd < INPUT' \
+  '<RACK>' '<SCRIPT>' 'exactly %%' '  line N ' '  m M HEX.. ' '  in A HEX ' '  diag A FLAGS HEX ' '  busy A POINT on ' \
+  '  busy A POINT off ' '  tick N ' '  halt ' '  step ' '  owned M ' '  show A ' '  journal ' $'\nExamples:\n  rackd '
+hold 'the help of check: usage, arguments, results' has check.help 'Usage: rackd check RACK AUDIT..' '<RACK>' '<AUDIT>...' \
+  "'ready'" '  legal N ' '  bad line N ' '  not the policy N ' $'\nExamples:\n  rackd '
+hold 'the help of explain: usage, options, ranges' has explain.help \
+  'Usage: rackd explain RACK AUDIT.. [--from N] [--to N] [--slave A] [--master M] [--refused]' '[--summary]' \
+  '--from <N>' '1 to 4294967295 [default: 1]' '--to <N>' '1 to 4294967295' '--slave <A>' '0 to 255' '--master <M>' '0 to 255' \
+  '--refused' '--summary' $'\nExamples:\n  rackd '
+hold 'the help of serve: usage, options, ranges' has serve.help \
+  'Usage: rackd serve RACK [--sessions N] [--audit FOLDER [--endless [--part MB]]] [--log [WHAT]]' \
+  '--sessions <N>' '1 to 1000000 [default: no limit]' '--audit <FOLDER>' '--endless' '4294967295; requires --audit' \
+  '--part <MB>' '1 to 4096' 'requires --endless [default: 16]' '--log [<WHAT>]' "'sessions'" "'requests'" "'ready'" E5 8208 \
+  $'\nExamples:\n  rackd '
+hold 'the help of operate: usage, options, ranges' has operate.help 'Usage: rackd operate PORT [--tick MS] [--step MS]' \
+  '<PORT>' '1 to 65535' '--tick <MS>' '10 to 86400000' '--step <MS>' '1 to 86400000' 'rackd operate 7201'
+
+# the examples of the help, at the top of the repository
+examples=0
+while read -r _ line; do
+  examples=$((examples + 1))
+  read -ra list <<<"$line"
+  (cd "$top" && "$program" "${list[@]}") >"$work/out" 2>"$work/err"
+  status=$?
+  hold "an example of the help: rackd $line" eval '[ "$status" = 0 ] && [ -s "$work/out" ] && [ ! -s "$work/err" ]'
+done < <(grep -h '^  rackd [a-z]* examples/[^<>]*$' "$work"/{rackd,run,check,explain}.help)
+hold 'the help has such examples' [ "$examples" = 5 ]
+help=$(cat "$work/run.help")
 example='[[line]]'${help#*'[[line]]'}
 "$program" <<<"${example%%$'\n\n'*}" >"$work/out" 2>"$work/err"
 status=$?
-hold 'the example of the help' eval '[ "$status" = 0 ] && [ -s "$work/out" ] && says "$help" "$(cat "$work/out")"'
+hold 'the input in the help of run' eval '[ "$status" = 0 ] && [ -s "$work/out" ] && says "$help" "$(cat "$work/out")"'
+
 run '' --version; expect 'version' 0 'rackd 0.1.0' ''
-for words in word -h -V --hel --help=1 --version=1 '' '--line 1' help 'play rack script' run 'run rack' 'run rack script word' \
-  'run --help' 'run --line rack script' check 'check rack' 'check rack audit --version' 'check rack --audit audit' \
+run '' -V; expect 'version by -V' 0 'rackd 0.1.0' ''
+
+# ---- words
+
+# refused WORDS FIRST TEXT..: the words are wrong: standard error begins with this message, and has the texts behind it
+refused() {
+  local list first=$2 texts=("${@:3}")
+  read -ra list <<<"$1"
+  run '' "${list[@]}"
+  hold "the message about wrong words: $1" eval \
+    '[ "$status" = 2 ] && [ ! -s "$work/out" ] && [ "$(head -n 1 "$work/err")" = "error: $first" ] && has err "${texts[@]}"'
+}
+
+try="For more information, try '--help'."
+each_word=('Usage: rackd < INPUT' 'rackd run ' 'rackd check ' 'rackd explain ' 'rackd serve ' 'rackd operate ' 'rackd --help'
+  "$try")
+refused word "unrecognized subcommand 'word'" "${each_word[@]}"
+refused 'help word' "unrecognized subcommand 'word'" "${each_word[@]}"
+refused --hel "unexpected argument '--hel' found" "${each_word[@]}"
+refused 'run rack' 'the following required arguments were not provided:' 'Usage: rackd run RACK SCRIPT' 'rackd run --help' "$try"
+refused 'check rack audit --why' "unexpected argument '--why' found" 'Usage: rackd check RACK AUDIT..' 'rackd check --help' "$try"
+refused 'explain rack audit --from 01' "invalid value '01' for '--from <N>': a number has no sign and no leading zero" \
+  'Usage: rackd explain RACK AUDIT..' 'rackd explain --help' "$try"
+refused 'serve rack --session 1' "unexpected argument '--session' found" 'Usage: rackd serve RACK' 'rackd serve --help' "$try"
+refused 'serve rack --sessions 0' "invalid value '0' for '--sessions <N>': 0 is not in 1..=1000000" "$try"
+refused 'serve rack --log loud' "invalid value 'loud' for '--log [<WHAT>]'" '[possible values: sessions, requests]' "$try"
+refused operate 'the following required arguments were not provided:' 'Usage: rackd operate PORT' 'rackd operate --help' "$try"
+for words in word -x --hel --help=1 --version=1 '' '--line 1' 'help word' 'help run check' 'play rack script' run \
+  'run rack' 'run rack script word' 'run --version' 'run -V' 'run --line rack script' check 'check rack' \
+  'check rack audit --version' 'check rack --audit audit' \
   explain 'explain rack' 'explain rack audit --from' 'explain rack audit --from 0' \
   'explain rack audit --to 4294967296' 'explain rack audit --from 4294967296' 'explain rack audit --slave 256' 'explain rack audit --slave 05' \
   'explain rack audit --master +1' 'explain rack audit --refused 1' 'explain rack audit --summary --summary' \
   'explain rack audit --why' 'check rack audit --summary' \
-  serve 'serve rack word' 'serve --help' 'serve --sessions 1' 'serve rack --sessions' 'serve rack --sessions 0' \
+  serve 'serve rack word' 'serve --sessions 1' 'serve rack --sessions' 'serve rack --sessions 0' \
   'serve rack --sessions 1000001' 'serve rack --sessions x' 'serve rack --sessions -1' \
   'serve rack --sessions 1 --sessions 1' 'serve rack --session 1' 'serve rack --sessions +5' 'serve rack --sessions 05' \
   'serve rack --audit a --renew' 'serve rack --endless' 'serve rack --part 1' 'serve rack --audit a --part 1' \
@@ -290,7 +392,7 @@ run '' serve "$work/same"; expect 'serve: ports in the order of line numbers' 2 
 # ---- operate: words, and a port that nobody listens at
 
 for words in '' x 0 65536 07 +7 -7 '7 8' '7 --tick 9' '7 --tick 010' '7 --tick +10' '7 --tick 86400001' '7 --tick' '7 --step 0' \
-  '7 --step 01' '7 --step x' '7 --step 86400001' '7 --tick 10 --tick 10' '7 --step 1 --step 1' '7 --sessions 1' '7 --help'; do
+  '7 --step 01' '7 --step x' '7 --step 86400001' '7 --tick 10 --tick 10' '7 --step 1 --step 1' '7 --sessions 1'; do
   read -ra list <<<"$words"
   run '' operate "${list[@]}"
   hold "wrong words: operate $words" eval \
@@ -321,6 +423,7 @@ silent() {
 silent 'a script that is done' 0 "$rack"
 closed=4 silent 'a reply' 0 "$rack%%%%\n$slave_diag\n"
 closed=4 silent 'help' 0 '' --help
+closed=4 silent 'help of a word' 0 '' run --help
 closed=4 silent 'version' 0 '' --version
 silent 'a wrong word' 2 "$rack" word
 silent 'a word that is not UTF-8' 2 "$rack" $'\xff'
@@ -358,6 +461,8 @@ printf "$rack%%%%\n$slave_diag\n" >"$work/one"
 "$program" <"$work/one" >/dev/full 2>"$work/err"; status=$?; unwritten 'standard output full'
 "$program" --help >&- 2>"$work/err"; status=$?; unwritten 'help, standard output closed'
 "$program" --help >/dev/full 2>"$work/err"; status=$?; unwritten 'help, standard output full'
+"$program" serve --help >/dev/full 2>"$work/err"; status=$?; unwritten 'help of a word, standard output full'
+"$program" help run >&- 2>"$work/err"; status=$?; unwritten 'help and a word, standard output closed'
 "$program" --version >/dev/full 2>"$work/err"; status=$?; unwritten 'version, standard output full'
 "$program" run "$work/rack" "$work/script" >/dev/full 2>"$work/err"; status=$?; unwritten 'a script in a file, standard output full'
 "$program" check "$work/rack" "$work/audit" >/dev/full 2>"$work/err"; status=$?; unwritten 'a check, standard output full'

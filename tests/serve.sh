@@ -255,7 +255,7 @@ ports masters operators masters_2 operators_2
 for words in '' "$work/rack $work/rack" '--sessions 1' "$work/rack --sessions" "$work/rack --sessions 0" \
   "$work/rack --sessions 1000001" "$work/rack --sessions x" "$work/rack --sessions -1" \
   "$work/rack --sessions 1 --sessions 1" \
-  "$work/rack --session 1" "$work/rack 1" "--help" "$work/none --sessions 0"; do
+  "$work/rack --session 1" "$work/rack 1" "$work/none --sessions 0"; do
   read -ra list <<<"$words"
   run serve "${list[@]}"
   grep -q 'cannot read' "$work/told" || [ ! -s "$work/told" ] && told=no || told=yes

@@ -2,6 +2,7 @@
 #![tactic(auto)]
 
 mod commands;
+mod help;
 mod invocation;
 mod reading;
 

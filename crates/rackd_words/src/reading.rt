@@ -13,11 +13,11 @@ use std::io::ErrorKind;
 
 /// The arguments that are numbers, and their names in messages.
 const NUMBERS: [(&str, &str); 9] = [
-    (FROM, "--from <from>"),
-    (TO, "--to <to>"),
-    (SLAVE, "--slave <slave>"),
-    (MASTER, "--master <master>"),
-    (SESSIONS, "--sessions <sessions>"),
+    (FROM, "--from <N>"),
+    (TO, "--to <N>"),
+    (SLAVE, "--slave <A>"),
+    (MASTER, "--master <M>"),
+    (SESSIONS, "--sessions <N>"),
     (PART, "--part <MB>"),
     (PORT, "<PORT>"),
     (TICK, "--tick <MS>"),

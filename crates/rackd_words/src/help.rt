@@ -1,0 +1,257 @@
+//! What `--help` prints, for the program and for each word.
+//!
+//! `clap` lays the texts out: description, usage, words or arguments, options, details. It does not wrap lines, so each
+//! one ends here before column 100.
+
+/// The help of the program or of a word.
+#[derive(Clone, Copy)]
+pub(crate) struct Help {
+    /// What it does. The description of a word is one line, which the help of the program shows too.
+    pub(crate) about: &'static str,
+    /// The forms of the command line, which messages about wrong words show too.
+    pub(crate) usage: &'static str,
+    /// What follows the options: what is read and written, and examples.
+    pub(crate) details: &'static str,
+}
+
+/// The heading of the list of words.
+pub(crate) const WORDS: &str = "Words ('rackd WORD --help' has the details)";
+
+/// The help of the program.
+pub(crate) const PROGRAM: Help = Help {
+    about: "\
+rackd simulates a rack of PROFIBUS DP slaves, so that a master can be tried without hardware.
+It runs scripts or serves TCP ports, and checks and explains the audit texts that it writes.",
+    usage: "\
+rackd < INPUT
+       rackd run RACK SCRIPT
+       rackd check RACK AUDIT..
+       rackd explain RACK AUDIT.. [OPTIONS]
+       rackd serve RACK [OPTIONS]
+       rackd operate PORT [OPTIONS]
+       rackd --help
+       rackd WORD --help",
+    details: "\
+Exit statuses:
+  0  done
+  1  check, explain: the audit text is not legal
+  2  wrong words; input, a file, a rack or a script that is not accepted; a port that is in use,
+     that nobody listens on or that is closed too early; or an audit file that cannot be made
+  3  out of memory or threads
+  4  standard output cannot be written
+  5  an audit text cannot be written to its file
+
+Example:
+  rackd run examples/audit-rack.toml examples/audit-script.txt",
+};
+
+/// The help of `run`, and of no word.
+pub(crate) const RUN: Help = Help {
+    about: "Run a script on a rack, from two files; 'rackd < INPUT' reads both from standard input",
+    usage: "\
+rackd run RACK SCRIPT
+       rackd < INPUT
+       rackd run --help",
+    details: "\
+INPUT is the text of RACK, a line that is exactly %%, and the text of SCRIPT. 'run' does not
+read standard input.
+
+A script has one command in each line of text. M is the address of a master, A that of a slave.
+HEX is octets as pairs of hex digits; 'in' and 'diag' take - for no octets.
+  # TEXT            A comment; it does nothing, nor does an empty line
+  line N            Choose the line of number N; at the start the first line of the rack is chosen
+  m M HEX..         Master M sends octets: a telegram, several, or a piece of one
+  in A HEX          The operator sets the inputs of slave A
+  diag A FLAGS HEX  The operator reports a diagnosis of slave A; HEX is its extended octets. FLAGS
+                    are the set ones of e (Ext_Diag), s (Stat_Diag), o (Ext_Diag_Overflow), or -
+  busy A POINT on   The operator makes an access point of slave A busy: 'default', or 0 to 255
+  busy A POINT off  The access point is no longer busy
+  tick N            N units of 10 ms pass, 0 to 4294967295
+  halt              The operator halts the line
+  step              The devices of the rack update the inputs of their slaves once
+  owned M           Print the slaves that master M holds
+  show A            Print the state, holder, inputs, outputs and watchdog of slave A
+  journal           Print the audit text of the line: what came, and what was answered
+
+Standard output gets a line for each telegram: the reply, or no reply and the reason, or that it
+was done. It gets a line for each command of the operator too. The run ends at the first wrong
+command.
+
+For example, the input
+
+[[line]]
+number = 1
+capacity = 1000
+masters = [1, 2]
+[[line.slave]]
+address = 5
+ident = 0x80A1
+cfg = \"2111\"
+%%
+m 1 68 05 05 68 85 81 6D 3C 3E ED 16
+
+is answered by
+
+1: reply 680b0b688185083e3c020500ff80a1af16 Done
+
+Examples:
+  rackd < examples/slave-diag.txt
+  rackd run examples/audit-rack.toml examples/audit-script.txt",
+};
+
+/// The help of `check`.
+pub(crate) const CHECK: Help = Help {
+    about: "Check whether a line of the rack would have answered as an audit text says",
+    usage: "\
+rackd check RACK AUDIT..
+       rackd check --help",
+    details: "\
+An audit text begins with its header, a line 'rack-audit ..'. In the output of 'serve' the line
+'ready' comes before it: leave that line out.
+
+Standard output gets one line. The exit status is 0 if the text is legal, else 1.
+  legal N           The text is legal and has N entries
+  bad line N        Line N of the text is the first wrong one: it is badly formed
+  not the policy N  Line N of the text is the first wrong one: the rack would answer otherwise
+
+Examples:
+  rackd check examples/audit-rack.toml examples/audit.txt
+  rackd check rack.toml audit/line-1-1.*.audit",
+};
+
+/// The help of `explain`.
+pub(crate) const EXPLAIN: Help = Help {
+    about: "Explain an audit text in words, and check it as 'check' does",
+    usage: "\
+rackd explain RACK AUDIT.. [--from N] [--to N] [--slave A] [--master M] [--refused]
+             [--summary]
+       rackd explain --help",
+    details: "\
+For each entry, standard output gets what was sent, in the names of the standard, the result and
+its reason, and what changed. The place of an entry is its number, from 1. Only entries that meet
+all given options are explained, and only those before the first wrong line.
+
+The summary of all entries follows: which master held which slave, and how often each rule
+applied. The last line and the exit status are those of 'check': status 0 if the text is legal,
+else 1.
+
+Examples:
+  rackd explain examples/audit-rack.toml examples/audit.txt
+  rackd explain examples/day-of-a-line-rack.toml examples/day-of-a-line.audit --slave 5 --refused",
+};
+
+/// The help of `serve`.
+pub(crate) const SERVE: Help = Help {
+    about: "Serve the lines of a rack to masters and operators at TCP ports of 127.0.0.1",
+    usage: "\
+rackd serve RACK [--sessions N] [--audit FOLDER [--endless [--part MB]]] [--log [WHAT]]
+       rackd serve --help",
+    details: "\
+The rack file gives each line two ports: 'listen' for masters and 'operator' for its operator.
+When rackd listens at all ports, it prints 'ready'. It does not read standard input.
+
+A master sends its address as one octet and gets E5. Then it sends telegrams and gets the replies.
+A master that sends no address for ten seconds is disconnected.
+
+An operator sends the commands of a script other than 'm', 'line' and 'journal' (see
+'rackd run --help'), and gets a line for each. Time passes only by the operator's 'tick';
+'rackd operate --tick' sends it by the clock.
+
+With --sessions, rackd prints the audit text of each line, in the order of line numbers, when all
+connections have ended. Without --sessions, it does not end on its own.
+
+With --audit, an event is in the file before its answer is sent. N is the number of the line, and
+K the first number that is free. 'check' reads such a file as it is. Of the output of --sessions,
+give it the text of one line, from the header 'rack-audit ..' on.
+
+With --endless, memory has only the newest entries of each line: at least half as many as its
+capacity, and at least 8208. The files are line-N-K.000001.audit, line-N-K.000002.audit and so on,
+and standard output gets only 'ready'.
+
+Standard error gets warnings, for example that a line is halted, also without --log.
+
+Examples:
+  rackd serve examples/serve/rack.toml --audit audit --log
+  rackd serve examples/serve/rack.toml --audit audit --endless --part 100
+  rackd serve examples/serve/rack.toml --sessions 1 > served.txt",
+};
+
+/// The help of `operate`.
+pub(crate) const OPERATE: Help = Help {
+    about: "Operate a line that is served: send commands and time, and print the answers",
+    usage: "\
+rackd operate PORT [--tick MS] [--step MS]
+       rackd operate --help",
+    details: "\
+Each line of standard input goes to the port, and its answer to standard output. The commands are
+those of a script other than 'm', 'line' and 'journal' (see 'rackd run --help'). The answers to
+--tick and --step are printed only if they report something.
+
+It ends when each line of standard input is answered. With --tick or --step, it continues until a
+signal ends it or the server closes the connection.
+
+Examples:
+  echo 'show 5' | rackd operate 7201
+  rackd operate 7201 --tick 100 --step 500",
+};
+
+/// The argument for the rack.
+pub(crate) const RACK: &str =
+    "Rack file (TOML): lines, each with its masters and slaves; a line is one bus";
+
+/// The argument of `run` for the script.
+pub(crate) const SCRIPT: &str = "Script: one command in each line of text";
+
+/// The argument for the audit text.
+pub(crate) const AUDIT: &str = "Audit text: one or more files, which are read one after another";
+
+/// The argument of `operate` for the port.
+pub(crate) const PORT: &str = "Port 'operator' of the line, at 127.0.0.1: 1 to 65535";
+
+/// The options of `explain`.
+pub(crate) const FROM: &str = "Explain entries from place N on: 1 to 4294967295 [default: 1]";
+
+pub(crate) const TO: &str =
+    "Explain entries up to place N: 1 to 4294967295 [default: the last one]";
+
+pub(crate) const SLAVE: &str =
+    "Explain only what concerns the slave at address A: 0 to 255 [default: all]";
+
+pub(crate) const MASTER: &str =
+    "Explain only requests of the master at address M: 0 to 255 [default: all]";
+
+pub(crate) const REFUSED: &str = "Explain only requests that were refused";
+
+pub(crate) const SUMMARY: &str =
+    "Explain no entries; print the summary and the result of the check";
+
+/// The options of `serve`.
+pub(crate) const SESSIONS: &str = "\
+Accept N connections at each port, and end when all have ended:
+1 to 1000000 [default: no limit]";
+
+pub(crate) const FOLDER: &str = "\
+Write the audit text of each line to a new file line-N-K.audit in FOLDER
+[default: no files]";
+
+pub(crate) const ENDLESS: &str = "\
+Let lines continue after the capacity in the rack file, up to place
+4294967295; requires --audit";
+
+pub(crate) const PART: &str = "\
+Begin the next file of an audit text after MB megabytes: 1 to 4096;
+requires --endless [default: 16]";
+
+pub(crate) const LOG: &str = "\
+Log to standard error: 'sessions' for connections, ends of sessions and
+octets that are no telegram, 'requests' for each request and answer too
+[default: only warnings; if WHAT is missing: sessions]";
+
+/// The options of `operate`.
+pub(crate) const TICK: &str = "\
+Every MS milliseconds, send the time that has passed, so that watchdogs run:
+10 to 86400000 [default: send no time]";
+
+pub(crate) const STEP: &str = "\
+Every MS milliseconds, the devices update the inputs of their slaves:
+1 to 86400000 [default: no updates]";
