@@ -1,6 +1,6 @@
 mod Writing
 mod Recording
 mod Opening
-mod Serving
+mod LinesServed
 mod Sharing
 mod RacksServed

@@ -1,4 +1,4 @@
--- Lines that are opened, and the seats of workers at them.
+-- Opened lines, and the seats of workers at them.
 use Rattle.std.proofs.Common.{◌≡◌, map, Bool, true, false, refl, List, [], ◌∷◌, ◌++◌, All, sym, ap, subst}
 use Rattle.std.proofs.lemmas.List.Elements.{All-weaker}
 use Rattle.std.proofs.lemmas.Slice.Zip.{all_zipped_more}
@@ -12,7 +12,7 @@ use Rattle.rack_server.specs.declared.served_line.ServedLine.{ServedLine}
 use Rattle.rack_server.specs.ServedLines.{as_opened, line_numbers}
 use Rattle.rack_server.specs.ServeOutput.{AreOpened, IsOneMore, line_at, specs_of}
 
--- there is one port more, and these are seats at it
+-- there is one more port, and these are seats at it
 pub record AreFresh {L : Type 0} (before after : List (LineAndClaims L Claiming)) (fresh : List Seated) : Type 0 where
   pub port : LineAndClaims L Claiming
   pub more : after ≡ before ++ port ∷ []
@@ -22,13 +22,13 @@ pub record AreFresh {L : Type 0} (before after : List (LineAndClaims L Claiming)
 pub new_seats : (claims : Claiming) (fresh : List Seated) → All (IsNewSeat claims.table) fresh → All (IsSeatAt claims) fresh
 new_seats claims fresh all = All-weaker (IsNewSeat claims.table) (IsSeatAt claims) (λ seat new. (new.0, ap (λ v. v.held) new.1)) fresh all
 
--- a worker with a seat at each port and one at the new one
+-- a worker with a seat at each port and a seat at the new port
 pub one_more_seat : {L : Type 0} (before after : List (LineAndClaims L Claiming)) (fresh : List Seated) (own : List Seated) (seat : Seated)
     → (new : AreFresh before after fresh) → HasSeats before own → IsSeatAt new.port.claims seat → HasSeats after (own ++ seat ∷ [])
 one_more_seat before after fresh own seat new has here =
     subst (λ ports. HasSeats ports (own ++ seat ∷ [])) (sym new.more) (all_zipped_more (λ port s. IsSeatAt port.claims s) before own new.port seat has here)
 
--- one line more is opened
+-- one more line is opened
 pub opened_more : {S V P C : Type 0} (lines longer : List ServedLine) (line : ServedLine) (before after : List (LineAndClaims (OneSlot S V LineSpec P) C))
     → longer ≡ lines ++ line ∷ [] → AreOpened lines before → IsOneMore line.spec before after → AreOpened longer after
 opened_more lines longer line before after more so_far (port, grown, here) =
@@ -47,7 +47,7 @@ opened_numbers endless [] = refl
 opened_numbers true (line ∷ lines) = ap (λ ns. line.spec.number ∷ ns) (opened_numbers true lines)
 opened_numbers false (line ∷ lines) = ap (λ ns. line.spec.number ∷ ns) (opened_numbers false lines)
 
--- a line that isn't endless is opened as it is
+-- an ordinary line is opened unchanged
 pub opened_as_they_are : (lines : List ServedLine) → map (as_opened false) lines ≡ lines
 opened_as_they_are [] = refl
 opened_as_they_are (line ∷ lines) = ap (λ ls. line ∷ ls) (opened_as_they_are lines)

@@ -1,4 +1,4 @@
--- A rack that is served: its lines by its description, and how that ends.
+-- A rack that is served: its lines by its description, and the result.
 use Rattle.std.proofs.Common.{◌≡◌, ℕ, Bool, false, ◌&&◌, List, [], ◌∷◌, length, map, Option, Some, None, is_some, option_and_then, option_map, Result, Ok, Err, All, Contains, IsPermutation, inl, inr, refl, sym, ap, subst, ◌∙◌}
 use Rattle.std.specs.Borrow.{Bor}
 use Rattle.std.specs.List.{AllByRecursion, list_all}
@@ -7,21 +7,22 @@ use Rattle.std.proofs.lemmas.List.Elements.{All-from_recursion, recursion_from_A
 use Rattle.std.proofs.lemmas.List.Sorted.{All-permutation, Contains-permutation, IsPermutation-map, IsPermutation-sym, length_permutation}
 use Rattle.dp_line.specs.World.{description_of, opening_fault}
 use Rattle.dp_line.specs.declared.description.LineSpec.{LineSpec}
+use Rattle.rack_file.specs.Gives.{Fails}
 use Rattle.rack_file.specs.Rack.{LineDescription, RackDescription, line_described}
+use Rattle.rack_file.specs.declared.fault.RackFault.{RackFault}
 use Rattle.rack_file.specs.declared.fault.RackFault.TheVariants as racks
 use Rattle.rack_file.specs.declared.rack.RackLine.{RackLine}
+use Rattle.rack_files.specs.AuditPaths.{IsFileIn, IsFolderOrFileIn}
+use Rattle.rack_files.specs.declared.audit_path.AuditPath.{AuditPath}
 use Rattle.rack_server.specs.declared.serve.Served.{Served}
 use Rattle.rack_server.specs.declared.serve_fault.ServeFault.{ServeFault}
 use Rattle.rack_server.specs.declared.serve_fault.ServeFault.TheVariants as faults
-use Rattle.dp_script.specs.declared.run_fault.RunFault.{RunFault}
-use Rattle.dp_script.specs.declared.run_fault.RunFault.TheVariants as runs
 use Rattle.rack_server.specs.declared.served_line.ServedLine.{ServedLine}
-use Rattle.rack_server.specs.declared.serve_fault.AuditPath.{AuditPath}
-use Rattle.rack_server.specs.AuditPaths.{IsFileIn, IsFolderOrFileIn}
+use Rattle.rack_server.specs.ServeFaults.{of_rack_fault}
 use Rattle.rack_server.specs.ServedLines.{AreInOrder, ArePutInOrder, all_served, line_numbers, served_line, with_both}
-use Rattle.rack_server.specs.ServeOutput.{AreLinesOf, IsListeningFault, ServesLines, ServesRack, described, has_ports, rack_numbers}
+use Rattle.rack_server.specs.ServeOutput.{AreLinesOf, IsListeningFault, Serves, ServesLines, ServesRack, described, has_ports, rack_numbers}
 use Rattle.rack_server.proofs.Recording.{file_grows, path_grows}
-use Rattle.rack_server.proofs.Serving.{same_list, some_parts}
+use Rattle.rack_server.proofs.LinesServed.{same_list, some_parts}
 use Rattle.rack_server.proofs.Writing.{keeps_same}
 
 -- ---- lines by their descriptions
@@ -62,7 +63,7 @@ open_by_recursion : (lines : List ServedLine) → AllByRecursion (λ line. openi
 open_by_recursion [] all = tt
 open_by_recursion (x ∷ xs) all = (all.0, open_by_recursion xs all.1)
 
--- where each line of the rack can be opened, each line that is put in order can
+-- if each line of the rack can be opened, so can each line that is put in order
 pub served_open : (lines : List RackLine) (all served : List ServedLine) → all_served lines ≡ Some all → AreInOrder all served
     → All (λ line. opening_fault line.line ≡ None) (map line_described lines) → All (λ line. opening_fault (description_of line.spec) ≡ None) served
 served_open lines all served e order fit =
@@ -94,7 +95,7 @@ numbers_described : (lines : List ServedLine) → map described_number (map desc
 numbers_described [] = refl
 numbers_described (x ∷ xs) = ap (λ ns. x.spec.number ∷ ns) (numbers_described xs)
 
--- a line that is served is one of the rack
+-- a line that is served is a line of the rack
 pub number_of_rack : (rack : RackDescription) (lines : List ServedLine) → AreLinesOf rack lines → (n : ℕ) → Contains (line_numbers lines) n → Contains (rack_numbers rack) n
 number_of_rack rack lines are n among =
     Contains-permutation (map described_number (map described lines)) (rack_numbers rack) n
@@ -109,43 +110,53 @@ path_of_rack : (folder : Option (Bor (List ℕ))) (rack : RackDescription) (line
     → IsFolderOrFileIn folder (rack_numbers rack) path
 path_of_rack folder rack lines path are = path_grows folder (line_numbers lines) (rack_numbers rack) (number_of_rack rack lines are) path
 
--- ---- how it ends
+-- ---- the result
 
--- lines that aren't put in order
-pub refused_lines : (folder : Option (Bor (List ℕ))) (endless : Bool) (workers : ℕ) (lines : List RackLine) (old : Option (List ℕ)) (fault : RunFault) → ArePutInOrder (all_served lines) (Err fault)
-    → ServesRack folder endless (record { workers = workers; lines = map line_described lines }) old old (Err (faults.Run fault))
-refused_lines folder endless workers lines old runs.OutOfMemory told = inl (keeps_same old)
-refused_lines folder endless workers lines old (runs.Rack racks.BadKey) told = (some_port_is_missing lines told, keeps_same old)
-refused_lines folder endless workers lines old (runs.Rack racks.OutOfMemory) never = absurd never
-refused_lines folder endless workers lines old (runs.Rack racks.NotToml) never = absurd never
-refused_lines folder endless workers lines old (runs.Rack racks.TwiceLine) never = absurd never
-refused_lines folder endless workers lines old (runs.Rack (racks.Open position fault)) never = absurd never
-refused_lines folder endless workers lines old (runs.Script line) never = absurd never
-refused_lines folder endless workers lines old runs.WriteFault never = absurd never
+-- the text describes no rack, for this reason
+refused_for : (folder : Option (Bor (List ℕ))) (endless : Bool) (read : Result RackDescription RackFault) (old : Option (List ℕ)) (fault : RackFault) → read ≡ Err fault
+    → Serves folder endless read old old (Err (faults.Rack fault))
+refused_for folder endless read old fault is = subst (λ r. Serves folder endless r old old (Err (faults.Rack fault))) (sym is) (refl, keeps_same old)
 
--- lines that aren't listened at
+-- the rack is not accepted
+pub refused_rack : (folder : Option (Bor (List ℕ))) (endless : Bool) (read : Result RackDescription RackFault) (old : Option (List ℕ)) (fault : RackFault) → Fails fault read
+    → Serves folder endless read old old (Err (of_rack_fault fault))
+refused_rack folder endless (Ok rack) old racks.OutOfMemory is = inl (keeps_same old)
+refused_rack folder endless (Err other) old racks.OutOfMemory is = keeps_same old
+refused_rack folder endless read old racks.NotToml is = refused_for folder endless read old racks.NotToml is
+refused_rack folder endless read old racks.BadKey is = refused_for folder endless read old racks.BadKey is
+refused_rack folder endless read old racks.TwiceLine is = refused_for folder endless read old racks.TwiceLine is
+refused_rack folder endless read old (racks.Open position fault) is = refused_for folder endless read old (racks.Open position fault) is
+
+-- the lines are not put in order
+pub refused_lines : (folder : Option (Bor (List ℕ))) (endless : Bool) (workers : ℕ) (lines : List RackLine) (old : Option (List ℕ)) (fault : RackFault) → ArePutInOrder (all_served lines) (Err fault)
+    → ServesRack folder endless (record { workers = workers; lines = map line_described lines }) old old (Err (of_rack_fault fault))
+refused_lines folder endless workers lines old racks.OutOfMemory is = inl (keeps_same old)
+refused_lines folder endless workers lines old racks.BadKey is = (some_port_is_missing lines is, keeps_same old)
+refused_lines folder endless workers lines old racks.NotToml never = absurd never
+refused_lines folder endless workers lines old racks.TwiceLine never = absurd never
+refused_lines folder endless workers lines old (racks.Open position fault) never = absurd never
+
+-- the lines are not listened at
 pub refused_ports : (folder : Option (Bor (List ℕ))) (endless : Bool) (rack : RackDescription) (lines : List ServedLine) (old : Option (List ℕ)) (fault : ServeFault) → AreLinesOf rack lines → IsListeningFault lines fault
     → ServesRack folder endless rack old old (Err fault)
 refused_ports folder endless rack lines old (faults.CannotListen port cause) of_rack among = (lines, of_rack, among, keeps_same old)
-refused_ports folder endless rack lines old (faults.Run runs.OutOfMemory) of_rack told = inl (keeps_same old)
-refused_ports folder endless rack lines old (faults.Run (runs.Rack fault)) of_rack never = absurd never
-refused_ports folder endless rack lines old (faults.Run (runs.Script line)) of_rack never = absurd never
-refused_ports folder endless rack lines old (faults.Run runs.WriteFault) of_rack never = absurd never
+refused_ports folder endless rack lines old faults.OutOfMemory of_rack is = inl (keeps_same old)
+refused_ports folder endless rack lines old (faults.Rack fault) of_rack never = absurd never
+refused_ports folder endless rack lines old faults.WriteFault of_rack never = absurd never
 refused_ports folder endless rack lines old (faults.CannotMake path cause) of_rack never = absurd never
 refused_ports folder endless rack lines old (faults.CannotWrite path cause) of_rack never = absurd never
 
--- lines that are served in part, or not recorded
+-- the lines are served in part, or an audit text is not begun or incomplete
 stopped : (folder : Option (Bor (List ℕ))) (endless : Bool) (rack : RackDescription) (lines : List ServedLine) (old new : Option (List ℕ)) (fault : ServeFault) → AreLinesOf rack lines → ServesLines folder endless lines old new (Err fault)
     → ServesRack folder endless rack old new (Err fault)
 stopped folder endless rack lines old new (faults.CannotMake path cause) of_rack (at, same) = (path_of_rack folder rack lines path of_rack at, same)
-stopped folder endless rack lines old new (faults.CannotWrite path cause) of_rack (cut, served) = ((file_of_rack folder rack lines path of_rack cut.0, cut.1), (lines, of_rack, served))
-stopped folder endless rack lines old new (faults.Run runs.OutOfMemory) of_rack part = inr (lines, of_rack, part)
-stopped folder endless rack lines old new (faults.Run runs.WriteFault) of_rack part = inr (lines, of_rack, part)
-stopped folder endless rack lines old new (faults.Run (runs.Rack fault)) of_rack never = absurd never
-stopped folder endless rack lines old new (faults.Run (runs.Script line)) of_rack never = absurd never
+stopped folder endless rack lines old new (faults.CannotWrite path cause) of_rack (incomplete, served) = ((file_of_rack folder rack lines path of_rack incomplete.0, incomplete.1), (lines, of_rack, served))
+stopped folder endless rack lines old new faults.OutOfMemory of_rack part = inr (lines, of_rack, part)
+stopped folder endless rack lines old new faults.WriteFault of_rack part = inr (lines, of_rack, part)
+stopped folder endless rack lines old new (faults.Rack fault) of_rack never = absurd never
 stopped folder endless rack lines old new (faults.CannotListen port cause) of_rack never = absurd never
 
--- lines that are listened at
+-- the lines are listened at
 pub rack_served : (folder : Option (Bor (List ℕ))) (endless : Bool) (rack : RackDescription) (lines : List ServedLine) (old new : Option (List ℕ)) (result : Result Served ServeFault) → AreLinesOf rack lines
     → ServesLines folder endless lines old new result → ServesRack folder endless rack old new result
 rack_served folder endless rack lines old new (Ok served) of_rack all = (lines, of_rack, all)

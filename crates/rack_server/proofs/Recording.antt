@@ -5,18 +5,17 @@ use Rattle.std.specs.Option.{option_or}
 use Rattle.std.proofs.lemmas.List.{map-append, take_more}
 use Rattle.std.proofs.lemmas.List.Elements.{Contains-append_left, Contains-append_right, Contains-push}
 use Rattle.std.proofs.lemmas.Slice.Zip.{all_zipped_more}
-use Rattle.dp_script.specs.declared.run_fault.RunFault.TheVariants as runs
-use Rattle.rack_server.specs.declared.audit_file.Incomplete.{Incomplete}
+use Rattle.rack_files.specs.AuditPaths.{IsFileIn, IsFolderOrFileIn, IsOfLine, in_part}
+use Rattle.rack_files.specs.FileFaults.{IsRecordingFault}
+use Rattle.rack_files.specs.declared.audit_file.IncompleteFile.{IncompleteFile}
+use Rattle.rack_files.specs.declared.audit_path.AuditPath.{AuditPath}
+use Rattle.rack_files.specs.declared.audit_path.AuditPath.TheVariants as paths
+use Rattle.rack_files.specs.declared.file_fault.FileFault.{FileFault}
+use Rattle.rack_files.specs.declared.file_fault.FileFault.TheVariants as faults
 use Rattle.rack_server.specs.declared.recorder.Recorder.{Recorder}
-use Rattle.rack_server.specs.declared.serve_fault.AuditPath.{AuditPath}
-use Rattle.rack_server.specs.declared.serve_fault.AuditPath.TheVariants as paths
-use Rattle.rack_server.specs.declared.serve_fault.ServeFault.{ServeFault}
-use Rattle.rack_server.specs.declared.serve_fault.ServeFault.TheVariants as faults
 use Rattle.rack_server.specs.declared.served_line.ServedLine.{ServedLine}
-use Rattle.rack_server.specs.AuditPaths.{AreRecordedIn, IsFileIn, IsFolderOrFileIn, IsOfLine, IsPartOfOne, in_part}
-use Rattle.rack_server.specs.Recordings.{paths_of}
+use Rattle.rack_server.specs.Recordings.{AreRecordedIn, IsPartOfOne, paths_of}
 use Rattle.rack_server.specs.ServedLines.{line_numbers, number_of}
-use Rattle.rack_server.specs.ServeOutput.{IsRecordingFault}
 
 -- ---- the number of a line
 
@@ -46,24 +45,19 @@ path_grows None few many grows path never = absurd never
 path_grows (Some folder) few many grows (paths.Folder named) is = is
 path_grows (Some folder) few many grows (paths.File named line number part) is = (is.0, grows line is.1)
 
-pub fault_grows : (folder : Option (Bor (List ℕ))) (few many : List ℕ) → ((n : ℕ) → Contains few n → Contains many n) → (fault : ServeFault)
+pub fault_grows : (folder : Option (Bor (List ℕ))) (few many : List ℕ) → ((n : ℕ) → Contains few n → Contains many n) → (fault : FileFault)
     → IsRecordingFault folder few fault → IsRecordingFault folder many fault
 fault_grows folder few many grows (faults.CannotMake path cause) is = path_grows folder few many grows path is
-fault_grows folder few many grows (faults.Run runs.OutOfMemory) is = is
-fault_grows folder few many grows (faults.Run (runs.Rack fault)) never = absurd never
-fault_grows folder few many grows (faults.Run (runs.Script line)) never = absurd never
-fault_grows folder few many grows (faults.Run runs.WriteFault) never = absurd never
-fault_grows folder few many grows (faults.CannotListen port cause) never = absurd never
-fault_grows folder few many grows (faults.CannotWrite path cause) never = absurd never
+fault_grows folder few many grows faults.OutOfMemory is = is
 
--- the fault of one line is one of lines among which it is
-pub fault_among : (folder : Option (Bor (List ℕ))) (numbers : List ℕ) (line : ℕ) (fault : ServeFault) → Contains numbers line → IsRecordingFault folder (line ∷ []) fault
+-- a fault of one line is a fault of lines that contain it
+pub fault_among : (folder : Option (Bor (List ℕ))) (numbers : List ℕ) (line : ℕ) (fault : FileFault) → Contains numbers line → IsRecordingFault folder (line ∷ []) fault
     → IsRecordingFault folder numbers fault
 fault_among folder numbers line fault among = fault_grows folder (line ∷ []) numbers (λ n. one_among numbers line n among) fault
 
--- ---- what records lines
+-- ---- recorders
 
--- a line more is recorded
+-- one more line is recorded
 pub recorded_more : {N T : Type 0} (folder : List ℕ) (lines : List ServedLine) (i : ℕ) (line : ServedLine) (before after : List (Recorder N T)) (recorder : Recorder N T)
     → i < length lines → get_or lines i line ≡ line → AreRecordedIn folder (line_numbers (take i lines)) (paths_of before) → after ≡ before ++ recorder ∷ []
     → IsOfLine folder line.spec.number recorder.file.path → AreRecordedIn folder (line_numbers (take (i + 1) lines)) (paths_of after)
@@ -71,7 +65,7 @@ recorded_more folder lines i line before after recorder within is so_far more he
     rw (take_more lines i line within, is, more, map-append number_of (take i lines) (line ∷ []), map-append (λ (r : Recorder _ _). r.file.path) before (recorder ∷ []))
     (all_zipped_more (IsOfLine folder) (line_numbers (take i lines)) (paths_of before) line.spec.number recorder.file.path so_far here)
 
--- the file of a line is one of those of lines among which it is, and so is each part of its text
+-- each part of a line's text is a file of lines that contain the line
 of_one : (folder : Bor (List ℕ)) (number : ℕ) (later : List ℕ) (text : AuditPath) (part : Option ℕ) → IsOfLine folder.now number text → IsFileIn (Some folder) (number ∷ later) (in_part text part)
 of_one folder number later (paths.Folder named) part never = absurd never
 of_one folder number later (paths.File named line of_text other) part (is, same) = (is, (0, omega arith, sym same))
@@ -85,29 +79,29 @@ recorded_at folder (n ∷ ns) (p ∷ ps) text part zero each within is = of_one 
 recorded_at folder (n ∷ ns) (p ∷ ps) text part (suc k) each within is =
     file_grows (Some folder) ns (n ∷ ns) (λ m there. Contains-append_right (n ∷ []) ns m there) (in_part text part) (recorded_at folder ns ps text part k each.1 (omega arith) is)
 
--- a file of one of these texts, if one is told, is in the folder
-pub incomplete_in : (folder : Bor (List ℕ)) (numbers : List ℕ) (all : List AuditPath) (told : Option Incomplete) → AreRecordedIn folder.now numbers all
-    → IfSome told (λ lacking. IsPartOfOne all lacking.path) → IfSome told (λ lacking. IsFileIn (Some folder) numbers lacking.path)
+-- a file of one of these texts, if one is found, is in the folder
+pub incomplete_in : (folder : Bor (List ℕ)) (numbers : List ℕ) (all : List AuditPath) (found : Option IncompleteFile) → AreRecordedIn folder.now numbers all
+    → IfSome found (λ file. IsPartOfOne all file.path) → IfSome found (λ file. IsFileIn (Some folder) numbers file.path)
 incomplete_in folder numbers all None each among = tt
-incomplete_in folder numbers all (Some lacking) each (text, part, (k, within, is), same) =
+incomplete_in folder numbers all (Some file) each (text, part, (k, within, is), same) =
     subst (IsFileIn (Some folder) numbers) (sym same) (recorded_at folder numbers all text part k each within is)
 
--- ---- the first file that isn't complete
+-- ---- the first incomplete file
 
 one_more_text : (done : List AuditPath) (text path : AuditPath) → IsPartOfOne done path → IsPartOfOne (done ++ text ∷ []) path
 one_more_text done text path (of, part, among, same) = (of, part, Contains-append_left done (text ∷ []) of among, same)
 
-either_file : (done : List AuditPath) (text : AuditPath) (first next : Option Incomplete) → IfSome first (λ lacking. IsPartOfOne done lacking.path)
-    → IfSome next (λ lacking. (part : Option ℕ) × (lacking.path ≡ in_part text part)) → IfSome (option_or first next) (λ lacking. IsPartOfOne (done ++ text ∷ []) lacking.path)
+either_file : (done : List AuditPath) (text : AuditPath) (first next : Option IncompleteFile) → IfSome first (λ file. IsPartOfOne done file.path)
+    → IfSome next (λ file. (part : Option ℕ) × (file.path ≡ in_part text part)) → IfSome (option_or first next) (λ file. IsPartOfOne (done ++ text ∷ []) file.path)
 either_file done text None None before here = tt
-either_file done text None (Some lacking) before (part, same) = (text, part, Contains-push done text, same)
-either_file done text (Some lacking) next before here = one_more_text done text lacking.path before
+either_file done text None (Some file) before (part, same) = (text, part, Contains-push done text, same)
+either_file done text (Some file) next before here = one_more_text done text file.path before
 
--- one file more was looked at
-pub first_more : {N T : Type 0} (done : List (Recorder N T)) (recorder : Recorder N T) (first next now : Option Incomplete) → now ≡ option_or first next
-    → IfSome first (λ lacking. IsPartOfOne (paths_of done) lacking.path) → IfSome next (λ lacking. (part : Option ℕ) × (lacking.path ≡ in_part recorder.file.path part))
-    → IfSome now (λ lacking. IsPartOfOne (paths_of (done ++ recorder ∷ [])) lacking.path)
+-- one more text was completed
+pub first_more : {N T : Type 0} (done : List (Recorder N T)) (recorder : Recorder N T) (first next now : Option IncompleteFile) → now ≡ option_or first next
+    → IfSome first (λ file. IsPartOfOne (paths_of done) file.path) → IfSome next (λ file. (part : Option ℕ) × (file.path ≡ in_part recorder.file.path part))
+    → IfSome now (λ file. IsPartOfOne (paths_of (done ++ recorder ∷ [])) file.path)
 first_more done recorder first next now is before here =
-    subst (λ told. IfSome told (λ lacking. IsPartOfOne (paths_of (done ++ recorder ∷ [])) lacking.path)) (sym is)
-    (subst (λ ps. IfSome (option_or first next) (λ lacking. IsPartOfOne ps lacking.path)) (sym (map-append (λ (r : Recorder _ _). r.file.path) done (recorder ∷ [])))
+    subst (λ found. IfSome found (λ file. IsPartOfOne (paths_of (done ++ recorder ∷ [])) file.path)) (sym is)
+    (subst (λ ps. IfSome (option_or first next) (λ file. IsPartOfOne ps file.path)) (sym (map-append (λ (r : Recorder _ _). r.file.path) done (recorder ∷ [])))
     (either_file (paths_of done) recorder.file.path first next before here))

@@ -1,8 +1,7 @@
 -- What a writer has after some writes.
-use Rattle.std.proofs.Common.{◌≡◌, ℕ, List, [], ◌++◌, Option, Some, None, Result, Ok, Err, OnErr, refl, sym, ap, ◌∙◌, append_assoc}
+use Rattle.std.proofs.Common.{ℕ, List, [], ◌++◌, Option, Some, None, refl, sym, ap, ◌∙◌, append_assoc}
 use Rattle.std.specs.Io.KnownBytes.{Appends, Keeps}
 use Rattle.std.proofs.lemmas.List.{append-nil}
-use Rattle.dp_text.specs.Writes.{WritesPrefix}
 
 pub appends_none : (old : Option (List ℕ)) → Appends old old []
 appends_none None = tt
@@ -28,17 +27,3 @@ pub keeps_nothing : (old new : Option (List ℕ)) → Keeps old new → Appends 
 keeps_nothing None new same = tt
 keeps_nothing (Some xs) None same = absurd same
 keeps_nothing (Some xs) (Some ys) same = same ∙ sym (append-nil xs)
-
--- a text is written, and then a prefix of more
-pub more_prefix : (old new newer : Option (List ℕ)) (text more rest all : List ℕ) → Appends old new text → WritesPrefix new newer more → text ++ (more ++ rest) ≡ all
-    → WritesPrefix old newer all
-more_prefix old new newer text more rest all written cut whole = (
-  text ++ cut.0,
-  cut.1 ++ rest,
-  sym whole ∙ ap (λ (m : List ℕ). text ++ (m ++ rest)) cut.2 ∙ simp append_assoc,
-  appends_more old new newer text cut.0 written cut.3,
-)
-
-pub on_err : {T E P : Type 0} (r : Result T E) → P → OnErr r P
-on_err (Ok x) p = tt
-on_err (Err e) p = p

@@ -1,4 +1,4 @@
-pub mod AuditPaths
 pub mod Recordings
+pub mod ServeFaults
 pub mod ServedLines
 pub mod ServeOutput

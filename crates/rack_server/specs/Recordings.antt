@@ -1,8 +1,18 @@
--- The files of what records lines (own).
-use Rattle.std.specs.Prelude.{List, map}
+-- The audit texts of recorders (own).
+use Rattle.std.specs.Prelude.{◌≡◌, ℕ, List, map, Option, Contains}
+use Rattle.std.specs.List.{AllZip}
+use Rattle.rack_files.specs.AuditPaths.{IsOfLine, in_part}
+use Rattle.rack_files.specs.declared.audit_path.AuditPath.{AuditPath}
 use Rattle.rack_server.specs.declared.recorder.Recorder.{Recorder}
-use Rattle.rack_server.specs.declared.serve_fault.AuditPath.{AuditPath}
 
 -- the paths of the texts of these recorders, in their order
 abbrev pub paths_of : {N T : Type 0} → List (Recorder N T) → List AuditPath
 paths_of recorders = map (λ recorder. recorder.file.path) recorders
+
+-- a line with each of these numbers has a text of its own in the folder
+abbrev pub AreRecordedIn : List ℕ → List ℕ → List AuditPath → Type 0
+AreRecordedIn folder numbers paths = AllZip (IsOfLine folder) numbers paths
+
+-- a file of one of these texts
+abbrev pub IsPartOfOne : List AuditPath → AuditPath → Type 0
+IsPartOfOne texts path = (text : AuditPath) × (part : Option ℕ) × Contains texts text × (path ≡ in_part text part)

@@ -1,38 +1,40 @@
 //! Accepting the connections of a port.
 
-use crate::doors::Doors;
+use crate::accept_gate::AcceptGate;
 use std::io::ErrorKind;
 use std::net::{TcpListener, TcpStream};
 use std::sync::Wait;
 use std::time::{Clock, Duration};
 use std::{io, thread};
 
-/// How long a thread rests after a failed accept, in milliseconds.
-const REST: u64 = 10;
+/// How long a thread sleeps after a failed accept, in milliseconds.
+const RETRY_DELAY_MS: u64 = 10;
 
-/// What accepts connections. It stands for a type of acceptor where threads start, since the check finds there
-/// that it may go to a thread by that bound alone.
+/// Accepts connections.
+///
+/// Functions that start threads are generic over this trait, since the check derives from such a bound that an acceptor may be
+/// sent to a thread.
 pub(crate) trait Accept: Sized + Drop {
-    /// Where it listens.
+    /// Returns the listener.
     fn listener(&self) -> &TcpListener;
 
-    /// Takes a connection; whether it takes further ones.
+    /// Takes a connection. Returns whether it takes further ones.
     fn take<H: Wait>(&self, rt: &H, stream: TcpStream) -> bool;
 
     /// Reports why a connection was not accepted.
     fn report<H: Wait>(&self, rt: &H, error: io::Error);
 
-    /// Accepts `sessions` connections, while the doors are open. Reports the first one of failed accepts in a row.
-    fn accept_all<H: Wait + Clock>(self, rt: &H, doors: &Doors, sessions: u64) {
+    /// Accepts `sessions` connections, until the gate stops. Of consecutive failed accepts it reports only the first.
+    fn accept_all<H: Wait + Clock>(self, rt: &H, gate: &AcceptGate, sessions: u64) {
         let mut left = sessions;
         let mut reported = false;
         for _ in rt.forever() {
-            if left == 0 || !doors.are_open(rt) {
+            if left == 0 || !gate.is_accepting(rt) {
                 return;
             }
             match next_connection(rt, self.listener()) {
                 Ok(stream) => {
-                    if !doors.are_open(rt) || !self.take(rt, stream) {
+                    if !gate.is_accepting(rt) || !self.take(rt, stream) {
                         return;
                     }
                     left -= 1;
@@ -50,14 +52,15 @@ pub(crate) trait Accept: Sized + Drop {
     }
 }
 
-/// A connection, or why there is none, after a rest. An accept that a signal interrupted is tried again at once.
+/// Waits for a connection and returns it. Returns an error after a delay. If a signal interrupts the accept, it is repeated at
+/// once.
 fn next_connection<H: Wait + Clock>(rt: &H, listener: &TcpListener) -> io::Result<TcpStream> {
     for _ in rt.forever() {
         match listener.accept() {
             Ok((stream, _)) => return Ok(stream),
             Err(error) if error.kind() == ErrorKind::Interrupted => {}
             Err(error) => {
-                thread::sleep(rt, Duration::from_millis(REST));
+                thread::sleep(rt, Duration::from_millis(RETRY_DELAY_MS));
                 return Err(error);
             }
         }

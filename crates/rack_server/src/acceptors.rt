@@ -1,92 +1,93 @@
-//! What accepts the connections of a rack.
+//! The acceptors of a rack.
 
 ghost use Rattle.std.specs.Prelude.{◌≡◌, ◌≤◌, ◌+◌, [], ◌∷◌, ◌++◌, IfOk, OnOk, length, map};
 ghost use Rattle.std.specs.List.{range_with_len};
 ghost use Rattle.rack_server.specs.ServeOutput.{AreOpened};
 
-use crate::attendance::Attendance;
-use crate::listening::Listening;
+use crate::listening::Listeners;
 use crate::masters::{MasterAcceptor, MasterJob};
-use crate::operators::{Desk, OperatorAcceptor};
+use crate::operators::{OperatedLine, OperatorAcceptor};
 use crate::served_line::ServedLine;
+use crate::server_context::ServerContext;
 use crossbeam_channel::Sender;
 use dp_sessions::Port;
 use dp_trail::CatchUp;
-use std::alloc::{AllocError, Global};
+use std::alloc::AllocError;
 use std::marker::PhantomData;
 use std::net::TcpListener;
 use std::sync::Wait;
 
-/// What accepts the connections of a rack.
+/// The acceptors of a rack: two for each line.
 #[derive(Drop)]
 pub(crate) struct Acceptors<'a, H: Wait, C, K> {
     pub(crate) masters: Vec<MasterAcceptor<'a, H, C, K>>,
-    pub(crate) operators: Vec<OperatorAcceptor<'a, Desk<'a>, H, C, K>>,
+    pub(crate) operators: Vec<OperatorAcceptor<'a, OperatedLine<'a>, H, C, K>>,
 }
 
 impl<'a, H: Wait, C: CatchUp<K>, K: Drop> Acceptors<'a, H, C, K> {
-    /// Those of these lines, which are listened at, each with what records it; or memory was refused. The sender
-    /// of jobs is gone with the last of those of masters.
-    pub(crate) fn of(
-        alloc: Global,
-        listening: Vec<Listening<TcpListener>>,
+    /// Returns the acceptors of these lines, each with the recorder of its line. The channel of jobs closes when the last
+    /// acceptor of masters is dropped.
+    ///
+    /// Returns an error if memory is refused.
+    pub(crate) fn new(
+        context: &'a ServerContext<'a, H>,
+        listening: Vec<Listeners<TcpListener>>,
         lines: &'a [ServedLine],
         ports: &'a [Port],
         recorders: &'a [C],
         jobs: Sender<MasterJob<'a, H, C, K>>,
-        attendance: &'a Attendance<'a, H>,
     ) -> Result<Acceptors<'a, H, C, K>, AllocError>
         requires opened { AreOpened lines.now ports.now }
         requires each { length listening.items ≡ length lines.now }
         requires recorded { length recorders.now ≡ length lines.now }
         requires few { length lines.now ≤ 8 }
         ensures masters { IfOk result (λ all. map (λ acceptor. acceptor.port) all.masters.items ≡ range_with_len 0 (length ports.now)) }
-        ensures operators { IfOk result (λ all. map (λ acceptor. acceptor.desk.port.now) all.operators.items ≡ ports.now) }
+        ensures operators { IfOk result (λ all. map (λ acceptor. acceptor.target.port.now) all.operators.items ≡ ports.now) }
     {
         let mut all = Acceptors {
-            masters: Vec::new(alloc),
-            operators: Vec::new(alloc),
+            masters: Vec::new(context.alloc),
+            operators: Vec::new(context.alloc),
         };
         for here in listening {
             let place = all.masters.len();
-            let desk = Desk {
+            let target = OperatedLine {
                 port: &ports[place],
-                line: &lines[place].spec,
+                spec: &lines[place].spec,
             };
             let jobs = jobs.clone()?;
-            all.add(here, place as u8, desk, jobs, &recorders[place], attendance)?;
+            all.add(here, place as u8, target, jobs, &recorders[place], context)?;
         }
         Ok(all)
     }
 
-    /// Adds those of one line more, whose port has this place.
+    /// Adds the acceptors of one more line, whose port has this index.
     fn add(
         &mut self,
-        here: Listening<TcpListener>,
+        here: Listeners<TcpListener>,
         port: u8,
-        desk: Desk<'a>,
+        target: OperatedLine<'a>,
         jobs: Sender<MasterJob<'a, H, C, K>>,
         recorder: &'a C,
-        attendance: &'a Attendance<'a, H>,
+        context: &'a ServerContext<'a, H>,
     ) -> Result<(), AllocError>
         ensures masters { OnOk result (map (λ acceptor. acceptor.port) self.new.masters.items ≡ map (λ acceptor. acceptor.port) self.old.masters.items ++ port ∷ []) }
-        ensures operators { OnOk result (map (λ acceptor. acceptor.desk.port.now) self.new.operators.items ≡ map (λ acceptor. acceptor.desk.port.now) self.old.operators.items ++ desk.entry.port.now ∷ []) }
+        ensures operators { OnOk result (map (λ acceptor. acceptor.target.port.now) self.new.operators.items ≡ map (λ acceptor. acceptor.target.port.now) self.old.operators.items ++ target.entry.port.now ∷ []) }
         ensures longer { OnOk result (length self.new.masters.items ≡ length self.old.masters.items + 1) }
     {
         self.masters.push(MasterAcceptor {
             listener: here.masters,
             port,
-            line: desk.line.number,
+            line: target.spec.number,
             jobs,
             recorder,
-            attendance,
+            context,
         })?;
         self.operators.push(OperatorAcceptor {
             listener: here.operators,
-            desk,
+            target,
             recorder,
             caught_up: PhantomData,
-            attendance,
+            context,
         })?;
         Ok(())
     }

@@ -1,10 +1,13 @@
-//! The audit texts of lines that are served no more.
+//! The audit texts of lines on standard output, after serving has ended.
+//!
+//! A line is closed once every thread has ended, so no pass is out, and `close` is tried once. If it fails, a pass is still out,
+//! and the program ends with status 3. That can't happen, but no clause states it.
 
 ghost use Rattle.std.specs.Prelude.{map};
 ghost use Rattle.dp_shared.specs.Passes.{line_of};
-ghost use Rattle.rack_server.specs.ServeOutput.{EndsLines, WritesAudit, line_at};
+ghost use Rattle.rack_server.specs.ServeOutput.{WritesAudit, WritesAudits, line_at};
 
-use dp_script::RunFault;
+use crate::serve_fault::OutputFault;
 use dp_sessions::{LineAndClaims, Port};
 use dp_shared::Line;
 use std::alloc::Global;
@@ -12,14 +15,13 @@ use std::io::Write;
 
 /// Closes the lines and writes the audit text of each, in their order.
 ///
-/// `WriteFault` where a write failed. `OutOfMemory` where a pass of a line is still out, which no session
-/// leaves at its end.
+/// Returns `WriteFault` if a write fails, or `OutOfMemory` if a line still has a pass. A session returns its pass when it ends.
 pub(crate) fn write_audits<W: Write>(
     alloc: Global,
     ports: Vec<Port>,
     writer: &mut W,
-) -> Result<(), RunFault>
-    ensures { EndsLines (map line_at ports.items) (W.contents writer.old) (W.contents writer.new) result }
+) -> Result<(), OutputFault>
+    ensures { WritesAudits (map line_at ports.items) (W.contents writer.old) (W.contents writer.new) result }
 {
     for port in ports {
         let LineAndClaims { line, .. } = port;
@@ -32,14 +34,14 @@ pub(crate) fn write_audits<W: Write>(
 }
 
 /// Closes a line and writes its audit text.
-fn write_audit<W: Write>(alloc: Global, line: Line, writer: &mut W) -> Result<(), RunFault>
+fn write_audit<W: Write>(alloc: Global, line: Line, writer: &mut W) -> Result<(), OutputFault>
     ensures { WritesAudit (line_of line) (W.contents writer.old) (W.contents writer.new) result }
 {
     let Ok(closed) = line.close(Vec::new(alloc)) else {
-        return Err(RunFault::OutOfMemory);
+        return Err(OutputFault::OutOfMemory);
     };
     match closed.book().write_text(writer) {
         Ok(()) => Ok(()),
-        Err(_) => Err(RunFault::WriteFault),
+        Err(_) => Err(OutputFault::WriteFault),
     }
 }

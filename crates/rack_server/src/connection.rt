@@ -1,6 +1,6 @@
 //! The connection of a session.
 
-use crate::attendance::Attendance;
+use crate::server_context::ServerContext;
 use dp_trail::{CatchUp, Trailed};
 use log::Log;
 use std::io::{Error, ErrorKind, Read, Result, Write};
@@ -9,96 +9,98 @@ use std::sync::Wait;
 use std::time::{Clock, Duration};
 use web_requests::Screened;
 
-/// How long a read or a write waits before it looks at the doors, in milliseconds.
-const MOMENT: u64 = 100;
+/// How long a read or a write waits before it checks whether serving has stopped, in milliseconds.
+const POLL_INTERVAL_MS: u64 = 100;
 
-/// How many moments the address of a master may take: 10 s.
-pub(crate) const FIRST_MOMENTS: u32 = 100;
+/// How many poll intervals a master has to send its address: 10 s.
+///
+/// Without this limit as many silent clients as there are workers would keep the masters of all lines waiting. A master that has
+/// its `E5` may stay silent without limit.
+pub(crate) const ADDRESS_POLLS: u32 = 100;
 
-/// One direction of a connection, which is waited for in moments, and is used behind what records the line.
-type Connection<'a, H, C, K, S> = Trailed<'a, 'a, H, Patient<'a, H, S>, C, K>;
+/// One direction of a connection. Each read or write polls, after what records the line has caught up.
+type Connection<'a, H, C, K, S> = Trailed<'a, 'a, H, PollingStream<'a, H, S>, C, K>;
 
-/// Where a connection is read.
-pub(crate) type Heard<'a, H, C, K> = Connection<'a, H, C, K, Screened<TcpStream>>;
+/// Reads from a connection.
+pub(crate) type ConnectionReader<'a, H, C, K> = Connection<'a, H, C, K, Screened<TcpStream>>;
 
-/// Where a connection is written.
-pub(crate) type Answered<'a, H, C, K> = Connection<'a, H, C, K, TcpStream>;
+/// Writes to a connection.
+pub(crate) type ConnectionWriter<'a, H, C, K> = Connection<'a, H, C, K, TcpStream>;
 
-/// A connection to a line that was accepted, to be read and to be written. Its first read may take so many moments, if there
-/// is a bound.
-pub(crate) fn connect<'a, H: Wait + Log + Clock, C: CatchUp<K>, K: Drop>(
-    attendance: &'a Attendance<'a, H>,
+/// Returns the reader and the writer of an accepted connection. `polls` is the number of poll intervals that the first read may
+/// take, or `None` if it has no limit.
+pub(crate) fn open_connection<'a, H: Wait + Log + Clock, C: CatchUp<K>, K: Drop>(
+    context: &'a ServerContext<'a, H>,
     recorder: &'a C,
     line: u8,
     stream: TcpStream,
-    moments: Option<u32>,
-) -> Result<(Heard<'a, H, C, K>, Answered<'a, H, C, K>)> {
-    prepare(&stream)?;
-    let reader = Patient {
-        attendance,
+    polls: Option<u32>,
+) -> Result<(ConnectionReader<'a, H, C, K>, ConnectionWriter<'a, H, C, K>)> {
+    set_options(&stream)?;
+    let reader = PollingStream {
+        context,
         line,
         stream: Screened::new(stream.try_clone()?),
-        moments,
+        polls_left: polls,
     };
-    let writer = Patient {
-        attendance,
+    let writer = PollingStream {
+        context,
         line,
         stream,
-        moments: None,
+        polls_left: None,
     };
     Ok((
-        Trailed::new(attendance.rt, recorder, reader),
-        Trailed::new(attendance.rt, recorder, writer),
+        Trailed::new(context.rt, recorder, reader),
+        Trailed::new(context.rt, recorder, writer),
     ))
 }
 
-/// Has reads and writes of a connection wait for a moment at most, and its octets leave at once.
-fn prepare(stream: &TcpStream) -> Result<()> {
-    let moment = Some(Duration::from_millis(MOMENT));
+/// Limits each read and write to one poll interval, and turns off the delay of small packets.
+fn set_options(stream: &TcpStream) -> Result<()> {
+    let interval = Some(Duration::from_millis(POLL_INTERVAL_MS));
     stream.set_nodelay(true)?;
-    stream.set_read_timeout(moment)?;
-    stream.set_write_timeout(moment)
+    stream.set_read_timeout(interval)?;
+    stream.set_write_timeout(interval)
 }
 
-/// A stream whose reads and writes time out every 100 ms, to check the doors, and are then tried again. They fail with
-/// `TimedOut` once the doors are shut for good. A call that a signal interrupted is tried again at once.
+/// A stream whose reads and writes are repeated after each poll interval. They fail with `TimedOut` once serving has stopped.
+/// A call that a signal interrupts is repeated at once and doesn't count as waiting, because for dp_sessions a read that fails
+/// ends the session.
 #[derive(Drop)]
-pub(crate) struct Patient<'a, H, S: Drop> {
-    attendance: &'a Attendance<'a, H>,
+pub(crate) struct PollingStream<'a, H, S: Drop> {
+    context: &'a ServerContext<'a, H>,
     /// The number of the line.
     line: u8,
     stream: S,
-    /// How many moments more the first read may take, if there is a bound.
-    moments: Option<u32>,
+    /// How many poll intervals the first read may still take, or `None` if it has no limit.
+    polls_left: Option<u32>,
 }
 
-impl<H: Wait + Log + Clock, S: Drop> Patient<'_, H, S> {
-    /// A moment has passed; whether one more may.
-    fn may_wait(&mut self) -> bool {
-        if let Some(moments) = self.moments {
-            self.moments = Some(moments.saturating_sub(1));
-            if moments <= 1 {
+impl<H: Wait + Log + Clock, S: Drop> PollingStream<'_, H, S> {
+    /// Counts a poll interval. Returns whether the call may wait for another one.
+    fn may_poll_again(&mut self) -> bool {
+        if let Some(polls) = self.polls_left {
+            self.polls_left = Some(polls.saturating_sub(1));
+            if polls <= 1 {
                 return false;
             }
         }
-        !self.attendance.doors.are_shut(self.attendance.rt)
+        !self.context.gate.has_stopped(self.context.rt)
     }
 
-    /// Returns Ok if a failed read or write is to be tried again, else the error that it fails with.
-    fn try_again(&mut self, error: Error) -> Result<()> {
+    /// Returns `Ok` if a failed read or write is to be repeated, otherwise the error that it fails with.
+    fn check_error(&mut self, error: Error) -> Result<()> {
         match error.kind() {
             ErrorKind::Interrupted => Ok(()),
             ErrorKind::WouldBlock | ErrorKind::TimedOut => {
-                if self.may_wait() {
+                if self.may_poll_again() {
                     Ok(())
                 } else {
                     Err(Error::from(ErrorKind::TimedOut))
                 }
             }
             ErrorKind::InvalidData => {
-                self.attendance
-                    .notes
-                    .web_request(self.attendance.rt, self.line);
+                self.context.notes.web_request(self.context.rt, self.line);
                 Err(error)
             }
             _ => Err(error),
@@ -106,29 +108,29 @@ impl<H: Wait + Log + Clock, S: Drop> Patient<'_, H, S> {
     }
 }
 
-impl<H: Wait + Log + Clock, R: Read + Drop> Read for Patient<'_, H, R> {
+impl<H: Wait + Log + Clock, R: Read + Drop> Read for PollingStream<'_, H, R> {
     fn read(&mut self, buf: &mut [u8]) -> Result<usize> {
-        for _ in self.attendance.rt.forever() {
+        for _ in self.context.rt.forever() {
             match self.stream.read(buf) {
                 Ok(count) => {
-                    self.moments = None;
+                    self.polls_left = None;
                     return Ok(count);
                 }
-                // The client has left without reading all of its answers.
+                // The client closed the connection without reading all of its answers.
                 Err(error) if error.kind() == ErrorKind::ConnectionReset => return Ok(0),
-                Err(error) => self.try_again(error)?,
+                Err(error) => self.check_error(error)?,
             }
         }
         unreachable!()
     }
 }
 
-impl<H: Wait + Log + Clock, W: Write + Drop> Write for Patient<'_, H, W> {
+impl<H: Wait + Log + Clock, W: Write + Drop> Write for PollingStream<'_, H, W> {
     fn write(&mut self, buf: &[u8]) -> Result<usize> {
-        for _ in self.attendance.rt.forever() {
+        for _ in self.context.rt.forever() {
             match self.stream.write(buf) {
                 Ok(count) => return Ok(count),
-                Err(error) => self.try_again(error)?,
+                Err(error) => self.check_error(error)?,
             }
         }
         unreachable!()

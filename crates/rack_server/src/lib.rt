@@ -1,20 +1,16 @@
-//! A rack that is served at sockets: its lines at their ports, and their audit texts in files while that lasts.
+//! Serves a rack at sockets: its lines at their ports, and their audit texts in files meanwhile.
 //!
-//! A connection is accepted by the thread of its port (`accept`), and becomes a reader and a writer that wait in
-//! moments and are used behind what records the line (`connection`). That of a master goes by a queue to the first
-//! worker that is free (`masters`, `threads`), which reads its address and serves its session; that of an operator is
-//! served by the thread of its port (`operators`).
+//! The thread of a port accepts a connection (`accept`) and makes a reader and a writer of it, which poll and first let the
+//! recorder of the line catch up (`connection`). A master's connection goes through a queue to the first free worker
+//! (`masters`, `threads`), which reads the address and serves the session. An operator's connection is served by the thread of
+//! its port (`operators`).
 #![tactic(auto)]
 
 mod accept;
+mod accept_gate;
 mod acceptors;
-mod attendance;
-mod attending;
-mod audit_file;
-mod audit_writer;
 mod audits;
 mod connection;
-mod doors;
 mod host;
 mod listening;
 mod masters;
@@ -24,8 +20,11 @@ mod recorder;
 mod serve;
 mod serve_fault;
 mod served_line;
+mod server_context;
+mod serving;
 mod threads;
 
-pub use host::{Host, NewFiles};
+pub use host::Host;
+pub use rack_files::AuditPath;
 pub use serve::{Served, serve_text};
-pub use serve_fault::{AuditPath, ServeFault};
+pub use serve_fault::ServeFault;

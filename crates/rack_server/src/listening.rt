@@ -6,25 +6,24 @@ ghost use Rattle.rack_server.specs.ServeOutput.{IsListeningFault};
 use crate::serve_fault::ServeFault;
 use crate::served_line::ServedLine;
 use dp_cause::Cause;
-use dp_script::RunFault;
 use std::alloc::Global;
 use std::net::{Ipv4Addr, Net, TcpListener};
 
-/// Where a line listens.
+/// The listeners of a line.
 #[derive(Drop)]
-pub(crate) struct Listening<L> {
+pub(crate) struct Listeners<L> {
     pub(crate) masters: L,
     pub(crate) operators: L,
 }
 
-/// Listens at the two ports of each line in turn, that for masters first.
+/// Listens at the two ports of each line in turn, first at the port for masters.
 ///
-/// `CannotListen` with the first port that can't be had, or `OutOfMemory`; then nothing is listened at.
+/// Returns `CannotListen` with the first port that cannot be listened at, or `OutOfMemory`. All ports are closed then.
 pub(crate) fn listen_at_lines<'a, N: Net>(
     net: &N,
     alloc: Global,
     lines: &[ServedLine],
-) -> Result<Vec<Listening<N::Listener>>, ServeFault<'a>>
+) -> Result<Vec<Listeners<N::Listener>>, ServeFault<'a>>
     ensures each { IfOk result (λ all. length all.items ≡ length lines.now) }
     ensures fault { IfErr result (IsListeningFault lines.now) }
 {
@@ -38,14 +37,14 @@ pub(crate) fn listen_at_lines<'a, N: Net>(
             Ok(operators) => operators,
             Err(cause) => return Err(ServeFault::CannotListen(line.operator, cause)),
         };
-        if all.push(Listening { masters, operators }).is_err() {
-            return Err(ServeFault::Run(RunFault::OutOfMemory));
+        if all.push(Listeners { masters, operators }).is_err() {
+            return Err(ServeFault::OutOfMemory);
         }
     }
     Ok(all)
 }
 
-/// Listens at a port of this machine, for clients on it; or why that can't be had.
+/// Listens at a port of the loopback address. Returns the cause if that fails.
 fn listen_at<N: Net>(net: &N, lines: &[ServedLine], port: u16) -> Result<N::Listener, Cause> {
     match TcpListener::bind(net, (Ipv4Addr::LOCALHOST, port)) {
         Ok(listener) => Ok(listener),
@@ -56,22 +55,23 @@ fn listen_at<N: Net>(net: &N, lines: &[ServedLine], port: u16) -> Result<N::List
     }
 }
 
-/// Two ports of these lines have this number.
+/// Returns whether two ports of these lines have this number.
 fn is_twice(lines: &[ServedLine], port: u16) -> bool {
     let masters = lines.iter().filter(|line| line.listen == port).count();
     let operators = lines.iter().filter(|line| line.operator == port).count();
     masters > 1 || operators > 1 || masters == 1 && operators == 1
 }
 
-/// Makes sure that each worker and the operator of each line can have a connection at one time, which takes two
-/// descriptors, and that each line can have a file and wait for one more connection, for which the system sets a
-/// descriptor aside: as many are taken, and given back.
+/// Checks that there are enough file descriptors, by duplicating a listener and closing the duplicates.
 ///
-/// `CannotListen` with the first port where they can't be had, or `OutOfMemory`.
-pub(crate) fn try_connections<'a>(
+/// Each worker and the operator of each line may have a connection at one time, which takes two descriptors. Each line may also
+/// have a file and one connection that waits to be accepted, for which the system reserves a descriptor.
+///
+/// Returns `CannotListen` with the first port if there are too few descriptors, or `OutOfMemory`.
+pub(crate) fn check_descriptors<'a>(
     alloc: Global,
     lines: &[ServedLine],
-    listening: &[Listening<TcpListener>],
+    listening: &[Listeners<TcpListener>],
     workers: u8,
 ) -> Result<(), ServeFault<'a>>
     ensures { IfErr result (IsListeningFault lines.now) }
@@ -87,10 +87,13 @@ pub(crate) fn try_connections<'a>(
     for _ in 0..2 * (connections + lines.len()) {
         let descriptor = match here.masters.try_clone() {
             Ok(descriptor) => descriptor,
-            Err(error) => return Err(ServeFault::CannotListen(line.listen, Cause::from_error(&error))),
+            Err(error) => return Err(ServeFault::CannotListen(
+                line.listen,
+                Cause::from_error(&error),
+            )),
         };
         if held.push(descriptor).is_err() {
-            return Err(ServeFault::Run(RunFault::OutOfMemory));
+            return Err(ServeFault::OutOfMemory);
         }
     }
     Ok(())

@@ -1,8 +1,8 @@
-//! The masters of a line: accepted, and handed to the workers.
+//! Accepting the masters of a line, and passing their sessions to the workers.
 
 use crate::accept::Accept;
-use crate::attendance::Attendance;
-use crate::connection::{Answered, FIRST_MOMENTS, Heard, connect};
+use crate::connection::{ADDRESS_POLLS, ConnectionReader, ConnectionWriter, open_connection};
+use crate::server_context::ServerContext;
 use crossbeam_channel::Sender;
 use dp_sessions::Job;
 use dp_trail::CatchUp;
@@ -12,31 +12,34 @@ use std::net::{TcpListener, TcpStream};
 use std::sync::Wait;
 use std::time::Clock;
 
-/// A session of a master, at a socket.
-pub(crate) type MasterJob<'a, H, C, K> = Job<Heard<'a, H, C, K>, Answered<'a, H, C, K>>;
+/// A session of a master on a connection, for a worker.
+pub(crate) type MasterJob<'a, H, C, K> = Job<
+    ConnectionReader<'a, H, C, K>,
+    ConnectionWriter<'a, H, C, K>,
+>;
 
-/// Accepts the masters of a line, and hands their sessions to the workers.
+/// Accepts the masters of a line, and passes their sessions to the workers.
 #[derive(Drop)]
 pub(crate) struct MasterAcceptor<'a, H: Wait, C, K> {
     pub(crate) listener: TcpListener,
-    /// The place of its port among those of the pool.
+    /// The index of the port among those of the workers.
     pub(crate) port: u8,
     /// The number of the line.
     pub(crate) line: u8,
     pub(crate) jobs: Sender<MasterJob<'a, H, C, K>>,
     pub(crate) recorder: &'a C,
-    pub(crate) attendance: &'a Attendance<'a, H>,
+    pub(crate) context: &'a ServerContext<'a, H>,
 }
 
 impl<'a, H: Wait + Log + Clock, C: CatchUp<K>, K: Drop> MasterAcceptor<'a, H, C, K> {
-    /// The session of a master at a connection.
+    /// Returns the session of a master on a connection.
     fn job_of(&self, stream: TcpStream) -> io::Result<MasterJob<'a, H, C, K>> {
-        let (reader, writer) = connect(
-            self.attendance,
+        let (reader, writer) = open_connection(
+            self.context,
             self.recorder,
             self.line,
             stream,
-            Some(FIRST_MOMENTS),
+            Some(ADDRESS_POLLS),
         )?;
         Ok(Job {
             port: self.port,
@@ -54,7 +57,7 @@ impl<L: Wait + Log + Clock, C: CatchUp<K>, K: Drop> Accept for MasterAcceptor<'_
     fn take<H: Wait>(&self, rt: &H, stream: TcpStream) -> bool {
         match self.job_of(stream) {
             Ok(job) => {
-                self.attendance.notes.waits(rt, self.port);
+                self.context.notes.waits(rt, self.port);
                 self.jobs.send(rt, job).is_ok()
             }
             Err(error) => {
@@ -65,6 +68,6 @@ impl<L: Wait + Log + Clock, C: CatchUp<K>, K: Drop> Accept for MasterAcceptor<'_
     }
 
     fn report<H: Wait>(&self, rt: &H, error: io::Error) {
-        self.attendance.notes.cannot_accept(rt, self.line, error);
+        self.context.notes.cannot_accept(rt, self.line, error);
     }
 }

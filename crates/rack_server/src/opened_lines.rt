@@ -12,22 +12,26 @@ use dp_sessions::Port;
 use dp_shared::{Claims, Line, WorkerSeat};
 use std::alloc::{AllocError, Global};
 
-/// The fewest entries for which memory is reserved for an endless line. Between two looks of a trail, 16 masters may each
-/// have one read and what their cutter holds answered, at most 255 and 254 octets with as many requests, and an operator one
-/// `step`, 64 inputs: 8,208 in all. At least half of the entries are always kept, so a trail is not overtaken.
+/// The minimum number of entries that an endless line stores.
+///
+/// Between two looks of a trail, each of 16 masters may have the octets of one read answered, and those that its cutter held.
+/// These are at most 255 and 254 octets, and at most as many requests. An operator may have one `step` of 64 inputs answered.
+/// The sum is 8,208 entries. An endless line always keeps at least half of its entries, so its trail is not overtaken.
 const LEAST_WINDOW: u32 = 16_416;
 
 /// Lines that threads share, and for each worker a seat at each of them, in the same order.
 #[derive(Drop)]
 pub(crate) struct OpenedLines {
-    /// The lines as they were opened: an endless one has its places.
+    /// The lines with the number of places with which they were opened.
     pub(crate) lines: Vec<ServedLine>,
     pub(crate) ports: Vec<Port>,
     /// The seats of each worker.
     pub(crate) seats: Vec<Vec<WorkerSeat>>,
 }
 
-/// The lines at their start, for so many workers; or memory, or a table, was refused.
+/// Opens lines in their initial state, for this number of workers.
+///
+/// Returns an error if memory or a table is refused.
 pub(crate) fn open_lines(
     alloc: Global,
     lines: Vec<ServedLine>,
@@ -47,7 +51,9 @@ pub(crate) fn open_lines(
     Ok(opened)
 }
 
-/// Opens a line, and changes its description to that of the line that was opened; or memory, or a table, was refused.
+/// Opens a line, and changes its description to that of the opened line.
+///
+/// Returns an error if memory or a table is refused.
 fn open_line(alloc: Global, line: &mut ServedLine, is_endless: bool) -> Result<Line, AllocError>
     requires { opening_fault (description_of line.old.spec) ≡ None }
     ensures { IfOk result (λ opened. (line.new ≡ as_opened is_endless line.old) × (line_of opened ≡ line.new.spec)) }
@@ -62,7 +68,7 @@ fn open_line(alloc: Global, line: &mut ServedLine, is_endless: bool) -> Result<L
 }
 
 impl OpenedLines {
-    /// No line, and so many workers without a seat.
+    /// Returns no lines, and this number of workers without seats.
     fn none(alloc: Global, workers: u8) -> Result<OpenedLines, AllocError>
         ensures lines { IfOk result (λ opened. opened.lines.items ≡ []) }
         ensures ports { IfOk result (λ opened. opened.ports.items ≡ []) }
@@ -80,7 +86,7 @@ impl OpenedLines {
         })
     }
 
-    /// One line more.
+    /// Opens one more line, and adds it with a seat for each worker.
     fn with_line(
         self,
         alloc: Global,

@@ -1,11 +1,11 @@
-//! The operators of a line: accepted, and served one after another.
+//! Accepting the operators of a line, and serving them one after another.
 
 ghost use Rattle.std.specs.Prelude.{◌≡◌};
 ghost use Rattle.dp_shared.specs.Passes.{line_of};
 
 use crate::accept::Accept;
-use crate::attendance::{Attendance, TURNS};
-use crate::connection::connect;
+use crate::connection::open_connection;
+use crate::server_context::{MAX_READS, ServerContext};
 use dp_line::LineSpec;
 use dp_sessions::{Port, serve_operator_at};
 use dp_trail::CatchUp;
@@ -17,53 +17,61 @@ use std::sync::Wait;
 use std::sync::atomic::Ordering::SeqCst;
 use std::time::Clock;
 
-/// A line and its description, for sessions of operators.
+/// A line and its description, for the sessions of its operators.
 #[derive(Drop)]
-pub(crate) struct Desk<'a> {
+pub(crate) struct OperatedLine<'a> {
     /// The line.
     pub(crate) port: &'a Port,
-    /// Its description.
-    pub(crate) line: &'a LineSpec,
-    ghost described: { line_of port.now.line ≡ line.now },
+    /// The description of the line.
+    pub(crate) spec: &'a LineSpec,
+    ghost described: { line_of port.now.line ≡ spec.now },
 }
 
-/// Accepts the operators of a line, and serves one after another. It is generic, since the check finds that it may
-/// go to a thread by the facts of its type parameters, and not where it would have to look into the types of a line.
+/// Accepts the operators of a line, and serves one after another.
+///
+/// It is generic in the line. The check derives from the type parameters that the acceptor may be sent to a thread, but not from
+/// the types that a line consists of.
 #[derive(Drop)]
 pub(crate) struct OperatorAcceptor<'a, D, H, C, K> {
     pub(crate) listener: TcpListener,
-    /// The line.
-    pub(crate) desk: D,
+    /// The line that is operated.
+    pub(crate) target: D,
     pub(crate) recorder: &'a C,
     pub(crate) caught_up: PhantomData<K>,
-    pub(crate) attendance: &'a Attendance<'a, H>,
+    pub(crate) context: &'a ServerContext<'a, H>,
 }
 
-impl<L: Wait + Log + Clock, C: CatchUp<K>, K: Drop> OperatorAcceptor<'_, Desk<'_>, L, C, K> {
-    /// Serves an operator at a connection.
+impl<L: Wait + Log + Clock, C: CatchUp<K>, K: Drop> OperatorAcceptor<
+    '_,
+    OperatedLine<'_>,
+    L,
+    C,
+    K,
+> {
+    /// Serves an operator on a connection.
     fn serve(&self, stream: TcpStream) -> io::Result<()> {
-        let (attendance, line) = (self.attendance, self.desk.line.number);
-        let connected = connect::<L, C, K>(attendance, self.recorder, line, stream, None)?;
-        let (mut reader, mut writer) = connected;
-        let (rt, notes) = (attendance.rt, attendance.notes);
+        let (context, line) = (self.context, self.target.spec.number);
+        let opened = open_connection::<L, C, K>(context, self.recorder, line, stream, None)?;
+        let (mut reader, mut writer) = opened;
+        let (rt, notes) = (context.rt, context.notes);
         notes.operator_connected(rt, line);
         let end = serve_operator_at(
             rt,
             &mut reader,
             &mut writer,
-            self.desk.port,
-            self.desk.line,
+            self.target.port,
+            self.target.spec,
             notes,
-            TURNS,
+            MAX_READS,
         );
         notes.operator_ended(rt, line, end);
-        attendance.operators.fetch_add(1, SeqCst);
+        context.operators.fetch_add(1, SeqCst);
         Ok(())
     }
 }
 
 impl<L: Wait + Log + Clock, C: CatchUp<K>, K: Drop> Accept
-    for OperatorAcceptor<'_, Desk<'_>, L, C, K> {
+    for OperatorAcceptor<'_, OperatedLine<'_>, L, C, K> {
     fn listener(&self) -> &TcpListener {
         &self.listener
     }
@@ -76,8 +84,8 @@ impl<L: Wait + Log + Clock, C: CatchUp<K>, K: Drop> Accept
     }
 
     fn report<H: Wait>(&self, rt: &H, error: io::Error) {
-        self.attendance
+        self.context
             .notes
-            .cannot_accept(rt, self.desk.line.number, error);
+            .cannot_accept(rt, self.target.spec.number, error);
     }
 }

@@ -1,4 +1,4 @@
-//! A rack, served at sockets.
+//! Serving a rack at sockets.
 
 ghost use Rattle.std.specs.Prelude.{◌≡◌, ◌≤◌, ◌-◌, ◌^◌, All, None, is_some, length, unwrap_or};
 ghost use Rattle.dp_sessions.specs.Pools.{HasSeats};
@@ -7,21 +7,20 @@ ghost use Rattle.rack_file.specs.Rack.{rack_described};
 ghost use Rattle.rack_file.specs.RackFile.{rack_in};
 ghost use Rattle.rack_server.specs.ServeOutput.{AreOpened, Serves, ServesLines, ServesRack};
 
-use crate::attending::attend_lines;
+use crate::accept_gate::AcceptGate;
 use crate::audits::write_audits;
-use crate::doors::Doors;
 use crate::host::Host;
-use crate::listening::{Listening, listen_at_lines, try_connections};
+use crate::listening::{Listeners, check_descriptors, listen_at_lines};
 use crate::opened_lines::{OpenedLines, open_lines};
 use crate::serve_fault::ServeFault;
 use crate::served_line::{ServedLine, lines_to_serve};
+use crate::serving::serve_connections;
 use dp_notes::{LineNumbers, Notes};
-use dp_script::RunFault;
 use rack_file::laws::{
     accepted_lines_can_be_opened, accepted_racks_have_1_to_8_lines,
     accepted_racks_have_1_to_32_workers,
 };
-use rack_file::{Rack, RackFault, read_rack};
+use rack_file::{Rack, read_rack};
 use rackd_words::Service;
 use std::alloc::Global;
 use std::io::Write;
@@ -36,16 +35,19 @@ pub struct Served {
     pub operators: u32,
 }
 
-/// Serves the rack that a text describes on this machine, at the ports of its lines: so many connections at
-/// each port, or without end. It writes `ready`, and when all sessions have ended the audit text of each line,
-/// in ascending order of their numbers; of endless lines it writes `ready` only.
+/// Serves the rack that a text describes at the ports of its lines on this machine. Each port accepts the number of connections
+/// that `service` names, or any number.
 ///
-/// `Rack` where the rack isn't accepted or a line has no port, `CannotListen` where a port can't be had, or descriptors
-/// for its connections, `CannotMake` where the folder or a file for an audit text can't be had, and then nothing is
-/// written; `WriteFault`; `OutOfMemory` also where a thread is refused. Where that is so only behind `ready`, the audit
-/// texts are written before the end all the same. `CannotWrite` if a file of an audit text lacks a row: what was being
-/// served ends then, and the audit texts are written. What can't be made is the folder that the words name, or a file of
-/// it for a line of the rack, and what can't be written is such a file.
+/// It writes `ready` once all ports are listened at. When all sessions have ended it writes the audit text of each line, in
+/// ascending order of their numbers. For endless lines it writes only `ready`.
+///
+/// Nothing is written with these faults: `Rack` if the rack is not accepted or a line has no port, `CannotListen` if a port
+/// cannot be listened at or there are too few descriptors for its connections, and `CannotMake` if the folder of audit texts or a
+/// file in it for a line of the rack cannot be made.
+///
+/// Returns `WriteFault` if a write fails, and `OutOfMemory` if memory or a thread is refused. If a thread is refused after
+/// `ready`, the audit texts are written nevertheless. Returns `CannotWrite` if a file of an audit text lacks an entry. Serving
+/// stops then, and the audit texts are written.
 pub fn serve_text<'a, H: Host + Sync, W: Write>(
     rt: &H,
     alloc: Global,
@@ -60,8 +62,7 @@ pub fn serve_text<'a, H: Host + Sync, W: Write>(
     accepted_lines_can_be_opened();
     match read_rack(alloc, rack) {
         Ok(rack) => serve_rack(rt, alloc, rack, service, writer),
-        Err(RackFault::OutOfMemory) => Err(ServeFault::Run(RunFault::OutOfMemory)),
-        Err(fault) => Err(ServeFault::Run(RunFault::Rack(fault))),
+        Err(fault) => Err(ServeFault::from(fault)),
     }
 }
 
@@ -81,13 +82,13 @@ fn serve_rack<'a, H: Host + Sync, W: Write>(
     let Rack { workers, lines } = rack;
     let lines = match lines_to_serve(alloc, lines) {
         Ok(lines) => lines,
-        Err(fault) => return Err(ServeFault::Run(fault)),
+        Err(fault) => return Err(ServeFault::from(fault)),
     };
     let listening = match listen_at_lines(rt, alloc, &lines) {
         Ok(listening) => listening,
         Err(fault) => return Err(fault),
     };
-    match try_connections(alloc, &lines, &listening, workers) {
+    match check_descriptors(alloc, &lines, &listening, workers) {
         Ok(()) => {}
         Err(fault) => return Err(fault),
     }
@@ -99,7 +100,7 @@ fn open_and_serve<'a, H: Host + Sync, W: Write>(
     rt: &H,
     alloc: Global,
     lines: Vec<ServedLine>,
-    listening: Vec<Listening<TcpListener>>,
+    listening: Vec<Listeners<TcpListener>>,
     workers: u8,
     service: Service<'a>,
     writer: &mut W,
@@ -111,23 +112,23 @@ fn open_and_serve<'a, H: Host + Sync, W: Write>(
     ensures { ServesLines service.entry.audit (is_some service.entry.endless) lines.items (W.contents writer.old) (W.contents writer.new) result }
 {
     let Ok(opened) = open_lines(alloc, lines, service.endless.is_some(), workers) else {
-        return Err(ServeFault::Run(RunFault::OutOfMemory));
+        return Err(ServeFault::OutOfMemory);
     };
     serve_lines(rt, alloc, listening, opened, service, writer)
 }
 
-/// How many connections each port accepts; where there is no end of them, more than can come.
-fn sessions_of(service: Service<'_>) -> u64
+/// Returns how many connections each port accepts. Without a limit it is a number that is never reached.
+pub(crate) fn sessions_of(service: Service<'_>) -> u64
     ensures { result ≡ unwrap_or service.entry.sessions (2 ^ 64 - 1) }
 {
     service.sessions.map_or(u64::MAX, |count| u64::from(count))
 }
 
-/// Serves the lines that are listened at, and records them.
+/// Serves lines that are listened at, records them, and writes their audit texts unless they are endless.
 fn serve_lines<'a, 's, H: Host + Sync, W: Write>(
     rt: &'s H,
     alloc: Global,
-    listening: Vec<Listening<TcpListener>>,
+    listening: Vec<Listeners<TcpListener>>,
     opened: OpenedLines,
     service: Service<'a>,
     writer: &mut W,
@@ -144,36 +145,30 @@ fn serve_lines<'a, 's, H: Host + Sync, W: Write>(
         ports,
         seats,
     } = opened;
-    let doors = Doors::unopened(&listening);
-    let notes = Notes::new(rt, service.telling, numbers_of(&lines), seats.len() as u32);
-    let attended = attend_lines(
+    let gate = AcceptGate::new(&listening);
+    let notes = Notes::new(
         rt,
-        alloc,
-        &doors,
-        &notes,
-        service.audit,
-        service.endless,
-        &lines,
-        listening,
-        &ports,
-        seats,
-        sessions_of(service),
-        writer,
+        service.log_detail,
+        numbers_of(&lines),
+        seats.len() as u32,
     );
-    let attended = match attended {
-        Ok(attended) => attended,
+    let outcome = serve_connections(
+        rt, alloc, &gate, &notes, service, &lines, listening, &ports, seats, writer,
+    );
+    let outcome = match outcome {
+        Ok(outcome) => outcome,
         Err(fault) => return Err(fault),
     };
     if service.endless.is_some() {
-        return attended.outcome(true);
+        return outcome.into_result(true);
     }
     match write_audits(alloc, ports, writer) {
-        Ok(()) => attended.outcome(false),
-        Err(fault) => Err(ServeFault::Run(fault)),
+        Ok(()) => outcome.into_result(false),
+        Err(fault) => Err(ServeFault::from(fault)),
     }
 }
 
-/// The numbers of lines.
+/// Returns the numbers of lines.
 fn numbers_of(lines: &[ServedLine]) -> LineNumbers {
     let mut numbers = LineNumbers::new();
     for line in lines {

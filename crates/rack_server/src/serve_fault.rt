@@ -1,105 +1,95 @@
-//! Why a rack isn't served, or is served no more.
+//! Why a rack is not served, or no longer served.
 
 ghost use Rattle.std.specs.Prelude.{◌≡◌, Some};
-ghost use Rattle.rack_server.specs.AuditPaths.{audit_path_text, in_part, leading_zeros};
+ghost use Rattle.rack_server.specs.ServeFaults.{of_file_fault, of_output_fault, of_rack_fault, serve_fault_text};
 
 use dp_cause::Cause;
-use dp_script::RunFault;
+use rack_file::RackFault;
+use rack_files::{AuditPath, FileFault};
+use std::error::Error;
 use std::fmt;
 
-/// A path of audit texts. Its `Display` takes no memory.
-#[derive(Clone, Copy)]
-pub enum AuditPath<'a> {
-    /// The folder, as the words name it.
-    Folder(&'a str),
-    /// A file of it: `FOLDER/line-N-K.audit`, or `FOLDER/line-N-K.000001.audit` of a part.
-    File {
-        /// The folder.
-        folder: &'a str,
-        /// The number of the line.
-        line: u8,
-        /// The number of the text among those of the line, from 1.
-        number: u32,
-        /// The number of the part, from 1; None if the text has one file.
-        part: Option<u32>,
-    },
+/// Why a rack is not served, or no longer served (own).
+#[derive(Clone, Copy, Debug)]
+pub enum ServeFault<'a> {
+    /// Memory or a thread was refused.
+    OutOfMemory,
+    /// The rack is not accepted, or a line has no port.
+    Rack(RackFault),
+    /// This port cannot be listened at.
+    CannotListen(u16, Cause),
+    /// The folder of audit texts or a file in it cannot be made, or the file does not take the whole header.
+    CannotMake(AuditPath<'a>, Cause),
+    /// An entry cannot be written to this audit file.
+    CannotWrite(AuditPath<'a>, Cause),
+    /// A write to standard output failed.
+    WriteFault,
 }
 
-impl<'a> fmt::Display for AuditPath<'a> {
-    ghost output = { λ path. Some (audit_path_text path) };
+impl<'a> fmt::Display for ServeFault<'a> {
+    ghost output = { λ fault. Some (serve_fault_text fault) };
 
     fn fmt<W: fmt::Write>(&self, f: &mut fmt::Formatter<W>) -> fmt::Result {
         match self {
-            AuditPath::Folder(folder) => f.write_str(folder),
-            AuditPath::File {
-                folder,
-                line,
-                number,
-                part: None,
-            } => write!(f, "{folder}/line-{line}-{number}.audit"),
-            AuditPath::File {
-                folder,
-                line,
-                number,
-                part: Some(part),
-            } => {
-                let zeros = leading_zeros(*part);
-                write!(f, "{folder}/line-{line}-{number}.{zeros}{part}.audit")
+            ServeFault::OutOfMemory | ServeFault::Rack(RackFault::OutOfMemory) => {
+                f.write_str("out of memory")
             }
+            ServeFault::Rack(RackFault::Open(position, fault)) => {
+                let name = fault.name();
+                write!(f, "rack line {position} {name}")
+            }
+            ServeFault::Rack(fault) => {
+                let name = fault.name();
+                write!(f, "rack {name}")
+            }
+            ServeFault::CannotListen(port, _) => write!(f, "cannot listen on {port}"),
+            ServeFault::CannotMake(path, _) => write!(f, "cannot make {path}"),
+            ServeFault::CannotWrite(path, _) => write!(f, "cannot write {path}"),
+            ServeFault::WriteFault => f.write_str("cannot write"),
         }
     }
 }
 
-impl<'a> AuditPath<'a> {
-    /// The path of this part of the text, or for None that of a text with one file; a folder's path as it is.
-    pub(crate) fn in_part(self, part: Option<u32>) -> AuditPath<'a>
-        ensures { result ≡ in_part self.entry part }
-    {
-        match self {
-            AuditPath::Folder(folder) => AuditPath::Folder(folder),
-            AuditPath::File {
-                folder,
-                line,
-                number,
-                ..
-            } => AuditPath::File {
-                folder,
-                line,
-                number,
-                part,
-            },
-        }
-    }
-}
+impl<'a> Error for ServeFault<'a> {}
 
-/// The zeros before a number of fewer than six digits.
-fn leading_zeros(number: u32) -> &'static str
-    ensures { result.now ≡ leading_zeros number }
-{
-    if number < 10 {
-        "00000"
-    } else if number < 100 {
-        "0000"
-    } else if number < 1_000 {
-        "000"
-    } else if number < 10_000 {
-        "00"
-    } else if number < 100_000 {
-        "0"
-    } else {
-        ""
-    }
-}
-
-/// Why a rack isn't served, or is served no more (own).
+/// Why output is not written whole.
 #[derive(Clone, Copy)]
-pub enum ServeFault<'a> {
-    /// This port can't be listened at.
-    CannotListen(u16, Cause),
-    /// The folder of audit texts, or a file of it, can't be had, or doesn't take its header.
-    CannotMake(AuditPath<'a>, Cause),
-    /// A row can't be written to this file.
-    CannotWrite(AuditPath<'a>, Cause),
-    /// The rack isn't accepted, memory or a thread was refused, or standard output can't be written.
-    Run(RunFault),
+pub(crate) enum OutputFault {
+    /// Memory or a thread was refused.
+    OutOfMemory,
+    /// A write failed.
+    WriteFault,
+}
+
+impl<'a> From<OutputFault> for ServeFault<'a> {
+    ghost from_gives = { λ fault result. result ≡ of_output_fault fault };
+
+    fn from(fault: OutputFault) -> ServeFault<'a> {
+        match fault {
+            OutputFault::OutOfMemory => ServeFault::OutOfMemory,
+            OutputFault::WriteFault => ServeFault::WriteFault,
+        }
+    }
+}
+
+impl<'a> From<RackFault> for ServeFault<'a> {
+    ghost from_gives = { λ fault result. result ≡ of_rack_fault fault };
+
+    fn from(fault: RackFault) -> ServeFault<'a> {
+        match fault {
+            RackFault::OutOfMemory => ServeFault::OutOfMemory,
+            _ => ServeFault::Rack(fault),
+        }
+    }
+}
+
+impl<'a> From<FileFault<'a>> for ServeFault<'a> {
+    ghost from_gives = { λ fault result. result ≡ of_file_fault fault };
+
+    fn from(fault: FileFault<'a>) -> ServeFault<'a> {
+        match fault {
+            FileFault::OutOfMemory => ServeFault::OutOfMemory,
+            FileFault::CannotMake(path, cause) => ServeFault::CannotMake(path, cause),
+        }
+    }
 }

@@ -4,11 +4,11 @@ ghost use Rattle.std.specs.Prelude.{◌≡◌, ◌≤◌, All, length};
 ghost use Rattle.dp_sessions.specs.Pools.{HasSeats};
 
 use crate::accept::Accept;
+use crate::accept_gate::{AcceptGate, Phase};
 use crate::acceptors::Acceptors;
-use crate::attendance::{Attendance, TURNS};
-use crate::doors::{Door, Doors};
 use crate::host::Host;
 use crate::masters::MasterJob;
+use crate::server_context::{MAX_READS, ServerContext};
 use crossbeam_channel::Receiver;
 use dp_sessions::{Gate, Job, PoolFault, Port, run_pool};
 use dp_shared::WorkerSeat;
@@ -20,10 +20,13 @@ use std::thread;
 use std::thread::{Scope, Threads};
 use std::time::Clock;
 
-/// Whether so many threads can be had at one time: they are started, and end.
+/// Returns whether this number of threads can run at one time. It starts them, and they end.
+///
+/// It is called before `ready`, so that a machine that refuses threads is found before connections are accepted. A thread may
+/// still be refused later; then the audit texts are written before the program ends.
 pub(crate) fn can_start<H: Threads + Wait + Sync>(rt: &H, count: usize) -> bool {
-    let door = Mutex::new(());
-    let waited = &door;
+    let mutex = Mutex::new(());
+    let waited = &mutex;
     thread::scope(thread::scope_env(), rt, |scope| {
         let _held = waited.lock(rt);
         for _ in 0..count {
@@ -36,40 +39,38 @@ pub(crate) fn can_start<H: Threads + Wait + Sync>(rt: &H, count: usize) -> bool 
     })
 }
 
-/// Starts a thread for each acceptor, and then serves the sessions of masters, by one worker for each list of
-/// seats, until the last acceptor has accepted so many connections and these have ended: how many sessions of
-/// masters were served.
+/// Starts a thread for each acceptor, and then serves the sessions of masters by one worker for each list of seats. It ends when
+/// each acceptor has accepted its number of connections and their sessions have ended.
 ///
-/// Where the thread of an acceptor is refused no connection is accepted, and where that of a worker is, none
-/// any more.
+/// Returns how many sessions of masters were served. If the thread of an acceptor cannot be started, no connection is accepted.
+/// If the thread of a worker cannot be started, no further connection is accepted.
 pub(crate) fn accept_and_serve<'a, H: Host + Sync, C: CatchUp<K> + Sync, K: Drop + Send>(
-    attendance: &'a Attendance<'a, H>,
+    context: &'a ServerContext<'a, H>,
     acceptors: Acceptors<'a, H, C, K>,
     ports: &[Port],
     seats: Vec<Vec<WorkerSeat>>,
     jobs: Receiver<MasterJob<'a, H, C, K>>,
-    sessions: u64,
 ) -> Result<u32, PoolFault>
     requires workers { (1 ≤ length seats.items) × (length seats.items ≤ 32) }
     requires seats { All (λ own. HasSeats ports.now own.items) seats.items }
 {
     let Acceptors { masters, operators } = acceptors;
-    let (rt, doors) = (attendance.rt, attendance.doors);
-    let notes = attendance.notes;
+    let (rt, gate) = (context.rt, context.gate);
+    let notes = context.notes;
     serve_while_accepting(
         rt,
-        doors,
+        gate,
         masters,
         operators,
-        sessions,
+        context.sessions,
         || -> Result<u32, PoolFault>
             requires { (1 ≤ length seats.items) × (length seats.items ≤ 32)
                 × All (λ own. HasSeats ports.now own.items) seats.items }
-        { serve_masters(rt, doors, ports, seats, jobs, notes) },
+        { serve_masters(rt, gate, ports, seats, jobs, notes) },
     )
 }
 
-/// Serves the sessions of masters. Where the thread of a worker is refused, the doors are shut.
+/// Serves the sessions of masters. If the thread of a worker cannot be started, serving stops.
 fn serve_masters<
     R: Read + Send + Drop,
     W: Write + Send + Drop,
@@ -77,24 +78,24 @@ fn serve_masters<
     H: Net + Threads + Wait + Sync,
 >(
     rt: &H,
-    doors: &Doors,
+    gate: &AcceptGate,
     ports: &[Port],
     seats: Vec<Vec<WorkerSeat>>,
     jobs: Receiver<Job<R, W>>,
-    gate: &G,
+    notes: &G,
 ) -> Result<u32, PoolFault>
     requires workers { (1 ≤ length seats.items) × (length seats.items ≤ 32) }
     requires seats { All (λ own. HasSeats ports.now own.items) seats.items }
 {
-    let served = run_pool(rt, ports, seats, jobs, gate, TURNS);
+    let served = run_pool(rt, ports, seats, jobs, notes, MAX_READS);
     if served.is_err() {
-        doors.shut(rt, rt);
+        gate.stop(rt, rt);
     }
     served
 }
 
-/// Serves while acceptors of any type accept so many connections each, in threads of their own. The doors open
-/// once these have all started.
+/// Runs `serve` while acceptors accept this number of connections each, in threads of their own. Connections are accepted once
+/// all these threads have started.
 fn serve_while_accepting<
     M: Accept + Send + Drop,
     O: Accept + Send + Drop,
@@ -102,7 +103,7 @@ fn serve_while_accepting<
     S: FnOnce() -> Result<u32, PoolFault>,
 >(
     rt: &H,
-    doors: &Doors,
+    gate: &AcceptGate,
     masters: Vec<M>,
     operators: Vec<O>,
     sessions: u64,
@@ -116,29 +117,29 @@ fn serve_while_accepting<
         |scope| -> Result<u32, PoolFault>
             requires { S.pre serve }
         {
-            let mut door = doors.hold(rt);
-            if !start_acceptors(scope, rt, doors, masters, sessions)
-                || !start_acceptors(scope, rt, doors, operators, sessions)
+            let mut phase = gate.lock(rt);
+            if !start_acceptors(scope, rt, gate, masters, sessions)
+                || !start_acceptors(scope, rt, gate, operators, sessions)
             {
                 return Err(PoolFault::NoThread);
             }
-            *door = Door::Open;
-            drop(door);
+            *phase = Phase::Accepting;
+            drop(phase);
             serve()
         },
     )
 }
 
-/// Starts a thread for each acceptor; whether none was refused.
+/// Starts a thread for each acceptor. Returns whether all were started.
 fn start_acceptors<'s, E, A: Accept + Send + Drop + 's, H: Wait + Clock + Sync>(
     scope: &Scope<'s, E>,
     rt: &'s H,
-    doors: &'s Doors,
+    gate: &'s AcceptGate,
     acceptors: Vec<A>,
     sessions: u64,
 ) -> bool {
     for acceptor in acceptors {
-        let accepting = move || acceptor.accept_all(rt, doors, sessions);
+        let accepting = move || acceptor.accept_all(rt, gate, sessions);
         if scope.spawn(accepting).is_err() {
             return false;
         }

@@ -5,44 +5,60 @@ use Rattle.rack_file.specs.declared.fault.RackFault.TheVariants as racks
 use Rattle.dp_script.specs.declared.run_fault.RunFault.TheVariants as runs
 use Rattle.dp_script.specs.FaultTexts.{run_fault_text}
 use Rattle.dp_cause.specs.declared.cause.Cause.{Cause}
-use Rattle.rack_server.specs.AuditPaths.{audit_path_text}
+use Rattle.rack_server.specs.ServeFaults.{serve_fault_text}
+use Rattle.rack_server.specs.declared.serve_fault.ServeFault.{ServeFault}
+use Rattle.rack_server.specs.declared.serve_fault.ServeFault.TheVariants as serves
 use Rattle.rackd.specs.declared.ending.Fault.{Fault}
 use Rattle.rackd.specs.declared.ending.Fault.TheVariants as faults
 
--- 2 for words, files, input and ports that cannot be used, 3 for out of memory, 4 for a fault of standard output, 5 if an audit text cannot be
+-- a rack that is not served, or no longer served: 3 if memory or a thread is refused, 4 if standard output cannot be written, 5 if an entry cannot be
+-- written to its file, otherwise 2
+abbrev pub serve_status : ServeFault → ℕ
+serve_status serves.OutOfMemory = 3
+serve_status (serves.Rack racks.OutOfMemory) = 3
+serve_status (serves.Rack other) = 2
+serve_status (serves.CannotListen port cause) = 2
+serve_status (serves.CannotMake path cause) = 2
+serve_status (serves.CannotWrite path cause) = 5
+serve_status serves.WriteFault = 4
+
+-- 2 for words, files, input and ports that cannot be used, 3 if memory is refused, 4 if standard output cannot be written, 5 if an entry cannot be
 -- written to its file
 abbrev pub status_of : Fault → ℕ
 status_of faults.BadWord = 2
 status_of (faults.CannotRead path cause) = 2
-status_of (faults.CannotListen port cause) = 2
 status_of (faults.CannotConnect port cause) = 2
 status_of (faults.PortEnded port) = 2
-status_of (faults.CannotMake path cause) = 2
-status_of (faults.CannotWrite path cause) = 5
 status_of (faults.Run (runs.Rack racks.OutOfMemory)) = 3
 status_of (faults.Run (runs.Rack other)) = 2
 status_of (faults.Run (runs.Script line)) = 2
 status_of (faults.Run runs.OutOfMemory) = 3
 status_of (faults.Run runs.WriteFault) = 4
+status_of (faults.Serve fault) = serve_status fault
 
 -- the line on standard error without its LF
 abbrev pub fault_text : Fault → List ℕ
 fault_text faults.BadWord = codes "rackd: a word is not UTF-8"
 fault_text (faults.CannotRead path cause) = codes "rackd: cannot read " ++ path.now
-fault_text (faults.CannotListen port cause) = codes "rackd: cannot listen on " ++ decimal port
 fault_text (faults.CannotConnect port cause) = codes "rackd: cannot connect to " ++ decimal port
 fault_text (faults.PortEnded port) = codes "rackd: port " ++ decimal port ++ codes " has ended"
-fault_text (faults.CannotMake path cause) = codes "rackd: cannot make " ++ audit_path_text path
-fault_text (faults.CannotWrite path cause) = codes "rackd: cannot write " ++ audit_path_text path
 fault_text (faults.Run fault) = codes "rackd: " ++ run_fault_text fault
+fault_text (faults.Serve fault) = codes "rackd: " ++ serve_fault_text fault
 
--- why the program cannot open, read or write a file, or use a port, if that is the fault
+-- why a port or an audit file cannot be used, if that is the fault
+abbrev pub serve_cause : ServeFault → Option Cause
+serve_cause serves.OutOfMemory = None
+serve_cause (serves.Rack fault) = None
+serve_cause (serves.CannotListen port cause) = Some cause
+serve_cause (serves.CannotMake path cause) = Some cause
+serve_cause (serves.CannotWrite path cause) = Some cause
+serve_cause serves.WriteFault = None
+
+-- why a file or a port cannot be used, if that is the fault
 abbrev pub cause_of : Fault → Option Cause
 cause_of faults.BadWord = None
 cause_of (faults.CannotRead path cause) = Some cause
-cause_of (faults.CannotListen port cause) = Some cause
 cause_of (faults.CannotConnect port cause) = Some cause
 cause_of (faults.PortEnded port) = None
-cause_of (faults.CannotMake path cause) = Some cause
-cause_of (faults.CannotWrite path cause) = Some cause
 cause_of (faults.Run fault) = None
+cause_of (faults.Serve fault) = serve_cause fault

@@ -1,13 +1,13 @@
 //! How the program ends after a fault.
 
 ghost use Rattle.std.specs.Prelude.{◌≡◌, Some};
-ghost use Rattle.rackd.specs.Ending.{status_of, cause_of, fault_text};
+ghost use Rattle.rackd.specs.Ending.{cause_of, fault_text, serve_cause, serve_status, status_of};
 
 use dp_cause::Cause;
 use dp_script::RunFault;
 use operator_client::ClientFault;
 use rack_file::RackFault;
-use rack_server::{AuditPath, ServeFault};
+use rack_server::ServeFault;
 use rackd_words::WordsFault;
 use std::fmt;
 
@@ -19,18 +19,14 @@ pub enum Fault<'a> {
     BadWord,
     /// The file at this path, or standard input for `-`, cannot be read or is not UTF-8.
     CannotRead(&'a str, Cause),
-    /// The program cannot listen at this port.
-    CannotListen(u16, Cause),
     /// The program cannot connect to this port.
     CannotConnect(u16, Cause),
     /// The connection to this port ended before standard input did, or before a line of standard input was answered.
     PortEnded(u16),
-    /// The folder of audit texts or a file in it cannot be made, or the header cannot be written to the file.
-    CannotMake(AuditPath<'a>, Cause),
-    /// The audit text cannot be written to this file.
-    CannotWrite(AuditPath<'a>, Cause),
     /// The run ended early.
     Run(RunFault),
+    /// The rack is not served, or no longer served.
+    Serve(ServeFault<'a>),
 }
 
 impl<'a> From<RunFault> for Fault<'a> {
@@ -50,12 +46,7 @@ impl<'a> From<WordsFault> for Fault<'a> {
 
 impl<'a> From<ServeFault<'a>> for Fault<'a> {
     fn from(fault: ServeFault<'a>) -> Fault<'a> {
-        match fault {
-            ServeFault::CannotListen(port, cause) => Fault::CannotListen(port, cause),
-            ServeFault::CannotMake(path, cause) => Fault::CannotMake(path, cause),
-            ServeFault::CannotWrite(path, cause) => Fault::CannotWrite(path, cause),
-            ServeFault::Run(fault) => Fault::Run(fault),
-        }
+        Fault::Serve(fault)
     }
 }
 
@@ -80,11 +71,23 @@ pub fn status(fault: Fault<'_>) -> u8
     match fault {
         Fault::Run(RunFault::OutOfMemory | RunFault::Rack(RackFault::OutOfMemory)) => 3,
         Fault::Run(RunFault::WriteFault) => 4,
-        Fault::BadWord | Fault::CannotRead(_, _) | Fault::CannotListen(_, _) => 2,
+        Fault::BadWord | Fault::CannotRead(_, _) => 2,
         Fault::CannotConnect(_, _) | Fault::PortEnded(_) => 2,
-        Fault::CannotMake(_, _) => 2,
-        Fault::CannotWrite(_, _) => 5,
         Fault::Run(RunFault::Rack(_) | RunFault::Script(_)) => 2,
+        Fault::Serve(fault) => status_of_serving(fault),
+    }
+}
+
+/// Returns the exit status of a rack that is not served, or no longer served.
+fn status_of_serving(fault: ServeFault<'_>) -> u8
+    ensures { result ≡ serve_status fault.entry }
+{
+    match fault {
+        ServeFault::OutOfMemory | ServeFault::Rack(RackFault::OutOfMemory) => 3,
+        ServeFault::WriteFault => 4,
+        ServeFault::Rack(_) => 2,
+        ServeFault::CannotListen(_, _) | ServeFault::CannotMake(_, _) => 2,
+        ServeFault::CannotWrite(_, _) => 5,
     }
 }
 
@@ -93,10 +96,20 @@ pub fn cause(fault: Fault<'_>) -> Option<Cause>
     ensures { result ≡ cause_of fault.entry }
 {
     match fault {
-        Fault::CannotRead(_, cause) | Fault::CannotListen(_, cause) => Some(cause),
-        Fault::CannotConnect(_, cause) => Some(cause),
-        Fault::CannotMake(_, cause) | Fault::CannotWrite(_, cause) => Some(cause),
+        Fault::CannotRead(_, cause) | Fault::CannotConnect(_, cause) => Some(cause),
         Fault::BadWord | Fault::PortEnded(_) | Fault::Run(_) => None,
+        Fault::Serve(fault) => cause_of_serving(fault),
+    }
+}
+
+/// Returns why a port or an audit file cannot be used, if that is the fault.
+fn cause_of_serving(fault: ServeFault<'_>) -> Option<Cause>
+    ensures { result ≡ serve_cause fault.entry }
+{
+    match fault {
+        ServeFault::CannotListen(_, cause) => Some(cause),
+        ServeFault::CannotMake(_, cause) | ServeFault::CannotWrite(_, cause) => Some(cause),
+        ServeFault::OutOfMemory | ServeFault::Rack(_) | ServeFault::WriteFault => None,
     }
 }
 
@@ -107,12 +120,10 @@ impl<'a> fmt::Display for Fault<'a> {
         match self {
             Fault::BadWord => f.write_str("rackd: a word is not UTF-8"),
             Fault::CannotRead(path, _) => write!(f, "rackd: cannot read {path}"),
-            Fault::CannotListen(port, _) => write!(f, "rackd: cannot listen on {port}"),
             Fault::CannotConnect(port, _) => write!(f, "rackd: cannot connect to {port}"),
             Fault::PortEnded(port) => write!(f, "rackd: port {port} has ended"),
-            Fault::CannotMake(path, _) => write!(f, "rackd: cannot make {path}"),
-            Fault::CannotWrite(path, _) => write!(f, "rackd: cannot write {path}"),
             Fault::Run(fault) => write!(f, "rackd: {fault}"),
+            Fault::Serve(fault) => write!(f, "rackd: {fault}"),
         }
     }
 }

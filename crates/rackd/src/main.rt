@@ -20,7 +20,7 @@ use log::{Level, Log, Logged, info};
 use operator_client::{Operation, operate};
 use rack_cause::rack_cause;
 pub use rack_file::{Rack, RackFault, RackLine, read_rack};
-use rack_server::{Host, Served, serve_text};
+use rack_server::{Host, ServeFault, Served, serve_text};
 use rackd_words::{Entries, Invocation, Service, read_words, words_of};
 use row_queue::{Escaped, RowQueue, Written};
 use std::alloc::Global;
@@ -106,8 +106,10 @@ fn reported<'a>(
     rack: &str,
     done: Result<ExitCode, Fault<'a>>,
 ) -> Result<ExitCode, Fault<'a>> {
-    let Err(Fault::Run(RunFault::Rack(refused))) = done else {
-        return done;
+    let refused = match done {
+        Err(Fault::Run(RunFault::Rack(refused))) => refused,
+        Err(Fault::Serve(ServeFault::Rack(refused))) => refused,
+        _ => return done,
     };
     let Ok(cause) = rack_cause(alloc, rack, refused) else {
         return Err(Fault::Run(RunFault::OutOfMemory));

@@ -1,6 +1,6 @@
 use Rattle.std.proofs.Common.{rules, ◌≡◌, ◌∷◌, ◌++◌, [], sym, ap, ◌∙◌, append_assoc}
 use Rattle.rack_server.specs.ServeOutput.{line_at}
-use Rattle.rack_server.proofs.Serving.{one_more_port, ports_break_off}
+use Rattle.rack_server.proofs.LinesServed.{one_more_port, ports_break_off}
 use Rattle.rack_server.proofs.audits.write_audits.Goals as goal
 
 pub returns-in-Err : goal.returns-in-Err

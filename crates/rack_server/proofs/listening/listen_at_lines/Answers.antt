@@ -1,5 +1,5 @@
 use Rattle.std.proofs.Common.{sym}
-use Rattle.rack_server.proofs.Serving.{ports_at}
+use Rattle.rack_server.proofs.LinesServed.{ports_at}
 use Rattle.rack_server.proofs.listening.listen_at_lines.Goals as goal
 
 pub returns-in-Err-clause-fault : goal.returns-in-Err-clause-fault

@@ -16,15 +16,15 @@ bounds-ports-len g c =
     let place : c.len.result ≡ length c.loop-line.all.items = search rules in
     let all = c.loop-line.invariant.0 in let within = c.loop-line-test.true in omega (arith, long, place, all, within)
 
-pub returns-in-Err-open_file-clause-fault : goal.returns-in-Err-open_file-clause-fault
-returns-in-Err-open_file-clause-fault g c =
-    fault_among (Some c.args.folder) (line_numbers c.args.lines.now) c.line-item.result.spec.number c.in-Err-open_file.fault
-    (number_at c.args.lines.now c.loop-line.line-index c.line-item.result c.loop-line-test.true (sym c.line-item.is)) c.in-Err-open_file.ensures.fault
+pub returns-in-Err-begin_text-clause-fault : goal.returns-in-Err-begin_text-clause-fault
+returns-in-Err-begin_text-clause-fault g c =
+    fault_among (Some c.args.folder) (line_numbers c.args.lines.now) c.line-item.result.spec.number c.in-Err-begin_text.fault
+    (number_at c.args.lines.now c.loop-line.line-index c.line-item.result c.loop-line-test.true (sym c.line-item.is)) c.in-Err-begin_text.ensures.fault
 
 pub loop-line-preserved : goal.loop-line-preserved
 loop-line-preserved g c =
-    let more : c.push.new.self.items ≡ c.loop-line.all.items ++ record { net = c.args.host; doors = c.args.doors; file = c.in-Ok-open_file.file } ∷ [] = search rules in (
+    let more : c.push.new.self.items ≡ c.loop-line.all.items ++ record { net = c.args.host; gate = c.args.gate; file = c.in-Ok-begin_text.file } ∷ [] = search rules in (
       search rules,
       recorded_more c.args.folder.now c.args.lines.now c.loop-line.line-index c.line-item.result c.loop-line.all.items c.push.new.self.items _ c.loop-line-test.true (sym c.line-item.is)
-          c.loop-line.invariant.1 more c.in-Ok-open_file.ensures.path,
+          c.loop-line.invariant.1 more c.in-Ok-begin_text.ensures.path,
     )

@@ -1,6 +1,5 @@
 use Rattle.std.proofs.Common.{◌≡◌, length, take}
-use Rattle.rack_server.specs.AuditPaths.{AreRecordedIn}
-use Rattle.rack_server.specs.Recordings.{paths_of}
+use Rattle.rack_server.specs.Recordings.{AreRecordedIn, paths_of}
 use Rattle.rack_server.specs.ServedLines.{line_numbers}
 use Rattle.rack_server.proofs.recorder.record_lines.Given as goal
 

@@ -1,6 +1,6 @@
 use Rattle.std.proofs.Common.{◌≡◌, is_some, map, subst}
 use Rattle.rack_server.specs.ServedLines.{as_opened}
-use Rattle.rack_server.proofs.Serving.{served_as_opened}
+use Rattle.rack_server.proofs.LinesServed.{served_as_opened}
 use Rattle.rack_server.proofs.serve.open_and_serve.Goals as goal
 
 pub returns : goal.returns

@@ -5,7 +5,8 @@ use Rattle.rack_server.proofs.serve.serve_rack.Goals as goal
 
 pub returns-in-Err : goal.returns-in-Err
 returns-in-Err g c =
-    refused_lines c.args.service.audit (is_some c.args.service.endless) c.args.rack.workers c.args.rack.lines.items (g.W.Write.contents c.args.writer.now) c.in-Err.fault c.in-Err.ensures
+    rw c.from.ensures
+    (refused_lines c.args.service.audit (is_some c.args.service.endless) c.args.rack.workers c.args.rack.lines.items (g.W.Write.contents c.args.writer.now) c.in-Err.fault c.in-Err.ensures)
 
 pub returns-in-Err-listen_at_lines : goal.returns-in-Err-listen_at_lines
 returns-in-Err-listen_at_lines g c =
@@ -13,10 +14,10 @@ returns-in-Err-listen_at_lines g c =
     refused_ports c.args.service.audit (is_some c.args.service.endless) _ c.in-Ok.lines.items (g.W.Write.contents c.args.writer.now) c.in-Err-listen_at_lines.fault (lines_of_rack c.args.rack.workers c.args.rack.lines.items all c.in-Ok.lines.items is order)
     (search rules)
 
-pub returns-in-Err-try_connections : goal.returns-in-Err-try_connections
-returns-in-Err-try_connections g c =
+pub returns-in-Err-check_descriptors : goal.returns-in-Err-check_descriptors
+returns-in-Err-check_descriptors g c =
     let (all, is, order) = c.in-Ok.ensures in
-    refused_ports c.args.service.audit (is_some c.args.service.endless) _ c.in-Ok.lines.items (g.W.Write.contents c.args.writer.now) c.in-Err-try_connections.fault (lines_of_rack c.args.rack.workers c.args.rack.lines.items all c.in-Ok.lines.items is order)
+    refused_ports c.args.service.audit (is_some c.args.service.endless) _ c.in-Ok.lines.items (g.W.Write.contents c.args.writer.now) c.in-Err-check_descriptors.fault (lines_of_rack c.args.rack.workers c.args.rack.lines.items all c.in-Ok.lines.items is order)
     (search rules)
 
 pub open_and_serve-requires-clause-fit : goal.open_and_serve-requires-clause-fit

@@ -1,4 +1,7 @@
+use Rattle.std.proofs.Common.{is_some}
 use Rattle.rack_file.specs.Rack.{rack_described}
+use Rattle.rack_file.specs.RackFile.{rack_in}
+use Rattle.rack_server.proofs.RacksServed.{refused_rack}
 use Rattle.rack_server.proofs.serve.serve_text.Goals as goal
 
 pub serve_rack-requires-clause-workers : goal.serve_rack-requires-clause-workers
@@ -12,3 +15,8 @@ serve_rack-requires-clause-fit g c κs within = c.accepted_lines_can_be_opened.e
 
 pub serve_rack-requires-clause-few : goal.serve_rack-requires-clause-few
 serve_rack-requires-clause-few g c κs within = c.accepted_racks_have_1_to_8_lines.ensures.most c.args.rack.now (rack_described c.in-Ok.rack) c.in-Ok.ensures.ok
+
+pub returns-in-Err : goal.returns-in-Err
+returns-in-Err g c =
+    rw c.from.ensures
+    (refused_rack c.args.service.audit (is_some c.args.service.endless) (rack_in c.args.rack.now) (g.W.Write.contents c.args.writer.now) c.in-Err.fault c.in-Err.ensures.refused)

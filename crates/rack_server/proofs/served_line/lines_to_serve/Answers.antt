@@ -3,7 +3,7 @@ use Rattle.std.proofs.lemmas.List.{append-nil, nil_from_length}
 use Rattle.std.proofs.lemmas.List.Sorted.{IsNonDecreasingBy-from_sort_by_key}
 use Rattle.rack_file.specs.declared.rack.RackLine.{RackLine}
 use Rattle.rack_server.specs.ServedLines.{all_served, number_of}
-use Rattle.rack_server.proofs.Serving.{listed, none_served, one_more_served}
+use Rattle.rack_server.proofs.LinesServed.{listed, none_served, one_more_served}
 use Rattle.rack_server.proofs.served_line.lines_to_serve.Goals as goal
 
 pub returns-in_default : goal.returns-in_default

@@ -1,12 +1,11 @@
--- Where audit texts of a rack lie (own).
+-- The paths of audit texts (own).
 use Rattle.std.specs.Prelude.{◌≡◌, codes, ℕ, List, [], ◌++◌, Option, Some, None, Contains, if◌then◌else◌, nat_lt}
 use Rattle.std.specs.Borrow.{Bor}
 use Rattle.std.specs.Fmt.{decimal}
-use Rattle.std.specs.List.{AllZip}
-use Rattle.rack_server.specs.declared.serve_fault.AuditPath.{AuditPath}
-use Rattle.rack_server.specs.declared.serve_fault.AuditPath.TheVariants as paths
+use Rattle.rack_files.specs.declared.audit_path.AuditPath.{AuditPath}
+use Rattle.rack_files.specs.declared.audit_path.AuditPath.TheVariants as paths
 
--- the zeros before a number of fewer than six digits
+-- the zeros that fill a number up to six digits
 abbrev pub leading_zeros : ℕ → List ℕ
 leading_zeros number = if nat_lt number 10 then codes "00000"
     else (if nat_lt number 100 then codes "0000"
@@ -14,7 +13,7 @@ leading_zeros number = if nat_lt number 10 then codes "00000"
     else (if nat_lt number 10000 then codes "00"
     else (if nat_lt number 100000 then codes "0" else []))))
 
--- the path of a folder, or that of a line's file in it: of a whole text, or of one of its parts
+-- the path of the folder, or of a file in it: that of a whole text, or of one of its parts
 abbrev pub audit_path_text : AuditPath → List ℕ
 audit_path_text (paths.Folder folder) = folder.now
 audit_path_text (paths.File folder line number None) = folder.now ++ codes "/line-" ++ decimal line ++ codes "-" ++ decimal number ++ codes ".audit"
@@ -26,7 +25,7 @@ abbrev pub in_part : AuditPath → Option ℕ → AuditPath
 in_part (paths.Folder folder) part = paths.Folder folder
 in_part (paths.File folder line number other) part = paths.File folder line number part
 
--- a file in this folder, of a line with one of these numbers; where there is no folder, there is none
+-- a file in this folder, of a line with one of these numbers; without a folder there is no such file
 abbrev pub IsFileIn : Option (Bor (List ℕ)) → List ℕ → AuditPath → Type 0
 IsFileIn (Some folder) numbers (paths.File named line number part) = (named.now ≡ folder.now) × Contains numbers line
 IsFileIn (Some folder) numbers (paths.Folder named) = ⊥
@@ -37,15 +36,7 @@ abbrev pub IsFolderOrFileIn : Option (Bor (List ℕ)) → List ℕ → AuditPath
 IsFolderOrFileIn (Some folder) numbers (paths.Folder named) = named.now ≡ folder.now
 IsFolderOrFileIn folder numbers path = IsFileIn folder numbers path
 
--- a file in the folder of this path, of the line of this number
+-- a file in the folder with this path, of the line with this number
 abbrev pub IsOfLine : List ℕ → ℕ → AuditPath → Type 0
 IsOfLine folder number (paths.File named line of_text part) = (named.now ≡ folder) × (line ≡ number)
 IsOfLine folder number (paths.Folder named) = ⊥
-
--- a line of each of these numbers has files of its own in the folder
-abbrev pub AreRecordedIn : List ℕ → List ℕ → List AuditPath → Type 0
-AreRecordedIn folder numbers paths = AllZip (IsOfLine folder) numbers paths
-
--- a file of one of these texts
-abbrev pub IsPartOfOne : List AuditPath → AuditPath → Type 0
-IsPartOfOne texts path = (text : AuditPath) × (part : Option ℕ) × Contains texts text × (path ≡ in_part text part)

@@ -1,7 +1,7 @@
-//! The files that an audit text is written to.
+//! Writing an audit text to its files.
 
-use crate::host::NewFiles;
-use crate::serve_fault::AuditPath;
+use crate::audit_path::AuditPath;
+use crate::file_host::NewFiles;
 use dp_notes::Notes;
 use log::Log;
 use std::alloc::Global;
@@ -13,43 +13,47 @@ use std::time::Clock;
 /// The part of an audit text that is being written.
 #[derive(Clone, Copy)]
 struct Part {
+    /// The number of the part, from 1.
     number: u32,
-    /// How many bytes it has at least, unless it is the last one.
-    least: u64,
+    /// The minimum size in bytes of every part except the last.
+    minimum: u64,
+    /// How many bytes were written to the part.
     written: u64,
-    /// The last byte that was written ends a row.
-    is_behind_row: bool,
+    /// Whether the last byte that was written ends a row.
+    ends_row: bool,
 }
 
 impl Part {
-    /// No byte of the first part is written.
+    /// Returns the first part, to which nothing was written.
     fn first(megabytes: u16) -> Part {
         Part {
             number: 1,
-            least: u64::from(megabytes) * 1_000_000,
+            minimum: u64::from(megabytes) * 1_000_000,
             written: 0,
-            is_behind_row: false,
+            ends_row: false,
         }
     }
 
-    /// Whether the next byte belongs to the next part.
-    fn has_ended(&self) -> bool {
-        self.is_behind_row && self.written >= self.least
+    /// Returns whether the next byte belongs to the next part.
+    fn is_full(&self) -> bool {
+        self.ends_row && self.written >= self.minimum
     }
 
-    /// Further bytes of it are written.
-    fn grow(&mut self, written: &[u8]) {
+    /// Counts bytes that were written to the part.
+    fn count(&mut self, written: &[u8]) {
         self.written = self.written.saturating_add(written.len() as u64);
         if let Some(last) = written.last() {
-            self.is_behind_row = *last == b'\n';
+            self.ends_row = *last == b'\n';
         }
     }
 }
 
-/// Writes an audit text to a file; that of an endless line to a file for each part of it. A part ends behind the first row
-/// at which it has as many bytes as it has at least. The file of each further part is made when its first row comes.
+/// Writes an audit text to a file, or to one file per part.
+///
+/// A part ends after the first row with which it reaches its minimum size. The file of the next part is created when the next
+/// row is written.
 #[derive(Drop)]
-pub(crate) struct AuditWriter<'a, 's, H> {
+pub struct AuditWriter<'a, 's, H> {
     host: &'s H,
     notes: &'s Notes<'s, H>,
     alloc: Global,
@@ -60,8 +64,8 @@ pub(crate) struct AuditWriter<'a, 's, H> {
 }
 
 impl<'a, 's, H: NewFiles + Wait + Log + Clock> AuditWriter<'a, 's, H> {
-    /// Writes to this file, which is the first part of a text if `megabytes` says how many a part has at least. `path` is
-    /// that of a text with one file, of the line of this number.
+    /// Returns a writer to this file. `path` is the path of the text as if it had one file, and `line` is the number of the line.
+    /// `megabytes` is the minimum size of a part; the file is then the first part. It is `None` if the text has one file.
     pub(crate) fn new(
         host: &'s H,
         notes: &'s Notes<'s, H>,
@@ -82,17 +86,17 @@ impl<'a, 's, H: NewFiles + Wait + Log + Clock> AuditWriter<'a, 's, H> {
         }
     }
 
-    /// The number of the part that is being written, or that could not be made; None if the text has one file.
+    /// Returns the number of the part that is being written or could not be created, or `None` if the text has one file.
     pub(crate) fn part(&self) -> Option<u32> {
         self.part.map(|part| part.number)
     }
 
-    /// Makes the file of the next part, if the text goes on there. The file before it is closed first.
-    fn begin_next(&mut self) -> Result<()> {
+    /// Creates the file of the next part if the current part is full. The current file is closed first.
+    fn begin_next_part(&mut self) -> Result<()> {
         let Some(part) = &mut self.part else {
             return Ok(());
         };
-        if !part.has_ended() {
+        if !part.is_full() {
             return Ok(());
         }
         let Some(number) = part.number.checked_add(1) else {
@@ -100,13 +104,13 @@ impl<'a, 's, H: NewFiles + Wait + Log + Clock> AuditWriter<'a, 's, H> {
         };
         *part = Part {
             number,
-            least: part.least,
+            minimum: part.minimum,
             written: 0,
-            is_behind_row: false,
+            ends_row: false,
         };
         self.file = None;
         let path = self.path.in_part(Some(number));
-        self.file = Some(create(self.host, self.alloc, path)?);
+        self.file = Some(create_file(self.host, self.alloc, path)?);
         self.notes.goes_on(self.host, self.line, path);
         Ok(())
     }
@@ -114,13 +118,13 @@ impl<'a, 's, H: NewFiles + Wait + Log + Clock> AuditWriter<'a, 's, H> {
 
 impl<H: NewFiles + Wait + Log + Clock> Write for AuditWriter<'_, '_, H> {
     fn write(&mut self, buf: &[u8]) -> Result<usize> {
-        self.begin_next()?;
+        self.begin_next_part()?;
         let Some(file) = &mut self.file else {
             return Err(Error::from(ErrorKind::Other));
         };
         let count = file.write(buf)?;
         if let Some(part) = &mut self.part {
-            part.grow(&buf[..count]);
+            part.count(&buf[..count]);
         }
         Ok(count)
     }
@@ -133,8 +137,12 @@ impl<H: NewFiles + Wait + Log + Clock> Write for AuditWriter<'_, '_, H> {
     }
 }
 
-/// Creates a file where nothing has its path. What is written goes to its end, whatever else is done to it.
-pub(crate) fn create(files: &impl NewFiles, alloc: Global, path: AuditPath<'_>) -> Result<File> {
+/// Creates a file to append to. Fails with `AlreadyExists` if the path exists.
+pub(crate) fn create_file(
+    files: &impl NewFiles,
+    alloc: Global,
+    path: AuditPath<'_>,
+) -> Result<File> {
     match format!(in alloc; "{path}") {
         Ok(path) => files.new_file(path.as_str()),
         Err(_) => Err(Error::from(ErrorKind::OutOfMemory)),

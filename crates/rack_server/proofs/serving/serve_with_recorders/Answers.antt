@@ -1,5 +1,5 @@
 use Rattle.std.proofs.Common.{arith}
-use Rattle.rack_server.proofs.attending.attend.Goals as goal
+use Rattle.rack_server.proofs.serving.serve_with_recorders.Goals as goal
 
 pub overflow_mul-lines : goal.overflow_mul-lines
 overflow_mul-lines g c = omega arith

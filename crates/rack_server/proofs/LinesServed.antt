@@ -1,4 +1,4 @@
--- The lines of a rack that is served, and what is written of them.
+-- The lines of a rack that is served, and what is written for them.
 use Rattle.std.proofs.Common.{◌≡◌, ℕ, zero, suc, ◌+◌, ◌<◌, List, [], ◌∷◌, ◌++◌, map, Bool, true, false, length, take, slice_index_or, get_or, Option, Some, None, option_and_then, option_map, Result, Ok, Err, Contains, inl, inr, refl, sym, ap, subst, ◌∙◌, append_assoc, arith}
 use Rattle.std.specs.Borrow.{Bor}
 use Rattle.std.specs.List.{AllZip, flat_map, range_with_len}
@@ -11,18 +11,22 @@ use Rattle.std.proofs.lemmas.Slice.Zip.{all_zipped_more}
 use Rattle.dp_line.specs.declared.description.LineSpec.{LineSpec}
 use Rattle.dp_shared.specs.Content.{Content}
 use Rattle.rack_file.specs.declared.rack.RackLine.{RackLine}
-use Rattle.dp_script.specs.declared.run_fault.RunFault.{RunFault}
-use Rattle.dp_script.specs.declared.run_fault.RunFault.TheVariants as runs
+use Rattle.rack_files.specs.AuditPaths.{IsFolderOrFileIn}
+use Rattle.rack_files.specs.FileFaults.{IsRecordingFault, cause_of_break}
+use Rattle.rack_files.specs.declared.file_fault.FileFault.{FileFault}
+use Rattle.rack_files.specs.declared.file_fault.FileFault.TheVariants as files
+use Rattle.rack_server.specs.declared.serve_fault.OutputFault.{OutputFault}
+use Rattle.rack_server.specs.declared.serve_fault.OutputFault.TheVariants as outputs
 use Rattle.rack_server.specs.declared.serve_fault.ServeFault.{ServeFault}
 use Rattle.rack_server.specs.declared.serve_fault.ServeFault.TheVariants as faults
 use Rattle.rack_server.specs.declared.served_line.ServedLine.{ServedLine}
 use Rattle.dp_text.specs.Writes.{WritesPrefix}
 use Rattle.rack_server.specs.declared.serve.Served.{Served}
-use Rattle.rack_server.specs.AuditPaths.{IsFolderOrFileIn}
 use Rattle.rack_server.specs.ServedLines.{all_served, as_opened, line_numbers, served_line}
 use Rattle.dp_trail.specs.declared.fault.TrailBreak.{TrailBreak}
 use Rattle.dp_trail.specs.declared.fault.TrailBreak.TheVariants as breaks
-use Rattle.rack_server.specs.ServeOutput.{Attends, AreBrokenOff, AreServed, AreServedInPart, AreWritten, EndsLines, IsCauseOfCut, IsCut, IsLeftBy, IsRecordingFault, ServesLines, WritesAudit, cause_of_break, ports_of, ready, specs_of, text_of}
+use Rattle.rack_server.specs.ServeFaults.{of_file_fault, of_output_fault}
+use Rattle.rack_server.specs.ServeOutput.{AreBrokenOff, AreServed, AreServedInPart, AreWritten, IsCauseOfBreak, IsIncomplete, IsJournalOf, ServesConnections, ServesLines, WritesAudit, WritesAudits, ports_of, ready, specs_of, text_of}
 use Rattle.rack_server.proofs.Opening.{opened_as_they_are, opened_numbers}
 use Rattle.rack_server.proofs.Writing.{appends_more, appends_none, keeps_more, keeps_nothing, keeps_same}
 
@@ -64,7 +68,7 @@ all_served-append (x ∷ xs) ys done e =
     subst (λ d. all_served (x ∷ (xs ++ ys)) ≡ option_map (λ others. d ++ others) (all_served ys)) whole
     (served_on (served_line x) (all_served (xs ++ ys)) (all_served ys) first others here (all_served-append xs ys others rest))
 
--- a line more, with its ports
+-- one more line, with its ports
 pub one_more_served : (xs : List RackLine) (x : RackLine) (done : List ServedLine) (line : ServedLine) → all_served xs ≡ Some done → served_line x ≡ Some line
     → all_served (xs ++ x ∷ []) ≡ Some (done ++ line ∷ [])
 one_more_served xs x done line so_far here = rw (all_served-append xs (x ∷ []) done so_far, here)
@@ -101,65 +105,63 @@ range_more : (a n j : ℕ) → a + n ≡ j → range_with_len a (n + 1) ≡ rang
 range_more a n j is =
     sym (map-id (range_with_len a (n + 1))) ∙ map-range_with_len_more (λ k. k) a n j is ∙ ap (λ ks. ks ++ j ∷ []) (map-id (range_with_len a n))
 
--- a number more, which is its place
+-- one more number, which is its index
 pub one_more_numbered : (before after : List ℕ) (n m : ℕ) → before ≡ range_with_len 0 n → after ≡ before ++ n ∷ [] → m ≡ n + 1 → after ≡ range_with_len 0 m
 one_more_numbered before after n m so_far more longer = rw (more, so_far, longer) (sym (range_more 0 n n (omega arith)))
 
--- an element more, of the next place of a list
+-- one more element, the next one of a list
 pub one_more_of : {B : Type 0} (before after ys : List B) (y : B) (n m : ℕ) → before ≡ take n ys → after ≡ before ++ y ∷ [] → m ≡ n + 1 → n < length ys
     → y ≡ slice_index_or ys n y → after ≡ take m ys
 one_more_of before after ys y n m so_far more longer within here =
     rw (more, so_far, longer) (ap (λ x. take n ys ++ x ∷ []) here ∙ sym (take_more ys n y within))
 
--- ---- what lines leave
+-- ---- audit texts
 
 pub none_written : (a : Option (List ℕ)) → Appends a a [] → AreWritten [] a a
-none_written a same = record { left = []; each = tt; written = same }
+none_written a same = record { journals = []; each = tt; written = same }
 
-text_more : (left : List Content) (content : Content) → flat_map text_of (left ++ content ∷ []) ≡ flat_map text_of left ++ text_of content
-text_more left content = flat_map-append text_of left (content ∷ []) ∙ ap (λ t. flat_map text_of left ++ t) (append-nil (text_of content))
+text_more : (journals : List Content) (content : Content) → flat_map text_of (journals ++ content ∷ []) ≡ flat_map text_of journals ++ text_of content
+text_more journals content = flat_map-append text_of journals (content ∷ []) ∙ ap (λ t. flat_map text_of journals ++ t) (append-nil (text_of content))
 
--- what a line leaves is written behind what others leave
+-- the audit text of a line is written after those of others
 pub one_more_written : (lines : List LineSpec) (line : LineSpec) (a b c : Option (List ℕ)) → AreWritten lines a b → WritesAudit line b c (Ok tt)
     → AreWritten (lines ++ line ∷ []) a c
 one_more_written lines line a b c w more = record {
-  left = w.left ++ more.0 ∷ [];
-  each = all_zipped_more IsLeftBy lines w.left line more.0 w.each more.1;
-  written = subst (Appends a c) (sym (text_more w.left more.0)) (appends_more a b c (flat_map text_of w.left) (text_of more.0) w.written more.2);
+  journals = w.journals ++ more.0 ∷ [];
+  each = all_zipped_more IsJournalOf lines w.journals line more.0 w.each more.1;
+  written = subst (Appends a c) (sym (text_more w.journals more.0)) (appends_more a b c (flat_map text_of w.journals) (text_of more.0) w.written more.2);
 }
 
--- the writing of what a line leaves ends early
-pub lines_break_off : (lines : List LineSpec) (line : LineSpec) (later : List LineSpec) (a b c : Option (List ℕ)) (fault : RunFault) → AreWritten lines a b
-    → WritesAudit line b c (Err fault) → EndsLines (lines ++ line ∷ later) a c (Err fault)
-lines_break_off lines line later a b c runs.WriteFault w cut = record {
+-- the writing of an audit text ends early
+pub lines_break_off : (lines : List LineSpec) (line : LineSpec) (later : List LineSpec) (a b c : Option (List ℕ)) (fault : OutputFault) → AreWritten lines a b
+    → WritesAudit line b c (Err fault) → WritesAudits (lines ++ line ∷ later) a c (Err fault)
+lines_break_off lines line later a b c outputs.WriteFault w cut = record {
   first = lines ++ line ∷ [];
   later = later;
   lines_are = sym (append_assoc lines (line ∷ []) later);
-  left = w.left ++ cut.0 ∷ [];
-  each = all_zipped_more IsLeftBy lines w.left line cut.0 w.each cut.1;
+  journals = w.journals ++ cut.0 ∷ [];
+  each = all_zipped_more IsJournalOf lines w.journals line cut.0 w.each cut.1;
   written = (
-    flat_map text_of w.left ++ cut.2.0,
+    flat_map text_of w.journals ++ cut.2.0,
     cut.2.1,
-    text_more w.left cut.0 ∙ ap (λ t. flat_map text_of w.left ++ t) cut.2.2 ∙ sym (append_assoc (flat_map text_of w.left) cut.2.0 cut.2.1),
-    appends_more a b c (flat_map text_of w.left) cut.2.0 w.written cut.2.3,
+    text_more w.journals cut.0 ∙ ap (λ t. flat_map text_of w.journals ++ t) cut.2.2 ∙ sym (append_assoc (flat_map text_of w.journals) cut.2.0 cut.2.1),
+    appends_more a b c (flat_map text_of w.journals) cut.2.0 w.written cut.2.3,
   );
 }
-lines_break_off lines line later a b c runs.OutOfMemory w same = record {
+lines_break_off lines line later a b c outputs.OutOfMemory w same = record {
   first = lines;
   later = line ∷ later;
   lines_are = refl;
-  left = w.left;
+  journals = w.journals;
   each = w.each;
-  written = (flat_map text_of w.left, [], sym (append-nil (flat_map text_of w.left)), keeps_more a b c (flat_map text_of w.left) w.written same);
+  written = (flat_map text_of w.journals, [], sym (append-nil (flat_map text_of w.journals)), keeps_more a b c (flat_map text_of w.journals) w.written same);
 }
-lines_break_off lines line later a b c (runs.Rack fault) w never = absurd never
-lines_break_off lines line later a b c (runs.Script at) w never = absurd never
 
--- the same of lines as they stand at ports, of which some are done
-pub ports_break_off : {P : Type 0} (f : P → LineSpec) (done : List P) (port : P) (later rest all : List P) (a b c : Option (List ℕ)) (fault : RunFault)
-    → rest ≡ port ∷ later → done ++ rest ≡ all → AreWritten (map f done) a b → WritesAudit (f port) b c (Err fault) → EndsLines (map f all) a c (Err fault)
+-- the writing of the audit texts of lines at ports ends early, after some ports
+pub ports_break_off : {P : Type 0} (f : P → LineSpec) (done : List P) (port : P) (later rest all : List P) (a b c : Option (List ℕ)) (fault : OutputFault)
+    → rest ≡ port ∷ later → done ++ rest ≡ all → AreWritten (map f done) a b → WritesAudit (f port) b c (Err fault) → WritesAudits (map f all) a c (Err fault)
 ports_break_off f done port later rest all a b c fault here whole w cut =
-    subst (λ lines. EndsLines lines a c (Err fault)) (sym (map-append f done (port ∷ later)) ∙ ap (map f) (ap (λ ps. done ++ ps) (sym here) ∙ whole))
+    subst (λ lines. WritesAudits lines a c (Err fault)) (sym (map-append f done (port ∷ later)) ∙ ap (map f) (ap (λ ps. done ++ ps) (sym here) ∙ whole))
     (lines_break_off (map f done) (f port) (map f later) a b c fault w cut)
 
 pub one_more_port : {P : Type 0} (f : P → LineSpec) (done : List P) (port : P) (a b c : Option (List ℕ)) → AreWritten (map f done) a b → WritesAudit (f port) b c (Ok tt)
@@ -169,90 +171,65 @@ one_more_port f done port a b c w more =
 
 -- ---- serving
 
--- nothing is written behind `ready`
-pub ready_alone : (lines : List ServedLine) (a b : Option (List ℕ)) → Appends a b ready → AreServedInPart false lines a b
-ready_alone lines a b said = inr (
-  b,
-  said,
-  record {
-    first = [];
-    later = specs_of lines;
-    lines_are = refl;
-    left = [];
-    each = tt;
-    written = ([], [], refl, appends_none b);
-  },
-)
-
--- what lines leave is written behind `ready`
+-- the audit texts are written after `ready`
 pub served_whole : (lines : List ServedLine) (specs : List LineSpec) (a b c : Option (List ℕ)) → specs ≡ specs_of lines → Appends a b ready → AreWritten specs b c → AreServed false lines a c
 served_whole lines specs a b c same said w = (b, said, subst (λ ls. AreWritten ls b c) same w)
 
--- and so it is where the program can't say how many were served
-pub served_uncounted : (endless : Bool) (lines : List ServedLine) (a c : Option (List ℕ)) → AreServed endless lines a c → AreServedInPart endless lines a c
-served_uncounted true lines a c said = (ready, [], sym (append-nil ready), said)
-served_uncounted false lines a c (b, said, w) = inr (
+-- what is served whole is also served in part
+pub whole_in_part : (endless : Bool) (lines : List ServedLine) (a c : Option (List ℕ)) → AreServed endless lines a c → AreServedInPart endless lines a c
+whole_in_part true lines a c said = (ready, [], sym (append-nil ready), said)
+whole_in_part false lines a c (b, said, w) = inr (
   b,
   said,
   record {
     first = specs_of lines;
     later = [];
     lines_are = sym (append-nil (specs_of lines));
-    left = w.left;
+    journals = w.journals;
     each = w.each;
-    written = (flat_map text_of w.left, [], sym (append-nil (flat_map text_of w.left)), w.written);
+    written = (flat_map text_of w.journals, [], sym (append-nil (flat_map text_of w.journals)), w.written);
   },
 )
 
--- or a part of it
-pub served_in_part : (folder : Option (Bor (List ℕ))) (lines : List ServedLine) (specs : List LineSpec) (a b c : Option (List ℕ)) (fault : RunFault) → specs ≡ specs_of lines → Appends a b ready
-    → EndsLines specs b c (Err fault) → ServesLines folder false lines a c (Err (faults.Run fault))
-served_in_part folder lines specs a b c runs.WriteFault same said w = inr (b, said, subst (λ ls. AreBrokenOff ls b c) same w)
-served_in_part folder lines specs a b c runs.OutOfMemory same said w = inr (b, said, subst (λ ls. AreBrokenOff ls b c) same w)
-served_in_part folder lines specs a b c (runs.Rack fault) same said never = absurd never
-served_in_part folder lines specs a b c (runs.Script at) same said never = absurd never
+-- a part of the audit texts is written after `ready`
+pub served_in_part : (folder : Option (Bor (List ℕ))) (lines : List ServedLine) (specs : List LineSpec) (a b c : Option (List ℕ)) (fault : OutputFault) → specs ≡ specs_of lines → Appends a b ready
+    → WritesAudits specs b c (Err fault) → ServesLines folder false lines a c (Err (of_output_fault fault))
+served_in_part folder lines specs a b c outputs.WriteFault same said w = inr (b, said, subst (λ ls. AreBrokenOff ls b c) same w)
+served_in_part folder lines specs a b c outputs.OutOfMemory same said w = inr (b, said, subst (λ ls. AreBrokenOff ls b c) same w)
 
--- a prefix of `ready` is a part of what is written, of endless lines too
+-- a prefix of `ready` is a part of the output, also for endless lines
 pub some_of_ready : (endless : Bool) (lines : List ServedLine) (a b : Option (List ℕ)) → WritesPrefix a b ready → AreServedInPart endless lines a b
 some_of_ready true lines a b cut = cut
 some_of_ready false lines a b cut = inl cut
 
--- nothing of it
-pub served_not_at_all : (folder : Option (Bor (List ℕ))) (endless : Bool) (lines : List ServedLine) (a b : Option (List ℕ)) (fault : RunFault) → Attends a b (Err fault)
-    → ServesLines folder endless lines a b (Err (faults.Run fault))
-served_not_at_all folder endless lines a b runs.WriteFault cut = some_of_ready endless lines a b cut
-served_not_at_all folder endless lines a b runs.OutOfMemory same = some_of_ready endless lines a b ([], ready, refl, keeps_nothing a b same)
-served_not_at_all folder endless lines a b (runs.Rack fault) never = absurd never
-served_not_at_all folder endless lines a b (runs.Script at) never = absurd never
+-- `ready` is not written whole
+pub served_not_at_all : (folder : Option (Bor (List ℕ))) (endless : Bool) (lines : List ServedLine) (a b : Option (List ℕ)) (fault : OutputFault) → ServesConnections a b (Err fault)
+    → ServesLines folder endless lines a b (Err (of_output_fault fault))
+served_not_at_all folder endless lines a b outputs.WriteFault cut = some_of_ready endless lines a b cut
+served_not_at_all folder endless lines a b outputs.OutOfMemory same = some_of_ready endless lines a b ([], ready, refl, keeps_nothing a b same)
 
--- the lines aren't recorded
-pub served_unopened : (folder : Option (Bor (List ℕ))) (endless : Bool) (lines : List ServedLine) (old : Option (List ℕ)) (fault : ServeFault) → IsRecordingFault folder (line_numbers lines) fault
-    → ServesLines folder endless lines old old (Err fault)
-served_unopened folder endless lines old (faults.CannotMake path cause) told = (told, keeps_same old)
-served_unopened folder endless lines old (faults.Run runs.OutOfMemory) told = some_of_ready endless lines old old ([], ready, refl, appends_none old)
-served_unopened folder endless lines old (faults.Run (runs.Rack fault)) never = absurd never
-served_unopened folder endless lines old (faults.Run (runs.Script at)) never = absurd never
-served_unopened folder endless lines old (faults.Run runs.WriteFault) never = absurd never
-served_unopened folder endless lines old (faults.CannotListen port cause) never = absurd never
-served_unopened folder endless lines old (faults.CannotWrite path cause) never = absurd never
+-- no audit text is begun for some line
+pub served_unopened : (folder : Option (Bor (List ℕ))) (endless : Bool) (lines : List ServedLine) (old : Option (List ℕ)) (fault : FileFault) → IsRecordingFault folder (line_numbers lines) fault
+    → ServesLines folder endless lines old old (Err (of_file_fault fault))
+served_unopened folder endless lines old (files.CannotMake path cause) is = (is, keeps_same old)
+served_unopened folder endless lines old files.OutOfMemory is = some_of_ready endless lines old old ([], ready, refl, appends_none old)
 
--- the cause of a break is one of a cut
-pub cause_cuts : (endless : Bool) (why : TrailBreak) → IsCauseOfCut endless (cause_of_break endless why)
+-- the cause of a break is a cause why a file lacks an entry
+pub cause_cuts : (endless : Bool) (why : TrailBreak) → IsCauseOfBreak endless (cause_of_break endless why)
 cause_cuts true breaks.WriteFault = inl refl
 cause_cuts true breaks.Overtaken = inr refl
 cause_cuts false breaks.WriteFault = refl
 cause_cuts false breaks.Overtaken = refl
 
--- endless lines are served alike if their numbers are the same
+-- endless lines with the same numbers are served in the same way
 same_numbers : (folder : Option (Bor (List ℕ))) (lines others : List ServedLine) (a b : Option (List ℕ)) (result : Result Served ServeFault)
     → line_numbers others ≡ line_numbers lines → ServesLines folder true others a b result → ServesLines folder true lines a b result
 same_numbers folder lines others a b (Ok served) same is = is
 same_numbers folder lines others a b (Err (faults.CannotMake path cause)) same is = subst (λ ns. IsFolderOrFileIn folder ns path × Keeps a b) same is
-same_numbers folder lines others a b (Err (faults.CannotWrite path cause)) same is = subst (λ ns. IsCut folder true ns path cause × Appends a b ready) same is
-same_numbers folder lines others a b (Err (faults.Run runs.WriteFault)) same is = is
-same_numbers folder lines others a b (Err (faults.Run runs.OutOfMemory)) same is = is
-same_numbers folder lines others a b (Err (faults.Run (runs.Rack fault))) same never = absurd never
-same_numbers folder lines others a b (Err (faults.Run (runs.Script at))) same never = absurd never
+same_numbers folder lines others a b (Err (faults.CannotWrite path cause)) same is = subst (λ ns. IsIncomplete folder true ns path cause × Appends a b ready) same is
+same_numbers folder lines others a b (Err faults.WriteFault) same is = is
+same_numbers folder lines others a b (Err faults.OutOfMemory) same is = is
+same_numbers folder lines others a b (Err (faults.Rack fault)) same never = absurd never
 same_numbers folder lines others a b (Err (faults.CannotListen port cause)) same never = absurd never
 
 -- what is served of lines as they were opened is served of these lines

@@ -3,8 +3,8 @@ use Rattle.std.specs.List.{range_with_len}
 use Rattle.std.proofs.lemmas.List.{take_all}
 use Rattle.std.proofs.lemmas.Slice.Zip.{AllZip-long}
 use Rattle.dp_shared.specs.Passes.{line_of}
-use Rattle.rack_server.proofs.Serving.{one_more_numbered, one_more_of, pair_at}
-use Rattle.rack_server.proofs.acceptors.Acceptors.of.Goals as goal
+use Rattle.rack_server.proofs.LinesServed.{one_more_numbered, one_more_of, pair_at}
+use Rattle.rack_server.proofs.acceptors.Acceptors.new.Goals as goal
 
 pub bounds-ports-place : goal.bounds-ports-place
 bounds-ports-place g c =
@@ -14,8 +14,8 @@ bounds-ports-place g c =
     let long = AllZip-long (λ line port. line_of port.line ≡ line.spec) c.args.lines.now c.args.ports.now c.requires.opened in
     let all = c.loop-here.invariant.2 in let each = c.requires.each in omega (arith, place, fewer, long, all, each)
 
-pub invariant_of-desk : goal.invariant_of-desk
-invariant_of-desk g c =
+pub invariant_of-target : goal.invariant_of-target
+invariant_of-target g c =
     let place : c.len-place.result ≡ length c.loop-here.all.masters.items = c.len-place.ensures ∙ c.loop-here.all.masters.ok.0 in
     let rest : c.loop-here.here-iterator.rest.items ≡ c.in-Some.here ∷ c.next.new.self.rest.items = c.in-Some.ensures.steps.0 in
     let fewer = ap length rest in

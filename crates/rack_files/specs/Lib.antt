@@ -1,0 +1,2 @@
+pub mod AuditPaths
+pub mod FileFaults

@@ -1,0 +1,29 @@
+//! What audit files require of the host.
+
+use log::Log;
+use std::fs::{File, Files, OpenOptions};
+use std::io::Result;
+use std::sync::Wait;
+use std::time::Clock;
+
+/// Creates new files.
+///
+/// It is separate from `Files` because that trait has an associated type. The check does not know that this type may be sent to
+/// another thread, and an audit file is shared by all threads that serve its line.
+pub trait NewFiles {
+    /// Creates a file and opens it for appending. Fails with `AlreadyExists` if the path exists.
+    fn new_file(&self, path: &str) -> Result<File>;
+}
+
+impl<F: Files<File = File>> NewFiles for F {
+    fn new_file(&self, path: &str) -> Result<File> {
+        let mut options = OpenOptions::new();
+        options.append(true).create_new(true);
+        options.open(self, path)
+    }
+}
+
+/// Files, locks, a clock, and a log on standard error.
+pub trait FileHost: Files<File = File> + NewFiles + Wait + Clock + Log {}
+
+impl<H: Files<File = File> + NewFiles + Wait + Clock + Log> FileHost for H {}

@@ -1,0 +1,238 @@
+//! Accepting and serving the connections of all lines, and recording what is served.
+
+ghost use Rattle.std.specs.Prelude.{◌≡◌, ◌≤◌, ℕ, Bool, List, Option, All, Err, IfErr, IfOk, IfSome, None, OnErr, OnOk, Some, length};
+ghost use Rattle.std.specs.Borrow.{Bor};
+ghost use Rattle.std.specs.Io.KnownBytes.{Appends};
+ghost use Rattle.dp_text.specs.Writes.{WritesPrefix};
+ghost use Rattle.dp_sessions.specs.Pools.{HasSeats};
+ghost use Rattle.rack_files.specs.AuditPaths.{IsFileIn};
+ghost use Rattle.rack_server.specs.declared.served_line.ServedLine.{ServedLine};
+ghost use Rattle.rack_server.specs.ServedLines.{line_numbers};
+ghost use Rattle.rack_server.specs.ServeOutput.{AreOpened, AreServed, ServesConnections, ServesLines, ready, serving_result};
+
+use crate::accept_gate::AcceptGate;
+use crate::acceptors::Acceptors;
+use crate::host::Host;
+use crate::listening::Listeners;
+use crate::recorder::{FileRecorder, first_incomplete, record_lines};
+use crate::serve::{Served, sessions_of};
+use crate::serve_fault::{OutputFault, ServeFault};
+use crate::served_line::ServedLine;
+use crate::server_context::ServerContext;
+use crate::threads::{accept_and_serve, can_start};
+use crossbeam_channel::bounded;
+use dp_notes::Notes;
+use dp_sessions::Port;
+use dp_shared::WorkerSeat;
+use dp_text::write_whole;
+use dp_trail::{CatchUp, CaughtUp, NoRows, NoTrail};
+use rack_files::IncompleteFile;
+use rackd_words::Service;
+use std::alloc::Global;
+use std::io::Write;
+use std::net::TcpListener;
+use std::sync::atomic::AtomicU32;
+use std::sync::atomic::Ordering::SeqCst;
+
+/// The most sessions of masters that wait for a worker. Further connections wait to be accepted.
+const MOST_WAITING: usize = 64;
+
+/// The most lines of a rack.
+const MOST_LINES: usize = rack_file::MOST_LINES as usize;
+
+/// What is written once every port is listened at.
+const READY: &[u8] = b"ready\n";
+
+/// How serving the connections of all lines has ended.
+#[derive(Clone, Copy)]
+pub(crate) struct ServingOutcome<'a> {
+    /// How many sessions were served, or `None` if a thread could not be started.
+    served: Option<Served>,
+    /// The first audit file that lacks an entry.
+    incomplete: Option<IncompleteFile<'a>>,
+}
+
+impl<'a> ServingOutcome<'a> {
+    /// Returns the result of serving, once the audit texts are written.
+    pub(crate) fn into_result(self, are_endless: bool) -> Result<Served, ServeFault<'a>>
+        ensures exact { result ≡ serving_result are_endless self.entry.incomplete self.entry.served }
+        ensures serves { (folder : Option (Bor (List ℕ))) → (lines : List ServedLine) → IfSome self.entry.incomplete (λ file. IsFileIn folder (line_numbers lines) file.path)
+            → (old new : Option (List ℕ)) → AreServed are_endless lines old new → ServesLines folder are_endless lines old new result }
+    {
+        let ServingOutcome { served, incomplete } = self;
+        if let Some(file) = incomplete {
+            return Err(ServeFault::CannotWrite(file.path, file.cause(are_endless)));
+        }
+        match served {
+            Some(served) => Ok(served),
+            None => Err(ServeFault::OutOfMemory),
+        }
+    }
+}
+
+/// Accepts and serves the connections of all lines, and records each line in the audit folder, if one is named.
+///
+/// Returns `CannotMake` if an audit text cannot be begun, `OutOfMemory` or `WriteFault`.
+pub(crate) fn serve_connections<'a, 's, H: Host + Sync, W: Write>(
+    rt: &'s H,
+    alloc: Global,
+    gate: &'s AcceptGate,
+    notes: &'s Notes<'s, H>,
+    service: Service<'a>,
+    lines: &'s [ServedLine],
+    listening: Vec<Listeners<TcpListener>>,
+    ports: &'s [Port],
+    seats: Vec<Vec<WorkerSeat>>,
+    writer: &mut W,
+) -> Result<ServingOutcome<'a>, ServeFault<'a>>
+    requires few { length lines.now ≤ 8 }
+    requires each { length listening.items ≡ length lines.now }
+    requires opened { AreOpened lines.now ports.now }
+    requires workers { (1 ≤ length seats.items) × (length seats.items ≤ 32) }
+    requires seats { All (λ own. HasSeats ports.now own.items) seats.items }
+    ensures ok { OnOk result (Appends (W.contents writer.old) (W.contents writer.new) ready) }
+    ensures incomplete { IfOk result (λ outcome. IfSome outcome.incomplete (λ file. IsFileIn service.entry.audit (line_numbers lines.now) file.path)) }
+    ensures err { IfErr result (λ fault. (endless : Bool) → ServesLines service.entry.audit endless lines.now (W.contents writer.old) (W.contents writer.new) (Err fault)) }
+{
+    let context = ServerContext {
+        rt,
+        alloc,
+        gate,
+        notes,
+        sessions: sessions_of(service),
+        operators: AtomicU32::new(0),
+    };
+    let Some(folder) = service.audit else {
+        return serve_unrecorded(&context, lines, listening, ports, seats, writer);
+    };
+    let megabytes = service.endless;
+    serve_recorded(
+        &context, folder, megabytes, lines, listening, ports, seats, writer,
+    )
+}
+
+/// Serves the connections of all lines, which are not recorded.
+fn serve_unrecorded<'a, 's, H: Host + Sync, W: Write>(
+    context: &'s ServerContext<'s, H>,
+    lines: &'s [ServedLine],
+    listening: Vec<Listeners<TcpListener>>,
+    ports: &'s [Port],
+    seats: Vec<Vec<WorkerSeat>>,
+    writer: &mut W,
+) -> Result<ServingOutcome<'a>, ServeFault<'a>>
+    requires few { length lines.now ≤ 8 }
+    requires each { length listening.items ≡ length lines.now }
+    requires opened { AreOpened lines.now ports.now }
+    requires workers { (1 ≤ length seats.items) × (length seats.items ≤ 32) }
+    requires seats { All (λ own. HasSeats ports.now own.items) seats.items }
+    ensures ok { OnOk result (Appends (W.contents writer.old) (W.contents writer.new) ready) }
+    ensures incomplete { IfOk result (λ outcome. outcome.incomplete ≡ None) }
+    ensures err { IfErr result (λ fault. (folder : Option (Bor (List ℕ))) → (endless : Bool) → ServesLines folder endless lines.now (W.contents writer.old) (W.contents writer.new) (Err fault)) }
+{
+    let none = &[NoTrail; MOST_LINES][..lines.len()];
+    let served = serve_with_recorders::<H, NoTrail, NoRows, W>(
+        context, lines, listening, ports, seats, none, writer,
+    );
+    match served {
+        Ok(served) => Ok(ServingOutcome {
+            served,
+            incomplete: None,
+        }),
+        Err(fault) => Err(ServeFault::from(fault)),
+    }
+}
+
+/// Serves the connections of all lines, and records each line in the folder. `megabytes` is the minimum size of a part of an
+/// audit text, or `None` if each text has one file.
+fn serve_recorded<'a, 's, H: Host + Sync, W: Write>(
+    context: &'s ServerContext<'s, H>,
+    folder: &'a str,
+    megabytes: Option<u16>,
+    lines: &'s [ServedLine],
+    listening: Vec<Listeners<TcpListener>>,
+    ports: &'s [Port],
+    seats: Vec<Vec<WorkerSeat>>,
+    writer: &mut W,
+) -> Result<ServingOutcome<'a>, ServeFault<'a>>
+    requires few { length lines.now ≤ 8 }
+    requires each { length listening.items ≡ length lines.now }
+    requires opened { AreOpened lines.now ports.now }
+    requires workers { (1 ≤ length seats.items) × (length seats.items ≤ 32) }
+    requires seats { All (λ own. HasSeats ports.now own.items) seats.items }
+    ensures ok { OnOk result (Appends (W.contents writer.old) (W.contents writer.new) ready) }
+    ensures incomplete { IfOk result (λ outcome. IfSome outcome.incomplete (λ file. IsFileIn (Some folder.entry) (line_numbers lines.now) file.path)) }
+    ensures err { IfErr result (λ fault. (endless : Bool) → ServesLines (Some folder.entry) endless lines.now (W.contents writer.old) (W.contents writer.new) (Err fault)) }
+{
+    let (rt, alloc) = (context.rt, context.alloc);
+    let (gate, notes) = (context.gate, context.notes);
+    let recorders = match record_lines(rt, notes, alloc, gate, folder, megabytes, lines, ports) {
+        Ok(recorders) => recorders,
+        Err(fault) => return Err(ServeFault::from(fault)),
+    };
+    let served = serve_with_recorders::<H, FileRecorder<'a, 's, H>, CaughtUp, W>(
+        context, lines, listening, ports, seats, &recorders, writer,
+    );
+    match served {
+        Ok(served) => Ok(ServingOutcome {
+            served,
+            incomplete: first_incomplete(rt, recorders),
+        }),
+        Err(fault) => Err(ServeFault::from(fault)),
+    }
+}
+
+/// Writes `ready`, and then accepts and serves the connections of all lines, each with its recorder.
+///
+/// Returns how many sessions were served, or `None` if a thread could not be started after that. Returns `OutOfMemory` if there
+/// is not enough memory or there are not enough threads for all sessions; nothing is written then. Returns `WriteFault` if
+/// `ready` is not written.
+fn serve_with_recorders<'a, H: Host + Sync, C: CatchUp<K> + Sync, K: Drop + Send, W: Write>(
+    context: &'a ServerContext<'a, H>,
+    lines: &'a [ServedLine],
+    listening: Vec<Listeners<TcpListener>>,
+    ports: &'a [Port],
+    seats: Vec<Vec<WorkerSeat>>,
+    recorders: &'a [C],
+    writer: &mut W,
+) -> Result<Option<Served>, OutputFault>
+    requires few { length lines.now ≤ 8 }
+    requires each { length listening.items ≡ length lines.now }
+    requires opened { AreOpened lines.now ports.now }
+    requires recorded { length recorders.now ≡ length lines.now }
+    requires workers { (1 ≤ length seats.items) × (length seats.items ≤ 32) }
+    requires seats { All (λ own. HasSeats ports.now own.items) seats.items }
+    ensures { ServesConnections (W.contents writer.old) (W.contents writer.new) result }
+{
+    if !can_start(context.rt, seats.len() + 2 * lines.len()) {
+        return Err(OutputFault::OutOfMemory);
+    }
+    let Ok((sender, jobs)) = bounded(context.alloc, MOST_WAITING) else {
+        return Err(OutputFault::OutOfMemory);
+    };
+    let opened = Acceptors::new(context, listening, lines, ports, recorders, sender);
+    let Ok(acceptors) = opened else {
+        return Err(OutputFault::OutOfMemory);
+    };
+    let Ok(()) = write_ready(writer) else {
+        return Err(OutputFault::WriteFault);
+    };
+    match accept_and_serve(context, acceptors, ports, seats, jobs) {
+        Ok(masters) => Ok(Some(Served {
+            masters,
+            operators: context.operators.load(SeqCst),
+        })),
+        Err(_) => Ok(None),
+    }
+}
+
+/// Writes `ready` and flushes the writer.
+fn write_ready<W: Write>(writer: &mut W) -> Result<(), OutputFault>
+    ensures ok { OnOk result (Appends (W.contents writer.old) (W.contents writer.new) ready) }
+    ensures err { OnErr result (WritesPrefix (W.contents writer.old) (W.contents writer.new) ready) }
+    ensures fault { IfErr result (λ fault. fault ≡ OutputFault.WriteFault) }
+{
+    if write_whole(writer, READY).is_err() || writer.flush().is_err() {
+        return Err(OutputFault::WriteFault);
+    }
+    Ok(())
+}
