@@ -1,12 +1,12 @@
 -- On an ordinary line no look misses an entry.
 use Rattle.std.specs.List.{AllByRecursion}
-use Rattle.std.proofs.Common.{◌≡◌, ◌<◌, ◌≤◌, ℕ, ◌+◌, List, [], ◌∷◌, ◌++◌, length, take, Option, Some, None, IsSome, refl, zero, suc, sym, ap, subst, ◌∙◌, arith}
+use Rattle.std.proofs.Common.{◌≡◌, ◌≤◌, ℕ, ◌+◌, List, [], ◌∷◌, ◌++◌, length, take, Option, Some, None, IsSome, refl, zero, suc, sym, ap, subst, ◌∙◌, arith}
 use Rattle.dp_line.specs.World.{World, description_of, opening_fault, start_of}
 use Rattle.dp_line.specs.Effects.{effect}
 use Rattle.dp_line.specs.declared.description.LineSpec.{LineSpec}
 use Rattle.dp_audit.specs.declared.entry.Entry.{Entry}
 use Rattle.dp_audit.specs.Legal.{IsLegal, after_entry}
-use Rattle.dp_audit.specs.Records.{forgotten, kept_at}
+use Rattle.dp_audit.specs.Records.{forgotten}
 use Rattle.dp_audit.proofs.Histories.{place_bounds}
 use Rattle.dp_audit.proofs.Newest.{none_forgotten, none_lost}
 use Rattle.dp_audit.proofs.Texts.{HasRoom, room_kept}
@@ -15,7 +15,6 @@ use Rattle.dp_shared.specs.Content.{Content}
 use Rattle.dp_shared.specs.LineLock.{FitsLook, FitsPass, IsOf, IsPassAt, LineRule, Slotted, answer_in, first_entries, world_after}
 use Rattle.dp_shared.specs.declared.line_view.Answer.{Answer}
 use Rattle.dp_shared.specs.declared.line_view.Answer.TheVariants as answers
-use Rattle.dp_shared.specs.declared.line_view.Look.{Look}
 use Rattle.dp_shared.specs.declared.line_view.PassView.{PassView}
 use Rattle.dp_shared.specs.declared.line_view.Question.TheVariants as asks
 use Rattle.dp_trail.specs.Trails.{MissedOne}
