@@ -9,6 +9,9 @@ mod sockets;
 
 use std::io;
 
+/// The number of rounds of one measurement. The best round counts.
+const ROUNDS: u32 = 9;
+
 fn main(rt: HostRuntime) -> io::Result<()> {
     let words: Vec<String> = std::env::args(&rt)?.collect(rt.alloc())?;
     match words.get(1).map(|word| word.as_str()) {
