@@ -11,8 +11,8 @@ use dp_sessions::{
     serve_pass_by,
 };
 use dp_shared::{Line, Pass};
-use shared_tests::line_specs::ample_line;
-use shared_tests::rows::{closed_with, hex_of, is_told, octets_of};
+use fixtures::line_specs::ample_line;
+use fixtures::rows::{closed_with, hex_of, is_told, octets_of};
 use std::alloc::Global;
 use std::sync::Wait;
 use std::test::Fail;

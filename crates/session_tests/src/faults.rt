@@ -1,7 +1,7 @@
 //! Faults that no other test meets.
 
 use dp_sessions::PoolFault;
-use shared_tests::rows::is_told;
+use fixtures::rows::is_told;
 use std::alloc::Global;
 use std::fmt::Display;
 use std::test::Fail;

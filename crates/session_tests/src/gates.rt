@@ -2,14 +2,14 @@
 
 ghost use Rattle.dp_sessions.specs.Pools.{IsSeatAt};
 
-use crate::place::{Place, fresh_place};
 use dp_audit::Receipt;
 use dp_line::{Device, Op, Step};
 use dp_sessions::{DroppedOctets, Gate, OpenGate, Port, SessionEnd, serve, serve_operator_at};
 use dp_shared::WorkerSeat;
 use dp_telegram::WholeFrame;
-use shared_tests::line_specs::ample_line;
-use shared_tests::rows::{is_told, many_passes};
+use fixtures::line_specs::ample_line;
+use fixtures::place::{Place, fresh_place};
+use fixtures::rows::{is_told, many_passes};
 use std::alloc::Global;
 use std::io::Write;
 use std::sync::atomic::AtomicU64;

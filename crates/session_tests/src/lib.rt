@@ -1,10 +1,12 @@
-//! Tests of sessions with a line (`dp_sessions`), and a helper of these tests and of those of trails: a port with seats
-//! ([`place`]).
+//! Tests of sessions with a line (`dp_sessions`), of trails (`dp_trail`), also of endless lines, and of the log
+//! (`dp_notes`). This crate has only tests.
 //!
 //! Most tests are a transcript: rows, each with its result after an arrow, and the state at the end. A helper, proved
 //! once, carries out the rows and writes the transcript that is compared.
 #![tactic(auto)]
 
+#[cfg(test)]
+mod endless;
 #[cfg(test)]
 mod faults;
 #[cfg(test)]
@@ -12,9 +14,12 @@ mod gates;
 #[cfg(test)]
 mod limits;
 #[cfg(test)]
+mod notes;
+#[cfg(test)]
 mod operators;
-pub mod place;
 #[cfg(test)]
 mod pools;
 #[cfg(test)]
 mod sessions;
+#[cfg(test)]
+mod trails;

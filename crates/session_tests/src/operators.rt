@@ -1,11 +1,11 @@
 //! Sessions of operators.
 
 use crate::limits::{Limits, end_of};
-use crate::place::{Place, fresh_place};
 use dp_line::Device;
 use dp_sessions::serve_operator;
-use shared_tests::line_specs::ample_line;
-use shared_tests::rows::{closed_with, is_told, many_passes};
+use fixtures::line_specs::ample_line;
+use fixtures::place::{Place, fresh_place};
+use fixtures::rows::{closed_with, is_told, many_passes};
 use std::alloc::{AllocError, Global};
 use std::sync::Wait;
 use std::test::Fail;

@@ -3,14 +3,14 @@
 ghost use Rattle.std.specs.Prelude.{◌≡◌, ◌∷◌, [], IfOk};
 ghost use Rattle.dp_sessions.specs.Pools.{IsSeatAt};
 
-use crate::place::fresh_place;
 use crossbeam_channel::unbounded;
 use dp_line::Device;
 use dp_sessions::{Gate, Job, OpenGate, Port, run_pool};
 use dp_shared::WorkerSeat;
 use dp_telegram::Octets;
-use shared_tests::line_specs::ample_line;
-use shared_tests::rows::{hex_of, is_told, octets_of};
+use fixtures::line_specs::ample_line;
+use fixtures::place::fresh_place;
+use fixtures::rows::{hex_of, is_told, octets_of};
 use std::alloc::{AllocError, Global};
 use std::io::{ErrorKind, Read, Write};
 use std::net::{Net, Shutdown, TcpListener, TcpStream};

@@ -3,13 +3,13 @@
 ghost use Rattle.std.specs.Prelude.{◌≡◌, None};
 
 use crate::limits::{Limits, end_of};
-use crate::place::{Place, fresh_place};
 use dp_line::Device;
 use dp_sessions::{Gate, OpenGate, Port, serve};
 use dp_shared::WorkerSeat;
 use dp_telegram::Octets;
-use shared_tests::line_specs::ample_line;
-use shared_tests::rows::{ARROW, closed_with, hex_of, is_told, many_passes, octets_of};
+use fixtures::line_specs::ample_line;
+use fixtures::place::{Place, fresh_place};
+use fixtures::rows::{ARROW, closed_with, hex_of, is_told, many_passes, octets_of};
 use std::alloc::{AllocError, Global};
 use std::sync::{Mutex, Wait};
 use std::test::Fail;

@@ -1,0 +1,58 @@
+//! The lines of the tests, and how a test compares a text.
+
+use arrayvec::ArrayVec;
+use dp_line::{Device, LineSpec, Lists, SlaveSpec};
+use std::alloc::Global;
+use std::test::Fail;
+
+/// Checks that a text is the expected one. Fails with the text if it is not.
+pub(crate) fn is_told(told: String, expected: &str) -> Result<(), Fail> {
+    if told.as_str() == expected {
+        Ok(())
+    } else {
+        Err(told)?
+    }
+}
+
+/// Returns a line with this number, `capacity` places, these masters, and slaves with two octets of inputs and two of
+/// outputs at these addresses.
+pub(crate) fn line(
+    alloc: Global,
+    number: u8,
+    capacity: u32,
+    masters: &[u8],
+    slaves: &[u8],
+) -> Result<LineSpec, Fail> {
+    let mut described = Vec::new(alloc);
+    for address in slaves {
+        described.push(slave(*address))?;
+    }
+    Ok(LineSpec {
+        number,
+        capacity,
+        masters: ArrayVec::try_from(masters)?,
+        slaves: described,
+    })
+}
+
+fn slave(address: u8) -> SlaveSpec {
+    let mut cfg = ArrayVec::new();
+    cfg.push(0x21);
+    cfg.push(0x11);
+    let mut cfgs = ArrayVec::new();
+    cfgs.push(cfg);
+    SlaveSpec {
+        address,
+        ident: 0x80A1,
+        cfgs,
+        sync: true,
+        freeze: true,
+        user_max: 237,
+        device: Device::Still,
+        lists: Lists {
+            lockers: None,
+            readers: None,
+        },
+        failsafe: false,
+    }
+}

@@ -1,0 +1,14 @@
+//! Faults that no other test meets.
+
+use dp_shared::ClaimsFault;
+use fixtures::rows::is_told;
+use std::test::Fail;
+
+#[test]
+fn faults_of_claims(rt: HostRuntime) -> Result<(), Fail> {
+    let fault = ClaimsFault::NoTable;
+    is_told(
+        format!(in rt.alloc(); "{fault} {}", fault.code())?,
+        "NoTable 1",
+    )
+}

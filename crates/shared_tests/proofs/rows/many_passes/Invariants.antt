@@ -1,5 +1,0 @@
-use Rattle.std.proofs.Common.{◌≡◌, All}
-use Rattle.shared_tests.proofs.rows.many_passes.Given as goal
-
-abbrev pub invariant-loop : goal.invariant-loop
-invariant-loop g l = All (λ p. p.table ≡ l.line.table.shared.table_id) l.passes.items
