@@ -1,9 +1,7 @@
-//! Measures times, as ratios within one run. Without words it measures nothing and prints its usage.
+//! Measures requests a second, as ratios within one run. Without words it measures nothing and prints its usage.
 #![tactic(auto)]
 
 mod described;
-mod lock;
-mod lock_times;
 mod serve_times;
 mod sockets;
 
@@ -15,15 +13,9 @@ const ROUNDS: u32 = 9;
 fn main(rt: HostRuntime) -> io::Result<()> {
     let words: Vec<String> = std::env::args(&rt)?.collect(rt.alloc())?;
     match words.get(1).map(|word| word.as_str()) {
-        Some("lock") => lock_times::measure(&rt, rt.alloc()),
         Some("serve") => serve_times::measure(&rt, rt.alloc()),
-        _ => {
-            rt.println(
-                "bench lock: the time of a request of a journal and behind its lock, from 1 to 16 threads",
-            )?;
-            rt.println(
-                "bench serve: requests a second over sockets, with and without a line, from 1 to 16 sessions",
-            )
-        }
+        _ => rt.println(
+            "bench serve: requests a second over sockets, with and without a line, from 1 to 16 sessions",
+        ),
     }
 }
