@@ -7,7 +7,7 @@ ghost use Rattle.std.specs.Prelude.{◌≡◌, Some};
 ghost use Rattle.dp_script.specs.Codes.{run_fault_code};
 ghost use Rattle.dp_script.specs.FaultTexts.{run_fault_text};
 
-use rack_file::RackFault;
+use rack_file::{RackFault, RefusedRack};
 use std::error::Error;
 use std::fmt;
 
@@ -44,16 +44,10 @@ impl fmt::Display for RunFault {
 
     fn fmt<W: fmt::Write>(&self, f: &mut fmt::Formatter<W>) -> fmt::Result {
         match self {
-            RunFault::OutOfMemory | RunFault::Rack(RackFault::OutOfMemory) => {
-                f.write_str("out of memory")
-            }
-            RunFault::Rack(RackFault::Open(position, fault)) => {
-                let name = fault.name();
-                write!(f, "rack line {position} {name}")
-            }
+            RunFault::OutOfMemory => f.write_str("out of memory"),
             RunFault::Rack(fault) => {
-                let name = fault.name();
-                write!(f, "rack {name}")
+                let refused = RefusedRack { fault: *fault };
+                write!(f, "{refused}")
             }
             RunFault::Script(line) => write!(f, "script line {line}"),
             RunFault::WriteFault => f.write_str("cannot write"),

@@ -1,10 +1,12 @@
 //! The reasons why a rack file isn't accepted.
 
-ghost use Rattle.std.specs.Prelude.{◌≡◌};
+ghost use Rattle.std.specs.Prelude.{◌≡◌, Some};
+ghost use Rattle.rack_file.specs.FaultText.{rack_fault_text};
 ghost use Rattle.rack_file.specs.Codes.{rack_fault_code};
 ghost use Rattle.rack_file.specs.Names.{rack_fault_name};
 
 use dp_line::OpenFault;
+use std::fmt;
 use thiserror::Error;
 
 /// A reason why a rack file isn't accepted. The first one that applies is reported, in the order `NotToml`, `BadKey`,
@@ -52,6 +54,32 @@ impl RackFault {
             RackFault::BadKey => "BadKey",
             RackFault::TwiceLine => "TwiceLine",
             RackFault::Open(_, _) => "Open",
+        }
+    }
+}
+
+/// A rack that is not accepted for this reason. Its `Display` is what a program writes of it: `rack NAME`,
+/// `rack line K NAME` with the position of the line in the file, or `out of memory` (own).
+#[derive(Clone, Copy, Debug)]
+pub struct RefusedRack {
+    /// The reason.
+    pub fault: RackFault,
+}
+
+impl fmt::Display for RefusedRack {
+    ghost output = { λ refused. Some (rack_fault_text refused.fault) };
+
+    fn fmt<W: fmt::Write>(&self, f: &mut fmt::Formatter<W>) -> fmt::Result {
+        match self.fault {
+            RackFault::OutOfMemory => f.write_str("out of memory"),
+            RackFault::Open(position, fault) => {
+                let name = fault.name();
+                write!(f, "rack line {position} {name}")
+            }
+            fault => {
+                let name = fault.name();
+                write!(f, "rack {name}")
+            }
         }
     }
 }

@@ -1,7 +1,7 @@
 //! Rack files: the TOML text that describes a rack of lines of simulated DP slaves.
 //!
 //! [`read_rack`] reads the [`Rack`] that a text describes, or returns the first [`RackFault`] that applies.
-//! [`cause_in`] shows where and why a text is refused. The definition `rack_in` of `specs/RackFile` is what a text
+//! [`cause_in`] shows where and why a text is refused, [`read_lines`] reads lines that may not be opened. The definition `rack_in` of `specs/RackFile` is what a text
 //! describes, and `specs/Causes` defines the text that is shown if it is refused.
 #![tactic(auto)]
 
@@ -13,7 +13,7 @@ mod reading;
 mod telling;
 mod toml_keys;
 
-pub use fault::RackFault;
+pub use fault::{RackFault, RefusedRack};
 pub use rack::{Rack, RackLine};
-pub use reading::{MOST_LINES, MOST_WORKERS, read_rack};
+pub use reading::{MOST_LINES, MOST_WORKERS, read_lines, read_rack};
 pub use telling::cause_in;

@@ -8,6 +8,7 @@ ghost use Rattle.dp_line.specs.World.{description_of, opening_fault, has_twice};
 ghost use Rattle.rack_file.specs.Rack.{line_described, rack_described};
 ghost use Rattle.rack_file.specs.Gives.{Gives, Fails, told, wrong};
 ghost use Rattle.rack_file.specs.TomlKeys.{seen, required, optional, number_from, each_of, each_from};
+ghost use Rattle.rack_file.specs.Lines.{lines_in};
 ghost use Rattle.rack_file.specs.RackFile.{masters_of, configuration_of, configurations_of, device_named, device_of, list_of, slave_of, slave_at, slaves_of, port_of, line_of, line_at, lines_of, numbers, opened, all_open, rack_of, with_fault, rack_in};
 
 use crate::fault::RackFault;
@@ -440,6 +441,33 @@ pub fn read_rack(alloc: Global, text: &str) -> Result<Rack, RackFault>
 {
     match toml::table_from_str(alloc, text) {
         Ok(file) => rack_or_fault(alloc, &file),
+        Err(error) if error.is_memory() => Err(RackFault::OutOfMemory),
+        Err(_) => Err(RackFault::NotToml),
+    }
+}
+
+/// Reads the lines that a document describes; if it describes none, returns the fault.
+fn lines_or_fault(alloc: Global, file: &Table) -> Result<Vec<RackLine>, RackFault>
+    ensures ok { IfOk result (λ lines. with_fault (lines_of (table_view file.now)) ≡ Ok (map line_described lines.items)) }
+    ensures refused { IfErr result (λ fault. Fails fault (with_fault (lines_of (table_view file.now)))) }
+{
+    match required_lines(alloc, file) {
+        Ok(lines) => Ok(lines),
+        Err(misread) => Err(misread.fault()),
+    }
+}
+
+/// Reads the lines that a rack text describes, 1 to 8 of them, whether or not they can be opened and have numbers of
+/// their own (own). Of the file itself it looks at the key `line` only.
+///
+/// Returns the first fault that applies: `NotToml`, or `BadKey` for this key and those of the lines and slaves.
+/// `OutOfMemory` may come instead of each.
+pub fn read_lines(alloc: Global, text: &str) -> Result<Vec<RackLine>, RackFault>
+    ensures ok { IfOk result (λ lines. lines_in text.now ≡ Ok (map line_described lines.items)) }
+    ensures refused { IfErr result (λ fault. Fails fault (lines_in text.now)) }
+{
+    match toml::table_from_str(alloc, text) {
+        Ok(file) => lines_or_fault(alloc, &file),
         Err(error) if error.is_memory() => Err(RackFault::OutOfMemory),
         Err(_) => Err(RackFault::NotToml),
     }

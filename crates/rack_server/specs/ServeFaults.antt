@@ -1,8 +1,7 @@
 -- Why a rack is not served: how other faults are converted, and the text (own).
 use Rattle.std.specs.Prelude.{codes, ℕ, List, ◌++◌}
 use Rattle.std.specs.Fmt.{decimal}
-use Rattle.dp_line.specs.Names.{open_fault_name}
-use Rattle.rack_file.specs.Names.{rack_fault_name}
+use Rattle.rack_file.specs.FaultText.{rack_fault_text}
 use Rattle.rack_file.specs.declared.fault.RackFault.{RackFault}
 use Rattle.rack_file.specs.declared.fault.RackFault.TheVariants as racks
 use Rattle.rack_files.specs.AuditPaths.{audit_path_text}
@@ -27,12 +26,6 @@ of_rack_fault other = faults.Rack other
 abbrev pub of_file_fault : FileFault → ServeFault
 of_file_fault files.OutOfMemory = faults.OutOfMemory
 of_file_fault (files.CannotMake path cause) = faults.CannotMake path cause
-
--- the text of a rack's fault
-abbrev pub rack_fault_text : RackFault → List ℕ
-rack_fault_text racks.OutOfMemory = codes "out of memory"
-rack_fault_text (racks.Open position fault) = codes "rack line " ++ decimal position ++ codes " " ++ open_fault_name fault
-rack_fault_text other = codes "rack " ++ rack_fault_name other
 
 -- the text of a fault, without the cause
 abbrev pub serve_fault_text : ServeFault → List ℕ

@@ -24,8 +24,8 @@ pub(crate) enum Phase {
 
 /// The phase of serving a rack, shared by its threads.
 ///
-/// Connections are accepted once all threads that accept them have started. Serving stops if a worker thread cannot be started
-/// or an audit text cannot be written.
+/// Connections are accepted once all threads that accept them have started. Serving stops if an audit text cannot be written,
+/// and, after the workers that started have ended, if a worker thread could not be started.
 #[derive(Drop)]
 pub(crate) struct AcceptGate {
     phase: Mutex<Phase>,

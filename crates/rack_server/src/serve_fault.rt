@@ -4,7 +4,7 @@ ghost use Rattle.std.specs.Prelude.{◌≡◌, Some};
 ghost use Rattle.rack_server.specs.ServeFaults.{of_file_fault, of_output_fault, of_rack_fault, serve_fault_text};
 
 use dp_cause::Cause;
-use rack_file::RackFault;
+use rack_file::{RackFault, RefusedRack};
 use rack_files::{AuditPath, FileFault};
 use std::error::Error;
 use std::fmt;
@@ -31,16 +31,10 @@ impl<'a> fmt::Display for ServeFault<'a> {
 
     fn fmt<W: fmt::Write>(&self, f: &mut fmt::Formatter<W>) -> fmt::Result {
         match self {
-            ServeFault::OutOfMemory | ServeFault::Rack(RackFault::OutOfMemory) => {
-                f.write_str("out of memory")
-            }
-            ServeFault::Rack(RackFault::Open(position, fault)) => {
-                let name = fault.name();
-                write!(f, "rack line {position} {name}")
-            }
+            ServeFault::OutOfMemory => f.write_str("out of memory"),
             ServeFault::Rack(fault) => {
-                let name = fault.name();
-                write!(f, "rack {name}")
+                let refused = RefusedRack { fault: *fault };
+                write!(f, "{refused}")
             }
             ServeFault::CannotListen(port, _) => write!(f, "cannot listen on {port}"),
             ServeFault::CannotMake(path, _) => write!(f, "cannot make {path}"),

@@ -43,7 +43,7 @@ pub(crate) fn can_start<H: Threads + Wait + Sync>(rt: &H, count: usize) -> bool 
 /// each acceptor has accepted its number of connections and their sessions have ended.
 ///
 /// Returns how many sessions of masters were served. If the thread of an acceptor cannot be started, no connection is accepted.
-/// If the thread of a worker cannot be started, no further connection is accepted.
+/// If the thread of a worker cannot be started, no connection is accepted once the workers that started have ended.
 pub(crate) fn accept_and_serve<'a, H: Host + Sync, C: CatchUp<K> + Sync, K: Drop + Send>(
     context: &'a ServerContext<'a, H>,
     acceptors: Acceptors<'a, H, C, K>,
@@ -70,7 +70,8 @@ pub(crate) fn accept_and_serve<'a, H: Host + Sync, C: CatchUp<K> + Sync, K: Drop
     )
 }
 
-/// Serves the sessions of masters. If the thread of a worker cannot be started, serving stops.
+/// Serves the sessions of masters. If the thread of a worker cannot be started, serving stops once the workers that started
+/// have ended.
 fn serve_masters<
     R: Read + Send + Drop,
     W: Write + Send + Drop,
