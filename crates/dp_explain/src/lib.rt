@@ -19,3 +19,4 @@ mod telling;
 pub use choice::Choice;
 pub use explain::{explain_text, set_verdict};
 pub use explain_fault::ExplainFault;
+pub use row::event_of_row;

@@ -12,7 +12,7 @@ use memchr::memmem;
 const BAR: [u8; 3] = *b" | ";
 
 /// Reads the event of a text line, which stands between the place and the first bar; None if there is none.
-pub(crate) fn event_of_row(row: &[u8]) -> Option<Event>
+pub fn event_of_row(row: &[u8]) -> Option<Event>
     ensures { result ≡ event_of_row row.now }
 {
     match before_bar(row) {

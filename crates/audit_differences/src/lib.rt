@@ -1,0 +1,9 @@
+//! What the policy gives in the place of a row of an audit text that is another (own).
+//!
+//! [`difference_in`] reads the text again, after a check has refused it.
+#![tactic(auto)]
+
+mod difference;
+mod expected;
+
+pub use difference::{Difference, difference_in};
