@@ -61,8 +61,8 @@ const MOST_MILLISECONDS: u64 = 86_400_000;
 /// What may follow `--log`. The first one is meant if nothing follows.
 const TOLD: [&str; 2] = ["sessions", "requests"];
 
-/// What `--version` prints after the program's name.
-const VERSION: &str = "0.1.0";
+/// What `--version` prints after the program's name: the version, and the toolchain that proves and builds the program.
+const VERSION: &str = "0.1.0 (rattle-kit-13f logic dac8208d650f15bf)";
 
 /// Returns the words that are known: `run`, `check`, `explain`, `serve` and `operate`. `clap` adds `help`, and the
 /// options `--help` and `--version`.
@@ -84,21 +84,31 @@ fn with_help<'a>(words: Command<'a>, help: Help) -> Command<'a> {
 
 /// Adds the words that take a rack and another file.
 fn with_racks<'a>(alloc: Global, words: Command<'a>) -> Result<Command<'a>, AllocError> {
-    let script = Arg::new(alloc, SCRIPT).required(true).help(help::SCRIPT);
-    let run = with_rack(alloc, "run", help::RUN)?.arg(script)?;
-    let check = with_rack(alloc, "check", help::CHECK)?.arg(audit(alloc))?;
+    let run = running(alloc)?;
+    let words = words.subcommand(run)?;
+    let check = checking(alloc)?;
+    let words = words.subcommand(check)?;
     let explain = explaining(alloc)?;
-    words
-        .subcommand(run)?
-        .subcommand(check)?
-        .subcommand(explain)
+    words.subcommand(explain)
+}
+
+/// Returns the word `run`, with a rack and a script.
+fn running<'a>(alloc: Global) -> Result<Command<'a>, AllocError> {
+    let words = with_rack(alloc, "run", help::RUN)?;
+    words.arg(Arg::new(alloc, SCRIPT).required(true).help(help::SCRIPT))
+}
+
+/// Returns the word `check`, with a rack and an audit text.
+fn checking<'a>(alloc: Global) -> Result<Command<'a>, AllocError> {
+    with_rack(alloc, "check", help::CHECK)?.arg(audit(alloc))
 }
 
 /// Adds the words that use ports.
 fn with_ports<'a>(alloc: Global, words: Command<'a>) -> Result<Command<'a>, AllocError> {
     let serve = serving(alloc)?;
+    let words = words.subcommand(serve)?;
     let operate = operating(alloc)?;
-    words.subcommand(serve)?.subcommand(operate)
+    words.subcommand(operate)
 }
 
 /// Returns a word that the file of a rack follows.
@@ -118,25 +128,38 @@ fn audit<'a>(alloc: Global) -> Arg<'a> {
 /// Returns the word `explain`, with a rack, an audit text, and the options that choose entries.
 pub(crate) fn explaining<'a>(alloc: Global) -> Result<Command<'a>, AllocError> {
     let words = with_rack(alloc, "explain", help::EXPLAIN)?.arg(audit(alloc))?;
-    with_choice(alloc, with_places(alloc, words)?)
+    let words = with_places(alloc, words)?;
+    with_choice(alloc, words)
 }
 
 /// Adds the options that choose entries by their places.
 fn with_places<'a>(alloc: Global, words: Command<'a>) -> Result<Command<'a>, AllocError> {
-    let from = number(alloc, FROM, 1, MOST_ENTRIES).value_name("N");
-    let to = number(alloc, TO, 1, MOST_ENTRIES).value_name("N");
-    words.arg(from.help(help::FROM))?.arg(to.help(help::TO))
+    words
+        .arg(place(alloc, FROM, help::FROM))?
+        .arg(place(alloc, TO, help::TO))
+}
+
+/// Returns an option with the place of an entry.
+fn place<'a>(alloc: Global, name: &'a str, help: &'a str) -> Arg<'a> {
+    number(alloc, name, 1, MOST_ENTRIES)
+        .value_name("N")
+        .help(help)
 }
 
 /// Adds the options that choose entries by slave, master and refusal, and `--summary`.
 fn with_choice<'a>(alloc: Global, words: Command<'a>) -> Result<Command<'a>, AllocError> {
-    let slave = number(alloc, SLAVE, 0, u64::from(u8::MAX)).value_name("A");
-    let master = number(alloc, MASTER, 0, u64::from(u8::MAX)).value_name("M");
     words
-        .arg(slave.help(help::SLAVE))?
-        .arg(master.help(help::MASTER))?
+        .arg(address(alloc, SLAVE, "A", help::SLAVE))?
+        .arg(address(alloc, MASTER, "M", help::MASTER))?
         .arg(flag(alloc, REFUSED).help(help::REFUSED))?
         .arg(flag(alloc, SUMMARY).help(help::SUMMARY))
+}
+
+/// Returns an option with an address.
+fn address<'a>(alloc: Global, name: &'a str, shown: &'a str, help: &'a str) -> Arg<'a> {
+    number(alloc, name, 0, u64::from(u8::MAX))
+        .value_name(shown)
+        .help(help)
 }
 
 /// Returns an option without a value.
@@ -154,13 +177,13 @@ fn number<'a>(alloc: Global, name: &'a str, least: u64, most: u64) -> Arg<'a> {
 /// Returns the word `serve`, with a rack, the number of sessions of each port, the folder of its audit texts, and what
 /// is reported.
 pub(crate) fn serving<'a>(alloc: Global) -> Result<Command<'a>, AllocError> {
-    let words = with_rack(alloc, "serve", help::SERVE)?;
-    words
+    let words = with_rack(alloc, "serve", help::SERVE)?
         .arg(sessions(alloc))?
-        .arg(folder(alloc))?
-        .arg(endless(alloc)?)?
-        .arg(part(alloc)?)?
-        .arg(log(alloc))
+        .arg(folder(alloc))?;
+    let endless = endless(alloc)?;
+    let words = words.arg(endless)?;
+    let part = part(alloc)?;
+    words.arg(part)?.arg(log(alloc))
 }
 
 /// Returns the option `--sessions N`.
@@ -208,12 +231,10 @@ fn log<'a>(alloc: Global) -> Arg<'a> {
 
 /// Returns the word `operate`, with a port, and how often a tick and a step are sent.
 pub(crate) fn operating<'a>(alloc: Global) -> Result<Command<'a>, AllocError> {
-    let tick = milliseconds(alloc, TICK, LEAST_TICK).help(help::TICK);
-    let step = milliseconds(alloc, STEP, LEAST_STEP).help(help::STEP);
     with_help(Command::new(alloc, "operate"), help::OPERATE)
         .arg(port(alloc))?
-        .arg(tick)?
-        .arg(step)
+        .arg(milliseconds(alloc, TICK, LEAST_TICK).help(help::TICK))?
+        .arg(milliseconds(alloc, STEP, LEAST_STEP).help(help::STEP))
 }
 
 /// Returns the argument for the port after `operate`.

@@ -5,9 +5,9 @@ use crate::commands::{
     STEP, SUMMARY, TICK, TO, explaining, known, operating, serving,
 };
 use crate::invocation::{Entries, Invocation, LogDetail, Service, WordsFault};
-use clap::ArgMatches;
 use clap::error::ErrorKind as Refused;
-use std::alloc::Global;
+use clap::{ArgMatches, Command};
+use std::alloc::{AllocError, Global};
 use std::env::{self, Env};
 use std::io::ErrorKind;
 
@@ -64,7 +64,44 @@ pub fn read_words<'a>(alloc: Global, words: &'a [String]) -> Result<Invocation<'
             Some(odd) => refuse_number(alloc, odd),
             None => invocation_of(alloc, &matches),
         },
-        Err(error) => Ok(Invocation::Answer(error)),
+        Err(error) => match host_in(words) {
+            Some(word) if error.kind() == Refused::ValueValidation => refuse_host(alloc, word),
+            _ => Ok(Invocation::Answer(error)),
+        },
+    }
+}
+
+/// Returns the word behind `operate` if it names a host too.
+fn host_in(words: &[String]) -> Option<&str> {
+    let (command, word) = (words.get(1)?.as_str(), words.get(2)?.as_str());
+    if command == "operate" && word.contains(':') {
+        Some(word)
+    } else {
+        None
+    }
+}
+
+/// Returns the answer to a host and a port where a port is wanted.
+fn refuse_host<'a>(alloc: Global, word: &str) -> Result<Invocation<'a>, WordsFault> {
+    let Ok(message) = format!(in alloc;
+        "invalid value '{word}' for '<PORT>': it is the number of a port alone, of this machine (127.0.0.1)"
+    ) else {
+        return Err(WordsFault::OutOfMemory);
+    };
+    refuse_value(operating(alloc), message.as_str())
+}
+
+/// Returns the answer of a command to a value that it does not accept.
+fn refuse_value<'a>(
+    command: Result<Command<'a>, AllocError>,
+    message: &str,
+) -> Result<Invocation<'a>, WordsFault> {
+    match command {
+        Ok(mut command) => match command.error(Refused::ValueValidation, message) {
+            Ok(error) => Ok(Invocation::Answer(error)),
+            Err(_) => Err(WordsFault::OutOfMemory),
+        },
+        Err(_) => Err(WordsFault::OutOfMemory),
     }
 }
 
@@ -107,13 +144,7 @@ fn refuse_number<'a>(alloc: Global, odd: OddNumber<'_>) -> Result<Invocation<'a>
         "explain" => explaining(alloc),
         _ => serving(alloc),
     };
-    match command {
-        Ok(mut command) => match command.error(Refused::ValueValidation, message.as_str()) {
-            Ok(error) => Ok(Invocation::Answer(error)),
-            Err(_) => Err(WordsFault::OutOfMemory),
-        },
-        Err(_) => Err(WordsFault::OutOfMemory),
-    }
+    refuse_value(command, message.as_str())
 }
 
 /// Returns what accepted words ask for.
