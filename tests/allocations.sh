@@ -89,6 +89,8 @@ printf 'what is no rack' >"$work/bad"
 rack 1 1 1 >"$work/rack"
 printf 'm 100 68 05 05 68 81 E4 6D 3C 3E 4C 16\njournal\n' >"$work/script"
 printf 'rack-audit 2 line 1\n' >"$work/audit"
+printf 'rack-audit 2 line 1\n1 tick 1 | none | done\n' >"$work/other"
+{ rack 1 1 1 | sed 's/^capacity = 1000/capacity = 1/'; } >"$work/one-place"
 
 sweep 'help' 4 /dev/null --help
 sweep 'version' 4 /dev/null --version
@@ -176,6 +178,8 @@ else
   in_turn 'noise' "$work/noise"
   in_turn 'two files' /dev/null run "$work/rack" "$work/script"
   in_turn 'a check' /dev/null check "$work/rack" "$work/audit"
+  in_turn 'a check of a text that is not the policy' /dev/null check "$work/rack" "$work/other"
+  in_turn 'a rack whose culprit is named' "$work/one-place"
   in_turn 'an explanation' /dev/null explain "$work/rack" "$work/audit"
   mapfile -t knocked < <("$top/tests/serve_client.py" ports 2)
   sed "s/^number = 1$/&\nlisten = ${knocked[0]}\noperator = ${knocked[1]}/" "$work/rack" >"$work/served"

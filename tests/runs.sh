@@ -54,12 +54,14 @@ play() {
   expect "$1" "$ending" "$output" "$error"
 }
 
-# check NAME: an audit text on the rack of its folder; status 0 is that of a legal one, 2 that of a fault
+# check NAME: an audit text on the rack of its folder; status 0 is that of a legal one, 2 that of a fault. What is reported of
+# one that is not the policy is stored in .causes
 check() {
   local ending=1
   wanted "$1" || return
   if [ "$error" ]; then ending=2; fi
   if [[ $output == 'legal '* ]]; then ending=0; fi
+  if [ -f "$1.causes" ]; then load error "$1.causes"; fi
   run check "${1%/*}/rack.toml" "$1.audit"
   expect "$1" "$ending" "$output" "$error"
 }
@@ -105,13 +107,17 @@ fault_of() {
   [ "$error" ]
 }
 
-# refuse_rows NAME: each row that is not empty and no comment, alone as a script on the rack of its folder
+# refuse_rows NAME: each row that is not empty and no comment, alone as a script on the rack of its folder; behind the fault
+# comes the form of its command, which is a row of the file .causes
 refuse_rows() {
-  local rows row number=0
+  local rows row causes fault number=0
   fault_of "$1" || return
+  fault=$error
+  mapfile -t causes <"$1.causes"
   mapfile -t rows <"$1.rows"
   for row in "${rows[@]}"; do
     if [[ $row && $row != '#'* ]]; then
+      error=$fault${causes[number]-}$'\n'
       number=$((number + 1))
       printf '%s' "$row" >"$work/script"
       refuse "$1" "$number ($row)" "${1%/*}/rack.toml" "$work/script"
@@ -176,7 +182,7 @@ find_unknown() {
 by_each play_all "$@"
 find_strays out script audit
 find_strays err script audit rows racks
-find_strays causes racks
+find_strays causes racks rows audit
 find_unknown
 echo "$passed passed, $failed failed"
 [ "$failed" = 0 ]

@@ -274,9 +274,9 @@ for key in listen operator; do
   run serve "$work/wrong"; ends "a second line without $key" 2 $'rackd: rack BadKey\n  line 2, key "'"$key\": missing"
 done
 cat "$work/rack" "$work/rack" | grep -v ^listen >"$work/wrong"
-run serve "$work/wrong"; ends 'two lines with one number come before a port' 2 $'rackd: rack TwiceLine\n  two lines have one number'
+run serve "$work/wrong"; ends 'two lines with one number come before a port' 2 $'rackd: rack TwiceLine\n  line 2: line 1 has the number 1 too'
 { line 1 "$masters" "$operators" '1, 5'; slave 5; } | grep -v ^listen >"$work/wrong"
-run serve "$work/wrong"; ends 'a line that is refused comes before a port' 2 $'rackd: rack line 1 TwiceAddress\n  two stations, masters and slaves together, have one address'
+run serve "$work/wrong"; ends 'a line that is refused comes before a port' 2 $'rackd: rack line 1 TwiceAddress\n  line 1, slave 1: address 5 is a master\'s'
 { line 1 "$masters" "$masters"; slave 5; } >"$work/wrong"
 run serve "$work/wrong"; ends 'one port for both' 2 "rackd: cannot listen on $masters"$'\n  twice in this rack'
 timeout "$limit" "$program" serve "$work/rack" >/dev/full 2>"$work/told"; status=$?; : >"$work/said"

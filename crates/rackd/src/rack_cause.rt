@@ -1,7 +1,7 @@
 //! The place in a rack file that is wrong, and the reason.
 
 use crate::missing_port::first_missing;
-use dp_line::OpenFault;
+use rack_culprits::culprit_in;
 use rack_file::laws::accepted_racks_have_1_to_8_lines;
 use rack_file::{RackFault, cause_in, read_rack};
 use std::alloc::{AllocError, Global};
@@ -21,14 +21,17 @@ pub(crate) fn rack_cause(
             Some(cause) => Ok(Some(cause)),
             None => missing_port_in(alloc, text),
         },
-        RackFault::TwiceLine => said(alloc, "two lines have one number"),
-        RackFault::Open(_, fault) => said(alloc, rule_of(fault)),
+        RackFault::TwiceLine => culprit_text(alloc, text, fault),
+        RackFault::Open(_, _) => culprit_text(alloc, text, fault),
     }
 }
 
-/// Returns these words as a text of its own.
-fn said(alloc: Global, words: &str) -> Result<Option<String>, AllocError> {
-    Ok(Some(String::from_str(alloc, words)?))
+/// Returns which number, address or octet of the rack the fault is about.
+fn culprit_text(alloc: Global, text: &str, fault: RackFault) -> Result<Option<String>, AllocError> {
+    match culprit_in(alloc, text, fault)? {
+        Some(culprit) => Ok(Some(format!(in alloc; "{culprit}")?)),
+        None => Ok(None),
+    }
 }
 
 /// Returns which port a line of a rack lacks.
@@ -41,22 +44,5 @@ fn missing_port_in(alloc: Global, text: &str) -> Result<Option<String>, AllocErr
         },
         Err(RackFault::OutOfMemory) => Err(AllocError),
         Err(_) => Ok(None),
-    }
-}
-
-/// Returns the rule that a line breaks which is not opened for this reason.
-fn rule_of(fault: OpenFault) -> &'static str {
-    match fault {
-        OpenFault::OutOfMemory => "memory was refused",
-        OpenFault::TwiceAddress => "two stations, masters and slaves together, have one address",
-        OpenFault::Limit => {
-            "2 to 65536 places, 1 to 16 masters, 1 to 64 slaves, addresses 0 to 126, at most 237 user parameters"
-        }
-        OpenFault::BadCfg => {
-            "a configuration ends within an identifier, or has more than 244 octets of inputs or of outputs"
-        }
-        OpenFault::UnknownListed => {
-            "lockers or readers name an address that no master of the line has"
-        }
     }
 }

@@ -1,0 +1,18 @@
+//! Standard output.
+
+use dp_script::RunFault;
+use std::alloc::Global;
+use std::io::{self, BufWriter, Printer, Write};
+
+/// Returns standard output with a buffer.
+pub(crate) fn buffered<H: Print>(
+    rt: &H,
+    alloc: Global,
+) -> Result<BufWriter<Printer<'_, H>>, RunFault> {
+    BufWriter::new(alloc, io::writer(rt)).map_err(|_| RunFault::OutOfMemory)
+}
+
+/// Writes what is left in the buffer. Its fault takes precedence over any other.
+pub(crate) fn flushed<W: Write + Drop>(mut output: BufWriter<W>) -> Result<(), RunFault> {
+    output.flush().map_err(|_| RunFault::WriteFault)
+}
