@@ -14,6 +14,16 @@ points =
     ∷ (62, codes "Chk_Cfg")
     ∷ []
 
+-- points that no simulated slave has, and what they are for
+abbrev pub unsimulated_points : List (ℕ × List ℕ)
+unsimulated_points =
+    (49, codes "MSAC_C2, DP-V1: not simulated")
+    ∷ (50, codes "MSAL_C1, DP-V1: not simulated")
+    ∷ (51, codes "MSAC_C1, DP-V1: not simulated")
+    ∷ (54, codes "master to master: not simulated")
+    ∷ (55, codes "Set_Slave_Add: not simulated")
+    ∷ []
+
 -- the service of the point with this number, by these rows
 abbrev pub service_in : List (ℕ × List ℕ) → ℕ → Option (List ℕ)
 service_in [] number = None

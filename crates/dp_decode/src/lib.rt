@@ -22,6 +22,6 @@ mod words;
 pub use addressing::Addressed;
 pub use contents::Contents;
 pub use kinds::Kind;
-pub use points::service;
+pub use points::{service, unsimulated};
 pub use replies::Reply;
 pub use words::{CapitalPair, Flag, Groups, Hex, HexPair, Names};

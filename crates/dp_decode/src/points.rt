@@ -1,7 +1,7 @@
 //! Service access points in words.
 
 ghost use Rattle.std.specs.Prelude.{◌≡◌, Some, option_map};
-ghost use Rattle.dp_decode.specs.Points.{point_text, points, service_in, source_text};
+ghost use Rattle.dp_decode.specs.Points.{point_text, points, service_in, source_text, unsimulated_points};
 
 use dp_sap::{CHK_CFG, GET_CFG, GLOBAL_CONTROL, RD_INP, RD_OUTP, SET_PRM, SLAVE_DIAG};
 use std::fmt;
@@ -36,6 +36,21 @@ pub fn service(number: u8) -> Option<&'static str>
         SLAVE_DIAG => Some("Slave_Diag"),
         SET_PRM => Some("Set_Prm"),
         CHK_CFG => Some("Chk_Cfg"),
+        _ => None,
+    }
+}
+
+/// Returns what the point of this number is for, if the standard has it and no simulated slave does (IEC 61158-6-3,
+/// service access points); None for every other point.
+pub fn unsimulated(number: u8) -> Option<&'static str>
+    ensures { option_map (λ name. name.now) result ≡ service_in unsimulated_points number }
+{
+    match number {
+        49 => Some("MSAC_C2, DP-V1: not simulated"),
+        50 => Some("MSAL_C1, DP-V1: not simulated"),
+        51 => Some("MSAC_C1, DP-V1: not simulated"),
+        54 => Some("master to master: not simulated"),
+        55 => Some("Set_Slave_Add: not simulated"),
         _ => None,
     }
 }
