@@ -5,6 +5,7 @@ use crate::session_end::SessionEnd;
 use dp_audit::Receipt;
 use dp_line::{Op, Step};
 use dp_telegram::WholeFrame;
+use dp_text::LineFault;
 use std::sync::Wait;
 
 /// What a session calls before and after each exchange and event, and at its end. A call may hold up its own session,
@@ -42,6 +43,10 @@ pub trait Gate {
 
     /// Called before each event of an operator.
     fn operates<W: Wait>(&self, _rt: &W, _line: u8, _op: &Op) {}
+
+    /// Called if a line of an operator has this fault, before the fault is written. The octets are those of the line without
+    /// its LF, at most the first 1,025.
+    fn faulty_line<W: Wait>(&self, _rt: &W, _line: u8, _octets: &[u8], _fault: LineFault) {}
 
     /// Called after each event of an operator, before its answer is written.
     fn operated<W: Wait>(&self, _rt: &W, _line: u8, _receipt: &Receipt) {}

@@ -33,7 +33,10 @@ pub(crate) fn answer_line<T: Wait, G: Gate>(
 {
     match read_line(octets) {
         Ok(op_line) => operate(rt, line, gate, driven, pass, op_line, text),
-        Err(fault) => set_fault(text, fault),
+        Err(fault) => {
+            gate.faulty_line(rt, pass.line(), octets, fault);
+            set_fault(text, fault);
+        }
     }
 }
 
