@@ -5,7 +5,8 @@ use Rattle.toml.specs.Data.{Members}
 use Rattle.rack_file.specs.declared.misread.Misread.{Misread}
 use Rattle.rack_file.specs.declared.misread.Misread.TheVariants as misreads
 use Rattle.rack_file.specs.Rack.{RackDescription}
-use Rattle.rack_file.specs.Misreads.{shown, key_fault_text}
+use Rattle.rack_file.specs.Misreads.{shown}
+use Rattle.rack_file.specs.Suggestions.{told_key}
 use Rattle.rack_file.specs.RackFile.{rack_of}
 
 -- the number of the text line, from 1, that has the octet at this offset
@@ -20,7 +21,7 @@ TellsRow text told =
 -- the text for a document: the key that isn't accepted; None for other faults
 abbrev pub cause_of : Result RackDescription Misread → Option (List ℕ)
 cause_of (Ok rack) = None
-cause_of (Err (misreads.BadKey bad)) = Some (key_fault_text bad)
+cause_of (Err (misreads.BadKey bad)) = Some (told_key bad)
 cause_of (Err other) = None
 
 -- this text is shown for a rack text and the document that it is

@@ -8,5 +8,6 @@ pub mod TomlKeys
 pub mod Gives
 pub mod RackFile
 pub mod Lines
+pub mod Suggestions
 pub mod Causes
 pub mod RackFileExamples

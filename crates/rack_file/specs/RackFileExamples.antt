@@ -1,6 +1,7 @@
 -- Examples: one line with masters 1 and 2 and slave 5, ident number 80A1, as a document; and the texts for documents that describe no rack.
 use Rattle.std.specs.Prelude.{◌≡◌, ⊤, ℕ, zero, suc, pos, negsuc, List, [], ◌∷◌, ◌++◌, codes, true, false, None, Some, Ok, Err, refl, option_map}
 use Rattle.std.specs.Fmt.{digits}
+use Rattle.std.specs.Str.{chars}
 use Rattle.hex.proofs.OnLiterals.{hex_on_literals}
 use Rattle.toml.proofs.OnLiterals.{toml_on_literals}
 use Rattle.toml.specs.Data.{Data, string, integer, boolean, array, table, Items, no_items, item, Members, no_members, member}
@@ -17,6 +18,8 @@ use Rattle.rack_file.specs.Rack.{LineDescription}
 use Rattle.rack_file.specs.Misreads.{bad_key, key_fault_text, shown}
 use Rattle.rack_file.specs.TomlKeys.{required, optional, elements_of, text_or_array_of, number_from, octets_of, each_from}
 use Rattle.rack_file.specs.RackFile.{masters_of, configuration_of, configurations_of, device_of, list_of, slave_of, slave_at, slaves_of, port_of, line_of, line_at, lines_of, all_open, rack_of, rack_of_document, rack_in}
+use Rattle.strsim.specs.Edits.{cost_at, next_row, rows}
+use Rattle.rack_file.specs.Suggestions.{suggested_key}
 use Rattle.rack_file.specs.Causes.{cause_of, row_at}
 
 -- the definitions that are unfolded to compute a document's rack
@@ -363,9 +366,26 @@ device_in_capitals = (refl, refl)
 pub key_in_one_row : shown (0x61 ∷ 0x22 ∷ 0x0A ∷ 0x5C ∷ 0xC3 ∷ 0xBC ∷ []) ≡ codes "a\\x22\\x0a\\x5c\\xc3\\xbc"
 key_in_one_row = refl
 
-pub cause_of_a_text : option_map (λ file. cause_of (rack_of file)) (parse_document (codes "lines = 1\n")) ≡ Some (Some (codes "key \"lines\": no such key"))
-unfolding rack_on_literals
+pub cause_of_a_text : option_map (λ file. cause_of (rack_of file)) (parse_document (codes "colour = 1\n")) ≡ Some (Some (codes "key \"colour\": no such key"))
+unfolding rack_on_literals chars rows next_row cost_at
 cause_of_a_text = refl
+
+-- ---- the key that an unknown one may stand for
+
+pub one_letter_away : suggested_key Rack (codes "lines") NoSuchKey ≡ Some (codes "line")
+unfolding chars rows next_row cost_at
+one_letter_away = refl
+
+pub two_letters_away : suggested_key Rack (codes "wrokers") NoSuchKey ≡ Some (codes "workers")
+unfolding chars rows next_row cost_at
+two_letters_away = refl
+
+pub two_letters_of_a_short_key : suggested_key (Slave 1 1) (codes "cgf") NoSuchKey ≡ None
+unfolding chars rows next_row cost_at
+two_letters_of_a_short_key = refl
+
+pub no_suggestion_for_a_known_key : suggested_key Rack (codes "line") Missing ≡ None
+no_suggestion_for_a_known_key = refl
 
 pub third_row : row_at (codes "a = 1\nb = 2\n[[line") 15 ≡ 3
 third_row = refl

@@ -1,10 +1,13 @@
 //! The reasons why a document describes no rack: which key of which table isn't accepted, and why.
 
-ghost use Rattle.std.specs.Prelude.{◌≡◌, Some};
+ghost use Rattle.std.specs.Prelude.{◌≡◌, Some, IfOk, option_map};
 ghost use Rattle.rack_file.specs.Misreads.{bad_key, fault_of, cause_text, place_text, stands_for_itself, shown_octet, shown, key_fault_text};
+ghost use Rattle.rack_file.specs.Suggestions.{suggested_key};
 
 use crate::fault::RackFault;
+use crate::keys::{keys_at, nearest_key};
 use dp_line::OpenFault;
+use std::alloc::{AllocError, Global};
 use std::fmt;
 use std::marker::Model;
 
@@ -146,6 +149,28 @@ impl<'a> fmt::Display for BadKey<'a> {
         let key = Shown(self.key);
         let cause = self.cause;
         write!(f, "{place}key \"{key}\": {cause}")
+    }
+}
+
+impl<'a> BadKey<'a> {
+    /// Returns the key that this key may stand for, if the table can't have it. `AllocError` if memory runs out.
+    pub(crate) fn suggested(&self, alloc: Global) -> Result<Option<&'static str>, AllocError>
+        ensures { IfOk result (λ found. option_map (λ name. name.now) found ≡ suggested_key self.now.place self.now.key self.now.cause) }
+    {
+        match self.cause {
+            Cause::NoSuchKey => nearest_key(alloc, self.key, keys_at(self.place)),
+            Cause::Missing => Ok(None),
+            Cause::NoNumber(_, _) => Ok(None),
+            Cause::NoText => Ok(None),
+            Cause::NoTextOrArray => Ok(None),
+            Cause::NoHex => Ok(None),
+            Cause::ManyOctets => Ok(None),
+            Cause::NoFlag => Ok(None),
+            Cause::NoArray => Ok(None),
+            Cause::Count(_, _) => Ok(None),
+            Cause::NoTable => Ok(None),
+            Cause::NoDevice => Ok(None),
+        }
     }
 }
 

@@ -9,9 +9,10 @@ ghost use Rattle.toml.specs.Parse.{parse_document};
 ghost use Rattle.toml.specs.View.{table_view};
 ghost use Rattle.rack_file.specs.Misreads.{shown};
 ghost use Rattle.rack_file.specs.RackFile.{rack_of};
+ghost use Rattle.rack_file.specs.Suggestions.{told_key};
 ghost use Rattle.rack_file.specs.Causes.{TellsCause, cause_of, row_at};
 
-use crate::misread::{Misread, Shown};
+use crate::misread::{BadKey, Misread, Shown};
 use crate::reading::rack_in_document;
 use std::alloc::{AllocError, Global};
 use toml::Table;
@@ -21,7 +22,8 @@ use toml::Table;
 ///
 /// - `BadKey`: the first key that isn't accepted, with its place: `key "KEY": CAUSE` for the file itself,
 ///   `line L, key "KEY": CAUSE` for the line at this position of the file, from 1, and
-///   `line L, slave S, key "KEY": CAUSE` for the slave at this position, from 1, among those of that line.
+///   `line L, slave S, key "KEY": CAUSE` for the slave at this position, from 1, among those of that line. If
+///   an unknown key is one letter away from a known one, or two and has six octets or more, `, perhaps "KEY"` follows.
 /// - `NotToml`: `row N: MESSAGE`, with the number of the text line, from 1, at which the text stops being TOML.
 ///
 /// In a key and a message, `"`, `\` and each octet that isn't printable ASCII are written `\xNN`.
@@ -50,9 +52,19 @@ fn cause_in_document(alloc: Global, file: &Table) -> Result<Option<String>, Allo
     match rack_in_document(alloc, file) {
         Ok(_rack) => Ok(None),
         Err(Misread::OutOfMemory) => Err(AllocError),
-        Err(Misread::BadKey(bad)) => Ok(Some(format!(in alloc; "{bad}")?)),
+        Err(Misread::BadKey(bad)) => Ok(Some(key_told(alloc, &bad)?)),
         Err(Misread::TwiceLine) => Ok(None),
         Err(Misread::Open(_position, _fault)) => Ok(None),
+    }
+}
+
+/// Returns the text for a key that isn't accepted, with the key that it may stand for. `AllocError` if memory runs out.
+fn key_told(alloc: Global, bad: &BadKey<'_>) -> Result<String, AllocError>
+    ensures { IfOk result (λ told. string_bytes told ≡ told_key bad.now) }
+{
+    match bad.suggested(alloc)? {
+        Some(name) => format!(in alloc; "{bad}, perhaps \"{name}\""),
+        None => format!(in alloc; "{bad}"),
     }
 }
 

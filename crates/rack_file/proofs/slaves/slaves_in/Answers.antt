@@ -5,7 +5,7 @@ use Rattle.rack_file.specs.Gives.{told}
 use Rattle.rack_file.specs.TomlKeys.{each_from}
 use Rattle.rack_file.specs.RackFile.{slave_at}
 use Rattle.rack_file.proofs.Each.{each_more, each_stops}
-use Rattle.rack_file.proofs.reading.slaves_in.Goals as goal
+use Rattle.rack_file.proofs.slaves.slaves_in.Goals as goal
 
 pub loop-index-init : goal.loop-index-init
 unfolding each_from

@@ -6,7 +6,7 @@ use Rattle.rack_file.specs.Gives.{wrong}
 use Rattle.rack_file.specs.TomlKeys.{each_of, each_from}
 use Rattle.rack_file.specs.RackFile.{configuration_of, configurations_of}
 use Rattle.rack_file.proofs.Each.{each_more, each_stops}
-use Rattle.rack_file.proofs.reading.configurations_in.Goals as goal
+use Rattle.rack_file.proofs.slaves.configurations_in.Goals as goal
 
 pub loop-value-init : goal.loop-value-init
 unfolding each_from

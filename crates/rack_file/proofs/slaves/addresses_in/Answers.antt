@@ -3,7 +3,7 @@ use Rattle.std.proofs.lemmas.Grind.{common_steps}
 use Rattle.std.proofs.lemmas.Result.{err_from_is_err_and}
 use Rattle.rack_file.specs.TomlKeys.{number_from, each_from}
 use Rattle.rack_file.proofs.Each.{each_more, each_stops}
-use Rattle.rack_file.proofs.reading.addresses_in.Goals as goal
+use Rattle.rack_file.proofs.slaves.addresses_in.Goals as goal
 
 pub loop-value-init : goal.loop-value-init
 unfolding each_from
