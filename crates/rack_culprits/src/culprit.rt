@@ -27,25 +27,25 @@ pub struct Culprit {
 pub enum Wrong {
     /// The line at this other position has this number too.
     NumberOf(usize, u8),
-    /// The number of places.
+    /// The number of places, which is outside its limits.
     Capacity(u32),
     /// The line has no master.
     NoMaster,
-    /// The address of a master is none.
+    /// The address of a master is above 126.
     Master(u8),
     /// Two masters have this address.
     TwiceMaster(u8),
     /// The line has no slave.
     NoSlave,
-    /// The line has so many slaves.
+    /// The line has this number of slaves, which is too many.
     Slaves(usize),
-    /// The address of the slave is none.
+    /// The address of the slave is above 126.
     Address(u8),
     /// A master has the slave's address.
     MastersAddress(u8),
     /// A slave before has this address too.
     TwiceAddress(u8),
-    /// The number of octets of user parameters.
+    /// The most octets of user parameters, which is too many.
     UserParameters(u8),
     /// The list with this key has an address that no master of the line has.
     Listed(&'static str, u8),

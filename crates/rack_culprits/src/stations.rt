@@ -1,4 +1,4 @@
-//! Finds stations with one address, lists with strangers, and configurations that are none.
+//! Finds stations with the same address, listed addresses that no master has, and octets that are no configuration.
 
 use crate::culprit::Wrong;
 use dp_cfg::{CfgFault, CfgIds};
