@@ -23,6 +23,8 @@ pub(crate) const MASTER: &str = "master";
 
 pub(crate) const REFUSED: &str = "refused";
 
+pub(crate) const FAULTS: &str = "faults";
+
 pub(crate) const SUMMARY: &str = "summary";
 
 /// The most entries of an audit text, which only an endless line has.
@@ -146,11 +148,12 @@ fn place<'a>(alloc: Global, name: &'a str, help: &'a str) -> Arg<'a> {
         .help(help)
 }
 
-/// Adds the options that choose entries by slave, master and refusal, and `--summary`.
+/// Adds the options that choose entries by slave, master, fault and refusal, and `--summary`.
 fn with_choice<'a>(alloc: Global, words: Command<'a>) -> Result<Command<'a>, AllocError> {
     words
         .arg(address(alloc, SLAVE, "A", help::SLAVE))?
         .arg(address(alloc, MASTER, "M", help::MASTER))?
+        .arg(flag(alloc, FAULTS).help(help::FAULTS))?
         .arg(flag(alloc, REFUSED).help(help::REFUSED))?
         .arg(flag(alloc, SUMMARY).help(help::SUMMARY))
 }

@@ -123,13 +123,15 @@ Examples:
 pub(crate) const EXPLAIN: Help = Help {
     about: "Explain an audit text in words, and check it as 'check' does",
     usage: "\
-rackd explain RACK AUDIT.. [--from N] [--to N] [--slave A] [--master M] [--refused]
-             [--summary]
+rackd explain RACK AUDIT.. [--faults] [--from N] [--to N] [--slave A] [--master M]
+             [--refused] [--summary]
        rackd explain --help",
     details: "\
 For each entry, standard output gets what was sent, in the names of the standard, the result and
 its reason, and what changed. The place of an entry is its number, from 1. Only entries that meet
 all given options are explained, and only those before the first wrong line.
+
+If a slave doesn't come into data exchange, begin with --faults.
 
 The summary of all entries follows: which master held which slave, and how often each rule
 applied. The last line and the exit status are those of 'check': status 0 if the text is legal,
@@ -137,7 +139,7 @@ else 1.
 
 Examples:
   rackd explain examples/audit-rack.toml examples/audit.txt
-  rackd explain examples/day-of-a-line-rack.toml examples/day-of-a-line.audit --slave 5 --refused",
+  rackd explain examples/day-of-a-line-rack.toml examples/day-of-a-line.audit --faults --slave 5",
 };
 
 /// The help of `serve`.
@@ -219,6 +221,11 @@ pub(crate) const SLAVE: &str =
 
 pub(crate) const MASTER: &str =
     "Explain only requests of the master at address M: 0 to 255 [default: all]";
+
+pub(crate) const FAULTS: &str = "\
+Explain only what went wrong: refusals, requests that nobody can answer,
+wrong parameters and configurations, released slaves, and repeats that
+are another telegram";
 
 pub(crate) const REFUSED: &str = "Explain only requests that were refused";
 

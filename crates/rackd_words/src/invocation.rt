@@ -38,6 +38,8 @@ pub struct Entries {
     pub slave: Option<u8>,
     /// Only those that this master sent.
     pub master: Option<u8>,
+    /// Only those that are faults of the bus.
+    pub are_faults: bool,
     /// Only those that were refused.
     pub are_refused: bool,
     /// No entries, only the summary of all.

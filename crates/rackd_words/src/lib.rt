@@ -2,9 +2,11 @@
 #![tactic(auto)]
 
 mod commands;
+mod forms;
 mod help;
 mod invocation;
 mod reading;
 
+pub use forms::{operator_form, script_form};
 pub use invocation::{Entries, Invocation, LogDetail, Service, WordsFault};
 pub use reading::{read_words, words_of};

@@ -1,8 +1,8 @@
 //! Reads what the words of the command line ask for.
 
 use crate::commands::{
-    AUDIT, ENDLESS, FOLDER, FROM, LOG, MASTER, PART, PORT, RACK, REFUSED, SCRIPT, SESSIONS, SLAVE,
-    STEP, SUMMARY, TICK, TO, explaining, known, operating, serving,
+    AUDIT, ENDLESS, FAULTS, FOLDER, FROM, LOG, MASTER, PART, PORT, RACK, REFUSED, SCRIPT, SESSIONS,
+    SLAVE, STEP, SUMMARY, TICK, TO, explaining, known, operating, serving,
 };
 use crate::invocation::{Entries, Invocation, LogDetail, Service, WordsFault};
 use clap::error::ErrorKind as Refused;
@@ -206,6 +206,7 @@ fn entries_of(words: &ArgMatches<'_>) -> Entries {
         to: words.get_one(TO),
         slave: words.get_one(SLAVE),
         master: words.get_one(MASTER),
+        are_faults: words.get_flag(FAULTS),
         are_refused: words.get_flag(REFUSED),
         only_summary: words.get_flag(SUMMARY),
     }
