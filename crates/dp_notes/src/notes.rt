@@ -4,12 +4,12 @@ use crate::dropped_rows::DroppedRows;
 use crate::time_of_day::TimeOfDay;
 use arrayvec::ArrayVec;
 use dp_audit::Receipt;
-use dp_line::{Event, Op, OperatorFault, Outcome, Rule, Step};
+use dp_line::{Event, Op, OperatorFault, Outcome, Rule, Step, is_refused_request};
 use dp_sessions::{DroppedOctets, Gate, SessionEnd};
 use dp_telegram::WholeFrame;
-use dp_text::Text;
+use dp_text::{LONGEST_LINE, LineFault, Text};
 use log::{Log, info, warn};
-use rackd_words::LogDetail;
+use rackd_words::{LogDetail, operator_form};
 use std::fmt::Display;
 use std::io::Error;
 use std::sync::atomic::AtomicU32;
@@ -184,13 +184,13 @@ impl<'a, L: Log + Clock> Notes<'a, L> {
         }
     }
 
-    /// Counts a request of a session.
-    fn count<W: Wait>(&self, rt: &W, line: u8, master: u8, outcome: &Outcome) {
+    /// Counts a request of a session, and whether it was refused.
+    fn count<W: Wait>(&self, rt: &W, line: u8, master: u8, is_refused: bool) {
         let mut noted = self.noted.lock(rt);
         for session in &mut noted.sessions {
             if session.line == line && session.master == master {
                 session.requests = session.requests.saturating_add(1);
-                if outcome.is_refusal() {
+                if is_refused {
                     session.refused = session.refused.saturating_add(1);
                 }
                 self.write_dropped(session, false);
@@ -261,7 +261,8 @@ impl<L: Log + Clock> Gate for Notes<'_, L> {
     ) {
         self.tell_halt(rt, line, false, &answer.outcome);
         if self.log_detail != LogDetail::Warnings {
-            self.count(rt, line, master, &answer.outcome);
+            let is_refused = is_refused_request(frame.octets(), &answer.outcome);
+            self.count(rt, line, master, is_refused);
         }
         if self.log_detail == LogDetail::Requests
             && let Ok(octets) = ArrayVec::try_from(frame.octets())
@@ -311,6 +312,28 @@ impl<L: Log + Clock> Gate for Notes<'_, L> {
                 format_args!("line {line}: master {master} refused: {end}"),
             ),
             None => self.tell(rt, format_args!("line {line}: no address came: {end}")),
+        }
+    }
+
+    fn faulty_line<W: Wait>(&self, rt: &W, line: u8, octets: &[u8], fault: LineFault) {
+        match fault {
+            LineFault::TooLong => self.tell(
+                rt,
+                format_args!("line {line}: operator: a line has more than {LONGEST_LINE} octets"),
+            ),
+            LineFault::NotACommand => match std::str::from_utf8(octets) {
+                Ok(text) => {
+                    let form = operator_form(text);
+                    self.tell(
+                        rt,
+                        format_args!("line {line}: operator: no command, \"{text}\": {form}"),
+                    );
+                }
+                Err(_) => self.tell(
+                    rt,
+                    format_args!("line {line}: operator: a line is not UTF-8"),
+                ),
+            },
         }
     }
 
