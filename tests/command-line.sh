@@ -190,9 +190,9 @@ hold 'the help of run: usage, arguments, the commands of a script' has run.help 
 hold 'the help of check: usage, arguments, results' has check.help 'Usage: rackd check RACK AUDIT..' '<RACK>' '<AUDIT>...' \
   "'ready'" '  legal N ' '  bad line N ' '  not the policy N ' $'\nExamples:\n  rackd '
 hold 'the help of explain: usage, options, ranges' has explain.help \
-  'Usage: rackd explain RACK AUDIT.. [--from N] [--to N] [--slave A] [--master M] [--refused]' '[--summary]' \
+  'Usage: rackd explain RACK AUDIT.. [--faults] [--from N] [--to N] [--slave A] [--master M]' '[--refused] [--summary]' \
   '--from <N>' '1 to 4294967295 [default: 1]' '--to <N>' '1 to 4294967295' '--slave <A>' '0 to 255' '--master <M>' '0 to 255' \
-  '--refused' '--summary' $'\nExamples:\n  rackd '
+  '--faults' '--refused' '--summary' $'\nExamples:\n  rackd '
 hold 'the help of serve: usage, options, ranges' has serve.help \
   'Usage: rackd serve RACK [--sessions N] [--audit FOLDER [--endless [--part MB]]] [--log [WHAT]]' \
   '--sessions <N>' '1 to 1000000 [default: no limit]' '--audit <FOLDER>' '--endless' '4294967295; requires --audit' \
@@ -256,7 +256,7 @@ for words in word -x --hel --help=1 --version=1 '' '--line 1' 'help word' 'help 
   'check rack audit --version' 'check rack --audit audit' \
   explain 'explain rack' 'explain rack audit --from' 'explain rack audit --from 0' \
   'explain rack audit --to 4294967296' 'explain rack audit --from 4294967296' 'explain rack audit --slave 256' 'explain rack audit --slave 05' \
-  'explain rack audit --master +1' 'explain rack audit --refused 1' 'explain rack audit --summary --summary' \
+  'explain rack audit --master +1' 'explain rack audit --refused 1' 'explain rack audit --faults 1' 'explain rack audit --summary --summary' \
   'explain rack audit --why' 'check rack audit --summary' \
   serve 'serve rack word' 'serve --sessions 1' 'serve rack --sessions' 'serve rack --sessions 0' \
   'serve rack --sessions 1000001' 'serve rack --sessions x' 'serve rack --sessions -1' \
@@ -322,7 +322,19 @@ run '' check "$work/rack" "$work/facts"; expect 'other facts' 1 'not the policy 
   "  row 2: written \"${entry/WaitPrm/WaitCfg}\"
   the policy gives \"$entry\"
 $other_rack"
-run '' explain --summary "$work/rack" "$work/audit" --slave 0; expect 'options before and behind the files' 0 $'holds\nrequests by rule\n  master 1    Done                 1\nrefusals by rule\nlegal 1' ''
+run '' explain --summary "$work/rack" "$work/audit" --slave 5; expect 'options before and behind the files' 0 $'holds\nrequests by rule\n  master 1    Done                 1\nfaults\nlegal 1' ''
+run '' explain "$work/rack" "$work/audit" --slave 0; expect 'a slave that the line lacks' 2 '' 'rackd: line 1 has no slave 0'
+run '' explain "$work/rack" "$work/audit" --slave 1; expect 'a slave that is a master' 2 '' 'rackd: line 1 has no slave 1'
+run '' explain "$work/rack" "$work/audit" --master 5; expect 'a master that is a slave' 2 '' 'rackd: line 1 has no master 5'
+run '' explain "$work/rack" "$work/audit" --slave 9 --master 9; expect 'neither slave nor master' 2 '' 'rackd: line 1 has no slave 9'
+run '' explain "$work/rack" "$work/empty" --slave 9; expect 'a slave and no header' 1 'bad line 1' ''
+run '' explain "$work/script" "$work/audit" --slave 9; expect 'a slave, and a file that is no rack' 2 '' $'rackd: rack NotToml\n  row 1: key with no value, expected `=`'
+# more than a pipe takes, and a reader that ends after the first row
+{ printf "$rack%%%%\n"; for ((asked = 0; asked < 900; asked++)); do printf "$slave_diag\n"; done; echo journal; } | "$program" >"$work/asked"
+sed -n '/^rack-audit/,$p' "$work/asked" >"$work/long"
+{ "$program" explain "$work/rack" "$work/long" 2>"$work/err"; echo $? >"$work/status"; } | head -1 >"$work/out"
+status=$(cat "$work/status")
+expect 'a reader that ends' 0 '    1  master 1 -> slave 5       SD2 SRD high FCB 1 FCV 0  Slave_Diag (60) from 62' ''
 run '' explain "$work/rack" "$work/empty"; expect 'nothing to explain' 1 'bad line 1' ''
 run '' explain "$work/rack" "$work/served"; expect 'an explanation with ready above it' 1 'bad line 1' "$no_header"
 run '' explain "$work/script" "$work/audit"; expect 'an explanation on a file that is no rack' 2 '' $'rackd: rack NotToml\n  row 1: key with no value, expected `=`'

@@ -101,7 +101,19 @@ find_strays() {
   done
 }
 
+# compare_expected: the expected texts are those of the explainer that they come from
+compare_expected() {
+  local agreed
+  if ! python3 -c 'import tomllib' 2>/dev/null; then
+    echo 'not run: explainer.py needs Python 3.11'
+    return
+  fi
+  agreed=$("$stored/explainer.py" --all | tail -1)
+  if [[ $agreed == *' agree, 0 differ' ]]; then passed=$((passed + 1)); else fail "$stored/explainer.py" "$agreed"; fi
+}
+
 by_each tell_all "$@"
 find_strays
+compare_expected
 echo "$passed passed, $failed failed"
 [ "$failed" = 0 ]

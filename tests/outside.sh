@@ -12,4 +12,4 @@ client=$top/tests/outside_client.py
 try_all error_output_is_not_read lost_rows_are_counted stopped_server_goes_on stopped_operator_goes_on \
   web_requests_are_closed control_characters_are_escaped answers_are_printable nobody_listens_but_itself \
   leaves_with_a_reply_unread busy_workers_are_reported bridge_opens_again dropped_octets_are_reported \
-  dropped_octets_are_summed_up
+  dropped_octets_are_summed_up faulty_lines_are_reported

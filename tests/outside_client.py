@@ -391,10 +391,37 @@ def dropped_octets_are_summed_up(trial):
     hold("the rest is summed up", any(row.group(2) for row in found))
 
 
+# ---- lines of an operator that are no command
+
+
+def faulty_lines_are_reported(trial):
+    """The log has the reason why a line of an operator is no command, and the form of the command."""
+    rack = trial.rack(1)
+    with trial.serve(rack, "--log") as server:
+        operator = socket.create_connection(("127.0.0.1", rack.operators[1]), timeout=PATIENCE)
+        lines = (b"nonsense 5", b"tick x", b"show\x1b 5", b"m 1 e5", b"\xff", b"x" * 1025, b"tick 1")
+        operator.sendall(b"".join(line + b"\n" for line in lines))
+        answers = operator.makefile("rb")
+        expect("the answers", [b"fault NotACommand\n"] * 5 + [b"fault TooLong\n", b"released\n"],
+               [answers.readline() for _ in lines])
+        operator.close()
+        time.sleep(SETTLED)
+        server.process.terminate()
+        rows = [row.split("line 1: operator: ")[1] for row in errors_of(server).splitlines() if "operator: " in row]
+    expect("the rows", [
+        "no command, \"nonsense 5\": no such command; 'rackd run --help' lists them",
+        "no command, \"tick x\": tick N: N is a number of 10 ms, 0 to 4294967295",
+        "no command, \"show\\x1b 5\": no such command; 'rackd run --help' lists them",
+        "no command, \"m 1 e5\": no such command; 'rackd run --help' lists them",
+        "a line is not UTF-8",
+        "a line has more than 1024 octets",
+    ], rows)
+
+
 CASES = (error_output_is_not_read, lost_rows_are_counted, stopped_server_goes_on, stopped_operator_goes_on,
          web_requests_are_closed, control_characters_are_escaped, answers_are_printable, nobody_listens_but_itself,
          leaves_with_a_reply_unread, busy_workers_are_reported, bridge_opens_again, dropped_octets_are_reported,
-         dropped_octets_are_summed_up)
+         dropped_octets_are_summed_up, faulty_lines_are_reported)
 
 
 def main(words):
