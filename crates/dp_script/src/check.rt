@@ -55,7 +55,7 @@ fn verdict_on(alloc: Global, rack: &Rack, audit: &str) -> Result<u32, AuditFault
 }
 
 /// Returns the first line that accepts this header; None if there is none.
-pub(crate) fn line_named<'a>(lines: &'a [RackLine], header: &[u8]) -> Option<&'a RackLine>
+pub fn line_named<'a>(lines: &'a [RackLine], header: &[u8]) -> Option<&'a RackLine>
     ensures { option_copied result ≡ find (λ line. is_accepted_header (description_of line.spec) header.now) lines.now }
 {
     lines.iter().find(|line| is_header_of(header, &line.spec))

@@ -22,13 +22,15 @@ serve_status (serves.CannotMake path cause) = 2
 serve_status (serves.CannotWrite path cause) = 5
 serve_status serves.WriteFault = 4
 
--- 2 for words, files, input and ports that cannot be used, 3 if memory is refused, 4 if standard output cannot be written, 5 if an entry cannot be
+-- 2 for words, files, input, ports and addresses that cannot be used, 3 if memory is refused, 4 if standard output cannot be written, 5 if an entry cannot be
 -- written to its file
 abbrev pub status_of : Fault → ℕ
 status_of faults.BadWord = 2
 status_of (faults.CannotRead path cause) = 2
 status_of (faults.CannotConnect port cause) = 2
 status_of (faults.PortEnded port) = 2
+status_of (faults.NoSlave line address) = 2
+status_of (faults.NoMaster line address) = 2
 status_of (faults.Run (runs.Rack racks.OutOfMemory)) = 3
 status_of (faults.Run (runs.Rack other)) = 2
 status_of (faults.Run (runs.Script line)) = 2
@@ -42,6 +44,8 @@ fault_text faults.BadWord = codes "rackd: a word is not UTF-8"
 fault_text (faults.CannotRead path cause) = codes "rackd: cannot read " ++ path.now
 fault_text (faults.CannotConnect port cause) = codes "rackd: cannot connect to " ++ decimal port
 fault_text (faults.PortEnded port) = codes "rackd: port " ++ decimal port ++ codes " has ended"
+fault_text (faults.NoSlave line address) = codes "rackd: line " ++ decimal line ++ codes " has no slave " ++ decimal address
+fault_text (faults.NoMaster line address) = codes "rackd: line " ++ decimal line ++ codes " has no master " ++ decimal address
 fault_text (faults.Run fault) = codes "rackd: " ++ run_fault_text fault
 fault_text (faults.Serve fault) = codes "rackd: " ++ serve_fault_text fault
 
@@ -60,5 +64,7 @@ cause_of faults.BadWord = None
 cause_of (faults.CannotRead path cause) = Some cause
 cause_of (faults.CannotConnect port cause) = Some cause
 cause_of (faults.PortEnded port) = None
+cause_of (faults.NoSlave line address) = None
+cause_of (faults.NoMaster line address) = None
 cause_of (faults.Run fault) = None
 cause_of (faults.Serve fault) = serve_cause fault

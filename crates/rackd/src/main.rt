@@ -16,6 +16,7 @@ mod output;
 mod rack_cause;
 mod reporting;
 mod script_form;
+mod stations;
 mod texts;
 
 use answers::answer_words;

@@ -2,7 +2,7 @@
 
 use dp_script::RunFault;
 use std::alloc::Global;
-use std::io::{self, BufWriter, Printer, Write};
+use std::io::{self, BufWriter, ErrorKind, Printer, Write};
 
 /// Returns standard output with a buffer.
 pub(crate) fn buffered<H: Print>(
@@ -15,4 +15,16 @@ pub(crate) fn buffered<H: Print>(
 /// Writes what is left in the buffer. Its fault takes precedence over any other.
 pub(crate) fn flushed<W: Write + Drop>(mut output: BufWriter<W>) -> Result<(), RunFault> {
     output.flush().map_err(|_| RunFault::WriteFault)
+}
+
+/// Writes what is left in the buffer, and returns whether standard output still has a reader. Any fault other than
+/// a missing reader takes precedence over any other.
+pub(crate) fn has_reader<W: Write + Drop>(mut output: BufWriter<W>) -> Result<bool, RunFault> {
+    match output.flush() {
+        Ok(()) => Ok(true),
+        Err(error) => match error.kind() {
+            ErrorKind::BrokenPipe => Ok(false),
+            _ => Err(RunFault::WriteFault),
+        },
+    }
 }

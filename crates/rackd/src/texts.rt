@@ -3,9 +3,10 @@
 use crate::differences::note_difference;
 use crate::ending::Fault;
 use crate::files::{read_fault, read_file, read_files};
-use crate::output::{buffered, flushed};
+use crate::output::{buffered, flushed, has_reader};
 use crate::reporting::{report, reported};
 use crate::script_form::form_in;
+use crate::stations::check_stations;
 use dp_script::{Choice, RunFault, run_check, run_explain, run_text, split_input};
 use rackd_words::Entries;
 use std::io;
@@ -108,17 +109,21 @@ fn check_out<'a>(
     Ok(noted_header(rt, audit, status))
 }
 
-/// Explains an audit text on a rack, and writes the explanation on standard output.
+/// Explains an audit text on a rack, and writes the explanation on standard output. If its reader ends before, the rest is
+/// not written, and that is no fault.
 fn explain_out<'a>(
     rt: &(impl Runtime + AllocGlobal),
     rack: &str,
     audit: &str,
     entries: Entries,
 ) -> Result<ExitCode, Fault<'a>> {
+    check_stations(rt.alloc(), rack, audit, entries)?;
     let choice = choice_of(entries);
     let mut output = buffered(rt, rt.alloc())?;
     let explained = run_explain(rt.alloc(), rack, audit, &choice, &mut output);
-    flushed(output)?;
+    if !has_reader(output)? {
+        return Ok(ExitCode::SUCCESS);
+    }
     Ok(noted_header(rt, audit, explained?))
 }
 
@@ -129,6 +134,7 @@ fn choice_of(entries: Entries) -> Choice {
         to: entries.to,
         slave: entries.slave,
         master: entries.master,
+        faults: entries.are_faults,
         refused: entries.are_refused,
         summary: entries.only_summary,
     }
