@@ -7,6 +7,7 @@ use dp_line::{Device, Op, Step};
 use dp_sessions::{DroppedOctets, Gate, OpenGate, Port, SessionEnd, serve, serve_operator_at};
 use dp_shared::WorkerSeat;
 use dp_telegram::WholeFrame;
+use dp_text::LineFault;
 use fixtures::line_specs::ample_line;
 use fixtures::place::{Place, fresh_place};
 use fixtures::rows::{is_told, many_passes};
@@ -18,7 +19,7 @@ use std::sync::{Mutex, Wait};
 use std::test::Fail;
 
 /// The calls and writes in order, as decimal digits: 1 `accepted`, 2 a write, 3 `enter`, 4 `answered`, 5 `ended`, 6
-/// `dropped`, 7 `turned_away`, 8 `operates`, 9 `operated`.
+/// `dropped`, 7 `turned_away`, 8 `operates`, 9 `operated`, 0 `faulty_line`.
 #[derive(Drop)]
 struct Calls {
     digits: AtomicU64,
@@ -126,6 +127,10 @@ impl Gate for Noting<'_> {
     fn operated<W: Wait>(&self, _rt: &W, _line: u8, _receipt: &Receipt) {
         self.calls.add(9);
     }
+
+    fn faulty_line<W: Wait>(&self, _rt: &W, _line: u8, _octets: &[u8], _fault: LineFault) {
+        self.calls.add(0);
+    }
 }
 
 /// Checks the calls of a session of master 1 that sends these octets, while 63 passes of master 2 are out.
@@ -190,8 +195,9 @@ fn master_session_calls_its_gate(rt: HostRuntime) -> Result<(), Fail> {
     master_calls(&rt, rt.alloc(), &octets, "1263425421")
 }
 
-// Each event of the operator, including the input of a step, is between the calls of its gate and before its answer.
+// Each event of the operator, including the input of a step, is between the calls of its gate and before its answer. A
+// line that is no command is one call, before its fault is written.
 #[test]
 fn operator_session_calls_its_gate(rt: HostRuntime) -> Result<(), Fail> {
-    operator_calls(&rt, rt.alloc(), "tick 1\nstep\nshow 5\n", "8928922")
+    operator_calls(&rt, rt.alloc(), "tick 1\nstep\nshow 5\nnone\n", "892892202")
 }
