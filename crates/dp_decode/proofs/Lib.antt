@@ -1,2 +1,5 @@
 pub mod Naming
 pub mod Splitting
+pub mod Slots
+pub mod Cutting
+pub mod Bits

@@ -4,10 +4,10 @@ use Rattle.std.specs.Prelude.{IfSome, nat_lt, ◌==◌}
 use Rattle.std.specs.Option.{option_map, option_map_or}
 use Rattle.std.specs.List.{flat_map, join_by}
 use Rattle.std.proofs.lemmas.List.{take_all, take_at, take-append-drop}
-use Rattle.std.proofs.lemmas.Option.{same_Some, MatchOption-at_some, IfSome_then}
+use Rattle.std.proofs.lemmas.Option.{same_Some, IfSome_then}
 use Rattle.dp_cfg.specs.Identifiers.{Identifier, identifier, bits_5_4, bits_7_6, maker_count, announced_octets, general_octets}
 use Rattle.dp_cfg.specs.Reading.{with_maker, first_identifier, special_at, empty_at, inputs_at, outputs_at, both_at}
-use Rattle.dp_decode.specs.Configurations.{identifier_text, identifiers_within, identifiers_of, configuration_text, cut_text}
+use Rattle.dp_decode.specs.Configurations.{identifier_text, identifiers_within, identifiers_of, configuration_text, cut_text, octets_and_rest}
 use Rattle.dp_decode.specs.PrivateWords.{each_behind, rest_behind}
 
 -- the octets are those of an identifier, at least one octet, and the rest
@@ -135,35 +135,41 @@ own_octets octets first stands =
     ap (λ all. take (length all - length first.1) all) stands.joined
     ∙ take_at first.0.octets first.1 (length (first.0.octets ++ first.1) - length first.1) (omega (arith, length-append first.0.octets first.1))
 
-more_from : (octets behind : List ℕ) (o : Option (Identifier × List ℕ)) → 0 < length octets → first_identifier octets ≡ o → Some behind ≡ option_map (λ first. first.1) o → identifiers_of octets ≡ identifier_text (take (length octets - length behind) octets) ∷ identifiers_of behind
-more_from octets behind None some e found = cc
-more_from octets behind (Some first) some e found =
+-- what stands before the octets after the first one are its octets
+front_from : (octets behind : List ℕ) (o : Option (Identifier × List ℕ)) → IfSome o (Stands octets) → Some behind ≡ option_map (λ first. first.1) o → Some (take (length octets - length behind) octets, behind) ≡ option_map octets_and_rest o
+front_from octets behind None stands found = cc
+front_from octets behind (Some first) stands found =
     let same : behind ≡ first.1 = same_Some behind first.1 found in
-    let stands : Stands octets first = MatchOption-at_some _ (Stands octets) first e (first_stands octets) in
+    rw same (ap (λ own. Some (own, first.1)) (own_octets octets first stands))
+
+pub front_is_first : (octets behind : List ℕ) → Some behind ≡ option_map (λ first. first.1) (first_identifier octets) → Some (take (length octets - length behind) octets, behind) ≡ option_map octets_and_rest (first_identifier octets)
+front_is_first octets behind found = front_from octets behind (first_identifier octets) (first_stands octets) found
+
+none_from : (o : Option (Identifier × List ℕ)) → None ≡ option_map (λ first. first.1) o → None ≡ option_map octets_and_rest o
+none_from None found = refl
+none_from (Some first) found = cc
+
+pub none_is_first : (octets : List ℕ) → None ≡ option_map (λ first. first.1) (first_identifier octets) → None ≡ option_map octets_and_rest (first_identifier octets)
+none_is_first octets found = none_from (first_identifier octets) found
+
+more_from : (octets own behind : List ℕ) (o : Option (Identifier × List ℕ)) → 0 < length octets → first_identifier octets ≡ o → Some (own, behind) ≡ option_map octets_and_rest o → identifiers_of octets ≡ identifier_text own ∷ identifiers_of behind
+more_from octets own behind None some e found = cc
+more_from octets own behind (Some first) some e found =
+    let same : (own, behind) ≡ octets_and_rest first = same_Some (own, behind) (octets_and_rest first) found in
     identifiers_step octets some ∙ ap (with_first identifiers_of octets) e
-    ∙ sym (rw same (ap (λ own. identifier_text own ∷ identifiers_of first.1) (own_octets octets first stands)))
+    ∙ sym (ap (λ (found : List ℕ × List ℕ). identifier_text found.0 ∷ identifiers_of found.1) same)
 
 -- the first one, and those of the octets after it
-pub identifiers_more : (octets behind : List ℕ) → 0 < length octets → Some behind ≡ option_map (λ first. first.1) (first_identifier octets) → identifiers_of octets ≡ identifier_text (take (length octets - length behind) octets) ∷ identifiers_of behind
-identifiers_more octets behind some found = more_from octets behind (first_identifier octets) some refl found
+pub identifiers_more : (octets own behind : List ℕ) → 0 < length octets → Some (own, behind) ≡ option_map octets_and_rest (first_identifier octets) → identifiers_of octets ≡ identifier_text own ∷ identifiers_of behind
+identifiers_more octets own behind some found = more_from octets own behind (first_identifier octets) some refl found
 
-cut_from : (octets : List ℕ) (o : Option (Identifier × List ℕ)) → 0 < length octets → first_identifier octets ≡ o → None ≡ option_map (λ first. first.1) o → identifiers_of octets ≡ cut_text octets ∷ []
+cut_from : (octets : List ℕ) (o : Option (Identifier × List ℕ)) → 0 < length octets → first_identifier octets ≡ o → None ≡ option_map octets_and_rest o → identifiers_of octets ≡ cut_text octets ∷ []
 cut_from octets None some e found = identifiers_step octets some ∙ ap (with_first identifiers_of octets) e
 cut_from octets (Some first) some e found = cc
 
 -- the first one is cut
-pub identifiers_cut : (octets : List ℕ) → 0 < length octets → None ≡ option_map (λ first. first.1) (first_identifier octets) → identifiers_of octets ≡ cut_text octets ∷ []
+pub identifiers_cut : (octets : List ℕ) → 0 < length octets → None ≡ option_map octets_and_rest (first_identifier octets) → identifiers_of octets ≡ cut_text octets ∷ []
 identifiers_cut octets some found = cut_from octets (first_identifier octets) some refl found
-
-shorter_from : (octets behind : List ℕ) (o : Option (Identifier × List ℕ)) → first_identifier octets ≡ o → Some behind ≡ option_map (λ first. first.1) o → length behind < length octets
-shorter_from octets behind None e found = cc
-shorter_from octets behind (Some first) e found =
-    let same : behind ≡ first.1 = same_Some behind first.1 found in
-    let short : length first.1 < length octets = MatchOption-at_some _ (λ f. length f.1 < length octets) first e (first_shortens octets) in
-    rw same short
-
-pub behind_is_shorter : (octets behind : List ℕ) → Some behind ≡ option_map (λ first. first.1) (first_identifier octets) → length behind < length octets
-behind_is_shorter octets behind found = shorter_from octets behind (first_identifier octets) refl found
 
 -- ---- texts with separators before them
 

@@ -14,9 +14,9 @@ control_rows command =
     ∷ (command.sync, codes "Sync")
     ∷ []
 
--- what the command asks for, and of which slaves: Group_Select 0 is for every slave
+-- what the command asks for, and of which slaves: no bit is Operate (own), and Group_Select 0 is for every slave
 unfoldable pub asked_of : Command → List ℕ
-asked_of command = listed (codes "nothing") [] (control_rows command) ++ codes "; " ++ groups_text (codes "every slave") command.group
+asked_of command = listed (codes "Operate") [] (control_rows command) ++ codes "; " ++ groups_text (codes "every slave") command.group
 
 -- the two octets of a Global_Control
 abbrev pub command_text : List ℕ → List ℕ

@@ -1,10 +1,10 @@
 -- Configuration identifiers in words (IEC 61158-6-3, configuration identifiers).
-use Rattle.std.specs.Prelude.{codes, ℕ, zero, suc, ◌+◌, ◌==◌, if◌then◌else◌, List, [], ◌∷◌, ◌++◌, length, Option, Some, None}
+use Rattle.std.specs.Prelude.{codes, ℕ, zero, suc, ◌+◌, ◌==◌, if◌then◌else◌, List, [], ◌∷◌, ◌++◌, length, map, Option, Some, None}
 use Rattle.std.specs.Fmt.{decimal}
 use Rattle.std.specs.List.{join_by}
-use Rattle.std.specs.Option.{option_map_or}
-use Rattle.dp_cfg.specs.Identifiers.{bits_3_0, bits_5_0, bits_5_4, bits_7_6, bit_6}
-use Rattle.dp_cfg.specs.Reading.{first_identifier}
+use Rattle.std.specs.Option.{option_map, option_map_or}
+use Rattle.dp_cfg.specs.Identifiers.{Identifier, bits_3_0, bits_5_0, bits_5_4, bits_7_6, bit_6}
+use Rattle.dp_cfg.specs.Reading.{first_identifier, split_of}
 use Rattle.dp_decode.specs.Words.{hex_text}
 
 -- a number of octets, or of words of two octets each if bit 6 is 1
@@ -62,6 +62,17 @@ labelled_text (Some label) head rest = label ++ general_amount head
 unfoldable pub meaning_text : List ℕ → List ℕ
 meaning_text [] = []
 meaning_text (head ∷ rest) = labelled_text (general_label head) head rest
+
+-- the octets of an identifier, and the octets after it (own)
+abbrev pub octets_and_rest : Identifier × List ℕ → List ℕ × List ℕ
+octets_and_rest first = (first.0.octets, first.1)
+
+-- the octets of each identifier; None if the last one is cut (own)
+abbrev pub octets_of_each : List Identifier → List (List ℕ)
+octets_of_each identifiers = map (λ identifier. identifier.octets) identifiers
+
+abbrev pub slots_of : List ℕ → Option (List (List ℕ))
+slots_of octets = option_map octets_of_each (split_of octets)
 
 -- the octets of an identifier, and their meaning
 abbrev pub identifier_text : List ℕ → List ℕ

@@ -2,7 +2,8 @@
 use Rattle.std.specs.Prelude.{◌≡◌, codes, [], ◌∷◌, Some, None, refl}
 use Rattle.std.specs.Fmt.{digits}
 use Rattle.dp_decode.specs.Words.{groups_text, is_one_group, listed}
-use Rattle.dp_decode.specs.Parameters.{locking_text, parameters_text, requests_text}
+use Rattle.dp_decode.specs.DpV1.{dp_v1_names, has_dp_v1_form}
+use Rattle.dp_decode.specs.Parameters.{locking_text, parameters_text, requests_text, user_text}
 use Rattle.dp_decode.specs.Configurations.{amount_text, configuration_text, identifiers_of, meaning_text, special_text}
 use Rattle.dp_decode.specs.Commands.{asked_of}
 use Rattle.dp_decode.specs.Contents.{contents_text, control_row}
@@ -21,6 +22,73 @@ no_watchdog = refl
 pub longest_time : parameters_text (0x88 ∷ 0xFF ∷ 0xFF ∷ 0x00 ∷ 0x80 ∷ 0xA1 ∷ 0x00 ∷ []) ≡ codes "Lock_Req; watchdog 650250 ms; min TSDR unchanged; ident 80A1; groups none; user parameters none"
 unfolding contents_text parameters_text locking_text requests_text configuration_text identifiers_of meaning_text special_text amount_text asked_of groups_text is_one_group listed digits
 longest_time = refl
+
+-- user parameters: none, fewer than three octets, and three octets of 0 are only shown in hex
+pub no_user_parameters : user_text ([]) ≡ codes "user parameters none"
+unfolding has_dp_v1_form dp_v1_names listed digits
+no_user_parameters = refl
+
+pub one_user_parameter : user_text (0xC0 ∷ []) ≡ codes "user parameters c0"
+unfolding has_dp_v1_form dp_v1_names listed digits
+one_user_parameter = refl
+
+pub two_user_parameters : user_text (0xC0 ∷ 0x00 ∷ []) ≡ codes "user parameters c0 00"
+unfolding has_dp_v1_form dp_v1_names listed digits
+two_user_parameters = refl
+
+pub three_zeros : user_text (0x00 ∷ 0x00 ∷ 0x00 ∷ []) ≡ codes "user parameters 00 00 00"
+unfolding has_dp_v1_form dp_v1_names listed digits
+three_zeros = refl
+
+-- the form of DP-V1
+pub dp_v1_is_enabled : user_text (0xC0 ∷ 0x00 ∷ 0x00 ∷ []) ≡ codes "user parameters c0 00 00 (DPV1_Enable, Fail_Safe)"
+unfolding has_dp_v1_form dp_v1_names listed digits
+dp_v1_is_enabled = refl
+
+pub more_than_three_octets : user_text (0x80 ∷ 0x00 ∷ 0x00 ∷ 0x18 ∷ []) ≡ codes "user parameters 80 00 00 18 (DPV1_Enable)"
+unfolding has_dp_v1_form dp_v1_names listed digits
+more_than_three_octets = refl
+
+pub alarm_mode_alone : user_text (0x00 ∷ 0x00 ∷ 0x03 ∷ []) ≡ codes "user parameters 00 00 03 (Alarm_Mode 3)"
+unfolding has_dp_v1_form dp_v1_names listed digits
+alarm_mode_alone = refl
+
+pub every_bit_of_octet_1 : user_text (0xE7 ∷ 0x00 ∷ 0x00 ∷ []) ≡ codes "user parameters e7 00 00 (DPV1_Enable, Fail_Safe, Publisher_Enable, WD_Base_1ms, Dis_Stopbit_Control, Dis_Startbit_Control)"
+unfolding has_dp_v1_form dp_v1_names listed digits
+every_bit_of_octet_1 = refl
+
+pub every_bit_of_octet_2 : user_text (0x00 ∷ 0xFD ∷ 0x00 ∷ []) ≡ codes "user parameters 00 fd 00 (Enable_Pull_Plug_Alarm, Enable_Process_Alarm, Enable_Diagnostic_Alarm, Enable_Manufacturer_Specific_Alarm, Enable_Status_Alarm, Enable_Update_Alarm, Chk_Cfg_Mode)"
+unfolding has_dp_v1_form dp_v1_names listed digits
+every_bit_of_octet_2 = refl
+
+pub every_bit_of_octet_3 : user_text (0x00 ∷ 0x00 ∷ 0x9F ∷ []) ≡ codes "user parameters 00 00 9f (Prm_Cmd, IsoM_Req, Prm_Structure, Alarm_Mode 7)"
+unfolding has_dp_v1_form dp_v1_names listed digits
+every_bit_of_octet_3 = refl
+
+-- a reserved bit that is 1: octet 1 bits 4 and 3, octet 2 bit 1, octet 3 bits 6 and 5
+pub bit_4_of_octet_1 : user_text (0x90 ∷ 0x00 ∷ 0x00 ∷ []) ≡ codes "user parameters 90 00 00"
+unfolding has_dp_v1_form dp_v1_names listed digits
+bit_4_of_octet_1 = refl
+
+pub bit_3_of_octet_1 : user_text (0x88 ∷ 0x00 ∷ 0x00 ∷ []) ≡ codes "user parameters 88 00 00"
+unfolding has_dp_v1_form dp_v1_names listed digits
+bit_3_of_octet_1 = refl
+
+pub bit_1_of_octet_2 : user_text (0x80 ∷ 0x02 ∷ 0x00 ∷ []) ≡ codes "user parameters 80 02 00"
+unfolding has_dp_v1_form dp_v1_names listed digits
+bit_1_of_octet_2 = refl
+
+pub bit_6_of_octet_3 : user_text (0x80 ∷ 0x00 ∷ 0x40 ∷ []) ≡ codes "user parameters 80 00 40"
+unfolding has_dp_v1_form dp_v1_names listed digits
+bit_6_of_octet_3 = refl
+
+pub bit_5_of_octet_3 : user_text (0x80 ∷ 0x00 ∷ 0x20 ∷ []) ≡ codes "user parameters 80 00 20"
+unfolding has_dp_v1_form dp_v1_names listed digits
+bit_5_of_octet_3 = refl
+
+pub locked_with_dp_v1 : parameters_text (0x88 ∷ 0x0A ∷ 0x01 ∷ 0x0B ∷ 0x80 ∷ 0xA1 ∷ 0x00 ∷ 0xC0 ∷ 0x00 ∷ 0x00 ∷ []) ≡ codes "Lock_Req; watchdog 100 ms; min TSDR 11; ident 80A1; groups none; user parameters c0 00 00 (DPV1_Enable, Fail_Safe)"
+unfolding parameters_text locking_text requests_text has_dp_v1_form dp_v1_names groups_text is_one_group listed digits
+locked_with_dp_v1 = refl
 
 -- a Set_Prm that is too short shows no bits
 pub too_short : parameters_text (0xC0 ∷ 0x0A ∷ 0x01 ∷ []) ≡ codes "too short: 3 of at least 7 octets"
@@ -91,8 +159,8 @@ pub all_bits : control_row (0x3E ∷ 0x09 ∷ []) ≡ codes "command     Clear_D
 unfolding contents_text parameters_text locking_text requests_text configuration_text identifiers_of meaning_text special_text amount_text asked_of groups_text is_one_group listed digits
 all_bits = refl
 
--- bits 0, 6 and 7 are ignored
-pub other_bits : control_row (0xC1 ∷ 0x00 ∷ []) ≡ codes "command     nothing; every slave"
+-- bits 0, 6 and 7 are ignored, and no other bit is 1
+pub other_bits : control_row (0xC1 ∷ 0x00 ∷ []) ≡ codes "command     Operate; every slave"
 unfolding contents_text parameters_text locking_text requests_text configuration_text identifiers_of meaning_text special_text amount_text asked_of groups_text is_one_group listed digits
 other_bits = refl
 

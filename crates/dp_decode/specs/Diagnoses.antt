@@ -4,6 +4,7 @@ use Rattle.std.specs.Fmt.{decimal}
 use Rattle.dp_telegram.specs.FunctionCode.{is_set}
 use Rattle.dp_diag.specs.DiagnosisText.{no_master}
 use Rattle.dp_decode.specs.Words.{hex_text, ident_text, listed}
+use Rattle.dp_decode.specs.Blocks.{blocks_of, blocks_text}
 
 -- Station_status_1: the bits that a slave sets
 abbrev pub status_1_rows : ℕ → List (Bool × List ℕ)
@@ -36,9 +37,10 @@ status_text rows = listed [] (codes "; ") rows
 abbrev pub holder_text : ℕ → List ℕ
 holder_text octet = if octet == no_master then codes "held by nobody" else codes "held by master " ++ decimal octet
 
+-- the extended octets in hex, and in words if they have the form of blocks
 abbrev pub extended_text : List ℕ → List ℕ
 extended_text [] = []
-extended_text (octet ∷ octets) = codes "; extended diagnosis " ++ hex_text (octet ∷ octets)
+extended_text (octet ∷ octets) = codes "; extended diagnosis " ++ hex_text (octet ∷ octets) ++ blocks_text (blocks_of (octet ∷ octets))
 
 -- a diagnosis of at least six octets: three octets of bits, Master_Add, Ident_Number, the extended octets
 unfoldable pub whole_text : List ℕ → List ℕ

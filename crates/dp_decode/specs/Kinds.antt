@@ -3,7 +3,6 @@ use Rattle.std.specs.Prelude.{codes, ℕ, ◌%◌, ◌==◌, Bool, true, false, 
 use Rattle.std.specs.Fmt.{decimal}
 use Rattle.dp_telegram.specs.declared.access.Parts.{Parts}
 use Rattle.dp_telegram.specs.declared.fault.FrameFault.{FrameFault}
-use Rattle.dp_telegram.specs.declared.fault.FrameFault.TheVariants as faults
 use Rattle.dp_telegram.specs.declared.frame.Frame.{Frame}
 use Rattle.dp_telegram.specs.declared.frame.Frame.TheVariants as frames
 use Rattle.dp_telegram.specs.declared.frame.Telegram.{Telegram}
@@ -12,8 +11,8 @@ use Rattle.dp_telegram.specs.declared.function_code.Function.TheVariants.{SdaLow
 use Rattle.dp_telegram.specs.Access.{address_of, parts_of}
 use Rattle.dp_telegram.specs.FrameText.{reading_of, delimiter, sd1, sd2}
 use Rattle.dp_telegram.specs.FunctionCode.{is_request, function_of, frame_count_bit, frame_count_is_valid}
-use Rattle.dp_telegram.specs.Names.{frame_fault_name}
-use Rattle.dp_decode.specs.Points.{point_text, source_text}
+use Rattle.dp_decode.specs.Points.{access_text}
+use Rattle.dp_decode.specs.Faults.{fault_text}
 
 -- the functions by their names; the others are treated as reserved (own)
 abbrev pub function_name : Function → Option (List ℕ)
@@ -55,7 +54,7 @@ asked_text fc = function_text (function_name (function_of fc)) fc ++ (if is_of_p
 -- the access points of a request and of its sender; extension octets that are announced must be present
 abbrev pub service_text : Bool → Option Parts → List ℕ
 service_text of_point None = codes "  extension missing or not plain"
-service_text of_point (Some parts) = if of_point then codes "  " ++ point_text parts.dsap ++ source_text parts.ssap else []
+service_text of_point (Some parts) = if of_point then codes "  " ++ access_text parts.dsap parts.ssap else []
 
 unfoldable pub telegram_text : Telegram → List ℕ
 telegram_text telegram =
@@ -66,28 +65,24 @@ telegram_text telegram =
 abbrev pub format_text : ℕ → List ℕ
 format_text start = if start == sd1 then codes "SD1" else if start == sd2 then codes "SD2" else codes "SD3"
 
+-- a station that passes the token to itself is alone in the ring (IEC 61158-4-3, token)
+abbrev pub ring_text : ℕ → ℕ → List ℕ
+ring_text to from = if to == from then codes ", alone in the ring" else []
+
+abbrev pub token_text : ℕ → ℕ → List ℕ
+token_text to from = codes "SD4 token to " ++ decimal to ++ codes " from " ++ decimal from ++ ring_text to from
+
 -- a frame; a telegram has this start delimiter
 abbrev pub frame_text : ℕ → Frame → List ℕ
-frame_text start (frames.Token da sa) = codes "SD4 token to " ++ decimal (address_of da) ++ codes " from " ++ decimal (address_of sa)
+frame_text start (frames.Token da sa) = token_text (address_of da) (address_of sa)
 frame_text start frames.Ack = codes "SC short acknowledgement"
 frame_text start (frames.Telegram telegram) = format_text start ++ codes " " ++ telegram_text telegram
 
--- what is wrong with octets that are no frame (own)
-abbrev pub frame_fault_words : FrameFault → List ℕ
-frame_fault_words faults.NoStart = codes "the first octet is no start delimiter"
-frame_fault_words faults.BadHead = codes "a length octet or the second start delimiter is wrong"
-frame_fault_words faults.BadEnd = codes "the check sequence or the end delimiter is wrong"
-frame_fault_words faults.Short = codes "the frame is not whole"
-frame_fault_words faults.Long = codes "octets follow the frame"
-
--- the name of a fault, and what is wrong
-abbrev pub fault_text : FrameFault → List ℕ
-fault_text fault = frame_fault_name fault ++ codes ", " ++ frame_fault_words fault
-
-abbrev pub reading_text : ℕ → Result Frame FrameFault → List ℕ
-reading_text start (Ok frame) = frame_text start frame
-reading_text start (Err fault) = codes "no telegram: " ++ fault_text fault
+-- octets by their frame, or by the fault that they have
+abbrev pub reading_text : Result Frame FrameFault → List ℕ → List ℕ
+reading_text (Ok frame) octets = frame_text (delimiter octets) frame
+reading_text (Err fault) octets = fault_text fault octets
 
 -- the kind of octets
 unfoldable pub kind_text : List ℕ → List ℕ
-kind_text octets = reading_text (delimiter octets) (reading_of octets)
+kind_text octets = reading_text (reading_of octets) octets

@@ -3,6 +3,7 @@ use Rattle.std.specs.Prelude.{codes, ℕ, ◌*◌, ◌==◌, Bool, true, not, if
 use Rattle.std.specs.Fmt.{decimal}
 use Rattle.dp_prm.specs.Meaning.{is_short, lock_req, unlock_req, sync_req, freeze_req, watchdog_time, min_tsdr, group_ident, user_prm}
 use Rattle.dp_decode.specs.Words.{hex_text, ident_text, listed, groups_text}
+use Rattle.dp_decode.specs.DpV1.{dp_v1_text}
 
 -- the requests of a locking Set_Prm apart from the watchdog: whether it asks for Sync and for Freeze
 unfoldable pub requests_text : Bool → Bool → List ℕ
@@ -17,9 +18,10 @@ watchdog_text (Some units) = if units == 0 then codes "watchdog time 0" else cod
 abbrev pub min_tsdr_text : ℕ → List ℕ
 min_tsdr_text octet = if octet == 0 then codes "min TSDR unchanged" else codes "min TSDR " ++ decimal octet
 
+-- the user parameters in hex, and the names of their bits if they have the form of DP-V1
 abbrev pub user_text : List ℕ → List ℕ
 user_text [] = codes "user parameters none"
-user_text (octet ∷ octets) = codes "user parameters " ++ hex_text (octet ∷ octets)
+user_text (octet ∷ octets) = codes "user parameters " ++ hex_text (octet ∷ octets) ++ dp_v1_text (octet ∷ octets)
 
 -- a Set_Prm that locks a slave, one part after another
 unfoldable pub locking_text : List ℕ → List ℕ

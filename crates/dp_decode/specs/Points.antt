@@ -1,6 +1,7 @@
 -- Service access points in words (IEC 61158-6-3, service access points).
-use Rattle.std.specs.Prelude.{codes, ℕ, ◌==◌, if◌then◌else◌, List, [], ◌∷◌, ◌++◌, Option, Some, None}
+use Rattle.std.specs.Prelude.{codes, ℕ, List, [], ◌∷◌, ◌++◌, Option, Some, None}
 use Rattle.std.specs.Fmt.{decimal}
+use Rattle.dp_decode.specs.Words.{text_in}
 
 -- the points of the access table and their services
 abbrev pub points : List (ℕ × List ℕ)
@@ -26,12 +27,20 @@ unsimulated_points =
 
 -- the service of the point with this number, by these rows
 abbrev pub service_in : List (ℕ × List ℕ) → ℕ → Option (List ℕ)
-service_in [] number = None
-service_in (row ∷ rows) number = if number == row.0 then Some row.1 else service_in rows number
+service_in rows number = text_in rows number
 
--- a point by its service and its number; one without a service only by its number
+-- what a point is for, after a space and in parentheses
+abbrev pub purpose_text : Option (List ℕ) → List ℕ
+purpose_text None = []
+purpose_text (Some purpose) = codes " (" ++ purpose ++ codes ")"
+
+-- a point that is not in the access table, by its number and by what it is for (own)
+abbrev pub dsap_text : ℕ → List ℕ
+dsap_text number = codes "DSAP " ++ decimal number ++ purpose_text (service_in unsimulated_points number)
+
+-- a point of the access table by its service and its number, and any other point
 abbrev pub numbered_text : Option (List ℕ) → ℕ → List ℕ
-numbered_text None number = codes "point " ++ decimal number
+numbered_text None number = dsap_text number
 numbered_text (Some service) number = service ++ codes " (" ++ decimal number ++ codes ")"
 
 -- the default point has no number, and is that of Data_Exchange
@@ -39,7 +48,21 @@ abbrev pub point_text : Option ℕ → List ℕ
 point_text None = codes "Data_Exchange"
 point_text (Some number) = numbered_text (service_in points number) number
 
--- the point of the sender, if it has one
+-- the point of the sender, if it has one, after a point of the access table
 abbrev pub source_text : Option ℕ → List ℕ
 source_text None = []
 source_text (Some number) = codes " from " ++ decimal number
+
+-- the point of the sender, if it has one, after any other point (own)
+abbrev pub ssap_text : Option ℕ → List ℕ
+ssap_text None = []
+ssap_text (Some number) = codes ", SSAP " ++ decimal number
+
+-- the point of a request and the point of its sender
+abbrev pub numbered_access : Option (List ℕ) → ℕ → Option ℕ → List ℕ
+numbered_access None number ssap = codes "DSAP " ++ decimal number ++ ssap_text ssap ++ purpose_text (service_in unsimulated_points number)
+numbered_access (Some service) number ssap = service ++ codes " (" ++ decimal number ++ codes ")" ++ source_text ssap
+
+abbrev pub access_text : Option ℕ → Option ℕ → List ℕ
+access_text None ssap = codes "Data_Exchange" ++ source_text ssap
+access_text (Some number) ssap = numbered_access (service_in points number) number ssap

@@ -1,5 +1,8 @@
 -- Words of private functions. No public contract cites this module.
-use Rattle.std.specs.Prelude.{codes, ℕ, nat_lt, Bool, if◌then◌else◌, List, [], ◌∷◌, ◌++◌, drop, length, Option, Some, None}
+use Rattle.std.specs.Prelude.{codes, ℕ, ◌-◌, ◌*◌, nat_lt, Bool, if◌then◌else◌, List, [], ◌∷◌, ◌++◌, drop, filter, length, map, Option, Some, None, unwrap_or}
+use Rattle.std.specs.Fmt.{decimal}
+use Rattle.std.specs.List.{range_with_len}
+use Rattle.dp_decode.specs.Blocks.{blocks_of, block_text, is_set_in}
 
 -- the names of the rows that are set, each after its separator, and a text after them; another text if none is set
 abbrev pub names_behind : List ℕ → List ℕ → List ℕ → List (Bool × List ℕ) → List ℕ
@@ -16,3 +19,16 @@ each_behind separator (text ∷ texts) = separator ++ text ++ each_behind (codes
 -- the octets after the first `count`; None if there are fewer
 abbrev pub rest_behind : ℕ → List ℕ → Option (List ℕ)
 rest_behind count octets = if nat_lt (length octets) count then None else Some (drop count octets)
+
+-- the texts of the blocks that octets are
+abbrev pub block_texts : List ℕ → List (List ℕ)
+block_texts octets = map block_text (unwrap_or (blocks_of octets) [])
+
+-- the numbers of the bits that are 1, from this number on
+abbrev pub set_from : List ℕ → ℕ → List ℕ
+set_from octets number = filter (is_set_in octets) (range_with_len number (length octets * 8 - number))
+
+-- numbers, the first after a separator and each other one after a comma
+abbrev pub numbers_behind : List ℕ → List ℕ → List ℕ
+numbers_behind separator [] = []
+numbers_behind separator (number ∷ numbers) = separator ++ decimal number ++ numbers_behind (codes ", ") numbers

@@ -46,10 +46,10 @@ unfoldable pub sent_text : Bool → Option Parts → List ℕ
 sent_text earlier None = codes "extension missing or not plain"
 sent_text earlier (Some sent) = earlier_text earlier sent.ssap ++ data_text sent.ssap sent.payload.items
 
--- a response without data, by its function code
+-- a response without data, by its function code; OK is the reply to an FDL status
 abbrev pub plain_text : ℕ → Option (List ℕ)
 plain_text fc =
-    if fc == ok then Some (codes "OK")
+    if fc == ok then Some (codes "slave station")
     else if fc == user_error then Some (codes "UE, user error")
     else if fc == no_resource then Some (codes "RR, no resource")
     else if fc == not_activated then Some (codes "RS, not activated")
@@ -76,17 +76,22 @@ frame_parts (frames.Telegram telegram) = parts_of telegram
 unfoldable pub parts_in : List ℕ → Option Parts
 parts_in octets = option_and_then frame_parts (frame_of octets)
 
--- the row of a reply: a telegram, or a short acknowledgement if it is None (IEC 61158-4-3, short acknowledgement)
-abbrev pub reply_row : Bool → Option Telegram → List ℕ
-reply_row earlier None = codes "reply       SC, short acknowledgement"
-reply_row earlier (Some telegram) = codes "reply       " ++ response_text earlier telegram
+-- a short acknowledgement; it is marked if the slave judges the octets of the request only afterwards (IEC 61158-4-3, short acknowledgement)
+abbrev pub acknowledged_text : Bool → List ℕ
+acknowledged_text judged_afterwards =
+    if judged_afterwards then codes "SC, short acknowledgement (judged afterwards)" else codes "SC, short acknowledgement"
+
+-- the row of a reply: a telegram, or a short acknowledgement if it is None
+abbrev pub reply_row : Bool → Bool → Option Telegram → List ℕ
+reply_row judged_afterwards earlier None = codes "reply       " ++ acknowledged_text judged_afterwards
+reply_row judged_afterwards earlier (Some telegram) = codes "reply       " ++ response_text earlier telegram
 
 -- a frame as a reply to a request; a token is none
-abbrev pub frame_reply : Option Parts → Frame → Option (List ℕ)
-frame_reply asked (frames.Token da sa) = None
-frame_reply asked frames.Ack = Some (reply_row false None)
-frame_reply asked (frames.Telegram telegram) = Some (reply_row (is_earlier asked (parts_of telegram)) (Some telegram))
+abbrev pub frame_reply : Bool → Option Parts → Frame → Option (List ℕ)
+frame_reply judged_afterwards asked (frames.Token da sa) = None
+frame_reply judged_afterwards asked frames.Ack = Some (reply_row judged_afterwards false None)
+frame_reply judged_afterwards asked (frames.Telegram telegram) = Some (reply_row judged_afterwards (is_earlier asked (parts_of telegram)) (Some telegram))
 
--- a reply to a request
-unfoldable pub reply_text : List ℕ → List ℕ → Option (List ℕ)
-reply_text request reply = option_and_then (frame_reply (parts_in request)) (frame_of reply)
+-- a reply to a request, which the slave judges only afterwards or not
+unfoldable pub reply_text : Bool → List ℕ → List ℕ → Option (List ℕ)
+reply_text judged_afterwards request reply = option_and_then (frame_reply judged_afterwards (parts_in request)) (frame_of reply)

@@ -1,5 +1,5 @@
 -- The parts that the texts of octets and bits are made of (own).
-use Rattle.std.specs.Prelude.{codes, ℕ, ◌/◌, ◌%◌, ◌==◌, ◌||◌, Bool, true, false, if◌then◌else◌, List, [], ◌∷◌, ◌++◌, filter, map}
+use Rattle.std.specs.Prelude.{codes, ℕ, ◌/◌, ◌%◌, ◌==◌, ◌||◌, Bool, true, false, if◌then◌else◌, List, [], ◌∷◌, ◌++◌, filter, map, Option, Some, None}
 use Rattle.std.specs.Fmt.{digit_glyph}
 use Rattle.std.specs.List.{join_by, list_any}
 use Rattle.dp_telegram.specs.FunctionCode.{is_set}
@@ -14,6 +14,11 @@ capital_pair octet = digit_glyph true (octet / 16) ∷ digit_glyph true (octet %
 -- octets as pairs of hex digits, separated by spaces
 abbrev pub hex_text : List ℕ → List ℕ
 hex_text octets = join_by hex_pair (codes " ") octets
+
+-- the text of the row with this number, if there is one
+abbrev pub text_in : List (ℕ × List ℕ) → ℕ → Option (List ℕ)
+text_in [] number = None
+text_in (row ∷ rows) number = if number == row.0 then Some row.1 else text_in rows number
 
 -- an ident number, high octet first
 abbrev pub ident_text : ℕ → ℕ → List ℕ

@@ -25,7 +25,7 @@ impl<'a> fmt::Display for CommandWords<'a> {
         ];
         let names = Names {
             flags: &flags,
-            none: "nothing",
+            none: "Operate",
             behind: "",
         };
         let groups = Groups {

@@ -1,10 +1,10 @@
 //! Configurations in words.
 
-ghost use Rattle.std.specs.Prelude.{◌≡◌, ◌<◌, [], ◌∷◌, Some, length, IfSome, MatchOption, option_map};
+ghost use Rattle.std.specs.Prelude.{◌≡◌, ◌<◌, [], ◌∷◌, Some, None, length, IfNone, IfSome, option_map};
 ghost use Rattle.std.specs.Fmt.{WritesOnOk};
 ghost use Rattle.dp_cfg.specs.Identifiers.{maker_count as maker_of};
 ghost use Rattle.dp_cfg.specs.Reading.{special_at, first_identifier as first_of};
-ghost use Rattle.dp_decode.specs.Configurations.{amount_text, announced_amount, configuration_text, cut_text, general_amount, general_label, identifier_text, identifiers_of, maker_text, meaning_text, special_text, unit_text, with_both, with_one};
+ghost use Rattle.dp_decode.specs.Configurations.{amount_text, announced_amount, configuration_text, cut_text, general_amount, general_label, identifier_text, identifiers_of, maker_text, meaning_text, octets_and_rest, slots_of, special_text, unit_text, with_both, with_one};
 ghost use Rattle.dp_decode.specs.PrivateWords.{each_behind, rest_behind};
 
 use crate::words::Hex;
@@ -43,12 +43,13 @@ fn write_identifiers<W: fmt::Write>(
     write_identifiers(f, others, "; ")
 }
 
-/// Splits off the first identifier: returns its octets and those after it; None if it is cut.
-fn first_identifier(octets: &[u8]) -> Option<(&[u8], &[u8])>
-    requires { 0 < length octets.now }
-    ensures value { MatchOption result (identifiers_of octets.now ≡ cut_text octets.now ∷ [])
-        (λ p. identifiers_of octets.now ≡ identifier_text p.0.now ∷ identifiers_of p.1.now) }
+/// Splits off the first identifier: returns its octets and those after it (IEC 61158-6-3, configuration identifiers). None
+/// if the octets end within it, or if there are none.
+pub fn first_identifier(octets: &[u8]) -> Option<(&[u8], &[u8])>
+    ensures value { option_map (λ p. (p.0.now, p.1.now)) result ≡ option_map octets_and_rest (first_of octets.now) }
     ensures behind { IfSome result (λ p. length p.1.now < length octets.now) }
+    ensures slots { IfSome result (λ p. slots_of octets.now ≡ option_map (λ others. p.0.now ∷ others) (slots_of p.1.now)) }
+    ensures cut { IfNone result (0 < length octets.now → slots_of octets.now ≡ None) }
 {
     let behind = behind_first(octets)?;
     let size = octets.len() - behind.len();

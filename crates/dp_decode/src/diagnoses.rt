@@ -4,6 +4,7 @@ ghost use Rattle.std.specs.Prelude.{◌≡◌, ◌≤◌, Some, drop, length};
 ghost use Rattle.std.specs.Fmt.{WritesOnOk};
 ghost use Rattle.dp_decode.specs.Diagnoses.{diagnosis_words, extended_text, holder_text, status_1_rows, status_2_rows, status_3_rows, status_text, whole_text};
 
+use crate::blocks::Blocks;
 use crate::words::{Flag, Hex, Ident, Names};
 use dp_diag::NO_MASTER;
 use std::fmt;
@@ -135,7 +136,8 @@ impl fmt::Display for Holder {
     }
 }
 
-/// The octets of the extended diagnosis; writes nothing if there are none.
+/// The octets of the extended diagnosis in hex, and in words if they have the form of blocks; writes nothing if there are
+/// none.
 #[derive(Drop)]
 struct Extended<'a>(&'a [u8]);
 
@@ -146,8 +148,9 @@ impl<'a> fmt::Display for Extended<'a> {
         match self.0 {
             [] => Ok(()),
             octets => {
+                let blocks = Blocks(octets);
                 let octets = Hex(octets);
-                write!(f, "; extended diagnosis {octets}")
+                write!(f, "; extended diagnosis {octets}{blocks}")
             }
         }
     }

@@ -3,25 +3,22 @@
 ghost use Rattle.std.specs.Prelude.{◌≡◌, Some, option_map};
 ghost use Rattle.dp_telegram.specs.FrameText.{delimiter};
 ghost use Rattle.dp_telegram.specs.FunctionCode.{function_of};
-ghost use Rattle.dp_decode.specs.Kinds.{asked_text, bit_text, count_text, fault_text, format_text, frame_fault_words, frame_text, function_name, function_text, is_of_point as is_of_point_by, service_text, telegram_text};
+ghost use Rattle.dp_decode.specs.Kinds.{asked_text, bit_text, count_text, format_text, frame_text, function_name, function_text, is_of_point as is_of_point_by, ring_text, service_text, telegram_text};
 
-use crate::points::{Point, Source};
-use dp_telegram::{
-    ADDRESS_BITS, Frame, FrameFault, Function, Parts, Telegram, decode, function_code,
-};
+use crate::faults::{SD2, write_fault};
+use crate::points::AccessPoints;
+use dp_telegram::{ADDRESS_BITS, Frame, Function, Parts, Telegram, decode, function_code};
 use std::fmt;
 use std::marker::Model;
 
-/// Start delimiters (IEC 61158-4-3, frame formats).
+/// The start delimiter of a telegram without data (IEC 61158-4-3, start delimiters).
 const SD1: u8 = 0x10;
-
-const SD2: u8 = 0x68;
 
 /// The kind of octets: the frame, the function, and the access point (IEC 61158-4-3, frame formats and function code).
 ///
 /// Contracts see the text that its `Display` writes: `SD2 SRD low FCB 1 FCV 0  Slave_Diag (60) from 62`,
-/// `SD1 FDL status`, `SD4 token to 3 from 2`, `SC short acknowledgement`, or
-/// `no telegram: Long, octets follow the frame`.
+/// `SD2 SRD low FCB 0 FCV 1  DSAP 12, SSAP 62`, `SD1 FDL status`, `SD4 token to 3 from 2`, `SC short acknowledgement`, or
+/// `no telegram: BadEnd, the check sequence is 4e, not 4f`.
 #[derive(Drop)]
 pub struct Kind<'a> {
     octets: &'a [u8],
@@ -60,38 +57,8 @@ impl<'a> fmt::Display for Kind<'a> {
                 };
                 write!(f, "{frame}")
             }
-            Err(fault) => {
-                let fault = Faulty(fault);
-                write!(f, "no telegram: {fault}")
-            }
+            Err(fault) => write_fault(f, self.octets, fault),
         }
-    }
-}
-
-/// The name of a frame fault, and what is wrong.
-#[derive(Clone, Copy)]
-struct Faulty(FrameFault);
-
-impl fmt::Display for Faulty {
-    ghost output = { λ fault. Some (fault_text fault.0) };
-
-    fn fmt<W: fmt::Write>(&self, f: &mut fmt::Formatter<W>) -> fmt::Result {
-        let name = self.0.name();
-        let words = wrong(self.0);
-        write!(f, "{name}, {words}")
-    }
-}
-
-/// Returns what is wrong with octets that are no frame.
-fn wrong(fault: FrameFault) -> &'static str
-    ensures { result.now ≡ frame_fault_words fault }
-{
-    match fault {
-        FrameFault::NoStart => "the first octet is no start delimiter",
-        FrameFault::BadHead => "a length octet or the second start delimiter is wrong",
-        FrameFault::BadEnd => "the check sequence or the end delimiter is wrong",
-        FrameFault::Short => "the frame is not whole",
-        FrameFault::Long => "octets follow the frame",
     }
 }
 
@@ -110,7 +77,8 @@ impl<'a> fmt::Display for Framed<'a> {
             Frame::Token { da, sa } => {
                 let to = *da & ADDRESS_BITS;
                 let from = *sa & ADDRESS_BITS;
-                write!(f, "SD4 token to {to} from {from}")
+                let ring = ring(to, from);
+                write!(f, "SD4 token to {to} from {from}{ring}")
             }
             Frame::Ack => f.write_str("SC short acknowledgement"),
             Frame::Telegram(telegram) => {
@@ -119,6 +87,18 @@ impl<'a> fmt::Display for Framed<'a> {
                 write!(f, "{format} {said}")
             }
         }
+    }
+}
+
+/// Returns the end of the text of a token with these addresses: a station that passes the token to itself is alone in the
+/// ring.
+fn ring(to: u8, from: u8) -> &'static str
+    ensures { result.now ≡ ring_text to from }
+{
+    if to == from {
+        ", alone in the ring"
+    } else {
+        ""
     }
 }
 
@@ -172,9 +152,11 @@ impl<'a> fmt::Display for Service<'a> {
         if !self.of_point {
             return Ok(());
         }
-        let point = Point(parts.dsap);
-        let source = Source(parts.ssap);
-        write!(f, "  {point}{source}")
+        let points = AccessPoints {
+            dsap: parts.dsap,
+            ssap: parts.ssap,
+        };
+        write!(f, "  {points}")
     }
 }
 

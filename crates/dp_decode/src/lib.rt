@@ -1,27 +1,30 @@
 //! PROFIBUS DP telegrams in words, read only from their octets (IEC 61158-4-3 and IEC 61158-6-3).
 //!
-//! For the octets of a request, [`Kind`] shows the frame and its function, [`Addressed`] the receiver, and [`Contents`]
-//! the data. [`Reply`] shows the data of a reply. The parts of these texts, such as [`Hex`], are public for other texts
-//! about telegrams. Contracts see the text that each of them displays. Nothing here allocates memory.
+//! For the octets of a request, [`Kind`] shows the frame and its function, and [`Contents`] the data. [`Reply`] shows the
+//! data of a reply. The parts of these texts, such as [`Hex`], are public for other texts about telegrams. Contracts see the
+//! text that each of them displays. Nothing here allocates memory.
 //!
 //! It is a crate of its own, so that these words can be used without a line, and so that the gate proves it beside
 //! dp_line.
 #![tactic(auto)]
 
-mod addressing;
+mod blocks;
 mod commands;
 mod configurations;
 mod contents;
 mod diagnoses;
+mod dp_v1;
+mod faults;
 mod kinds;
 mod parameters;
 mod points;
 mod replies;
 mod words;
 
-pub use addressing::Addressed;
+pub use configurations::first_identifier;
 pub use contents::Contents;
+pub use faults::WrongEndWords;
 pub use kinds::Kind;
-pub use points::{service, unsimulated};
+pub use points::{Dsap, service, unsimulated};
 pub use replies::Reply;
 pub use words::{CapitalPair, Flag, Groups, Hex, HexPair, Names};

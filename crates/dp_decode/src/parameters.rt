@@ -5,6 +5,7 @@ ghost use Rattle.std.specs.Fmt.{WritesOnOk};
 ghost use Rattle.dp_prm.specs.Meaning.{user_prm};
 ghost use Rattle.dp_decode.specs.Parameters.{locking_text, min_tsdr_alone, min_tsdr_text, parameters_text, requests_text, user_text, watchdog_text};
 
+use crate::dp_v1::DpV1;
 use crate::words::{Flag, Groups, Hex, Ident, Names, is_set};
 use dp_prm::{FREEZE_REQ, LOCK_REQ, SYNC_REQ, UNLOCK_REQ, WD_ON};
 use std::fmt;
@@ -153,7 +154,7 @@ impl fmt::Display for MinTsdrAlone {
     }
 }
 
-/// The user parameters, in words.
+/// The user parameters in hex, and the names of their bits if they have the form of DP-V1.
 #[derive(Drop)]
 struct User<'a>(&'a [u8]);
 
@@ -164,8 +165,9 @@ impl<'a> fmt::Display for User<'a> {
         match self.0 {
             [] => f.write_str("user parameters none"),
             octets => {
+                let names = DpV1(octets);
                 let octets = Hex(octets);
-                write!(f, "user parameters {octets}")
+                write!(f, "user parameters {octets}{names}")
             }
         }
     }

@@ -2,7 +2,7 @@
 
 ghost use Rattle.std.specs.Prelude.{◌≡◌, Some, option_map};
 ghost use Rattle.dp_telegram.specs.Access.{parts_of};
-ghost use Rattle.dp_decode.specs.Replies.{data_front, data_text, earlier_text, frame_parts, frame_reply, is_earlier as is_earlier_by, label_from, parts_in, plain_text, response_text, sent_text};
+ghost use Rattle.dp_decode.specs.Replies.{acknowledged_text, data_front, data_text, earlier_text, frame_parts, frame_reply, is_earlier as is_earlier_by, label_from, parts_in, plain_text, response_text, sent_text};
 
 use crate::configurations::Configuration;
 use crate::diagnoses::Diagnosis;
@@ -19,6 +19,7 @@ use std::marker::Model;
 /// Contracts see the text that its `Display` writes, such as `reply       inputs 01 02`; its label has 12 columns.
 #[derive(Drop)]
 pub struct Reply {
+    is_judged_afterwards: bool,
     is_earlier: bool,
     /// None is a short acknowledgement.
     telegram: Option<Telegram>,
@@ -30,7 +31,7 @@ impl Model for Reply {
 
     ghost Value = { List ℕ };
 
-    ghost view = { λ reply. reply_row reply.is_earlier reply.telegram };
+    ghost view = { λ reply. reply_row reply.is_judged_afterwards reply.is_earlier reply.telegram };
 }
 
 impl Reply {
@@ -38,29 +39,34 @@ impl Reply {
 
     /// Returns the reply that these octets hold; `request` are the octets of the request. None if they are neither a
     /// telegram nor a short acknowledgement.
+    ///
+    /// If `is_judged_afterwards`, the slave judges the octets of the request only after its reply, and the text of a short
+    /// acknowledgement says so.
     #[tactic(auto, unfolding(crate::specs::Replies::reply_text))]
-    pub fn from_octets(request: &[u8], reply: &[u8]) -> Option<Reply>
-        ensures { result ≡ reply_text request.now reply.now }
+    pub fn from_octets(request: &[u8], reply: &[u8], is_judged_afterwards: bool) -> Option<Reply>
+        ensures { result ≡ reply_text is_judged_afterwards request.now reply.now }
     {
         match decode(reply) {
-            Ok(frame) => Reply::of_frame(&parts_of_octets(request), frame),
+            Ok(frame) => Reply::of_frame(&parts_of_octets(request), frame, is_judged_afterwards),
             Err(_) => None,
         }
     }
 
     /// Returns the reply that a frame holds; None if it is a token.
-    fn of_frame(asked: &Option<Parts>, frame: Frame) -> Option<Reply>
-        ensures { result ≡ frame_reply asked.now frame }
+    fn of_frame(asked: &Option<Parts>, frame: Frame, is_judged_afterwards: bool) -> Option<Reply>
+        ensures { result ≡ frame_reply is_judged_afterwards asked.now frame }
     {
         match frame {
             Frame::Token { .. } => None,
             Frame::Ack => Some(Reply {
+                is_judged_afterwards,
                 is_earlier: false,
                 telegram: None,
             }),
             Frame::Telegram(telegram) => {
                 let is_earlier = is_from_another(asked, &telegram.parts());
                 Some(Reply {
+                    is_judged_afterwards,
                     is_earlier,
                     telegram: Some(telegram),
                 })
@@ -113,8 +119,22 @@ impl fmt::Display for Reply {
                 };
                 write!(f, "reply       {response}")
             }
-            None => f.write_str("reply       SC, short acknowledgement"),
+            None => {
+                let acknowledged = acknowledged(self.is_judged_afterwards);
+                write!(f, "reply       {acknowledged}")
+            }
         }
+    }
+}
+
+/// Returns the text of a short acknowledgement.
+fn acknowledged(is_judged_afterwards: bool) -> &'static str
+    ensures { result.now ≡ acknowledged_text is_judged_afterwards }
+{
+    if is_judged_afterwards {
+        "SC, short acknowledgement (judged afterwards)"
+    } else {
+        "SC, short acknowledgement"
     }
 }
 
@@ -150,7 +170,7 @@ fn plain(fc: u8) -> Option<&'static str>
     ensures { option_map (λ said. said.now) result ≡ plain_text fc }
 {
     match fc {
-        OK => Some("OK"),
+        OK => Some("slave station"),
         UE => Some("UE, user error"),
         RR => Some("RR, no resource"),
         RS => Some("RS, not activated"),
