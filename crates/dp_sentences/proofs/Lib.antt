@@ -1,3 +1,5 @@
 pub mod Digits
-pub mod Edits
 pub mod Asking
+pub mod Noting
+pub mod Splitting
+pub mod Differing

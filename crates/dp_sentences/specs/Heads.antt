@@ -1,5 +1,5 @@
--- The first row of an entry: its place, the sender and the receiver, and the kind of the event (own).
-use Rattle.std.specs.Prelude.{codes, ℕ, ◌==◌, if◌then◌else◌, Bool, true, false, List, ◌++◌, Option, Some, None}
+-- The first row of an entry: its place, the sender and the receiver, the kind of the event, and the time before it (own).
+use Rattle.std.specs.Prelude.{codes, ℕ, ◌==◌, if◌then◌else◌, Bool, true, false, List, [], ◌++◌, Option, Some, None}
 use Rattle.std.specs.Fmt.{decimal}
 use Rattle.dp_telegram.specs.declared.frame.Frame.{Frame}
 use Rattle.dp_telegram.specs.declared.frame.Frame.TheVariants as frames
@@ -71,7 +71,14 @@ event_kind_text (Operator op) = op_kind_text op
 
 -- ---- the row
 
+-- the time that has passed before the event, in units of 10 ms; nothing before the first tick
+abbrev pub moment_words : Option ℕ → List ℕ
+moment_words None = []
+moment_words (Some units) = codes "  at " ++ time_words units
+
 -- the place has the first five columns; the sender and the receiver have 26 columns after two spaces
-abbrev pub head_text : ℕ → Event → List ℕ
-head_text place event =
-    at_right 5 (decimal place) ++ codes "  " ++ at_left 26 (who_text (who_of event)) ++ event_kind_text event ++ codes "\n"
+abbrev pub front_text : ℕ → Event → List ℕ
+front_text place event = at_right 5 (decimal place) ++ codes "  " ++ at_left 26 (who_text (who_of event))
+
+abbrev pub head_text : Option ℕ → ℕ → Event → List ℕ
+head_text time place event = front_text place event ++ event_kind_text event ++ moment_words time ++ codes "\n"

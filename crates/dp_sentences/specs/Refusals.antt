@@ -1,5 +1,5 @@
 -- The reasons why a slave refuses a request: one sentence for each rule, about the slave's own state (own).
-use Rattle.std.specs.Prelude.{codes, ℕ, ◌==◌, if◌then◌else◌, Bool, List, ◌++◌, Option, Some, None}
+use Rattle.std.specs.Prelude.{codes, ℕ, ◌==◌, if◌then◌else◌, Bool, List, ◌∷◌, ◌++◌, Option, Some, None}
 use Rattle.std.specs.Fmt.{decimal}
 use Rattle.arrayvec.specs.ArrayVec.{ArrayVec}
 use Rattle.dp_telegram.specs.declared.function_code.Function.{Function}
@@ -7,7 +7,7 @@ use Rattle.dp_telegram.specs.FunctionCode.{function_of, asks_sdn, asks_unserved}
 use Rattle.dp_sap.specs.AccessTable.{is_in_table, same_point, data_exchange, global_control, set_prm, chk_cfg}
 use Rattle.dp_sap.specs.declared.state.State.{State}
 use Rattle.dp_sap.specs.declared.lists.Lists.{Lists}
-use Rattle.dp_decode.specs.Words.{groups_text, hex_pair}
+use Rattle.dp_decode.specs.Words.{groups_text, hex_pair, hex_text}
 use Rattle.dp_sentences.specs.Words.{count_words, numbers_words, point_words, since_words, state_words}
 
 -- NotActive: the point is off in this state, or the slave has no such point
@@ -20,7 +20,7 @@ not_active_text address state point =
 abbrev pub holds_words : ℕ → ℕ → List ℕ
 holds_words address holder = codes "Master " ++ decimal holder ++ codes " holds slave " ++ decimal address
 
--- NotHolder: another master holds the slave, since the place of its lock
+-- NotHolder: another master holds the slave, since the entry of its lock
 abbrev pub not_holder_text : ℕ → Option ℕ → ℕ → List ℕ
 not_holder_text address None since = codes "Nobody holds slave " ++ decimal address ++ codes "."
 not_holder_text address (Some holder) since = holds_words address holder ++ since_words since
@@ -82,9 +82,20 @@ grouped_words address group =
 abbrev pub not_selected_text : ℕ → ℕ → ℕ → List ℕ
 not_selected_text address select group = selecting_words select ++ codes ", " ++ grouped_words address group ++ codes "."
 
--- Repeat
-abbrev pub repeat_text : ℕ → List ℕ
-repeat_text place = codes "FCB as in place " ++ decimal place ++ codes ", the reply again."
+-- Repeat: what isn't done if the request is another telegram than the one whose reply it gets
+abbrev pub undone_words : Option ℕ → List ℕ → List ℕ
+undone_words None (octet ∷ octets) = codes "outputs " ++ hex_text (octet ∷ octets) ++ codes " not taken"
+undone_words point octets = point_words point ++ codes " not done"
+
+-- Repeat: another telegram, which has the frame count bit of the one at this place
+abbrev pub other_telegram_text : ℕ → Option ℕ → List ℕ → List ℕ
+other_telegram_text place point octets =
+    codes "repeat: FCB as in entry " ++ decimal place ++ codes ", but another telegram: " ++ undone_words point octets ++ codes "."
+
+-- Repeat: a request with the same octets as the one at this place is a retry
+abbrev pub repeat_text : Bool → ℕ → Option ℕ → List ℕ → List ℕ
+repeat_text is_same place point octets =
+    if is_same then codes "retry of entry " ++ decimal place ++ codes ": its reply is sent again." else other_telegram_text place point octets
 
 -- Status
 abbrev pub status_text : ℕ → State → List ℕ

@@ -19,12 +19,13 @@ use Rattle.dp_line.specs.declared.event.Op.{Op}
 use Rattle.dp_line.specs.declared.event.Outcome.{Outcome}
 use Rattle.dp_line.specs.declared.event.Outcome.TheVariants.{Reply, Silence, Spread, Released, Done, Refused}
 use Rattle.dp_line.specs.Names.{operator_fault_name}
-use Rattle.dp_line.specs.World.{World, described_at, slave_at}
+use Rattle.dp_line.specs.World.{World, described_at, is_last_place, slave_at}
 use Rattle.dp_line.specs.Events.{is_halt}
 use Rattle.dp_line.specs.Hearing.{telegram_of_frame}
 use Rattle.dp_line.specs.Verdict.{concerns_a_slave}
+use Rattle.dp_sentences.specs.declared.notes.Noted.{Noted}
 use Rattle.dp_sentences.specs.Words.{at_left, numbers_words, time_words}
-use Rattle.dp_sentences.specs.Notes.{place_noted}
+use Rattle.dp_sentences.specs.Notes.{note_of}
 use Rattle.dp_sentences.specs.Scenes.{SceneView, AskedView}
 use Rattle.dp_sentences.specs.Sentences.{line_text, slave_text}
 
@@ -35,39 +36,40 @@ abbrev pub shown_at : World → ℕ → Option SlaveView
 shown_at world address = option_map view_of (slave_at world address)
 
 -- the sentence of the slave; empty if the line has no such slave
-abbrev pub told_where_known : AskedView → ℕ → Bool → Rule → Option SlaveSpec → Option SlaveView → List ℕ
-told_where_known asked place silent rule None slave = []
-told_where_known asked place silent rule (Some description) None = []
-told_where_known asked place silent rule (Some description) (Some slave) =
+abbrev pub told_where_known : AskedView → Option Noted → Bool → Rule → Option SlaveSpec → Option SlaveView → List ℕ
+told_where_known asked noted silent rule None slave = []
+told_where_known asked noted silent rule (Some description) None = []
+told_where_known asked noted silent rule (Some description) (Some slave) =
     slave_text silent (record {
       master = asked.master;
+      octets = asked.octets;
       telegram = asked.telegram;
       parts = asked.parts;
       description = description;
       slave = slave;
-      asked = place;
+      noted = noted;
     }) rule
 
 abbrev pub told_of_slave : SceneView → AskedView → ℕ → Bool → Rule → List ℕ
 told_of_slave scene asked address silent rule =
-    told_where_known asked (place_noted scene.notes address asked.master) silent rule
+    told_where_known asked (note_of scene.notes address asked.master) silent rule
     (described_at scene.description.slaves address) (shown_at scene.world address)
 
 -- ---- the answer to a request to one slave
 
-abbrev pub told_of_parts : SceneView → ℕ → Bool → Rule → Telegram → Option Parts → List ℕ
-told_of_parts scene master silent rule telegram None = []
-told_of_parts scene master silent rule telegram (Some parts) =
-    told_of_slave scene (record { master = master; telegram = telegram; parts = parts }) (address_of telegram.da) silent rule
+abbrev pub told_of_parts : SceneView → ℕ → List ℕ → Bool → Rule → Telegram → Option Parts → List ℕ
+told_of_parts scene master octets silent rule telegram None = []
+told_of_parts scene master octets silent rule telegram (Some parts) =
+    told_of_slave scene (record { master = master; octets = octets; telegram = telegram; parts = parts }) (address_of telegram.da) silent rule
 
-abbrev pub told_of_telegram : SceneView → ℕ → Bool → Rule → Option Telegram → List ℕ
-told_of_telegram scene master silent rule None = []
-told_of_telegram scene master silent rule (Some telegram) = told_of_parts scene master silent rule telegram (parts_of telegram)
+abbrev pub told_of_telegram : SceneView → ℕ → List ℕ → Bool → Rule → Option Telegram → List ℕ
+told_of_telegram scene master octets silent rule None = []
+told_of_telegram scene master octets silent rule (Some telegram) = told_of_parts scene master octets silent rule telegram (parts_of telegram)
 
 -- by a rule that concerns the line, or by one that concerns a slave
-abbrev pub told_of_one : SceneView → ℕ → Option Frame → Bool → Rule → List ℕ
-told_of_one scene master frame silent rule =
-    if concerns_a_slave rule then told_of_telegram scene master silent rule (option_and_then telegram_of_frame frame)
+abbrev pub told_of_one : SceneView → ℕ → List ℕ → Option Frame → Bool → Rule → List ℕ
+told_of_one scene master octets frame silent rule =
+    if concerns_a_slave rule then told_of_telegram scene master octets silent rule (option_and_then telegram_of_frame frame)
     else line_text scene.description.masters master frame rule
 
 abbrev pub result_row : List ℕ → List ℕ
@@ -80,13 +82,14 @@ abbrev pub pair_row : SceneView → AskedView → ℕ × Rule → List ℕ
 pair_row scene asked pair =
     codes "       " ++ at_left 12 (codes "slave " ++ decimal pair.0) ++ told_of_slave scene asked pair.0 true pair.1 ++ codes "\n"
 
-abbrev pub pairs_rows : SceneView → ℕ → List (ℕ × Rule) → Telegram → Option Parts → List ℕ
-pairs_rows scene master pairs telegram None = []
-pairs_rows scene master pairs telegram (Some parts) = flat_map (pair_row scene (record { master = master; telegram = telegram; parts = parts })) pairs
+abbrev pub pairs_rows : SceneView → ℕ → List ℕ → List (ℕ × Rule) → Telegram → Option Parts → List ℕ
+pairs_rows scene master octets pairs telegram None = []
+pairs_rows scene master octets pairs telegram (Some parts) =
+    flat_map (pair_row scene (record { master = master; octets = octets; telegram = telegram; parts = parts })) pairs
 
-abbrev pub spread_rows : SceneView → ℕ → List (ℕ × Rule) → Option Telegram → List ℕ
-spread_rows scene master pairs None = []
-spread_rows scene master pairs (Some telegram) = pairs_rows scene master pairs telegram (parts_of telegram)
+abbrev pub spread_rows : SceneView → ℕ → List ℕ → List (ℕ × Rule) → Option Telegram → List ℕ
+spread_rows scene master octets pairs None = []
+spread_rows scene master octets pairs (Some telegram) = pairs_rows scene master octets pairs telegram (parts_of telegram)
 
 abbrev pub spread_text : ℕ → List (ℕ × Rule) → List ℕ
 spread_text master [] = codes "spread: master " ++ decimal master ++ codes " holds no slave."
@@ -94,14 +97,14 @@ spread_text master (pair ∷ pairs) = codes "spread over the slaves of master " 
 
 -- ---- a request
 
-abbrev pub request_rows : SceneView → ℕ → Option Frame → Outcome → List ℕ
-request_rows scene master frame (Reply reply rule) = result_row (told_of_one scene master frame false rule)
-request_rows scene master frame (Silence rule) = result_row (told_of_one scene master frame true rule)
-request_rows scene master frame Done = result_row (told_of_one scene master frame true rules.Done)
-request_rows scene master frame (Spread pairs) =
-    result_row (spread_text master pairs.items) ++ spread_rows scene master pairs.items (option_and_then telegram_of_frame frame)
-request_rows scene master frame (Released addresses) = []
-request_rows scene master frame (Refused fault) = []
+abbrev pub request_rows : SceneView → ℕ → List ℕ → Option Frame → Outcome → List ℕ
+request_rows scene master octets frame (Reply reply rule) = result_row (told_of_one scene master octets frame false rule)
+request_rows scene master octets frame (Silence rule) = result_row (told_of_one scene master octets frame true rule)
+request_rows scene master octets frame Done = result_row (told_of_one scene master octets frame true rules.Done)
+request_rows scene master octets frame (Spread pairs) =
+    result_row (spread_text master pairs.items) ++ spread_rows scene master octets pairs.items (option_and_then telegram_of_frame frame)
+request_rows scene master octets frame (Released addresses) = []
+request_rows scene master octets frame (Refused fault) = []
 
 -- ---- an event of the operator
 
@@ -125,12 +128,17 @@ abbrev pub tick_text : World → List ℕ → List ℕ
 tick_text world [] = codes "no watchdog ran out."
 tick_text world (address ∷ addresses) = codes "released: " ++ expired_words world address ++ flat_map (expired_behind world) addresses ++ codes "."
 
-abbrev pub halt_text : List ℕ → List ℕ
-halt_text [] = codes "halted; nobody held a slave."
-halt_text (address ∷ addresses) = codes "halted; released: " ++ numbers_words (address ∷ addresses) ++ codes "."
+-- the line halted, because of its journal if that has at most the place of the halt left
+abbrev pub halted_words : Bool → List ℕ
+halted_words true = codes "halted, the journal is full; "
+halted_words false = codes "halted; "
+
+abbrev pub halt_text : Bool → List ℕ → List ℕ
+halt_text full [] = halted_words full ++ codes "nobody held a slave."
+halt_text full (address ∷ addresses) = halted_words full ++ codes "released: " ++ numbers_words (address ∷ addresses) ++ codes "."
 
 abbrev pub released_text : World → Op → List ℕ → List ℕ
-released_text world op addresses = if is_halt (Operator op) then halt_text addresses else tick_text world addresses
+released_text world op addresses = if is_halt (Operator op) then halt_text (is_last_place world) addresses else tick_text world addresses
 
 abbrev pub op_text : World → Op → Outcome → List ℕ
 op_text world op (Released addresses) = released_text world op addresses.items
@@ -141,5 +149,5 @@ op_text world op outcome = []
 -- ---- any event
 
 abbrev pub result_rows : SceneView → Event → Outcome → List ℕ
-result_rows scene (Request master octets) outcome = request_rows scene master (frame_of octets.items) outcome
+result_rows scene (Request master octets) outcome = request_rows scene master octets.items (frame_of octets.items) outcome
 result_rows scene (Operator op) outcome = result_row (op_text scene.world op outcome)

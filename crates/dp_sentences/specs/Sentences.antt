@@ -1,14 +1,19 @@
 -- The reason why a request was answered as it was: one sentence for each rule (own).
-use Rattle.std.specs.Prelude.{codes, ℕ, Bool, true, false, List, [], ◌++◌, length, slice_index, Option, Some, None}
-use Rattle.std.specs.Option.{option_map_or}
+use Rattle.std.specs.Prelude.{codes, ℕ, ◌==◌, if◌then◌else◌, Bool, true, false, List, [], ◌++◌, length, slice_index, Option, Some, None}
+use Rattle.std.specs.List.{list_any}
+use Rattle.std.specs.Option.{option_map_or, option_and_then}
 use Rattle.std.specs.Fmt.{decimal}
 use Rattle.dp_telegram.specs.declared.frame.Frame.{Frame}
-use Rattle.dp_telegram.specs.Access.{source_of}
+use Rattle.dp_telegram.specs.declared.frame.Telegram.{Telegram}
+use Rattle.dp_telegram.specs.Access.{address_of, source_of}
 use Rattle.dp_responder.specs.declared.rule.Rule.{Rule}
 use Rattle.dp_responder.specs.declared.rule.Rule.TheVariants as rules
 use Rattle.dp_prm.specs.declared.prm.Prm.{Prm}
+use Rattle.dp_line.specs.Hearing.{telegram_of_frame}
+use Rattle.dp_line.specs.Verdict.{is_fdl_status}
 use Rattle.dp_sentences.specs.Meetings.{MeetingView}
 use Rattle.dp_sentences.specs.Words.{numbers_words}
+use Rattle.dp_sentences.specs.Notes.{has_octets, place_of_note}
 use Rattle.dp_sentences.specs.Refusals.{not_active_text, not_holder_text, not_listed_text, no_service_text, busy_text, length_text, not_selected_text, repeat_text, status_text}
 use Rattle.dp_sentences.specs.Services.{done_text}
 
@@ -25,6 +30,16 @@ foreign_sender_text (Some frame) = codes "The frame is from " ++ station_words (
 abbrev pub no_master_text : ℕ → List ℕ → List ℕ
 no_master_text master masters = codes "Master " ++ decimal master ++ codes " is none of the line's (" ++ numbers_words masters ++ codes ")."
 
+-- NoStation: a telegram to a master of the line, or to an address that no station has. An FDL status request to such an address looks for new
+-- stations (IEC 61158-4-3, request FDL status)
+abbrev pub no_station_text : List ℕ → Option Telegram → List ℕ
+no_station_text masters None = codes "No slave has this address."
+no_station_text masters (Some telegram) =
+    if list_any (λ master. master == address_of telegram.da) masters
+    then codes "Station " ++ decimal (address_of telegram.da) ++ codes " is a master of the line."
+    else if is_fdl_status telegram then codes "No such station."
+    else codes "No slave has this address."
+
 -- the reason why nobody replies; a rule that concerns a slave has no sentence here
 abbrev pub line_text : List ℕ → ℕ → Option Frame → Rule → List ℕ
 line_text masters master frame rules.Halted = codes "silence: Halted. The line takes no more."
@@ -36,7 +51,8 @@ line_text masters master frame rules.NotRequest = codes "silence: NotRequest. A 
 line_text masters master frame rules.BadFunction = codes "silence: BadFunction. The function is reserved."
 line_text masters master frame rules.BadExtension = codes "silence: BadExtension. An extension octet is missing or not plain."
 line_text masters master frame rules.BadBroadcast = codes "silence: BadBroadcast. Only a Global_Control goes to all slaves."
-line_text masters master frame rules.NoStation = codes "silence: NoStation. No slave has this address."
+line_text masters master frame rules.NoStation =
+    codes "silence: NoStation. " ++ no_station_text masters (option_and_then telegram_of_frame frame)
 line_text masters master frame other = []
 
 -- ---- the rules that concern a slave
@@ -55,7 +71,8 @@ abbrev pub slave_text : Bool → MeetingView → Rule → List ℕ
 slave_text silent meeting rules.Status = codes "answered: Status. " ++ status_text meeting.slave.address meeting.slave.state
 slave_text silent meeting rules.NoService =
     refused_words silent ++ codes ": NoService. " ++ no_service_text meeting.telegram.fc meeting.parts.dsap
-slave_text silent meeting rules.Repeat = codes "repeat: " ++ repeat_text meeting.asked
+slave_text silent meeting rules.Repeat =
+    repeat_text (has_octets meeting.noted meeting.octets) (place_of_note meeting.noted) meeting.parts.dsap meeting.parts.payload.items
 slave_text silent meeting rules.NotActive =
     refused_words silent ++ codes ": NotActive. " ++ not_active_text meeting.slave.address meeting.slave.state meeting.parts.dsap
 slave_text silent meeting rules.NotHolder =

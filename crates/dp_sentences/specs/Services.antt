@@ -1,5 +1,5 @@
 -- The result of a service that was done, in one sentence about the slave's own state (own).
-use Rattle.std.specs.Prelude.{codes, ℕ, ◌==◌, ◌&&◌, nat_lt, not, if◌then◌else◌, Bool, true, false, List, [], ◌∷◌, ◌++◌, length, Option, Some, None}
+use Rattle.std.specs.Prelude.{codes, ℕ, ◌==◌, ◌&&◌, ◌||◌, nat_lt, not, if◌then◌else◌, Bool, true, false, List, [], ◌∷◌, ◌++◌, length, Option, Some, None, is_none}
 use Rattle.std.specs.List.{flat_map}
 use Rattle.std.specs.Option.{option_map_or}
 use Rattle.std.specs.Fmt.{decimal}
@@ -16,6 +16,7 @@ use Rattle.dp_decode.specs.Words.{listed}
 use Rattle.dp_sentences.specs.declared.prm_fault.PrmFault.{PrmFault}
 use Rattle.dp_sentences.specs.declared.prm_fault.PrmFault.TheVariants as faults
 use Rattle.dp_sentences.specs.Meetings.{MeetingView}
+use Rattle.dp_sentences.specs.Slots.{compared_words, is_whole}
 use Rattle.dp_sentences.specs.Words.{count_words, counted_words, ident_words, octets_words, since_words}
 
 -- ---- Set_Prm (IEC 61158-6-3, Set_Prm request)
@@ -36,14 +37,25 @@ abbrev pub fault_where : Bool → PrmFault → List PrmFault
 fault_where true fault = fault ∷ []
 fault_where false fault = []
 
--- every reason why the octets of a locking request are refused
-abbrev pub prm_faults : List ℕ → SlaveSpec → List PrmFault
-prm_faults octets slave =
+-- every reason why the octets of a locking request are wrong
+abbrev pub lock_faults : List ℕ → SlaveSpec → List PrmFault
+lock_faults octets slave =
     fault_where (not (ident_number octets == slave.ident)) (faults.Ident (ident_number octets) slave.ident)
     ++ fault_where (has_factor_0 octets) faults.WatchdogTime
     ++ fault_where (sync_req octets && not slave.sync) faults.NoSync
     ++ fault_where (freeze_req octets && not slave.freeze) faults.NoFreeze
     ++ fault_where (nat_lt slave.user_max (length (user_prm octets))) (faults.UserParameters (length (user_prm octets)) slave.user_max)
+
+-- every reason why the octets of a Set_Prm are wrong. Those of an unlocking request, or of one that sets only min TSDR, are right
+abbrev pub prm_faults : List ℕ → SlaveSpec → List PrmFault
+prm_faults octets slave =
+    if is_short octets then faults.Short (length octets) ∷ []
+    else if unlock_req octets || not (lock_req octets) then []
+    else lock_faults octets slave
+
+-- the slave finds the parameters wrong
+abbrev pub has_wrong_parameters : List ℕ → SlaveSpec → Bool
+has_wrong_parameters octets slave = not (length (prm_faults octets slave) == 0)
 
 abbrev pub prm_fault_behind : PrmFault → List ℕ
 prm_fault_behind fault = codes "; " ++ prm_fault_text fault
@@ -79,17 +91,20 @@ abbrev pub min_tsdr_text : ℕ → ℕ → List ℕ
 min_tsdr_text octet own =
     if octet == 0 then codes "done: min TSDR stays " ++ decimal own ++ codes "." else codes "done: min TSDR is " ++ decimal octet ++ codes "."
 
-abbrev pub lock_text : MeetingView → List PrmFault → List ℕ
-lock_text meeting [] = locked_text meeting.master meeting.slave
-lock_text meeting (fault ∷ faults) = wrong_prm_text meeting.slave.holder (fault ∷ faults)
+-- the three forms of a Set_Prm with right octets, in the order in which the octets are checked
+abbrev pub right_prm_text : MeetingView → List ℕ → List ℕ
+right_prm_text meeting octets =
+    if unlock_req octets then unlocked_text meeting.slave.address meeting.slave.holder
+    else if lock_req octets then locked_text meeting.master meeting.slave
+    else min_tsdr_text (min_tsdr octets) meeting.slave.min_tsdr
 
--- the four forms of Set_Prm, in the order in which the octets are checked
+-- by the reasons why the octets are wrong
+abbrev pub judged_prm_text : MeetingView → List ℕ → List PrmFault → List ℕ
+judged_prm_text meeting octets [] = right_prm_text meeting octets
+judged_prm_text meeting octets (fault ∷ faults) = wrong_prm_text meeting.slave.holder (fault ∷ faults)
+
 abbrev pub set_prm_text : MeetingView → List ℕ → List ℕ
-set_prm_text meeting octets =
-    if is_short octets then wrong_prm_text meeting.slave.holder (faults.Short (length octets) ∷ [])
-    else if unlock_req octets then unlocked_text meeting.slave.address meeting.slave.holder
-    else if not (lock_req octets) then min_tsdr_text (min_tsdr octets) meeting.slave.min_tsdr
-    else lock_text meeting (prm_faults octets meeting.description)
+set_prm_text meeting octets = judged_prm_text meeting octets (prm_faults octets meeting.description)
 
 -- ---- Chk_Cfg (IEC 61158-6-3, Chk_Cfg request)
 
@@ -106,15 +121,30 @@ good_cfg_text number shape =
     if number == shape then codes "good configuration: number " ++ decimal number ++ codes "."
     else codes "good configuration: number " ++ decimal number ++ codes " in place of " ++ decimal shape ++ codes "."
 
-abbrev pub wrong_cfg_text : Option ℕ → List (List ℕ) → List ℕ
-wrong_cfg_text holder own = codes "wrong configuration: the slave has " ++ configurations_words own ++ released_words holder
+-- the slave finds the configuration wrong
+abbrev pub has_wrong_configuration : List ℕ → SlaveSpec → Bool
+has_wrong_configuration octets slave = is_none (chosen (configurations slave) octets)
 
-abbrev pub chosen_text : MeetingView → Option ℕ → List ℕ
-chosen_text meeting None = wrong_cfg_text meeting.slave.holder (configurations meeting.description)
-chosen_text meeting (Some number) = good_cfg_text number meeting.slave.shape
+-- the slave's configuration, if it is the only one, and neither it nor the octets end within an identifier
+abbrev pub comparable_cfg : List ℕ → List (List ℕ) → Option (List ℕ)
+comparable_cfg octets (own ∷ []) = if is_whole octets && is_whole own then Some own else None
+comparable_cfg octets own = None
+
+-- the differences from the slave's configuration; if it has several, or an identifier is cut, all of its configurations
+abbrev pub cfg_difference_words : List ℕ → List (List ℕ) → Option (List ℕ) → List ℕ
+cfg_difference_words octets own None = codes "the slave has " ++ configurations_words own
+cfg_difference_words octets own (Some single) = compared_words octets single
+
+abbrev pub wrong_cfg_text : Option ℕ → List ℕ → List (List ℕ) → List ℕ
+wrong_cfg_text holder octets own =
+    codes "wrong configuration: " ++ cfg_difference_words octets own (comparable_cfg octets own) ++ released_words holder
+
+abbrev pub chosen_text : MeetingView → List ℕ → Option ℕ → List ℕ
+chosen_text meeting octets None = wrong_cfg_text meeting.slave.holder octets (configurations meeting.description)
+chosen_text meeting octets (Some number) = good_cfg_text number meeting.slave.shape
 
 abbrev pub chk_cfg_text : MeetingView → List ℕ → List ℕ
-chk_cfg_text meeting octets = chosen_text meeting (chosen (configurations meeting.description) octets)
+chk_cfg_text meeting octets = chosen_text meeting octets (chosen (configurations meeting.description) octets)
 
 -- ---- Data_Exchange (IEC 61158-6-3, Data_Exchange request)
 

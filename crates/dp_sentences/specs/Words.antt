@@ -5,7 +5,7 @@ use Rattle.std.specs.Fmt.{decimal}
 use Rattle.dp_sap.specs.declared.state.State.{State}
 use Rattle.dp_sap.specs.declared.state.State.TheVariants.{WaitPrm, WaitCfg, DataExch}
 use Rattle.dp_decode.specs.Words.{capital_pair, hex_text}
-use Rattle.dp_decode.specs.Points.{points, service_in}
+use Rattle.dp_decode.specs.Points.{dsap_text, points, service_in}
 
 -- ---- columns
 
@@ -61,13 +61,13 @@ abbrev pub holder_words : Option ℕ → List ℕ
 holder_words None = codes "held by nobody"
 holder_words (Some master) = codes "held by master " ++ decimal master
 
--- the place since which something holds, at the end of a sentence
+-- the entry since which something holds, at the end of a sentence
 abbrev pub since_words : ℕ → List ℕ
-since_words place = codes " since place " ++ decimal place ++ codes "."
+since_words place = codes " since entry " ++ decimal place ++ codes "."
 
 -- a point by its name (IEC 61158-6-3, service access points); the default point is that of Data_Exchange
 abbrev pub named_words : Option (List ℕ) → ℕ → List ℕ
-named_words None number = codes "point " ++ decimal number
+named_words None number = dsap_text number
 named_words (Some name) number = name
 
 abbrev pub point_words : Option ℕ → List ℕ

@@ -1,29 +1,19 @@
 //! All rows of an entry.
 
-ghost use Rattle.std.specs.Prelude.{◌≡◌, Some};
-ghost use Rattle.dp_telegram.specs.FrameText.{frame_of};
+ghost use Rattle.std.specs.Prelude.{Some};
 ghost use Rattle.dp_sentences.specs.Results.{result_rows};
 ghost use Rattle.dp_sentences.specs.Blocks.{contents_row, reply_row, block_text};
 
 use crate::changes::ChangeRows;
+use crate::frames::frame_in;
 use crate::head::Head;
 use crate::operations::OpWords;
 use crate::requests::RequestRows;
 use crate::scene::Scene;
 use crate::telegram_rows::{ReplyRow, SentRow};
+use crate::ways::answered;
 use dp_line::{Event, LineState, Outcome};
-use dp_telegram::{Frame, decode};
 use std::fmt;
-
-/// Returns the frame that the octets spell; None if they are no single frame.
-fn frame_in(octets: &[u8]) -> Option<Frame>
-    ensures { result ≡ frame_of octets.now }
-{
-    match decode(octets) {
-        Ok(frame) => Some(frame),
-        Err(_) => None,
-    }
-}
 
 /// The row that shows the data of a request; writes nothing for an event of the operator.
 #[derive(Clone, Copy)]
@@ -57,10 +47,12 @@ impl<'a> fmt::Display for ResultRows<'a> {
     fn fmt<W: fmt::Write>(&self, f: &mut fmt::Formatter<W>) -> fmt::Result {
         match self.event {
             Event::Request { master, octets } => {
-                let frame = frame_in(octets.as_slice());
+                let octets = octets.as_slice();
+                let frame = frame_in(octets);
                 let rows = RequestRows {
                     scene: self.scene,
                     master: *master,
+                    octets,
                     frame: &frame,
                     outcome: self.outcome,
                 };
@@ -82,20 +74,27 @@ impl<'a> fmt::Display for ResultRows<'a> {
 /// The row that shows the reply to a request; writes nothing if there is no reply.
 #[derive(Clone, Copy)]
 struct ReplyRows<'a> {
+    scene: &'a Scene<'a>,
     event: &'a Event,
     outcome: &'a Outcome,
 }
 
 impl<'a> fmt::Display for ReplyRows<'a> {
-    ghost output = { λ s. Some (reply_row s.event.now s.outcome.now) };
+    ghost output = { λ s. Some (reply_row s.scene.now s.event.now s.outcome.now) };
 
     fn fmt<W: fmt::Write>(&self, f: &mut fmt::Formatter<W>) -> fmt::Result {
         match self.event {
-            Event::Request { octets, .. } => match self.outcome {
-                Outcome::Reply { octets: reply, .. } => {
+            Event::Request { master, octets } => match self.outcome {
+                Outcome::Reply {
+                    octets: reply,
+                    rule,
+                } => {
+                    let request = octets.as_slice();
+                    let way = answered(self.scene, *master, request, *rule);
                     let row = ReplyRow {
-                        request: octets.as_slice(),
+                        request,
                         reply: reply.as_slice(),
+                        is_judged_afterwards: way.is_judged_afterwards(),
                     };
                     write!(f, "{row}")
                 }
@@ -113,7 +112,7 @@ impl<'a> fmt::Display for ReplyRows<'a> {
 /// All rows of one event.
 #[derive(Clone, Copy)]
 pub struct Block<'a> {
-    /// The description, the line and the notes before the event.
+    /// The description, the line, the notes and the time before the event.
     pub scene: &'a Scene<'a>,
     /// The line after the event.
     pub after: &'a LineState,
@@ -129,6 +128,7 @@ impl<'a> fmt::Display for Block<'a> {
     fn fmt<W: fmt::Write>(&self, f: &mut fmt::Formatter<W>) -> fmt::Result {
         let scene = self.scene;
         let head = Head {
+            time: scene.time,
             place: self.place,
             event: self.event,
         };
@@ -139,6 +139,7 @@ impl<'a> fmt::Display for Block<'a> {
             outcome: self.outcome,
         };
         let reply = ReplyRows {
+            scene,
             event: self.event,
             outcome: self.outcome,
         };

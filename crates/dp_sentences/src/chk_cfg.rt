@@ -1,14 +1,16 @@
 //! The result of a Chk_Cfg.
 
-ghost use Rattle.std.specs.Prelude.{◌≡◌, ◌<◌, length, map, IfSome, Some};
+ghost use Rattle.std.specs.Prelude.{◌≡◌, ◌<◌, length, map, option_map, IfSome, Some, true};
 ghost use Rattle.std.specs.List.{flat_map};
-ghost use Rattle.dp_cfg.specs.Choosing.{chosen, same_octets as same_octets_of};
-ghost use Rattle.dp_sentences.specs.Services.{configuration_behind, configurations_words, good_cfg_text, chk_cfg_text};
+ghost use Rattle.dp_cfg.specs.Choosing.{chosen};
+ghost use Rattle.dp_sentences.specs.Services.{configuration_behind, configurations_words, comparable_cfg, cfg_difference_words, good_cfg_text, chk_cfg_text, has_wrong_configuration};
+ghost use Rattle.dp_sentences.specs.Slots.{is_whole};
 
 use crate::meeting::Meeting;
 use crate::set_prm::released_name;
-use crate::words::OctetsWords;
-use dp_slave::Configuration;
+use crate::slots::{is_whole, write_compared};
+use crate::words::{OctetsWords, same_octets};
+use dp_slave::{Configuration, SlaveSpec};
 use std::fmt;
 
 /// Configurations, each after the word `or`.
@@ -63,12 +65,6 @@ fn number_of(own: &[Configuration], octets: &[u8]) -> Option<usize>
     }
 }
 
-fn same_octets(own: &[u8], octets: &[u8]) -> bool
-    ensures { result ≡ same_octets_of own.now octets.now }
-{
-    own == octets
-}
-
 /// The result of a Chk_Cfg.
 #[derive(Clone, Copy)]
 pub(crate) struct ChkCfg<'a> {
@@ -91,11 +87,63 @@ impl<'a> fmt::Display for ChkCfg<'a> {
                 write!(f, "{good}")
             }
             None => {
-                let own = Configurations(own);
+                let difference = CfgDifference {
+                    octets: self.octets,
+                    own,
+                };
                 let released = released_name(meeting.slave.holder);
-                write!(f, "wrong configuration: the slave has {own}{released}")
+                write!(f, "wrong configuration: {difference}{released}")
             }
         }
+    }
+}
+
+/// Returns whether the slave finds the octets of a Chk_Cfg wrong.
+pub(crate) fn has_wrong_configuration(octets: &[u8], slave: &SlaveSpec) -> bool
+    ensures { result ≡ has_wrong_configuration octets.now slave.now }
+{
+    number_of(slave.cfgs.as_slice(), octets).is_none()
+}
+
+/// The differences of the octets of a Chk_Cfg from the configurations of the slave.
+#[derive(Clone, Copy)]
+struct CfgDifference<'a> {
+    octets: &'a [u8],
+    own: &'a [Configuration],
+}
+
+impl<'a> fmt::Display for CfgDifference<'a> {
+    ghost output = { λ s. let own = map (λ configuration. configuration.items) s.own.now in
+        Some (cfg_difference_words s.octets.now own (comparable_cfg s.octets.now own)) };
+
+    fn fmt<W: fmt::Write>(&self, f: &mut fmt::Formatter<W>) -> fmt::Result {
+        match comparable(self.octets, self.own) {
+            Some(own) => write_compared(f, self.octets, own),
+            None => {
+                let own = Configurations(self.own);
+                write!(f, "the slave has {own}")
+            }
+        }
+    }
+}
+
+/// Returns the slave's configuration if it is the only one, and neither it nor the octets end within an identifier.
+fn comparable<'a>(octets: &[u8], own: &'a [Configuration]) -> Option<&'a [u8]>
+    ensures single { option_map (λ single. single.now) result ≡ comparable_cfg octets.now (map (λ configuration. configuration.items) own.now) }
+    ensures sent_whole { IfSome result (λ single. is_whole octets.now ≡ true) }
+    ensures own_whole { IfSome result (λ single. is_whole single.now ≡ true) }
+{
+    match own {
+        [] => None,
+        [single] => {
+            let single = single.as_slice();
+            if is_whole(octets) && is_whole(single) {
+                Some(single)
+            } else {
+                None
+            }
+        }
+        [_, _, ..] => None,
     }
 }
 

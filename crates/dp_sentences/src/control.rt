@@ -1,10 +1,11 @@
 //! The result of a Global_Control at a slave.
 
-ghost use Rattle.std.specs.Prelude.{◌≡◌, ◌&&◌, not, slice_index, Some};
+ghost use Rattle.std.specs.Prelude.{◌≡◌, ◌&&◌, not, Some};
 ghost use Rattle.dp_slave.specs.Services.{control_of};
 ghost use Rattle.dp_globalctl.specs.Command.{control_in};
 ghost use Rattle.dp_sentences.specs.Services.{sync_is_asked, freeze_is_asked, acts_words, idle_sync_text, idle_freeze_text, controlled_text, control_text};
 
+use crate::words::octet_at;
 use dp_decode::{Flag, Names};
 use dp_globalctl::Command;
 use dp_prm::Prm;
@@ -15,7 +16,7 @@ use std::fmt;
 fn command_in(octets: &[u8]) -> Command
     ensures { control_in result ≡ control_of octets.now }
 {
-    Command::read(&[first_of(octets), 0])
+    Command::read(&[octet_at(octets, 0), 0])
 }
 
 /// Returns whether Sync is done: the command and the parameters ask for it, and the command doesn't ask for Unsync.
@@ -131,16 +132,6 @@ impl<'a> fmt::Display for Controlled<'a> {
             command: &command,
         };
         write!(f, "{done}")
-    }
-}
-
-/// Returns the first octet; 0 if there is none.
-fn first_of(octets: &[u8]) -> u8
-    ensures { result ≡ slice_index octets.now 0 }
-{
-    match octets {
-        [] => 0,
-        [first, ..] => *first,
     }
 }
 

@@ -1,7 +1,7 @@
 //! The first row of an entry.
 
 ghost use Rattle.std.specs.Prelude.{◌≡◌, Some};
-ghost use Rattle.dp_sentences.specs.Heads.{bit_text, flags_words, busy_words, op_kind_text, event_kind_text, head_text};
+ghost use Rattle.dp_sentences.specs.Heads.{bit_text, flags_words, busy_words, op_kind_text, event_kind_text, moment_words, front_text, head_text};
 
 use crate::telegram_rows::KindWords;
 use crate::who::Who;
@@ -107,7 +107,7 @@ impl<'a> fmt::Display for OpKind<'a> {
             }
             Op::Tick(units) => {
                 let word = word_for(*units == 1, "unit", "units");
-                let time = TimeWords(*units);
+                let time = TimeWords(u64::from(*units));
                 write!(f, "{units} {word} of time, {time}")
             }
             Op::Halt => f.write_str("halt"),
@@ -136,23 +136,63 @@ impl<'a> fmt::Display for EventKind<'a> {
     }
 }
 
-/// The first row of an entry, with its LF.
+/// The time before an event, in units of 10 ms; writes nothing before the first tick.
 #[derive(Clone, Copy)]
-pub(crate) struct Head<'a> {
-    /// The place of the event, from 1.
-    pub(crate) place: u64,
-    pub(crate) event: &'a Event,
+struct Moment(Option<u64>);
+
+impl fmt::Display for Moment {
+    ghost output = { λ moment. Some (moment_words moment.0) };
+
+    fn fmt<W: fmt::Write>(&self, f: &mut fmt::Formatter<W>) -> fmt::Result {
+        match self.0 {
+            None => Ok(()),
+            Some(units) => {
+                let time = TimeWords(units);
+                write!(f, "  at {time}")
+            }
+        }
+    }
 }
 
-impl<'a> fmt::Display for Head<'a> {
-    ghost output = { λ head. Some (head_text head.place head.event.now) };
+/// The place of an event, and its sender and its receiver, each in its column.
+#[derive(Clone, Copy)]
+struct Front<'a> {
+    place: u64,
+    event: &'a Event,
+}
+
+impl<'a> fmt::Display for Front<'a> {
+    ghost output = { λ front. Some (front_text front.place front.event.now) };
 
     fn fmt<W: fmt::Write>(&self, f: &mut fmt::Formatter<W>) -> fmt::Result {
         let place = self.place;
         let before = Spaces(PLACE_COLUMNS.saturating_sub(digits_of_long(place)));
         let who = Who::from_event(self.event);
         let behind = Spaces(WHO_COLUMNS.saturating_sub(who.width()));
+        write!(f, "{before}{place}  {who}{behind}")
+    }
+}
+
+/// The first row of an entry, with its LF.
+#[derive(Clone, Copy)]
+pub(crate) struct Head<'a> {
+    /// The sum of the ticks before the event, in units of 10 ms; None before the first tick.
+    pub(crate) time: Option<u64>,
+    /// The place of the event, from 1.
+    pub(crate) place: u64,
+    pub(crate) event: &'a Event,
+}
+
+impl<'a> fmt::Display for Head<'a> {
+    ghost output = { λ head. Some (head_text head.time head.place head.event.now) };
+
+    fn fmt<W: fmt::Write>(&self, f: &mut fmt::Formatter<W>) -> fmt::Result {
+        let front = Front {
+            place: self.place,
+            event: self.event,
+        };
         let kind = EventKind(self.event);
-        write!(f, "{before}{place}  {who}{behind}{kind}\n")
+        let moment = Moment(self.time);
+        write!(f, "{front}{kind}{moment}\n")
     }
 }

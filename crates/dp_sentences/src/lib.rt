@@ -3,7 +3,8 @@
 //!
 //! [`Block`] displays the rows of an event that has an outcome. It reads what was known before the event ([`Scene`])
 //! and the line after it. Other texts about events use the parts: the sender and the receiver ([`Who`]), how a hold
-//! ended ([`Ending`]), and columns. Contracts see the text that each of them displays.
+//! ended ([`Ending`]), the way in which a request was answered ([`Answered`]), and columns. Contracts see the text that
+//! each of them displays. [`is_fault`] chooses the events that show a fault of the bus.
 //!
 //! It uses no audit text: texts are in dp_explain. So the gate proves it beside dp_text and dp_audit.
 #![tactic(auto)]
@@ -14,7 +15,9 @@ mod chk_cfg;
 mod control;
 mod ending;
 mod exchange;
+mod frames;
 mod head;
+pub mod laws;
 mod meeting;
 mod notes;
 mod operations;
@@ -25,7 +28,11 @@ mod scene;
 mod sentences;
 mod services;
 mod set_prm;
+mod slots;
 mod telegram_rows;
+mod time;
+mod way;
+mod ways;
 mod who;
 mod words;
 
@@ -34,5 +41,8 @@ pub use changes::same_holder;
 pub use ending::Ending;
 pub use notes::{Noted, first_notes, note_event};
 pub use scene::Scene;
+pub use time::time_after;
+pub use way::Answered;
+pub use ways::{answered, is_fault};
 pub use who::{Who, Whom};
 pub use words::{Spaces, digits_of, digits_of_long};

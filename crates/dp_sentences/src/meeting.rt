@@ -1,5 +1,6 @@
 //! A request that has reached a slave.
 
+use crate::notes::Noted;
 use dp_slave::{SlaveSpec, SlaveView};
 use dp_telegram::{Parts, Telegram};
 use std::marker::Model;
@@ -9,26 +10,32 @@ use std::marker::Model;
 pub(crate) struct Meeting<'a> {
     /// The sender, 0 to 126.
     pub(crate) master: u8,
+    /// The octets of the whole frame.
+    pub(crate) octets: &'a [u8],
     pub(crate) telegram: &'a Telegram,
     pub(crate) parts: &'a Parts,
     pub(crate) description: &'a SlaveSpec,
     /// The slave before the request.
     pub(crate) slave: SlaveView,
-    /// The place of the request whose reply the slave remembers for the sender; 0 if there is none.
-    pub(crate) asked: u64,
+    /// The address of the slave, by which its note is found.
+    pub(crate) address: u8,
+    /// The requests whose replies the slaves remember.
+    pub(crate) notes: &'a [Noted],
 }
 
 impl<'a> Model for Meeting<'a> {
     ghost use Rattle.dp_sentences.specs.Meetings.{MeetingView};
+    ghost use Rattle.dp_sentences.specs.Notes.{note_of};
 
     ghost Value = { MeetingView };
 
     ghost view = { λ m. record {
       master = m.master;
+      octets = m.octets.now;
       telegram = m.telegram.now;
       parts = m.parts.now;
       description = m.description.now;
       slave = m.slave;
-      asked = m.asked;
+      noted = note_of m.notes.now m.address m.master;
     } };
 }

@@ -1,70 +1,80 @@
-//! The places of the requests whose replies the slaves remember.
+//! The requests whose replies the slaves remember.
 
-ghost use Rattle.std.specs.Prelude.{◌≡◌, ◌==◌, ◌&&◌, ◌++◌, map, find, OnOk, IfOk, Some};
-ghost use Rattle.std.specs.Option.{option_map_or, option_copied};
-ghost use Rattle.dp_telegram.specs.FrameText.{frame_of};
+ghost use Rattle.std.specs.Prelude.{◌≡◌, ◌++◌, map, position, OnOk, IfOk, Some};
+ghost use Rattle.std.specs.Option.{option_copied};
+ghost use Rattle.dp_cfg.specs.Choosing.{same_octets};
 ghost use Rattle.dp_line.specs.Hearing.{telegram_spelt};
-ghost use Rattle.dp_sentences.specs.Notes.{unnoted, first_notes, place_noted, noted_at, is_judged_anew, noted_telegram, notes_after};
+ghost use Rattle.dp_sentences.specs.Notes.{unnoted, first_notes, is_note_of, note_of, noted_at, is_judged_anew, noted_telegram, notes_after};
 
+use crate::frames::telegram_in;
+use crate::words::same_octets;
+use arrayvec::ArrayVec;
 use dp_line::{Event, LineSpec, Outcome};
 use dp_responder::Rule;
-use dp_telegram::{Frame, Telegram, decode};
+use dp_telegram::{Octets, Telegram};
 use std::alloc::{AllocError, Global};
 
-/// The place of the last request of a master that a slave judged and replied to, other than by a repeat.
+/// The last request of a master that a slave judged and replied to, other than by a repeat.
 #[derive(Drop)]
 pub struct Noted {
     /// The slave, 0 to 126.
     pub slave: u8,
     /// The master, 0 to 126.
     pub master: u8,
-    /// The place, from 1; 0 if there was no such request.
+    /// The place of the request, from 1; 0 if there was no such request.
     pub place: u64,
+    /// The octets of its whole frame; empty if there was no such request.
+    pub octets: Octets,
 }
 
-/// Returns the place that is noted for a slave and a master; 0 if none is.
-pub(crate) fn place_noted(notes: &[Noted], slave: u8, master: u8) -> u64
-    ensures { result ≡ place_noted notes.now slave master }
-{
-    match noted_of(notes, slave, master) {
-        Some(noted) => noted.place(),
-        None => 0,
+impl Noted {
+    /// Returns whether the note is for this slave and this master.
+    fn is_of(&self, slave: u8, master: u8) -> bool
+        ensures { result ≡ is_note_of slave master self.now }
+    {
+        self.slave == slave && self.master == master
+    }
+
+    /// Notes another request.
+    fn set(&mut self, place: u64, octets: &Octets)
+        ensures { self.new ≡ record self.old { place = place; octets = octets.now } }
+    {
+        self.place = place;
+        self.octets.clear();
+        self.octets
+            .try_extend_from_slice(octets.as_slice())
+            .unwrap();
+    }
+
+    /// Returns whether these are the octets of the request.
+    pub(crate) fn has_octets(&self, octets: &[u8]) -> bool
+        ensures { result ≡ same_octets self.now.octets.items octets.now }
+    {
+        same_octets(self.octets.as_slice(), octets)
     }
 }
 
 /// Returns the note for a slave and a master; None if there is none.
-fn noted_of(notes: &[Noted], slave: u8, master: u8) -> Option<&Noted>
-    ensures { option_copied result ≡ find (λ noted. noted.slave == slave && noted.master == master) notes.now }
+pub(crate) fn note_of(notes: &[Noted], slave: u8, master: u8) -> Option<&Noted>
+    ensures { option_copied result ≡ note_of notes.now slave master }
 {
-    notes
-        .iter()
-        .find(|noted| noted.slave == slave && noted.master == master)
+    notes.iter().find(|noted| noted.is_of(slave, master))
 }
 
-/// Notes the place of a request from a master to a slave.
-fn note(notes: &mut [Noted], slave: u8, master: u8, place: u64)
-    ensures { notes.new ≡ map (noted_at slave master place) notes.old }
+/// Notes a request from a master to a slave, with its place and the octets of its frame.
+fn note(notes: &mut [Noted], slave: u8, master: u8, place: u64, octets: &Octets)
+    ensures { notes.new ≡ noted_at slave master place octets.now notes.old }
 {
-    for noted in notes.iter_mut() {
-        noted.set(slave, master, place);
+    if let Some(index) = index_of(notes, slave, master) {
+        notes[index].set(place, octets);
     }
 }
 
-impl Noted {
-    fn place(&self) -> u64
-        ensures { result ≡ self.now.place }
-    {
-        self.place
-    }
-
-    /// Sets the place if the note is for this slave and this master.
-    fn set(&mut self, slave: u8, master: u8, place: u64)
-        ensures { self.new ≡ noted_at slave master place self.old }
-    {
-        if self.slave == slave && self.master == master {
-            self.place = place;
-        }
-    }
+/// Returns the index of the note for a slave and a master; None if there is none.
+fn index_of(notes: &[Noted], slave: u8, master: u8) -> Option<usize>
+    ensures { result ≡ position (is_note_of slave master) notes.now }
+{
+    notes.iter().position(|noted| noted.is_of(slave, master))
 }
 
 /// Notes an event at a place, by its outcome. Only requests that a slave judged and replied to change the notes.
@@ -80,13 +90,7 @@ fn note_in(notes: &mut [Noted], place: u64, event: &Event, outcome: &Outcome)
 {
     match event {
         Event::Request { master, octets } => match outcome {
-            Outcome::Reply { rule, .. } => note_request(
-                notes,
-                place,
-                *master,
-                *rule,
-                octets.as_slice(),
-            ),
+            Outcome::Reply { rule, .. } => note_request(notes, place, *master, octets, *rule),
             Outcome::Silence(_) => {}
             Outcome::Spread(_) => {}
             Outcome::Released(_) => {}
@@ -98,23 +102,28 @@ fn note_in(notes: &mut [Noted], place: u64, event: &Event, outcome: &Outcome)
 }
 
 /// Notes a request that was replied to, if it is an SRD and no repeat.
-fn note_request(notes: &mut [Noted], place: u64, master: u8, rule: Rule, octets: &[u8])
-    ensures { notes.new ≡ noted_telegram notes.old place master rule (telegram_spelt octets.now) }
+fn note_request(notes: &mut [Noted], place: u64, master: u8, octets: &Octets, rule: Rule)
+    ensures { notes.new ≡ noted_telegram notes.old place master octets.now rule (telegram_spelt octets.now.items) }
 {
-    match decode(octets) {
-        Ok(Frame::Telegram(telegram)) => note_telegram(notes, place, master, rule, &telegram),
-        Ok(Frame::Token { .. }) => {}
-        Ok(Frame::Ack) => {}
-        Err(_) => {}
+    match telegram_in(octets.as_slice()) {
+        Some(telegram) => note_telegram(notes, place, master, octets, rule, &telegram),
+        None => {}
     }
 }
 
 /// Notes a telegram that was replied to, if it is an SRD and no repeat.
-fn note_telegram(notes: &mut [Noted], place: u64, master: u8, rule: Rule, telegram: &Telegram)
-    ensures { notes.new ≡ noted_telegram notes.old place master rule (Some telegram.now) }
+fn note_telegram(
+    notes: &mut [Noted],
+    place: u64,
+    master: u8,
+    octets: &Octets,
+    rule: Rule,
+    telegram: &Telegram,
+)
+    ensures { notes.new ≡ noted_telegram notes.old place master octets.now rule (Some telegram.now) }
 {
     if is_judged_anew(rule) && telegram.function().is_srd() {
-        note(notes, telegram.destination(), master, place);
+        note(notes, telegram.destination(), master, place, octets);
     }
 }
 
@@ -124,7 +133,25 @@ fn is_judged_anew(rule: Rule) -> bool
 {
     match rule {
         Rule::Repeat => false,
-        _ => true,
+        Rule::Halted
+        | Rule::NoFrame
+        | Rule::NoMaster
+        | Rule::ForeignSender
+        | Rule::Token
+        | Rule::NotRequest
+        | Rule::BadFunction
+        | Rule::BadExtension
+        | Rule::BadBroadcast
+        | Rule::NoStation
+        | Rule::Status
+        | Rule::NoService
+        | Rule::NotActive
+        | Rule::NotHolder
+        | Rule::NotListed
+        | Rule::Busy
+        | Rule::Length
+        | Rule::NotSelected
+        | Rule::Done => true,
     }
 }
 
@@ -149,6 +176,7 @@ fn push_slave(notes: &mut Vec<Noted>, slave: u8, masters: &[u8]) -> Result<(), A
             slave,
             master: *master,
             place: 0,
+            octets: ArrayVec::new(),
         })?;
     }
     Ok(())

@@ -4,8 +4,9 @@ ghost use Rattle.std.specs.Prelude.{◌≡◌, Some};
 ghost use Rattle.std.specs.List.{flat_map};
 ghost use Rattle.dp_line.specs.declared.event.Event.TheVariants.{Operator};
 ghost use Rattle.dp_line.specs.Events.{is_halt};
-ghost use Rattle.dp_sentences.specs.Results.{watchdog_words, full_time_of, shown_at, expired_words, expired_behind, tick_text, halt_text, released_text, op_text};
+ghost use Rattle.dp_sentences.specs.Results.{watchdog_words, full_time_of, shown_at, expired_words, expired_behind, tick_text, halted_words, halt_text, released_text, op_text};
 
+use crate::ways::is_at_last_place;
 use crate::words::{NumbersWords, TimeWords};
 use dp_line::{LineState, Op, Outcome, SlaveView};
 use std::fmt;
@@ -21,7 +22,7 @@ impl fmt::Display for WatchdogWords {
         match self.0 {
             None => Ok(()),
             Some(units) => {
-                let time = TimeWords(units);
+                let time = TimeWords(u64::from(units));
                 write!(f, " (its watchdog of {time} ran out)")
             }
         }
@@ -109,19 +110,34 @@ impl<'a> fmt::Display for TickWords<'a> {
     }
 }
 
+/// Returns the words for a halt, which comes by itself if the journal has at most the place of the halt left.
+fn halted_words(is_full: bool) -> &'static str
+    ensures { result.now ≡ halted_words is_full }
+{
+    if is_full {
+        "halted, the journal is full; "
+    } else {
+        "halted; "
+    }
+}
+
 /// All slaves that the halt released.
 #[derive(Clone, Copy)]
-struct HaltWords<'a>(&'a [u8]);
+struct HaltWords<'a> {
+    is_full: bool,
+    addresses: &'a [u8],
+}
 
 impl<'a> fmt::Display for HaltWords<'a> {
-    ghost output = { λ s. Some (halt_text s.0.now) };
+    ghost output = { λ s. Some (halt_text s.is_full s.addresses.now) };
 
     fn fmt<W: fmt::Write>(&self, f: &mut fmt::Formatter<W>) -> fmt::Result {
-        match self.0 {
-            [] => f.write_str("halted; nobody held a slave."),
+        let halted = halted_words(self.is_full);
+        match self.addresses {
+            [] => write!(f, "{halted}nobody held a slave."),
             [_, ..] => {
-                let addresses = NumbersWords(self.0);
-                write!(f, "halted; released: {addresses}.")
+                let addresses = NumbersWords(self.addresses);
+                write!(f, "{halted}released: {addresses}.")
             }
         }
     }
@@ -140,7 +156,10 @@ impl<'a> fmt::Display for ReleasedSlaves<'a> {
 
     fn fmt<W: fmt::Write>(&self, f: &mut fmt::Formatter<W>) -> fmt::Result {
         if is_halt(self.op) {
-            let words = HaltWords(self.addresses);
+            let words = HaltWords {
+                is_full: is_at_last_place(self.before),
+                addresses: self.addresses,
+            };
             write!(f, "{words}")
         } else {
             let words = TickWords {

@@ -1,17 +1,17 @@
 //! The reasons why parameters are wrong.
 
-ghost use Rattle.std.specs.Prelude.{◌≡◌, ◌≤◌, ◌<◌, ◌++◌, ◌+◌, ◌==◌, ◌&&◌, nat_lt, not, length, Some};
+ghost use Rattle.std.specs.Prelude.{◌≡◌, ◌≤◌, ◌<◌, [], ◌∷◌, ◌++◌, ◌+◌, ◌==◌, ◌&&◌, nat_lt, not, length, Some};
 ghost use Rattle.std.specs.List.{flat_map};
 ghost use Rattle.dp_prm.specs.Meaning.{ident_number, user_prm, has_factor_0, sync_req, freeze_req, is_set as is_set_of, is_short};
-ghost use Rattle.dp_sentences.specs.Services.{fault_where, user_parameters_text, prm_fault_text, prm_faults, prm_fault_behind, prm_faults_words};
+ghost use Rattle.dp_sentences.specs.Services.{fault_where, user_parameters_text, prm_fault_text, lock_faults, prm_faults, has_wrong_parameters, prm_fault_behind, prm_faults_words};
 
 use crate::words::{CountWords, IdentWords, word_for};
 use arrayvec::ArrayVec;
-use dp_prm::{FREEZE_REQ, SYNC_REQ, WD_ON};
+use dp_prm::{FREEZE_REQ, LOCK_REQ, SYNC_REQ, UNLOCK_REQ, WD_ON};
 use dp_slave::SlaveSpec;
 use std::fmt;
 
-/// The largest number of reasons why the octets of one request are refused.
+/// The largest number of reasons why the octets of one request are wrong.
 const MOST_FAULTS: usize = 5;
 
 /// A reason why parameters are wrong (IEC 61158-6-3, Set_Prm request).
@@ -119,10 +119,39 @@ impl<'a> fmt::Display for PrmFaults<'a> {
     }
 }
 
-/// Returns every reason why the octets of a locking request, at least 7 of them, are refused.
+/// Returns every reason why the octets of a Set_Prm are wrong, and none if they are right.
 pub(crate) fn prm_faults(octets: &[u8], slave: &SlaveSpec) -> ArrayVec<PrmFault, MOST_FAULTS>
-    requires { 7 ≤ length octets.now }
     ensures { result.items ≡ prm_faults octets.now slave.now }
+{
+    let [status, _, _, _, _, _, _, ..] = octets else {
+        return too_short(octets.len());
+    };
+    if is_set(UNLOCK_REQ, *status) || !is_set(LOCK_REQ, *status) {
+        return ArrayVec::new();
+    }
+    lock_faults(octets, slave)
+}
+
+/// Returns the only reason why fewer than 7 octets are wrong.
+fn too_short(count: usize) -> ArrayVec<PrmFault, MOST_FAULTS>
+    ensures { result.items ≡ PrmFault.Short count ∷ [] }
+{
+    let mut faults = ArrayVec::new();
+    faults.push(PrmFault::Short(count));
+    faults
+}
+
+/// Returns whether the slave finds the octets of a Set_Prm wrong.
+pub(crate) fn has_wrong_parameters(octets: &[u8], slave: &SlaveSpec) -> bool
+    ensures { result ≡ has_wrong_parameters octets.now slave.now }
+{
+    !prm_faults(octets, slave).is_empty()
+}
+
+/// Returns every reason why the octets of a locking request, at least 7 of them, are wrong.
+fn lock_faults(octets: &[u8], slave: &SlaveSpec) -> ArrayVec<PrmFault, MOST_FAULTS>
+    requires { 7 ≤ length octets.now }
+    ensures { result.items ≡ lock_faults octets.now slave.now }
 {
     let ident = ident_in(octets);
     let other_ident = ident != slave.ident;

@@ -11,7 +11,6 @@ ghost use Rattle.dp_line.specs.declared.event.Outcome.{Outcome as Answers};
 ghost use Rattle.dp_sentences.specs.Results.{told_of_slave, told_of_telegram, told_of_one, result_row, pair_row, pairs_rows, spread_rows, spread_text, request_rows};
 
 use crate::meeting::Meeting;
-use crate::notes::place_noted;
 use crate::scene::{Scene, SlaveRequest};
 use crate::sentences::{LineWords, SlaveWords};
 use crate::words::{Spaces, digits_of};
@@ -49,11 +48,13 @@ impl<'a> fmt::Display for OfSlave<'a> {
         };
         let meeting = Meeting {
             master: asked.master,
+            octets: asked.octets,
             telegram: asked.telegram,
             parts: &asked.parts,
             description,
             slave,
-            asked: place_noted(scene.notes, self.address, asked.master),
+            address: self.address,
+            notes: scene.notes,
         };
         let words = SlaveWords {
             meeting: &meeting,
@@ -69,13 +70,14 @@ impl<'a> fmt::Display for OfSlave<'a> {
 struct OfTelegram<'a> {
     scene: &'a Scene<'a>,
     master: u8,
+    octets: &'a [u8],
     silent: bool,
     rule: Rule,
     telegram: &'a Telegram,
 }
 
 impl<'a> fmt::Display for OfTelegram<'a> {
-    ghost output = { λ s. Some (told_of_telegram s.scene.now s.master s.silent s.rule (Some s.telegram.now)) };
+    ghost output = { λ s. Some (told_of_telegram s.scene.now s.master s.octets.now s.silent s.rule (Some s.telegram.now)) };
 
     fn fmt<W: fmt::Write>(&self, f: &mut fmt::Formatter<W>) -> fmt::Result {
         let Some(parts) = self.telegram.parts() else {
@@ -83,6 +85,7 @@ impl<'a> fmt::Display for OfTelegram<'a> {
         };
         let asked = SlaveRequest {
             master: self.master,
+            octets: self.octets,
             telegram: self.telegram,
             parts,
         };
@@ -102,13 +105,14 @@ impl<'a> fmt::Display for OfTelegram<'a> {
 struct OfOne<'a> {
     scene: &'a Scene<'a>,
     master: u8,
+    octets: &'a [u8],
     frame: &'a Option<Frame>,
     silent: bool,
     rule: Rule,
 }
 
 impl<'a> fmt::Display for OfOne<'a> {
-    ghost output = { λ s. Some (told_of_one s.scene.now s.master s.frame.now s.silent s.rule) };
+    ghost output = { λ s. Some (told_of_one s.scene.now s.master s.octets.now s.frame.now s.silent s.rule) };
 
     fn fmt<W: fmt::Write>(&self, f: &mut fmt::Formatter<W>) -> fmt::Result {
         if concerns_a_slave(self.rule) {
@@ -118,6 +122,7 @@ impl<'a> fmt::Display for OfOne<'a> {
             let words = OfTelegram {
                 scene: self.scene,
                 master: self.master,
+                octets: self.octets,
                 silent: self.silent,
                 rule: self.rule,
                 telegram,
@@ -219,12 +224,13 @@ impl<'a> fmt::Display for PairRows<'a> {
 struct SpreadRows<'a> {
     scene: &'a Scene<'a>,
     master: u8,
+    octets: &'a [u8],
     pairs: &'a [(u8, Rule)],
     frame: &'a Option<Frame>,
 }
 
 impl<'a> fmt::Display for SpreadRows<'a> {
-    ghost output = { λ s. Some (spread_rows s.scene.now s.master s.pairs.now (option_and_then telegram_of_frame s.frame.now)) };
+    ghost output = { λ s. Some (spread_rows s.scene.now s.master s.octets.now s.pairs.now (option_and_then telegram_of_frame s.frame.now)) };
 
     fn fmt<W: fmt::Write>(&self, f: &mut fmt::Formatter<W>) -> fmt::Result {
         let Some(Frame::Telegram(telegram)) = self.frame else {
@@ -235,6 +241,7 @@ impl<'a> fmt::Display for SpreadRows<'a> {
         };
         let asked = SlaveRequest {
             master: self.master,
+            octets: self.octets,
             telegram,
             parts,
         };
@@ -272,12 +279,14 @@ pub(crate) struct RequestRows<'a> {
     pub(crate) scene: &'a Scene<'a>,
     /// The address of the sender.
     pub(crate) master: u8,
+    /// The octets of the request, and the frame that they spell; None if they are no single frame.
+    pub(crate) octets: &'a [u8],
     pub(crate) frame: &'a Option<Frame>,
     pub(crate) outcome: &'a Outcome,
 }
 
 impl<'a> fmt::Display for RequestRows<'a> {
-    ghost output = { λ s. Some (request_rows s.scene.now s.master s.frame.now s.outcome.now) };
+    ghost output = { λ s. Some (request_rows s.scene.now s.master s.octets.now s.frame.now s.outcome.now) };
 
     fn fmt<W: fmt::Write>(&self, f: &mut fmt::Formatter<W>) -> fmt::Result {
         match self.outcome {
@@ -301,6 +310,7 @@ impl<'a> fmt::Display for RequestRows<'a> {
                 let rows = SpreadRows {
                     scene: self.scene,
                     master: self.master,
+                    octets: self.octets,
                     pairs: pairs.as_slice(),
                     frame: self.frame,
                 };
@@ -315,11 +325,12 @@ impl<'a> fmt::Display for RequestRows<'a> {
 impl<'a> RequestRows<'a> {
     /// Returns the result of this request at one slave, or by a rule of the line.
     fn of_one(&self, silent: bool, rule: Rule) -> OfOne<'a>
-        ensures { result ≡ record { scene = self.now.scene; master = self.now.master; frame = self.now.frame; silent = silent; rule = rule } }
+        ensures { result ≡ record { scene = self.now.scene; master = self.now.master; octets = self.now.octets; frame = self.now.frame; silent = silent; rule = rule } }
     {
         OfOne {
             scene: self.scene,
             master: self.master,
+            octets: self.octets,
             frame: self.frame,
             silent,
             rule,

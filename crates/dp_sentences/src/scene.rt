@@ -5,14 +5,16 @@ use dp_line::{LineSpec, LineState};
 use dp_telegram::{Parts, Telegram};
 use std::marker::Model;
 
-/// What is known before an event. Contracts see the description, the world and the notes.
+/// What is known before an event. Contracts see the description, the world, the notes and the time.
 #[derive(Drop)]
 pub struct Scene<'a> {
     pub line: &'a LineSpec,
     /// The line before the event.
     pub before: &'a LineState,
-    /// The places of the requests whose replies the slaves remember.
+    /// The requests whose replies the slaves remember.
     pub notes: &'a [Noted],
+    /// The sum of the ticks before the event, in units of 10 ms; None before the first tick.
+    pub time: Option<u64>,
 }
 
 impl<'a> Model for Scene<'a> {
@@ -25,6 +27,7 @@ impl<'a> Model for Scene<'a> {
       description = description_of s.line.now;
       world = s.before.now.world;
       notes = s.notes.now;
+      time = s.time;
     } };
 }
 
@@ -33,6 +36,8 @@ impl<'a> Model for Scene<'a> {
 pub(crate) struct SlaveRequest<'a> {
     /// The address of the sender.
     pub(crate) master: u8,
+    /// The octets of the whole frame.
+    pub(crate) octets: &'a [u8],
     pub(crate) telegram: &'a Telegram,
     pub(crate) parts: Parts,
 }
@@ -42,5 +47,5 @@ impl<'a> Model for SlaveRequest<'a> {
 
     ghost Value = { AskedView };
 
-    ghost view = { λ a. record { master = a.master; telegram = a.telegram.now; parts = a.parts } };
+    ghost view = { λ a. record { master = a.master; octets = a.octets.now; telegram = a.telegram.now; parts = a.parts } };
 }

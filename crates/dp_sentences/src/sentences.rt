@@ -1,17 +1,23 @@
 //! The reason why a request was answered as it was: one sentence for each rule.
 
-ghost use Rattle.std.specs.Prelude.{◌≡◌, length, slice_index, Some};
-ghost use Rattle.dp_sentences.specs.Sentences.{station_words, foreign_sender_text, no_master_text, line_text, group_in, refused_words, slave_text};
+ghost use Rattle.std.specs.Prelude.{◌≡◌, ◌==◌, length, slice_index, Some};
+ghost use Rattle.std.specs.List.{list_any};
+ghost use Rattle.std.specs.Option.{option_and_then};
+ghost use Rattle.dp_line.specs.Hearing.{telegram_of_frame};
+ghost use Rattle.dp_sentences.specs.Notes.{has_octets, place_of_note};
+ghost use Rattle.dp_sentences.specs.Sentences.{station_words, foreign_sender_text, no_master_text, no_station_text, line_text, group_in, refused_words, slave_text};
 
+use crate::frames::is_fdl_status;
 use crate::meeting::Meeting;
+use crate::notes::note_of;
 use crate::refusals::{
     Busy, NoService, NotActive, NotHolder, NotListed, NotSelected, Repeated, Status, WrongLength,
 };
 use crate::services::DoneService;
-use crate::words::NumbersWords;
+use crate::words::{NumbersWords, octet_at};
 use dp_prm::Prm;
 use dp_responder::Rule;
-use dp_telegram::Frame;
+use dp_telegram::{Frame, Telegram};
 use std::fmt;
 
 /// The station that sent a frame.
@@ -64,6 +70,61 @@ impl<'a> fmt::Display for NoMaster<'a> {
     }
 }
 
+/// The reason that no slave has the address of a request.
+#[derive(Clone, Copy)]
+struct NoStation<'a> {
+    masters: &'a [u8],
+    frame: &'a Option<Frame>,
+}
+
+impl<'a> fmt::Display for NoStation<'a> {
+    ghost output = { λ s. Some (no_station_text s.masters.now (option_and_then telegram_of_frame s.frame.now)) };
+
+    fn fmt<W: fmt::Write>(&self, f: &mut fmt::Formatter<W>) -> fmt::Result {
+        match self.frame {
+            Some(Frame::Telegram(telegram)) => {
+                let words = AbsentStation {
+                    masters: self.masters,
+                    telegram,
+                };
+                write!(f, "{words}")
+            }
+            Some(Frame::Token { .. }) => f.write_str("No slave has this address."),
+            Some(Frame::Ack) => f.write_str("No slave has this address."),
+            None => f.write_str("No slave has this address."),
+        }
+    }
+}
+
+/// The reason that no slave has the address of a telegram.
+#[derive(Clone, Copy)]
+struct AbsentStation<'a> {
+    masters: &'a [u8],
+    telegram: &'a Telegram,
+}
+
+impl<'a> fmt::Display for AbsentStation<'a> {
+    ghost output = { λ s. Some (no_station_text s.masters.now (Some s.telegram.now)) };
+
+    fn fmt<W: fmt::Write>(&self, f: &mut fmt::Formatter<W>) -> fmt::Result {
+        let address = self.telegram.destination();
+        if has_address(self.masters, address) {
+            write!(f, "Station {address} is a master of the line.")
+        } else if is_fdl_status(self.telegram) {
+            f.write_str("No such station.")
+        } else {
+            f.write_str("No slave has this address.")
+        }
+    }
+}
+
+/// Returns whether one of the masters has this address.
+fn has_address(masters: &[u8], address: u8) -> bool
+    ensures { result ≡ list_any (λ master. master == address) masters.now }
+{
+    masters.iter().any(|master| *master == address)
+}
+
 /// The result of a request to which nobody replies, by a rule that concerns the line.
 #[derive(Clone, Copy)]
 pub(crate) struct LineWords<'a> {
@@ -83,10 +144,7 @@ impl<'a> fmt::Display for LineWords<'a> {
             Rule::Halted => f.write_str("silence: Halted. The line takes no more."),
             Rule::NoFrame => f.write_str("silence: NoFrame. The octets are no single frame."),
             Rule::NoMaster => {
-                let words = NoMaster {
-                    master: self.master,
-                    masters: self.masters,
-                };
+                let words = self.no_master();
                 write!(f, "silence: NoMaster. {words}")
             }
             Rule::ForeignSender => {
@@ -102,7 +160,10 @@ impl<'a> fmt::Display for LineWords<'a> {
             Rule::BadBroadcast => f.write_str(
                 "silence: BadBroadcast. Only a Global_Control goes to all slaves.",
             ),
-            Rule::NoStation => f.write_str("silence: NoStation. No slave has this address."),
+            Rule::NoStation => {
+                let words = self.no_station();
+                write!(f, "silence: NoStation. {words}")
+            }
             Rule::Status
             | Rule::NoService
             | Rule::Repeat
@@ -113,6 +174,26 @@ impl<'a> fmt::Display for LineWords<'a> {
             | Rule::Length
             | Rule::NotSelected
             | Rule::Done => Ok(()),
+        }
+    }
+}
+
+impl<'a> LineWords<'a> {
+    fn no_master(&self) -> NoMaster<'a>
+        ensures { result ≡ record { master = self.now.master; masters = self.now.masters } }
+    {
+        NoMaster {
+            master: self.master,
+            masters: self.masters,
+        }
+    }
+
+    fn no_station(&self) -> NoStation<'a>
+        ensures { result ≡ record { masters = self.now.masters; frame = self.now.frame } }
+    {
+        NoStation {
+            masters: self.masters,
+            frame: self.frame,
         }
     }
 }
@@ -153,8 +234,8 @@ impl<'a> fmt::Display for SlaveWords<'a> {
                 write!(f, "{refused}: NoService. {words}")
             }
             Rule::Repeat => {
-                let words = Repeated(meeting.asked);
-                write!(f, "repeat: {words}")
+                let words = meeting.repeated();
+                write!(f, "{words}")
             }
             Rule::NotActive => {
                 let words = meeting.not_active();
@@ -217,6 +298,32 @@ impl<'a> Meeting<'a> {
         }
     }
 
+    fn repeated(&self) -> Repeated<'a>
+        ensures same { result.is_same ≡ has_octets self.now.noted self.now.octets }
+        ensures place { result.place ≡ place_of_note self.now.noted }
+        ensures point { result.point ≡ self.now.parts.dsap }
+        ensures octets { result.octets.now ≡ self.now.parts.payload.items }
+    {
+        match note_of(self.notes, self.address, self.master) {
+            Some(noted) => self.repeated_at(noted.has_octets(self.octets), noted.place),
+            None => self.repeated_at(false, 0),
+        }
+    }
+
+    fn repeated_at(&self, is_same: bool, place: u64) -> Repeated<'a>
+        ensures same { result.is_same ≡ is_same }
+        ensures place { result.place ≡ place }
+        ensures point { result.point ≡ self.now.parts.dsap }
+        ensures octets { result.octets.now ≡ self.now.parts.payload.items }
+    {
+        Repeated {
+            is_same,
+            place,
+            point: self.parts.dsap,
+            octets: self.parts.payload.as_slice(),
+        }
+    }
+
     fn not_active(&self) -> NotActive
         ensures { result ≡ record { address = self.now.slave.address; state = self.now.slave.state; point = self.now.parts.dsap } }
     {
@@ -274,19 +381,9 @@ impl<'a> Meeting<'a> {
     {
         NotSelected {
             address: self.slave.address,
-            select: second_of(self.parts.payload.as_slice()),
+            select: octet_at(self.parts.payload.as_slice(), 1),
             group: group_in(&self.slave.prm),
         }
-    }
-}
-
-/// Returns the second octet; 0 if there is none.
-fn second_of(octets: &[u8]) -> u8
-    ensures { result ≡ slice_index octets.now 1 }
-{
-    match octets {
-        [_, second, ..] => *second,
-        _ => 0,
     }
 }
 

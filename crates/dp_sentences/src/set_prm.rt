@@ -2,11 +2,11 @@
 
 ghost use Rattle.std.specs.Prelude.{◌≡◌, ◌==◌, Some, false};
 ghost use Rattle.std.specs.Option.{option_map_or};
-ghost use Rattle.dp_sentences.specs.Services.{released_words, wrong_prm_text, held_words, locked_text, unlocked_text, min_tsdr_text, lock_text, set_prm_text};
+ghost use Rattle.dp_sentences.specs.Services.{released_words, wrong_prm_text, held_words, locked_text, unlocked_text, min_tsdr_text, right_prm_text, judged_prm_text, set_prm_text};
 
 use crate::meeting::Meeting;
 use crate::prm_fault::{PrmFault, PrmFaults, is_set, prm_faults};
-use crate::words::SinceWords;
+use crate::words::{SinceWords, octet_at};
 use dp_prm::{LOCK_REQ, UNLOCK_REQ};
 use dp_slave::SlaveView;
 use std::fmt;
@@ -129,33 +129,38 @@ impl fmt::Display for MinTsdr {
     }
 }
 
-/// The result of a locking request, which is accepted if there is no fault.
+/// The result of a Set_Prm with right octets.
 #[derive(Clone, Copy)]
-struct Lock<'a> {
+struct RightPrm<'a> {
     meeting: &'a Meeting<'a>,
-    faults: &'a [PrmFault],
+    octets: &'a [u8],
 }
 
-impl<'a> fmt::Display for Lock<'a> {
-    ghost output = { λ s. Some (lock_text s.meeting.now s.faults.now) };
+impl<'a> fmt::Display for RightPrm<'a> {
+    ghost output = { λ s. Some (right_prm_text s.meeting.now s.octets.now) };
 
     fn fmt<W: fmt::Write>(&self, f: &mut fmt::Formatter<W>) -> fmt::Result {
         let meeting = self.meeting;
-        match self.faults {
-            [] => {
-                let locked = Locked {
-                    master: meeting.master,
-                    slave: &meeting.slave,
-                };
-                write!(f, "{locked}")
-            }
-            [_, ..] => {
-                let wrong = WrongPrm {
-                    holder: meeting.slave.holder,
-                    faults: self.faults,
-                };
-                write!(f, "{wrong}")
-            }
+        let slave = &meeting.slave;
+        let status = octet_at(self.octets, 0);
+        if is_set(UNLOCK_REQ, status) {
+            let unlocked = Unlocked {
+                address: slave.address,
+                holder: slave.holder,
+            };
+            write!(f, "{unlocked}")
+        } else if is_set(LOCK_REQ, status) {
+            let locked = Locked {
+                master: meeting.master,
+                slave,
+            };
+            write!(f, "{locked}")
+        } else {
+            let set = MinTsdr {
+                octet: octet_at(self.octets, 3),
+                own: slave.min_tsdr,
+            };
+            write!(f, "{set}")
         }
     }
 }
@@ -172,34 +177,44 @@ impl<'a> fmt::Display for SetPrm<'a> {
 
     fn fmt<W: fmt::Write>(&self, f: &mut fmt::Formatter<W>) -> fmt::Result {
         let meeting = self.meeting;
-        let slave = &meeting.slave;
-        let [status, _, _, min_tsdr, _, _, _, ..] = self.octets else {
-            let faults = [PrmFault::Short(self.octets.len())];
-            let wrong = WrongPrm {
-                holder: slave.holder,
-                faults: &faults,
-            };
-            return write!(f, "{wrong}");
-        };
-        if is_set(UNLOCK_REQ, *status) {
-            let unlocked = Unlocked {
-                address: slave.address,
-                holder: slave.holder,
-            };
-            return write!(f, "{unlocked}");
-        }
-        if !is_set(LOCK_REQ, *status) {
-            let set = MinTsdr {
-                octet: *min_tsdr,
-                own: slave.min_tsdr,
-            };
-            return write!(f, "{set}");
-        }
         let faults = prm_faults(self.octets, meeting.description);
-        let lock = Lock {
+        let judged = JudgedPrm {
             meeting,
+            octets: self.octets,
             faults: faults.as_slice(),
         };
-        write!(f, "{lock}")
+        write!(f, "{judged}")
+    }
+}
+
+/// The result of a Set_Prm, by the reasons why its octets are wrong.
+#[derive(Clone, Copy)]
+struct JudgedPrm<'a> {
+    meeting: &'a Meeting<'a>,
+    octets: &'a [u8],
+    faults: &'a [PrmFault],
+}
+
+impl<'a> fmt::Display for JudgedPrm<'a> {
+    ghost output = { λ s. Some (judged_prm_text s.meeting.now s.octets.now s.faults.now) };
+
+    fn fmt<W: fmt::Write>(&self, f: &mut fmt::Formatter<W>) -> fmt::Result {
+        match self.faults {
+            [] => {
+                let right = RightPrm {
+                    meeting: self.meeting,
+                    octets: self.octets,
+                };
+                write!(f, "{right}")
+            }
+            [_, ..] => {
+                let meeting = self.meeting;
+                let wrong = WrongPrm {
+                    holder: meeting.slave.holder,
+                    faults: self.faults,
+                };
+                write!(f, "{wrong}")
+            }
+        }
     }
 }

@@ -83,13 +83,15 @@ impl<'a> fmt::Display for SentRow<'a> {
 pub(crate) struct ReplyRow<'a> {
     pub(crate) request: &'a [u8],
     pub(crate) reply: &'a [u8],
+    /// Whether the slave judges the request only after its reply.
+    pub(crate) is_judged_afterwards: bool,
 }
 
 impl<'a> fmt::Display for ReplyRow<'a> {
-    ghost output = { λ row. Some (row_where (reply_text row.request.now row.reply.now)) };
+    ghost output = { λ row. Some (row_where (reply_text row.is_judged_afterwards row.request.now row.reply.now)) };
 
     fn fmt<W: fmt::Write>(&self, f: &mut fmt::Formatter<W>) -> fmt::Result {
-        match Reply::from_octets(self.request, self.reply) {
+        match Reply::from_octets(self.request, self.reply, self.is_judged_afterwards) {
             Some(reply) => write!(f, "       {reply}\n"),
             None => Ok(()),
         }

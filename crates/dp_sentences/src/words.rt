@@ -1,11 +1,12 @@
 //! The parts that the rows of an explanation are made of.
 
-ghost use Rattle.std.specs.Prelude.{◌≡◌, ◌<◌, ◌≤◌, if◌then◌else◌, Some, length};
+ghost use Rattle.std.specs.Prelude.{◌≡◌, ◌<◌, ◌≤◌, if◌then◌else◌, Some, length, slice_index};
 ghost use Rattle.std.specs.Fmt.{decimal};
 ghost use Rattle.std.specs.List.{flat_map};
+ghost use Rattle.dp_cfg.specs.Choosing.{same_octets};
 ghost use Rattle.dp_sentences.specs.Words.{spaces, octets_words, ident_words, number_behind, numbers_words, count_words, time_words, state_words, holder_words, since_words, point_words};
 
-use dp_decode::{CapitalPair, Hex, service};
+use dp_decode::{CapitalPair, Dsap, Hex, service};
 use dp_sap::State;
 use std::fmt;
 
@@ -131,6 +132,23 @@ impl fmt::Display for CountWords {
     }
 }
 
+/// Returns whether these are the same octets.
+pub(crate) fn same_octets(octets: &[u8], others: &[u8]) -> bool
+    ensures { result ≡ same_octets octets.now others.now }
+{
+    octets == others
+}
+
+/// Returns the octet at this index, from 0; 0 if there are fewer octets.
+pub(crate) fn octet_at(octets: &[u8], index: usize) -> u8
+    ensures { result ≡ slice_index octets.now index }
+{
+    match octets.get(index) {
+        Some(octet) => *octet,
+        None => 0,
+    }
+}
+
 /// Returns the word for one or for several.
 pub(crate) fn word_for(is_one: bool, one: &'static str, several: &'static str) -> &'static str
     ensures { result.now ≡ (if is_one then one.now else several.now) }
@@ -140,13 +158,13 @@ pub(crate) fn word_for(is_one: bool, one: &'static str, several: &'static str) -
 
 /// A time in units of 10 ms, shown in milliseconds.
 #[derive(Clone, Copy)]
-pub(crate) struct TimeWords(pub(crate) u32);
+pub(crate) struct TimeWords(pub(crate) u64);
 
 impl fmt::Display for TimeWords {
     ghost output = { λ time. Some (time_words time.0) };
 
     fn fmt<W: fmt::Write>(&self, f: &mut fmt::Formatter<W>) -> fmt::Result {
-        let milliseconds = 10 * u64::from(self.0);
+        let milliseconds = 10 * u128::from(self.0);
         write!(f, "{milliseconds} ms")
     }
 }
@@ -177,7 +195,7 @@ impl fmt::Display for HolderWords {
     }
 }
 
-/// The place since which something holds, at the end of a sentence.
+/// The entry since which something holds, by its place, at the end of a sentence.
 #[derive(Clone, Copy)]
 pub(crate) struct SinceWords(pub(crate) u32);
 
@@ -186,11 +204,12 @@ impl fmt::Display for SinceWords {
 
     fn fmt<W: fmt::Write>(&self, f: &mut fmt::Formatter<W>) -> fmt::Result {
         let place = self.0;
-        write!(f, " since place {place}.")
+        write!(f, " since entry {place}.")
     }
 }
 
-/// The name of a point; None is the default point, with the name Data_Exchange.
+/// The name of a point; None is the default point, with the name Data_Exchange. A point outside the access table has no
+/// name, and is shown as [`Dsap`].
 #[derive(Clone, Copy)]
 pub(crate) struct PointWords(pub(crate) Option<u8>);
 
@@ -202,7 +221,10 @@ impl fmt::Display for PointWords {
             None => f.write_str("Data_Exchange"),
             Some(number) => match service(number) {
                 Some(name) => f.write_str(name),
-                None => write!(f, "point {number}"),
+                None => {
+                    let point = Dsap(number);
+                    write!(f, "{point}")
+                }
             },
         }
     }

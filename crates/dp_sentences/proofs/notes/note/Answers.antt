@@ -1,8 +1,12 @@
-use Rattle.dp_sentences.specs.Notes.{noted_at}
-use Rattle.dp_sentences.proofs.Edits.{set_over}
+use Rattle.std.proofs.Common.{◌∙◌, ap, sym}
+use Rattle.std.proofs.Math.ListN.{set}
+use Rattle.dp_sentences.proofs.Noting.{noted_at_found, noted_at_none}
 use Rattle.dp_sentences.proofs.notes.note.Goals as goal
 
-pub loop-noted-preserved : goal.loop-noted-preserved
-loop-noted-preserved c =
-    set_over (noted_at c.args.slave c.args.master c.args.place) c.args.notes.now c.loop-noted.notes c.loop-noted.noted-index _ c.set.new.self
-    c.loop-noted-test.true c.loop-noted.auto.notes c.loop-noted.invariant c.set.ensures
+pub returns-in-Some : goal.returns-in-Some
+returns-in-Some c =
+    ap (set c.args.notes.now c.in-Some.index) c.set.ensures
+    ∙ noted_at_found c.args.slave c.args.master c.args.place c.args.octets.now c.args.notes.now c.in-Some.index c.index-notes-index.result c.in-Some.ensures
+
+pub returns-in_default : goal.returns-in_default
+returns-in_default c = sym (noted_at_none c.args.slave c.args.master c.args.place c.args.octets.now c.args.notes.now c.in_default.ensures)

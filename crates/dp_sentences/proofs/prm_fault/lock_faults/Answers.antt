@@ -1,5 +1,5 @@
 use Rattle.std.proofs.Common.{append_assoc, rules}
-use Rattle.dp_sentences.proofs.prm_fault.prm_faults.Goals as goal
+use Rattle.dp_sentences.proofs.prm_fault.lock_faults.Goals as goal
 
 pub returns : goal.returns
 returns c =

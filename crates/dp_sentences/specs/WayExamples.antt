@@ -1,0 +1,190 @@
+-- Examples of notes, of times, of ways in which requests were answered, and of faults.
+use Rattle.std.specs.Prelude.{◌≡◌, ℕ, ◌-◌, ◌^◌, List, [], ◌∷◌, true, false, codes, Some, None, refl}
+use Rattle.dp_responder.specs.declared.rule.Rule.{Rule}
+use Rattle.dp_responder.specs.declared.rule.Rule.TheVariants as rules
+use Rattle.dp_line.specs.declared.event.Event.TheVariants.{Operator}
+use Rattle.dp_line.specs.declared.event.Op.TheVariants.{Busy, Tick, Halt}
+use Rattle.dp_line.specs.declared.event.Outcome.{Outcome}
+use Rattle.dp_line.specs.declared.event.Outcome.TheVariants.{Silence, Spread, Released, Done, Refused}
+use Rattle.dp_line.specs.declared.fault.OperatorFault.TheVariants as faults
+use Rattle.dp_line.specs.LineExamples.{acknowledged, ask, check, exchange, fresh, inputs, lock, no_inputs, read_diagnosis, reply, slave_5}
+use Rattle.dp_sentences.specs.declared.notes.Noted.{Noted}
+use Rattle.dp_sentences.specs.declared.way.Answered.TheVariants as ways
+use Rattle.dp_decode.specs.Replies.{reply_text}
+use Rattle.dp_sentences.specs.Blocks.{reply_row}
+use Rattle.dp_sentences.specs.Notes.{first_notes, has_octets, note_of, notes_after, place_noted}
+use Rattle.dp_sentences.specs.Scenes.{SceneView}
+use Rattle.dp_sentences.specs.Times.{time_after}
+use Rattle.dp_sentences.specs.Ways.{answered_as, is_fault, way_name}
+
+-- ---- notes
+
+-- at first, of slaves 5 and 7 and masters 1 and 2; and after entry 13, a Chk_Cfg of master 1
+abbrev unused : List Noted
+unused = first_notes (5 ∷ 7 ∷ []) (1 ∷ 2 ∷ [])
+
+abbrev used : List Noted
+used = notes_after unused 13 (ask 1 check) (reply acknowledged rules.Done)
+
+pub the_entry_is_noted : place_noted used 5 1 ≡ 13
+the_entry_is_noted = refl
+
+pub its_octets_are_noted : has_octets (note_of used 5 1) check ≡ true
+its_octets_are_noted = refl
+
+pub another_master_has_no_note : place_noted used 5 2 ≡ 0
+another_master_has_no_note = refl
+
+pub another_slave_has_no_note : place_noted used 7 1 ≡ 0
+another_slave_has_no_note = refl
+
+pub a_later_entry_is_noted : place_noted (notes_after used 14 (ask 1 exchange) (reply no_inputs rules.Done)) 5 1 ≡ 14
+a_later_entry_is_noted = refl
+
+pub a_repeat_is_not_noted : notes_after used 14 (ask 1 exchange) (reply acknowledged rules.Repeat) ≡ used
+a_repeat_is_not_noted = refl
+
+pub silence_is_not_noted : notes_after used 14 (ask 1 exchange) (Silence rules.NotHolder) ≡ used
+silence_is_not_noted = refl
+
+-- ---- times
+
+pub the_first_tick : time_after None (Operator (Tick 18)) ≡ Some 18
+the_first_tick = refl
+
+pub the_next_tick : time_after (Some 18) (Operator (Tick 2)) ≡ Some 20
+the_next_tick = refl
+
+pub no_tick : time_after (Some 18) (ask 1 check) ≡ Some 18
+no_tick = refl
+
+pub the_largest_time : time_after (Some (2 ^ 64 - 1)) (Operator (Tick 1)) ≡ Some (2 ^ 64 - 1)
+the_largest_time = refl
+
+-- ---- ways
+
+abbrev scene : SceneView
+scene = record {
+  description = record { number = 1; capacity = 1000; masters = 1 ∷ 2 ∷ []; slaves = slave_5 ∷ [] };
+  world = fresh;
+  notes = used;
+  time = None;
+}
+
+-- FDL status of station 9, and an SRD to it
+abbrev poll : List ℕ
+poll = 0x10 ∷ 0x09 ∷ 0x01 ∷ 0x49 ∷ 0x53 ∷ 0x16 ∷ []
+
+abbrev stray : List ℕ
+stray = 0x10 ∷ 0x09 ∷ 0x01 ∷ 0x5C ∷ 0x66 ∷ 0x16 ∷ []
+
+-- a Set_Prm with ident number 80A2, and a Chk_Cfg with only one identifier
+abbrev wrong_lock : List ℕ
+wrong_lock = 0x68 ∷ 0x0C ∷ 0x0C ∷ 0x68 ∷ 0x85 ∷ 0x81 ∷ 0x7D ∷ 0x3D ∷ 0x3E ∷ 0x88 ∷ 0x02 ∷ 0x05 ∷ 0x0B ∷ 0x80 ∷ 0xA2 ∷ 0x01 ∷ 0xBB ∷ 0x16 ∷ []
+
+abbrev wrong_check : List ℕ
+wrong_check = 0x68 ∷ 0x06 ∷ 0x06 ∷ 0x68 ∷ 0x85 ∷ 0x81 ∷ 0x7D ∷ 0x3E ∷ 0x3E ∷ 0x21 ∷ 0x20 ∷ 0x16 ∷ []
+
+pub a_live_list_poll : answered_as scene 1 poll rules.NoStation ≡ ways.LiveListPoll
+a_live_list_poll = refl
+
+pub a_stray_request : answered_as scene 1 stray rules.NoStation ≡ ways.ByRule rules.NoStation
+a_stray_request = refl
+
+pub a_retry : answered_as scene 1 check rules.Repeat ≡ ways.Retry
+a_retry = refl
+
+pub another_telegram : answered_as scene 1 exchange rules.Repeat ≡ ways.OtherRepeat
+another_telegram = refl
+
+pub wrong_parameters : answered_as scene 1 wrong_lock rules.Done ≡ ways.WrongSetPrm
+wrong_parameters = refl
+
+pub right_parameters : answered_as scene 1 lock rules.Done ≡ ways.ByRule rules.Done
+right_parameters = refl
+
+pub a_wrong_configuration : answered_as scene 1 wrong_check rules.Done ≡ ways.WrongChkCfg
+a_wrong_configuration = refl
+
+pub a_right_configuration : answered_as scene 1 check rules.Done ≡ ways.ByRule rules.Done
+a_right_configuration = refl
+
+pub a_diagnosis : answered_as scene 1 read_diagnosis rules.Done ≡ ways.ByRule rules.Done
+a_diagnosis = refl
+
+pub a_refusal : answered_as scene 1 wrong_lock rules.NotListed ≡ ways.ByRule rules.NotListed
+a_refusal = refl
+
+pub name_of_a_refusal : way_name (ways.ByRule rules.NotListed) ≡ codes "NotListed"
+name_of_a_refusal = refl
+
+pub name_of_a_retry : way_name ways.Retry ≡ codes "Repeat (retry)"
+name_of_a_retry = refl
+
+-- a short acknowledgement comes before the slave judges the request
+pub wrong_parameters_are_acknowledged :
+    reply_row scene (ask 1 wrong_lock) (reply acknowledged rules.Done) ≡ codes "       reply       SC, short acknowledgement (judged afterwards)\n"
+unfolding reply_text
+wrong_parameters_are_acknowledged = refl
+
+pub right_parameters_are_acknowledged :
+    reply_row scene (ask 1 lock) (reply acknowledged rules.Done) ≡ codes "       reply       SC, short acknowledgement\n"
+unfolding reply_text
+right_parameters_are_acknowledged = refl
+
+-- ---- faults
+
+pub a_retry_is_no_fault : is_fault scene (ask 1 check) (reply acknowledged rules.Repeat) ≡ false
+a_retry_is_no_fault = refl
+
+pub another_telegram_is_a_fault : is_fault scene (ask 1 exchange) (reply acknowledged rules.Repeat) ≡ true
+another_telegram_is_a_fault = refl
+
+pub a_poll_is_no_fault : is_fault scene (ask 1 poll) (Silence rules.NoStation) ≡ false
+a_poll_is_no_fault = refl
+
+pub a_stray_request_is_a_fault : is_fault scene (ask 1 stray) (Silence rules.NoStation) ≡ true
+a_stray_request_is_a_fault = refl
+
+pub wrong_parameters_are_a_fault : is_fault scene (ask 1 wrong_lock) (reply acknowledged rules.Done) ≡ true
+wrong_parameters_are_a_fault = refl
+
+abbrev spread : List (ℕ × Rule) → Outcome
+spread pairs = Spread (record { items = pairs })
+
+pub another_group_is_no_fault : is_fault scene (ask 1 stray) (spread ((5, rules.NotSelected) ∷ (7, rules.Done) ∷ [])) ≡ false
+another_group_is_no_fault = refl
+
+pub one_of_all_slaves_is_a_fault : is_fault scene (ask 1 stray) (spread ((5, rules.NotSelected) ∷ (7, rules.Busy) ∷ [])) ≡ true
+one_of_all_slaves_is_a_fault = refl
+
+pub no_slave_is_no_fault : is_fault scene (ask 1 stray) (spread []) ≡ false
+no_slave_is_no_fault = refl
+
+abbrev released : List ℕ → Outcome
+released addresses = Released (record { items = addresses })
+
+pub a_tick_is_no_fault : is_fault scene (Operator (Tick 1)) (released []) ≡ false
+a_tick_is_no_fault = refl
+
+pub a_watchdog_is_a_fault : is_fault scene (Operator (Tick 1)) (released (5 ∷ [])) ≡ true
+a_watchdog_is_a_fault = refl
+
+-- only the last place is left, and the halt is recorded instead of the event
+abbrev last_scene : SceneView
+last_scene = record scene { world = record fresh { count = 999 } }
+
+pub a_tick_at_the_last_place_is_a_fault : is_fault last_scene (Operator (Tick 1)) (released []) ≡ true
+a_tick_at_the_last_place_is_a_fault = refl
+
+pub a_request_at_the_last_place_is_a_fault : is_fault last_scene (ask 1 check) (released []) ≡ true
+a_request_at_the_last_place_is_a_fault = refl
+
+pub a_halt_is_a_fault : is_fault scene (Operator Halt) (released []) ≡ true
+a_halt_is_a_fault = refl
+
+pub a_refused_event_is_a_fault : is_fault scene (Operator (Busy 9 None true)) (Refused faults.NoStation) ≡ true
+a_refused_event_is_a_fault = refl
+
+pub inputs_are_no_fault : is_fault scene (inputs 5 (1 ∷ 2 ∷ [])) Done ≡ false
+inputs_are_no_fault = refl

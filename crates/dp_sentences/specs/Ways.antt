@@ -1,0 +1,133 @@
+-- The way in which a request was answered: its rule, or what is known beyond the rule. And the ways and events that are faults of the bus (own).
+use Rattle.std.specs.Prelude.{codes, ℕ, ◌==◌, ◌||◌, not, if◌then◌else◌, Bool, true, false, List, length, Option, Some, None}
+use Rattle.std.specs.List.{list_any}
+use Rattle.dp_telegram.specs.declared.access.Parts.{Parts}
+use Rattle.dp_telegram.specs.declared.frame.Telegram.{Telegram}
+use Rattle.dp_telegram.specs.Access.{address_of, parts_of}
+use Rattle.dp_sap.specs.AccessTable.{same_point, chk_cfg, set_prm}
+use Rattle.dp_responder.specs.declared.rule.Rule.{Rule}
+use Rattle.dp_responder.specs.declared.rule.Rule.TheVariants as rules
+use Rattle.dp_responder.specs.Rules.{rule_name}
+use Rattle.dp_slave.specs.declared.description.SlaveSpec.{SlaveSpec}
+use Rattle.dp_line.specs.declared.event.Event.{Event}
+use Rattle.dp_line.specs.declared.event.Event.TheVariants.{Request, Operator}
+use Rattle.dp_line.specs.declared.event.Op.{Op}
+use Rattle.dp_line.specs.declared.event.Op.TheVariants.{Tick}
+use Rattle.dp_line.specs.declared.event.Outcome.{Outcome}
+use Rattle.dp_line.specs.declared.event.Outcome.TheVariants.{Reply, Silence, Spread, Released, Done, Refused}
+use Rattle.dp_line.specs.Hearing.{telegram_spelt}
+use Rattle.dp_line.specs.Refusals.{is_live_list_poll}
+use Rattle.dp_line.specs.World.{World, described_at, is_last_place}
+use Rattle.dp_sentences.specs.declared.notes.Noted.{Noted}
+use Rattle.dp_sentences.specs.declared.way.Answered.{Answered}
+use Rattle.dp_sentences.specs.declared.way.Answered.TheVariants as ways
+use Rattle.dp_sentences.specs.Notes.{has_octets, note_of}
+use Rattle.dp_sentences.specs.Scenes.{SceneView}
+use Rattle.dp_sentences.specs.Services.{has_wrong_configuration, has_wrong_parameters}
+
+-- ---- the way
+
+-- NoStation: an FDL status request looks for new stations (IEC 61158-4-3, request FDL status)
+abbrev pub way_without_station : List ℕ → Answered
+way_without_station octets = if is_live_list_poll octets rules.NoStation then ways.LiveListPoll else ways.ByRule rules.NoStation
+
+-- Repeat: a retry has the octets of the request whose reply it gets
+abbrev pub way_of_repeat : List Noted → ℕ → List ℕ → Option Telegram → Answered
+way_of_repeat notes master octets None = ways.OtherRepeat
+way_of_repeat notes master octets (Some telegram) =
+    if has_octets (note_of notes (address_of telegram.da) master) octets then ways.Retry else ways.OtherRepeat
+
+-- Done: a slave acknowledges Set_Prm and Chk_Cfg before it judges them (IEC 61158-6-3, Set_Prm request and Chk_Cfg request)
+abbrev pub way_of_service : SlaveSpec → Option ℕ → List ℕ → Answered
+way_of_service slave point octets =
+    if same_point point set_prm then (if has_wrong_parameters octets slave then ways.WrongSetPrm else ways.ByRule rules.Done)
+    else if same_point point chk_cfg then (if has_wrong_configuration octets slave then ways.WrongChkCfg else ways.ByRule rules.Done)
+    else ways.ByRule rules.Done
+
+abbrev pub way_of_parts : Option SlaveSpec → Option Parts → Answered
+way_of_parts None parts = ways.ByRule rules.Done
+way_of_parts (Some slave) None = ways.ByRule rules.Done
+way_of_parts (Some slave) (Some parts) = way_of_service slave parts.dsap parts.payload.items
+
+abbrev pub way_of_done : List SlaveSpec → Option Telegram → Answered
+way_of_done slaves None = ways.ByRule rules.Done
+way_of_done slaves (Some telegram) = way_of_parts (described_at slaves (address_of telegram.da)) (parts_of telegram)
+
+-- the way in which a request of a master with these octets was answered by this rule
+abbrev pub answered_as : SceneView → ℕ → List ℕ → Rule → Answered
+answered_as scene master octets rules.NoStation = way_without_station octets
+answered_as scene master octets rules.Repeat = way_of_repeat scene.notes master octets (telegram_spelt octets)
+answered_as scene master octets rules.Done = way_of_done scene.description.slaves (telegram_spelt octets)
+answered_as scene master octets other = ways.ByRule other
+
+-- the name of a way in a table
+abbrev pub way_name : Answered → List ℕ
+way_name (ways.ByRule rule) = rule_name rule
+way_name ways.LiveListPoll = codes "live-list poll"
+way_name ways.Retry = codes "Repeat (retry)"
+way_name ways.OtherRepeat = codes "Repeat (other)"
+way_name ways.WrongSetPrm = codes "wrong Set_Prm"
+way_name ways.WrongChkCfg = codes "wrong Chk_Cfg"
+
+-- the slave sends its reply before it finds the request wrong
+abbrev pub is_judged_afterwards : Answered → Bool
+is_judged_afterwards ways.WrongSetPrm = true
+is_judged_afterwards ways.WrongChkCfg = true
+is_judged_afterwards other = false
+
+-- ---- faults of the bus
+
+-- a rule that shows a fault on its own. A token is no fault, nor is a command for another group. Repeat shows no fault: it may be a retry
+abbrev pub is_fault_rule : Rule → Bool
+is_fault_rule rules.Halted = true
+is_fault_rule rules.NoFrame = true
+is_fault_rule rules.NoMaster = true
+is_fault_rule rules.ForeignSender = true
+is_fault_rule rules.Token = false
+is_fault_rule rules.NotRequest = true
+is_fault_rule rules.BadFunction = true
+is_fault_rule rules.BadExtension = true
+is_fault_rule rules.BadBroadcast = true
+is_fault_rule rules.NoStation = true
+is_fault_rule rules.Status = false
+is_fault_rule rules.NoService = true
+is_fault_rule rules.Repeat = false
+is_fault_rule rules.NotActive = true
+is_fault_rule rules.NotHolder = true
+is_fault_rule rules.NotListed = true
+is_fault_rule rules.Busy = true
+is_fault_rule rules.Length = true
+is_fault_rule rules.NotSelected = false
+is_fault_rule rules.Done = false
+
+abbrev pub is_fault_way : Answered → Bool
+is_fault_way (ways.ByRule rule) = is_fault_rule rule
+is_fault_way ways.LiveListPoll = false
+is_fault_way ways.Retry = false
+is_fault_way ways.OtherRepeat = true
+is_fault_way ways.WrongSetPrm = true
+is_fault_way ways.WrongChkCfg = true
+
+-- a request: its way; to all slaves, at least one of the rules. If it reached the last place, the halt was recorded instead
+abbrev pub is_fault_of_request : SceneView → ℕ → List ℕ → Outcome → Bool
+is_fault_of_request scene master octets (Reply reply rule) = is_fault_way (answered_as scene master octets rule)
+is_fault_of_request scene master octets (Silence rule) = is_fault_way (answered_as scene master octets rule)
+is_fault_of_request scene master octets Done = is_fault_way (answered_as scene master octets rules.Done)
+is_fault_of_request scene master octets (Spread pairs) = list_any (λ pair. is_fault_rule pair.1) pairs.items
+is_fault_of_request scene master octets (Released addresses) = true
+is_fault_of_request scene master octets (Refused fault) = false
+
+-- an event of the operator that released slaves: a tick, if there is one; the halt, also one that was recorded instead of another event
+abbrev pub is_fault_of_release : World → Op → List ℕ → Bool
+is_fault_of_release world (Tick units) addresses = is_last_place world || not (length addresses == 0)
+is_fault_of_release world op addresses = true
+
+-- an event of the operator: one that was refused, or such a release
+abbrev pub is_fault_of_op : World → Op → Outcome → Bool
+is_fault_of_op world op (Released addresses) = is_fault_of_release world op addresses.items
+is_fault_of_op world op (Refused fault) = true
+is_fault_of_op world op outcome = false
+
+abbrev pub is_fault : SceneView → Event → Outcome → Bool
+is_fault scene (Request master octets) outcome = is_fault_of_request scene master octets.items outcome
+is_fault scene (Operator op) outcome = is_fault_of_op scene.world op outcome
