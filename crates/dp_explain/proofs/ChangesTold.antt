@@ -1,4 +1,4 @@
--- The rows of changes that are written are those of all slaves.
+-- The rows of changes and the ended holds that are written are those of all slaves.
 use Rattle.std.proofs.Common.{◌≡◌, ℕ, Bool, true, false, cond, eqb, List, [], ◌∷◌, ◌++◌, map, Option, Some, None, refl, sym, ap, subst, ◌∙◌, arith}
 use Rattle.std.specs.Prelude.{is_none, option_map}
 use Rattle.std.specs.List.{AllByRecursion, filter, flat_map, list_any}
@@ -8,7 +8,6 @@ use Rattle.std.proofs.lemmas.List.Concat.{flat_map-cons}
 use Rattle.dp_telegram.specs.FrameText.{frame_of}
 use Rattle.dp_sap.specs.States.{is_in_wait_prm}
 use Rattle.dp_slave.specs.SlaveRecord.{SlaveRecord, is_held}
-use Rattle.dp_slave.specs.View.{view_of}
 use Rattle.dp_line.specs.declared.event.Event.{Event}
 use Rattle.dp_line.specs.declared.event.Event.TheVariants.{Request, Operator}
 use Rattle.dp_line.specs.declared.event.Op.{Op}
@@ -22,10 +21,11 @@ use Rattle.dp_audit.specs.Legal.{Follows, IsLegal, after_entries, after_entry}
 use Rattle.dp_sentences.specs.declared.who.Whom.{Whom}
 use Rattle.dp_sentences.specs.declared.who.Whom.TheVariants.{Slave, AllSlaves, Station, Nobody}
 use Rattle.dp_sentences.specs.Heads.{whom_of_frame}
-use Rattle.dp_sentences.specs.Results.{shown_at}
-use Rattle.dp_sentences.specs.Changes.{asked_addresses, change_of, change_row, change_rows, touched}
+use Rattle.dp_sentences.specs.Changes.{asked_addresses, change_of, change_rows, touched}
+use Rattle.dp_explain.specs.Holds.{ended_at, holds_ended}
+use Rattle.dp_explain.specs.Standing.{standing_at}
 use Rattle.dp_explain.proofs.Reached.{at_after}
-use Rattle.dp_explain.proofs.Standings.{Ways, LinesHave, found_is, halt_standing, is_touched, journal_line, last_of, row_of_same, stays_without_row, tick_standing, untouched_world}
+use Rattle.dp_explain.proofs.Standings.{Ways, LinesHave, found_is, halt_standing, is_touched, journal_line, last_of, stays_without_end, stays_without_row, tick_standing, untouched_world}
 
 -- ---- the rows that are written
 
@@ -113,68 +113,71 @@ every : (P : SlaveRecord → Type 0) (slaves : List SlaveRecord) → ((slave : S
 every P [] each = tt
 every P (slave ∷ slaves) each = (each slave, every P slaves each)
 
-abbrev rows_of : World → Entry → ℕ → List ℕ
-rows_of world entry = change_of world (after_entry world entry)
+-- a text for each slave, which is empty if the entry leaves state and holder of the slave unchanged
+abbrev pub ShowsChanges : World → Entry → (ℕ → List ℕ) → Type 0
+ShowsChanges world entry row = (address : ℕ) → standing_at (after_entry world entry) address ≡ standing_at world address → row address ≡ []
 
--- a slave that an event can't change has no row
-no_row_there : (world : World) (entry : Entry) (address : ℕ) → IsOfALine world → Follows world entry → is_touched address entry.event entry.outcome ≡ false → rows_of world entry address ≡ []
-no_row_there world entry address line follows out = stays_without_row world entry address (untouched_world world entry address line follows out)
+-- a slave that an event can't change has no text
+no_row_there : (world : World) (entry : Entry) (row : ℕ → List ℕ) (address : ℕ) → ShowsChanges world entry row → IsOfALine world → Follows world entry
+    → is_touched address entry.event entry.outcome ≡ false → row address ≡ []
+no_row_there world entry row address shows line follows out = shows address (untouched_world world entry address line follows out)
 
-nobody_there : (world : World) (entry : Entry) (address : ℕ) → slave_at world address ≡ None → rows_of world entry address ≡ []
-nobody_there world entry address none =
-    ap (λ (found : Option SlaveRecord). change_row address (option_map view_of found) (shown_at (after_entry world entry) address)) none
+nobody_there : (world : World) (entry : Entry) (row : ℕ → List ℕ) (address : ℕ) → ShowsChanges world entry row → slave_at world address ≡ None → row address ≡ []
+nobody_there world entry row address shows none =
+    shows address (
+    ap (option_map state_and_holder) (at_after world entry.event address ∙ ap (option_map (slave_after world entry.event)) none)
+    ∙ sym (ap (option_map state_and_holder) none))
 
-kept_by : (world : World) (entry : Entry) (slave : SlaveRecord) → slave_at world (address_of_slave slave) ≡ Some slave
-    → state_and_holder (slave_after world entry.event slave) ≡ state_and_holder slave → rows_of world entry (address_of_slave slave) ≡ []
-kept_by world entry slave here same =
-    let at = at_after world entry.event (address_of_slave slave) ∙ ap (option_map (slave_after world entry.event)) here in
-    ap (λ (found : Option SlaveRecord). change_row (address_of_slave slave) (option_map view_of found) (shown_at (after_entry world entry) (address_of_slave slave))) here
-    ∙ ap (λ (found : Option SlaveRecord). change_row (address_of_slave slave) (Some (view_of slave)) (option_map view_of found)) at
-    ∙ row_of_same (address_of_slave slave) slave (slave_after world entry.event slave) same
+kept_by : (world : World) (entry : Entry) (row : ℕ → List ℕ) (slave : SlaveRecord) → ShowsChanges world entry row → slave_at world (address_of_slave slave) ≡ Some slave
+    → state_and_holder (slave_after world entry.event slave) ≡ state_and_holder slave → row (address_of_slave slave) ≡ []
+kept_by world entry row slave shows here same =
+    shows (address_of_slave slave) (
+    ap (option_map state_and_holder) (at_after world entry.event (address_of_slave slave) ∙ ap (option_map (slave_after world entry.event)) here)
+    ∙ ap Some same
+    ∙ sym (ap (option_map state_and_holder) here))
 
-abbrev AreAllRows : World → Entry → List ℕ → Type 0
-AreAllRows world entry addresses = flat_map (rows_of world entry) addresses ≡ flat_map (rows_of world entry) (map address_of_slave world.slaves)
+abbrev AreAllRows : World → (ℕ → List ℕ) → List ℕ → Type 0
+AreAllRows world row addresses = flat_map row addresses ≡ flat_map row (map address_of_slave world.slaves)
 
-none_touched : (world : World) (entry : Entry) → IsOfALine world → Follows world entry → touched entry.event entry.outcome ≡ [] → AreAllRows world entry (touched entry.event entry.outcome)
-none_touched world entry line follows none =
-    let rows = rows_of world entry in
-    ap (flat_map rows) none
-    ∙ sym (none_rows rows world.slaves (every (λ slave. rows (address_of_slave slave) ≡ []) world.slaves
-    (λ slave. no_row_there world entry (address_of_slave slave) line follows (ap (list_any (λ other. eqb other (address_of_slave slave))) none))))
+none_touched : (world : World) (entry : Entry) (row : ℕ → List ℕ) → ShowsChanges world entry row → IsOfALine world → Follows world entry → touched entry.event entry.outcome ≡ []
+    → AreAllRows world row (touched entry.event entry.outcome)
+none_touched world entry row shows line follows none =
+    ap (flat_map row) none
+    ∙ sym (none_rows row world.slaves (every (λ slave. row (address_of_slave slave) ≡ []) world.slaves
+    (λ slave. no_row_there world entry row (address_of_slave slave) shows line follows (ap (list_any (λ other. eqb other (address_of_slave slave))) none))))
 
 one_apart : (one address : ℕ) → eqb address one ≡ false → list_any (λ other. eqb other address) (one ∷ []) ≡ false
 one_apart one address apart = let other = ne_eqb one address (λ same. both_ways (eqb address one) apart (eq-eqb address one (sym same))) in rw other refl
 
-one_touched_alone : (world : World) (entry : Entry) (address : ℕ) → IsOfALine world → Follows world entry → touched entry.event entry.outcome ≡ address ∷ []
-    → AreAllRows world entry (touched entry.event entry.outcome)
-one_touched_alone world entry address line follows one =
-    let rows = rows_of world entry in
-    ap (flat_map rows) one
-    ∙ flat_map-cons rows address []
-    ∙ append-nil (rows address)
-    ∙ sym (one_row rows address world.slaves line.ascend (nobody_there world entry address)
-    (every (λ slave. eqb (address_of_slave slave) address ≡ false → rows (address_of_slave slave) ≡ []) world.slaves
-    (λ slave apart. no_row_there world entry (address_of_slave slave) line follows
+one_touched_alone : (world : World) (entry : Entry) (row : ℕ → List ℕ) (address : ℕ) → ShowsChanges world entry row → IsOfALine world → Follows world entry
+    → touched entry.event entry.outcome ≡ address ∷ [] → AreAllRows world row (touched entry.event entry.outcome)
+one_touched_alone world entry row address shows line follows one =
+    ap (flat_map row) one
+    ∙ flat_map-cons row address []
+    ∙ append-nil (row address)
+    ∙ sym (one_row row address world.slaves line.ascend (nobody_there world entry row address shows)
+    (every (λ slave. eqb (address_of_slave slave) address ≡ false → row (address_of_slave slave) ≡ []) world.slaves
+    (λ slave apart. no_row_there world entry row (address_of_slave slave) shows line follows
     (ap (list_any (λ other. eqb other (address_of_slave slave))) one ∙ one_apart address (address_of_slave slave) apart))))
 
-some_touched : (world : World) (entry : Entry) (holds : SlaveRecord → Bool) → IsOfALine world → touched entry.event entry.outcome ≡ addresses_where holds world
+some_touched : (world : World) (entry : Entry) (row : ℕ → List ℕ) (holds : SlaveRecord → Bool) → ShowsChanges world entry row → IsOfALine world
+    → touched entry.event entry.outcome ≡ addresses_where holds world
     → ((slave : SlaveRecord) → is_in_wait_prm slave.state ≡ is_none slave.holder → holds slave ≡ false → state_and_holder (slave_after world entry.event slave) ≡ state_and_holder slave)
-    → AreAllRows world entry (touched entry.event entry.outcome)
-some_touched world entry holds line some keeps =
-    let rows = rows_of world entry in
-    ap (flat_map rows) some
-    ∙ kept_rows rows holds world.slaves (each_is (λ slave. slave_among world.slaves (address_of_slave slave) ≡ Some slave)
-    (λ slave. holds slave ≡ false → rows (address_of_slave slave) ≡ []) world.slaves
-    (λ slave here stays. kept_by world entry slave here
+    → AreAllRows world row (touched entry.event entry.outcome)
+some_touched world entry row holds shows line some keeps =
+    ap (flat_map row) some
+    ∙ kept_rows row holds world.slaves (each_is (λ slave. slave_among world.slaves (address_of_slave slave) ≡ Some slave)
+    (λ slave. holds slave ≡ false → row (address_of_slave slave) ≡ []) world.slaves
+    (λ slave here stays. kept_by world entry row slave shows here
     (keeps slave (found_is (λ s. is_in_wait_prm s.state ≡ is_none s.holder) world.slaves (address_of_slave slave) slave line.waits_unheld here) stays))
     (found_self world.slaves line.ascend))
 
-whom_rows : (world : World) (entry : Entry) (whom : Whom) → IsOfALine world → Follows world entry → touched entry.event entry.outcome ≡ asked_addresses whom
-    → AreAllRows world entry (touched entry.event entry.outcome)
-whom_rows world entry (Slave address) line follows is = one_touched_alone world entry address line follows is
-whom_rows world entry AllSlaves line follows is = none_touched world entry line follows is
-whom_rows world entry (Station address) line follows is = none_touched world entry line follows is
-whom_rows world entry Nobody line follows is = none_touched world entry line follows is
+whom_rows : (world : World) (entry : Entry) (row : ℕ → List ℕ) (whom : Whom) → ShowsChanges world entry row → IsOfALine world → Follows world entry
+    → touched entry.event entry.outcome ≡ asked_addresses whom → AreAllRows world row (touched entry.event entry.outcome)
+whom_rows world entry row (Slave address) shows line follows is = one_touched_alone world entry row address shows line follows is
+whom_rows world entry row AllSlaves shows line follows is = none_touched world entry row shows line follows is
+whom_rows world entry row (Station address) shows line follows is = none_touched world entry row shows line follows is
+whom_rows world entry row Nobody shows line follows is = none_touched world entry row shows line follows is
 
 after_tick : (world : World) (time : ℕ) (slave : SlaveRecord) → expires time slave ≡ false → state_and_holder (slave_after world (Operator (Tick time)) slave) ≡ state_and_holder slave
 unfolding slave_after
@@ -185,23 +188,24 @@ after_halt : (world : World) (slave : SlaveRecord) → is_in_wait_prm slave.stat
 unfolding slave_after
 after_halt world slave waiting free = halt_standing slave waiting free
 
-op_rows : (world : World) (entry : Entry) (op : Op) → IsOfALine world → Follows world entry → entry.event ≡ Operator op → entry.outcome ≡ outcome_of world (Operator op)
-    → AreAllRows world entry (touched entry.event entry.outcome)
+op_rows : (world : World) (entry : Entry) (row : ℕ → List ℕ) (op : Op) → ShowsChanges world entry row → IsOfALine world → Follows world entry → entry.event ≡ Operator op
+    → entry.outcome ≡ outcome_of world (Operator op) → AreAllRows world row (touched entry.event entry.outcome)
 unfolding outcome_of
-op_rows world entry (Input address octets) line follows is told = none_touched world entry line follows (rw (is, told) refl)
-op_rows world entry (Diag address ext stat overflow octets) line follows is told = none_touched world entry line follows (rw (is, told) refl)
-op_rows world entry (Busy address point on) line follows is told = none_touched world entry line follows (rw (is, told) refl)
-op_rows world entry (Tick time) line follows is told =
-    some_touched world entry (expires time) line (rw (is, told) refl)
+op_rows world entry row (Input address octets) shows line follows is told = none_touched world entry row shows line follows (rw (is, told) refl)
+op_rows world entry row (Diag address ext stat overflow octets) shows line follows is told = none_touched world entry row shows line follows (rw (is, told) refl)
+op_rows world entry row (Busy address point on) shows line follows is told = none_touched world entry row shows line follows (rw (is, told) refl)
+op_rows world entry row (Tick time) shows line follows is told =
+    some_touched world entry row (expires time) shows line (rw (is, told) refl)
     (λ slave waiting stays. ap (λ (e : Event). state_and_holder (slave_after world e slave)) is ∙ after_tick world time slave stays)
-op_rows world entry Halt line follows is told =
-    some_touched world entry is_held line (rw (is, told) refl)
+op_rows world entry row Halt shows line follows is told =
+    some_touched world entry row is_held shows line (rw (is, told) refl)
     (λ slave waiting free. ap (λ (e : Event). state_and_holder (slave_after world e slave)) is ∙ after_halt world slave waiting free)
 
-event_rows : (world : World) (entry : Entry) (event : Event) → entry.event ≡ event → IsOfALine world → Follows world entry → AreAllRows world entry (touched entry.event entry.outcome)
-event_rows world entry (Request master octets) is line follows =
-    whom_rows world entry (whom_of_frame (frame_of octets.items)) line follows (ap (λ (e : Event). touched e entry.outcome) is)
-event_rows world entry (Operator op) is line follows = op_rows world entry op line follows is (follows.outcome ∙ ap (outcome_of world) is)
+event_rows : (world : World) (entry : Entry) (row : ℕ → List ℕ) (event : Event) → entry.event ≡ event → ShowsChanges world entry row → IsOfALine world → Follows world entry
+    → AreAllRows world row (touched entry.event entry.outcome)
+event_rows world entry row (Request master octets) is shows line follows =
+    whom_rows world entry row (whom_of_frame (frame_of octets.items)) shows line follows (ap (λ (e : Event). touched e entry.outcome) is)
+event_rows world entry row (Operator op) is shows line follows = op_rows world entry row op shows line follows is (follows.outcome ∙ ap (outcome_of world) is)
 
 pub all_rows : Ways → LinesHave → (line : Description) (before : List Entry) (entry : Entry) → IsLegal (start_of line) (before ++ entry ∷ [])
     → change_rows (after_entries (start_of line) before) (after_entries (start_of line) (before ++ entry ∷ [])) entry.event entry.outcome
@@ -210,4 +214,13 @@ all_rows ways have line before entry legal =
     let last = last_of (start_of line) before entry legal in
     let world = after_entries (start_of line) before in
     subst (λ (w : World). change_rows world w entry.event entry.outcome ≡ flat_map (change_of world w) (map address_of_slave world.slaves)) (sym last.left)
-    (event_rows world entry entry.event refl (journal_line ways have line before last.legal) last.follows)
+    (event_rows world entry (change_of world (after_entry world entry)) entry.event refl (stays_without_row world entry) (journal_line ways have line before last.legal) last.follows)
+
+pub all_ended : Ways → LinesHave → (line : Description) (before : List Entry) (entry : Entry) → IsLegal (start_of line) (before ++ entry ∷ [])
+    → holds_ended (after_entries (start_of line) before) (after_entries (start_of line) (before ++ entry ∷ [])) entry.place entry.event entry.outcome
+    ≡ flat_map (ended_at (after_entries (start_of line) before) (after_entries (start_of line) (before ++ entry ∷ [])) entry.place entry.event) (map address_of_slave (after_entries (start_of line) before).slaves)
+all_ended ways have line before entry legal =
+    let last = last_of (start_of line) before entry legal in
+    let world = after_entries (start_of line) before in
+    subst (λ (w : World). holds_ended world w entry.place entry.event entry.outcome ≡ flat_map (ended_at world w entry.place entry.event) (map address_of_slave world.slaves)) (sym last.left)
+    (event_rows world entry (ended_at world (after_entry world entry) entry.place entry.event) entry.event refl (stays_without_end world entry) (journal_line ways have line before last.legal) last.follows)

@@ -1,5 +1,6 @@
 pub mod Bars
 pub mod Edits
+pub mod Counting
 pub mod Writing
 pub mod Told
 pub mod Knowing

@@ -1,9 +1,9 @@
--- The place that is named for a repeat is that of the request whose reply is sent again.
-use Rattle.std.proofs.Common.{◌≡◌, ℕ, ◌+◌, Bool, true, false, cond, eqb, List, [], ◌∷◌, ◌++◌, map, Option, Some, None, refl, sym, ap, subst, ◌∙◌, append_assoc, codes}
-use Rattle.std.specs.Prelude.{◌&&◌, find, is_some, option_map}
-use Rattle.std.specs.Option.{option_and_then}
+-- The request that is noted for a repeat is the one whose reply is sent again.
+use Rattle.std.proofs.Common.{◌≡◌, ◌≢◌, ℕ, ◌+◌, Bool, true, false, cond, eqb, List, [], ◌∷◌, ◌++◌, map, Option, Some, None, refl, sym, ap, subst, ◌∙◌, append_assoc}
+use Rattle.std.specs.Prelude.{◌&&◌, find, is_none, is_some, option_map}
+use Rattle.std.specs.Option.{IsSomeAnd, option_and_then}
 use Rattle.std.specs.List.{AllByRecursion, cons_option, filter_map, list_any, range_with_len}
-use Rattle.std.proofs.lemmas.Bool.{and_parts, both_ways, eqb-true, eq-eqb}
+use Rattle.std.proofs.lemmas.Bool.{and_from, and_parts, both_ways, eqb-true, eq-eqb}
 use Rattle.std.proofs.lemmas.List.{append-nil}
 use Rattle.arrayvec.specs.ArrayVec.{ArrayVec}
 use Rattle.dp_telegram.specs.declared.frame.Telegram.{Telegram}
@@ -22,7 +22,6 @@ use Rattle.dp_slave.specs.SlaveRecord.{SlaveRecord, points_of, starting_slave}
 use Rattle.dp_slave.specs.View.{view_of}
 use Rattle.dp_line.specs.declared.event.Event.{Event}
 use Rattle.dp_line.specs.declared.event.Event.TheVariants.{Request}
-use Rattle.dp_line.specs.declared.event.Outcome.{Outcome}
 use Rattle.dp_line.specs.declared.event.Outcome.TheVariants.{Reply}
 use Rattle.dp_line.specs.World.{Description, World, address_of_slave, ascending, described_at, slave_among, slave_at, start_of}
 use Rattle.dp_line.specs.Hearing.{heard, is_to_all, telegram_spelt}
@@ -32,23 +31,27 @@ use Rattle.dp_line.specs.Served.{memory_after_reply, served}
 use Rattle.dp_line.specs.Effects.{effect, outcome_of, slave_after}
 use Rattle.dp_audit.specs.declared.entry.Entry.{Entry}
 use Rattle.dp_audit.specs.Legal.{Follows, IsLegal, after_entries}
-use Rattle.dp_sentences.specs.Notes.{notes_after, place_noted}
+use Rattle.dp_sentences.specs.declared.notes.Noted.{Noted}
+use Rattle.dp_sentences.specs.Notes.{has_octets, note_of, notes_after}
 use Rattle.dp_sentences.specs.Refusals.{repeat_text}
 use Rattle.dp_sentences.specs.Results.{result_row, result_rows, shown_at, told_of_parts, told_of_telegram, told_where_known}
-use Rattle.dp_sentences.specs.Scenes.{SceneView}
+use Rattle.dp_sentences.specs.Scenes.{AskedView, SceneView}
 use Rattle.dp_explain.specs.JournalTold.{known_behind_entries, known_behind_entry}
 use Rattle.dp_explain.specs.Known.{KnownView, first_known}
 use Rattle.dp_explain.specs.Repeats.{IsLastReplied, is_replied_anew, leaves_a_reply}
-use Rattle.dp_explain.proofs.Reached.{at_after, found_address, has_telegram, outcome_is, replied_concerns, spelt_is, way}
-use Rattle.dp_explain.proofs.Noted.{has_after, has_note, noted_first, place_given, place_left}
+use Rattle.dp_explain.proofs.Reached.{at_after, found_address, heard_by_slaves, outcome_is, replied_concerns, way}
+use Rattle.dp_explain.proofs.Noted.{has_after, has_note, note_given, note_left, noted_first}
 use Rattle.dp_explain.proofs.Standings.{found_is, last_of}
 use Rattle.dp_explain.proofs.FrameMemories.{new_remembered, anew_memory, served_memory, slave_served, either_one, way_memory}
-use Rattle.dp_explain.proofs.Replies.{IsAnew, anew_parts, IsMet, met}
+use Rattle.dp_explain.proofs.Replies.{IsAnew, anew_parts, IsMet, met, parts_heard}
 
 -- ---- this holds after every entry
 
-abbrev place_of : KnownView → ℕ → ℕ → ℕ
-place_of known slave master = place_noted known.scene.notes slave master
+-- the last reply of the slave to the master is noted with its request
+record IsReplyNoted (entries : List Entry) (notes : List Noted) (slave master : ℕ) (fcb : Bool) (reply : List ℕ) : Type 0 where
+  note : Noted
+  found : note_of notes slave master ≡ Some note
+  last : IsLastReplied entries slave master note.place note.octets fcb reply
 
 record IsKept (line : Description) (done : List Entry) (known : KnownView) : Type 0 where
   described : known.scene.description ≡ line
@@ -56,28 +59,27 @@ record IsKept (line : Description) (done : List Entry) (known : KnownView) : Typ
   stations : (address : ℕ) (slave : SlaveRecord) → slave_at known.scene.world address ≡ Some slave → is_some (described_at line.slaves address) ≡ true
   noted : (address master : ℕ) → is_some (described_at line.slaves address) ≡ true → list_any (λ m. eqb m master) line.masters ≡ true → has_note known.scene.notes address master ≡ true
   replies : (address master : ℕ) (slave : SlaveRecord) (last : Remembered) → slave_at known.scene.world address ≡ Some slave → remembered_of slave.memory master ≡ Some last
-      → IsLastReplied done address master (place_of known address master) last.fcb last.reply
+      → IsReplyNoted done known.scene.notes address master last.fcb last.reply
 
 all_push : (P : Entry → Type 0) (entries : List Entry) (entry : Entry) → AllByRecursion P entries → P entry → AllByRecursion P (entries ++ entry ∷ [])
 all_push P [] entry all one = (one, tt)
 all_push P (first ∷ entries) entry all one = (all.0, all_push P entries entry all.1 one)
 
-one_behind : (done : List Entry) (entry : Entry) (address master place other : ℕ) (fcb : Bool) (reply : List ℕ) → place ≡ other → leaves_a_reply address master entry ≡ false
-    → IsLastReplied done address master place fcb reply → IsLastReplied (done ++ entry ∷ []) address master other fcb reply
-one_behind done entry address master place other fcb reply same none is = record {
+one_behind : (done : List Entry) (entry : Entry) (address master place : ℕ) (octets : ArrayVec ℕ) (fcb : Bool) (reply : List ℕ) → leaves_a_reply address master entry ≡ false
+    → IsLastReplied done address master place octets fcb reply → IsLastReplied (done ++ entry ∷ []) address master place octets fcb reply
+one_behind done entry address master place octets fcb reply none is = record {
   front = is.front;
   asked = is.asked;
   behind = is.behind ++ entry ∷ [];
   split = ap (λ (l : List Entry). l ++ entry ∷ []) is.split ∙ append_assoc is.front (is.asked ∷ is.behind) (entry ∷ []);
-  at = is.at ∙ same;
+  at = is.at;
   last = all_push (λ e. leaves_a_reply address master e ≡ false) is.behind entry is.last none;
-  octets = is.octets;
-  telegram = is.telegram;
-  rule = is.rule;
   request = is.request;
+  telegram = is.telegram;
   spelt = is.spelt;
   to_slave = is.to_slave;
   count_bit = is.count_bit;
+  rule = is.rule;
   anew = is.anew;
   replied = is.replied;
 }
@@ -85,7 +87,7 @@ one_behind done entry address master place other fcb reply same none is = record
 new_last : (line : Description) (done : List Entry) (known : KnownView) (entry : Entry) (address master : ℕ) (slave : SlaveRecord) (last : Remembered) → IsKept line done known
     → Follows known.scene.world entry → slave_at known.scene.world address ≡ Some slave → remembered_of (slave_after known.scene.world entry.event slave).memory master ≡ Some last
     → IsAnew address master entry.event entry.outcome
-    → IsLastReplied (done ++ entry ∷ []) address master (place_noted (notes_after known.scene.notes entry.place entry.event entry.outcome) address master) last.fcb last.reply
+    → IsReplyNoted (done ++ entry ∷ []) (notes_after known.scene.notes entry.place entry.event entry.outcome) address master last.fcb last.reply
 new_last line done known entry address master slave last kept follows here remembered is =
     let world = known.scene.world in
     let told = ap (outcome_of world) (sym is.request) ∙ sym follows.outcome ∙ is.told in
@@ -107,41 +109,46 @@ new_last line done known entry address master slave last kept follows here remem
     ∙ anew_memory m.slave master is.telegram is.rule is.reply.items is.anew in
     let new = new_remembered m.slave.memory master is.telegram.fc is.reply.items last both.0 (ap (λ (l : List MasterMemory). remembered_of l master) (sym memory) ∙ remembered) in
     let note = kept.noted address master (kept.stations address slave here) (ap (list_any (λ n. eqb n master)) (sym kept.masters) ∙ m.from) in
-    let given = place_given address master entry.place known.scene.notes is.octets is.reply is.rule is.telegram is.spelt is.srd is.anew note in
-    let placed : place_noted (notes_after known.scene.notes entry.place entry.event entry.outcome) address master ≡ entry.place =
-    ap (λ (e : Event). place_noted (notes_after known.scene.notes entry.place e entry.outcome) address master) is.request
-    ∙ ap (λ (o : Outcome). place_noted (notes_after known.scene.notes entry.place (Request master is.octets) o) address master) is.told
-    ∙ given in
+    let given = note_given address master entry.place known.scene.notes is.octets is.reply is.rule is.telegram is.spelt is.srd is.anew note in
+    let after : notes_after known.scene.notes entry.place entry.event entry.outcome ≡ notes_after known.scene.notes entry.place (Request master is.octets) (Reply is.reply is.rule) =
+    ap (λ (e : Event). notes_after known.scene.notes entry.place e entry.outcome) is.request
+    ∙ ap (notes_after known.scene.notes entry.place (Request master is.octets)) is.told in
     record {
-      front = done;
-      asked = entry;
-      behind = [];
-      split = refl;
-      at = sym placed;
-      last = tt;
-      octets = is.octets;
-      telegram = is.telegram;
-      rule = is.rule;
-      request = is.request;
-      spelt = is.spelt;
-      to_slave = is.srd;
-      count_bit = new.bit;
-      anew = is.anew;
-      replied = is.told ∙ ap (λ (text : List ℕ). Reply (record { items = text }) is.rule) new.text;
+      note = given.note;
+      found = ap (λ (l : List Noted). note_of l address master) after ∙ given.found;
+      last = record {
+        front = done;
+        asked = entry;
+        behind = [];
+        split = refl;
+        at = sym given.at;
+        last = tt;
+        request = is.request ∙ ap (Request master) (sym given.spelt);
+        telegram = is.telegram;
+        spelt = ap (λ (o : ArrayVec ℕ). telegram_spelt o.items) given.spelt ∙ is.spelt;
+        to_slave = is.srd;
+        count_bit = new.bit;
+        rule = is.rule;
+        anew = is.anew;
+        replied = is.told ∙ ap (λ (text : List ℕ). Reply (record { items = text }) is.rule) new.text;
+      };
     }
 
 replies_by : (line : Description) (done : List Entry) (known : KnownView) (entry : Entry) (address master : ℕ) (slave : SlaveRecord) (last : Remembered) (b : Bool)
     → is_replied_anew address master entry.event entry.outcome ≡ b → IsKept line done known → Follows known.scene.world entry → slave_at known.scene.world address ≡ Some slave
     → remembered_of (slave_after known.scene.world entry.event slave).memory master ≡ Some last
-    → IsLastReplied (done ++ entry ∷ []) address master (place_noted (notes_after known.scene.notes entry.place entry.event entry.outcome) address master) last.fcb last.reply
+    → IsReplyNoted (done ++ entry ∷ []) (notes_after known.scene.notes entry.place entry.event entry.outcome) address master last.fcb last.reply
 replies_by line done known entry address master slave last true is kept follows here remembered =
     new_last line done known entry address master slave last kept follows here remembered (anew_parts address master entry.event entry.outcome is)
 replies_by line done known entry address master slave last false none kept follows here remembered =
     let world = known.scene.world in
     let same = way_memory world entry.event entry.outcome address master slave (slave_after world entry.event slave) here follows.outcome none (way world entry.event slave) in
-    one_behind done entry address master (place_of known address master) (place_noted (notes_after known.scene.notes entry.place entry.event entry.outcome) address master) last.fcb last.reply
-    (sym (place_left address master entry.place known.scene.notes entry.event entry.outcome none)) none
-    (kept.replies address master slave last here (sym same ∙ remembered))
+    let before = kept.replies address master slave last here (sym same ∙ remembered) in
+    record {
+      note = before.note;
+      found = note_left address master entry.place known.scene.notes entry.event entry.outcome none ∙ before.found;
+      last = one_behind done entry address master before.note.place before.note.octets last.fcb last.reply none before.last;
+    }
 
 -- the slave at an address before an entry
 record IsBefore (world : World) (event : Event) (address : ℕ) (after : SlaveRecord) : Type 0 where
@@ -326,32 +333,40 @@ told_there line places before entry master octets reply telegram legal request s
       met_there = met world master octets reply rules.Repeat telegram spelt (ap (outcome_of world) (sym request) ∙ sym follows.outcome ∙ told);
     }
 
--- a request that gets a reply is a telegram
+some_there : (parts : Option Parts) → is_none parts ≡ false → is_some parts ≡ true
+some_there None there = absurd cc
+some_there (Some parts) there = refl
+
+-- a request that gets a reply is a telegram whose access points can be read
 pub replied_telegram : (line : Description) (places : ℕ) (before : List Entry) (entry : Entry) (master : ℕ) (octets reply : ArrayVec ℕ) (rule : Rule) → IsLegal (start_of (record line { capacity = places })) (before ++ entry ∷ [])
-    → entry.event ≡ Request master octets → entry.outcome ≡ Reply reply rule → is_some (telegram_spelt octets.items) ≡ true
+    → entry.event ≡ Request master octets → entry.outcome ≡ Reply reply rule → is_some (option_and_then parts_of (telegram_spelt octets.items)) ≡ true
 replied_telegram line places before entry master octets reply rule legal request told =
     let last = last_of (start_of (record line { capacity = places })) before entry legal in
     let world = after_entries (start_of (record line { capacity = places })) before in
     let outcome = sym (outcome_is world master octets) ∙ ap (outcome_of world) (sym request) ∙ sym last.follows.outcome ∙ told in
-    ap is_some (sym (spelt_is world master octets.items))
-    ∙ has_telegram (heard world master octets.items) (replied_concerns (heard world master octets.items) reply rule outcome)
+    let known = heard_by_slaves (heard world master octets.items) (replied_concerns (heard world master octets.items) reply rule outcome) in
+    ap is_some (sym (parts_heard world master octets.items)) ∙ some_there (heard world master octets.items).parts known.extension
+
+some_and : (P : Noted → Type 0) (found : Option Noted) (note : Noted) → found ≡ Some note → P note → IsSomeAnd found P
+some_and P found note is holds = subst (λ (f : Option Noted). IsSomeAnd f P) (sym is) holds
 
 pub repeats : (line : Description) (places : ℕ) (before : List Entry) (entry : Entry) (master : ℕ) (octets reply : ArrayVec ℕ) (telegram : Telegram) → IsLegal (start_of (record line { capacity = places })) (before ++ entry ∷ [])
     → entry.event ≡ Request master octets → telegram_spelt octets.items ≡ Some telegram → entry.outcome ≡ Reply reply rules.Repeat
-    → IsLastReplied before (address_of telegram.da) master (place_noted (known_behind_entries (first_known line places) before).scene.notes (address_of telegram.da) master)
-    (frame_count_bit telegram.fc) reply.items
+    → IsSomeAnd (note_of (known_behind_entries (first_known line places) before).scene.notes (address_of telegram.da) master)
+    (λ noted. IsLastReplied before (address_of telegram.da) master noted.place noted.octets (frame_count_bit telegram.fc) reply.items)
 repeats line places before entry master octets reply telegram legal request spelt told =
     let there = told_there line places before entry master octets reply telegram legal request spelt told in
-    let known = known_behind_entries (first_known line places) before in
+    let notes = (known_behind_entries (first_known line places) before).scene.notes in
     let m = there.met_there in
     let again = again_by (remembered_of m.slave.memory master) telegram.fc (repeat_row master telegram m.parts m.slave m.ruled) in
     let text : again.last.reply ≡ reply.items =
     ap kept_reply (sym again.is) ∙ some_parts _ _ (sym (kept_text m.slave master telegram m.parts) ∙ m.replied) in
-    subst (λ (r : List ℕ). IsLastReplied before (address_of telegram.da) master (place_of known (address_of telegram.da) master) (frame_count_bit telegram.fc) r) text
-    (subst (λ (b : Bool). IsLastReplied before (address_of telegram.da) master (place_of known (address_of telegram.da) master) b again.last.reply) again.bit
-    (there.kept.replies (address_of telegram.da) master m.slave again.last m.here again.is))
+    let kept = there.kept.replies (address_of telegram.da) master m.slave again.last m.here again.is in
+    some_and (λ noted. IsLastReplied before (address_of telegram.da) master noted.place noted.octets (frame_count_bit telegram.fc) reply.items) (note_of notes (address_of telegram.da) master) kept.note kept.found
+    (subst (λ (r : List ℕ). IsLastReplied before (address_of telegram.da) master kept.note.place kept.note.octets (frame_count_bit telegram.fc) r) text
+    (subst (λ (b : Bool). IsLastReplied before (address_of telegram.da) master kept.note.place kept.note.octets b again.last.reply) again.bit kept.last))
 
--- ---- the row names this place
+-- ---- the row names this request
 
 record IsDescribed (found : Option SlaveSpec) : Type 0 where
   description : SlaveSpec
@@ -361,27 +376,74 @@ described_there : (found : Option SlaveSpec) → is_some found ≡ true → IsDe
 described_there None there = absurd cc
 described_there (Some description) there = record { description = description; is = refl }
 
-row_by : (scene : SceneView) (master : ℕ) (octets reply : ArrayVec ℕ) (telegram : Telegram) (parts : Parts) (description : SlaveSpec) (slave : SlaveView) → telegram_spelt octets.items ≡ Some telegram
-    → parts_of telegram ≡ Some parts → described_at scene.description.slaves (address_of telegram.da) ≡ Some description → shown_at scene.world (address_of telegram.da) ≡ Some slave
-    → result_rows scene (Request master octets) (Reply reply rules.Repeat) ≡ result_row (codes "repeat: " ++ repeat_text (place_noted scene.notes (address_of telegram.da) master))
-row_by scene master octets reply telegram parts description slave spelt read described shown =
-    ap (λ (t : Option Telegram). result_row (told_of_telegram scene master false rules.Repeat t)) spelt
-    ∙ ap (λ (p : Option Parts). result_row (told_of_parts scene master false rules.Repeat telegram p)) read
-    ∙ ap (λ (d : Option SlaveSpec). result_row (told_where_known (record { master = master; telegram = telegram; parts = parts }) (place_noted scene.notes (address_of telegram.da) master) false rules.Repeat d
-    (shown_at scene.world (address_of telegram.da)))) described
-    ∙ ap (λ (s : Option SlaveView). result_row (told_where_known (record { master = master; telegram = telegram; parts = parts }) (place_noted scene.notes (address_of telegram.da) master) false rules.Repeat
-    (Some description) s)) shown
+row_by : (scene : SceneView) (master : ℕ) (octets reply : ArrayVec ℕ) (telegram : Telegram) (parts : Parts) (noted : Noted) (description : SlaveSpec) (slave : SlaveView) → telegram_spelt octets.items ≡ Some telegram
+    → parts_of telegram ≡ Some parts → note_of scene.notes (address_of telegram.da) master ≡ Some noted → described_at scene.description.slaves (address_of telegram.da) ≡ Some description
+    → shown_at scene.world (address_of telegram.da) ≡ Some slave
+    → result_rows scene (Request master octets) (Reply reply rules.Repeat)
+    ≡ result_row (repeat_text (has_octets (Some noted) octets.items) noted.place parts.dsap parts.payload.items)
+row_by scene master octets reply telegram parts noted description slave spelt read found described shown =
+    let asked : AskedView = record { master = master; octets = octets.items; telegram = telegram; parts = parts } in
+    let address = address_of telegram.da in
+    ap (λ (t : Option Telegram). result_row (told_of_telegram scene master octets.items false rules.Repeat t)) spelt
+    ∙ ap (λ (p : Option Parts). result_row (told_of_parts scene master octets.items false rules.Repeat telegram p)) read
+    ∙ ap (λ (n : Option Noted). result_row (told_where_known asked n false rules.Repeat (described_at scene.description.slaves address) (shown_at scene.world address))) found
+    ∙ ap (λ (d : Option SlaveSpec). result_row (told_where_known asked (Some noted) false rules.Repeat d (shown_at scene.world address))) described
+    ∙ ap (λ (s : Option SlaveView). result_row (told_where_known asked (Some noted) false rules.Repeat (Some description) s)) shown
 
-pub repeat_told : (line : Description) (places : ℕ) (before : List Entry) (entry : Entry) (master : ℕ) (octets reply : ArrayVec ℕ) (telegram : Telegram) → IsLegal (start_of (record line { capacity = places })) (before ++ entry ∷ [])
-    → entry.event ≡ Request master octets → telegram_spelt octets.items ≡ Some telegram → entry.outcome ≡ Reply reply rules.Repeat
+-- equal octets are found equal, and others are not
+abbrev are_same : List ℕ → List ℕ → Bool
+are_same octets others = has_octets (Some (record { slave = 0; master = 0; place = 0; octets = record { items = octets } })) others
+
+same_self : (octets : List ℕ) → are_same octets octets ≡ true
+same_self [] = refl
+same_self (octet ∷ octets) = and_from (eqb octet octet) (are_same octets octets) (eq-eqb octet octet refl) (same_self octets)
+
+same_is : (octets others : List ℕ) → are_same octets others ≡ true → octets ≡ others
+same_is [] [] is = refl
+same_is [] (other ∷ others) is = absurd cc
+same_is (octet ∷ octets) [] is = absurd cc
+same_is (octet ∷ octets) (other ∷ others) is =
+    let both = and_parts (eqb octet other) (are_same octets others) is in
+    ap (λ (o : ℕ). o ∷ octets) (eqb-true octet other both.0) ∙ ap (λ (l : List ℕ). other ∷ l) (same_is octets others both.1)
+
+not_true : (b : Bool) → (b ≡ true → ⊥) → b ≡ false
+not_true true none = absurd (none refl)
+not_true false none = refl
+
+-- the row of a repeat whose octets are those of the noted request, or are not
+row_told : (line : Description) (places : ℕ) (before : List Entry) (entry : Entry) (master : ℕ) (octets reply : ArrayVec ℕ) (telegram : Telegram) (parts : Parts) (noted : Noted) (same : Bool)
+    → IsLegal (start_of (record line { capacity = places })) (before ++ entry ∷ [])
+    → entry.event ≡ Request master octets → telegram_spelt octets.items ≡ Some telegram → parts_of telegram ≡ Some parts → entry.outcome ≡ Reply reply rules.Repeat
+    → note_of (known_behind_entries (first_known line places) before).scene.notes (address_of telegram.da) master ≡ Some noted → has_octets (Some noted) octets.items ≡ same
     → result_rows (known_behind_entries (first_known line places) before).scene entry.event entry.outcome
-    ≡ result_row (codes "repeat: " ++ repeat_text (place_noted (known_behind_entries (first_known line places) before).scene.notes (address_of telegram.da) master))
-repeat_told line places before entry master octets reply telegram legal request spelt told =
+    ≡ result_row (repeat_text same noted.place parts.dsap parts.payload.items)
+row_told line places before entry master octets reply telegram parts noted same legal request spelt read told found is =
     let there = told_there line places before entry master octets reply telegram legal request spelt told in
     let scene = (known_behind_entries (first_known line places) before).scene in
     let m = there.met_there in
-    let found = described_there (described_at line.slaves (address_of telegram.da)) (there.kept.stations (address_of telegram.da) m.slave m.here) in
-    let described = ap (λ (d : Description). described_at d.slaves (address_of telegram.da)) there.kept.described ∙ found.is in
+    let spec = described_there (described_at line.slaves (address_of telegram.da)) (there.kept.stations (address_of telegram.da) m.slave m.here) in
+    let described = ap (λ (d : Description). described_at d.slaves (address_of telegram.da)) there.kept.described ∙ spec.is in
     ap (λ (e : Event). result_rows scene e entry.outcome) request
     ∙ ap (result_rows scene (Request master octets)) told
-    ∙ row_by scene master octets reply telegram m.parts found.description (view_of m.slave) spelt m.read described (ap (option_map view_of) m.here)
+    ∙ row_by scene master octets reply telegram parts noted spec.description (view_of m.slave) spelt read found described (ap (option_map view_of) m.here)
+    ∙ ap (λ (b : Bool). result_row (repeat_text b noted.place parts.dsap parts.payload.items)) is
+
+pub retry_told : (line : Description) (places : ℕ) (before : List Entry) (entry : Entry) (master : ℕ) (octets reply : ArrayVec ℕ) (telegram : Telegram) (parts : Parts) (noted : Noted)
+    → IsLegal (start_of (record line { capacity = places })) (before ++ entry ∷ [])
+    → entry.event ≡ Request master octets → telegram_spelt octets.items ≡ Some telegram → parts_of telegram ≡ Some parts → entry.outcome ≡ Reply reply rules.Repeat
+    → note_of (known_behind_entries (first_known line places) before).scene.notes (address_of telegram.da) master ≡ Some noted → noted.octets.items ≡ octets.items
+    → result_rows (known_behind_entries (first_known line places) before).scene entry.event entry.outcome
+    ≡ result_row (repeat_text true noted.place parts.dsap parts.payload.items)
+retry_told line places before entry master octets reply telegram parts noted legal request spelt read told found same =
+    row_told line places before entry master octets reply telegram parts noted true legal request spelt read told found
+    (ap (λ (l : List ℕ). are_same l octets.items) same ∙ same_self octets.items)
+
+pub other_told : (line : Description) (places : ℕ) (before : List Entry) (entry : Entry) (master : ℕ) (octets reply : ArrayVec ℕ) (telegram : Telegram) (parts : Parts) (noted : Noted)
+    → IsLegal (start_of (record line { capacity = places })) (before ++ entry ∷ [])
+    → entry.event ≡ Request master octets → telegram_spelt octets.items ≡ Some telegram → parts_of telegram ≡ Some parts → entry.outcome ≡ Reply reply rules.Repeat
+    → note_of (known_behind_entries (first_known line places) before).scene.notes (address_of telegram.da) master ≡ Some noted → noted.octets.items ≢ octets.items
+    → result_rows (known_behind_entries (first_known line places) before).scene entry.event entry.outcome
+    ≡ result_row (repeat_text false noted.place parts.dsap parts.payload.items)
+other_told line places before entry master octets reply telegram parts noted legal request spelt read told found apart =
+    row_told line places before entry master octets reply telegram parts noted false legal request spelt read told found
+    (not_true (has_octets (Some noted) octets.items) (λ same. apart (same_is noted.octets.items octets.items same)))

@@ -107,7 +107,7 @@ masters_heard : (world : World) (master : ℕ) (octets : List ℕ) → (heard wo
 unfolding heard
 masters_heard world master octets = refl
 
-parts_heard : (world : World) (master : ℕ) (octets : List ℕ) → (heard world master octets).parts ≡ option_and_then parts_of (telegram_spelt octets)
+pub parts_heard : (world : World) (master : ℕ) (octets : List ℕ) → (heard world master octets).parts ≡ option_and_then parts_of (telegram_spelt octets)
 unfolding heard
 parts_heard world master octets = refl
 

@@ -1,7 +1,6 @@
 -- The lines of a legal text give the explanation of its entries.
 use Rattle.std.proofs.Common.{◌≡◌, ℕ, ◌+◌, true, false, List, [], ◌∷◌, ◌++◌, map, Option, Some, None, Result, Ok, refl, sym, ap, ◌∙◌, codes}
-use Rattle.std.specs.List.{AllByRecursion, flat_map}
-use Rattle.std.proofs.lemmas.List.Concat.{flat_map-cons}
+use Rattle.std.specs.List.{AllByRecursion}
 use Rattle.dp_line.specs.declared.event.Event.{Event}
 use Rattle.dp_line.specs.declared.event.Event.TheVariants.{Operator}
 use Rattle.dp_line.specs.declared.event.Op.TheVariants.{Halt}
@@ -15,21 +14,19 @@ use Rattle.dp_text.specs.Events.{IsWithinLimits}
 use Rattle.dp_audit.specs.declared.entry.Entry.{Entry}
 use Rattle.dp_audit.specs.declared.fault.AuditFault.{AuditFault}
 use Rattle.dp_audit.specs.EventWays.{Way, meets_halt, is_refused, brings_halt, is_recorded}
-use Rattle.dp_audit.specs.Legal.{Follows, IsLegal, after_entry}
+use Rattle.dp_audit.specs.Legal.{Follows, IsLegal, after_entries, after_entry}
 use Rattle.dp_audit.specs.AuditText.{entry_text}
 use Rattle.dp_audit.specs.Check.{IsAuditOf, checked, places_of_header}
 use Rattle.dp_audit.proofs.Judged.{entry_judged}
 use Rattle.dp_audit.proofs.Parts.{NumbersAreRead, EventsAreRead}
 use Rattle.dp_audit.proofs.Texts.{HasRoom, room_at_header, room_kept, small_place}
 use Rattle.dp_sentences.specs.Scenes.{SceneView}
-use Rattle.dp_sentences.specs.Results.{shown_at}
-use Rattle.dp_explain.specs.declared.part.Part.{Part}
-use Rattle.dp_explain.specs.declared.part.Part.TheVariants as parts
-use Rattle.dp_explain.specs.Holds.{hold_lasts}
+use Rattle.dp_explain.specs.declared.choice.Choice.{Choice}
+use Rattle.dp_explain.specs.Holds.{holds_ended, holds_lasting}
 use Rattle.dp_explain.specs.Tallies.{tally_text}
-use Rattle.dp_explain.specs.Known.{KnownView, first_known, known_after, known_with, outcome_told, outcome_with, slave_addresses}
-use Rattle.dp_explain.specs.Explained.{event_of_row, explained_by, holds_of, known_behind, last_known, moment_text, right_rows, told_event, told_row, told_rows, told_text, verdict_text}
-use Rattle.dp_explain.specs.JournalTold.{IsToldByItsEntries, holds_of_entries, known_behind_entries, known_behind_entry, told_entries}
+use Rattle.dp_explain.specs.Known.{KnownView, first_known, first_world, known_after, known_with, outcome_told, outcome_with}
+use Rattle.dp_explain.specs.Explained.{chosen_text, ended_by, ended_by_row, ended_by_rows, event_of_row, explained_by, known_behind, last_known, last_world, right_rows, told_event, told_row, told_rows, told_text, verdict_text, world_behind}
+use Rattle.dp_explain.specs.JournalTold.{IsToldByItsEntries, ended_by_entries, known_behind_entries, known_behind_entry, told_entries}
 use Rattle.dp_explain.proofs.Rows.{places_are, row_is_read, rows_are}
 
 -- ---- taking a recorded event has the result that its entry states
@@ -67,20 +64,27 @@ taken_by world entry follows (is_recorded room is one other) = record {
 
 -- ---- one entry
 
-moment_same : (part : Part) (scene : SceneView) (left after : World) (place next : ℕ) (event : Event) (told outcome : Outcome) → left ≡ after → place ≡ next → told ≡ outcome
-    → moment_text part scene left place event told ≡ moment_text part scene after next event outcome
-moment_same part scene left after place next event told outcome a b c = rw (a, b, c) refl
+chosen_same : (choice : Choice) (scene : SceneView) (left after : World) (place next : ℕ) (event : Event) (told outcome : Outcome) → left ≡ after → place ≡ next → told ≡ outcome
+    → chosen_text choice scene left place event told ≡ chosen_text choice scene after next event outcome
+chosen_same choice scene left after place next event told outcome a b c = rw (a, b, c) refl
 
 known_same : (known : KnownView) (left after : World) (place next : ℕ) (event : Event) (told outcome : Outcome) → left ≡ after → place ≡ next → told ≡ outcome
     → known_with known left place event told ≡ known_with known after next event outcome
 known_same known left after place next event told outcome a b c = rw (a, b, c) refl
 
-event_told : (part : Part) (known : KnownView) (entry : Entry) → IsTaken known.scene.world entry
-    → told_event part known.scene entry.event ≡ moment_text part known.scene (after_entry known.scene.world entry) entry.place entry.event entry.outcome
-event_told part known entry t = moment_same part known.scene _ _ _ _ entry.event _ _ t.left t.place t.outcome
+ended_same : (world left after : World) (place next : ℕ) (event : Event) (told outcome : Outcome) → left ≡ after → place ≡ next → told ≡ outcome
+    → holds_ended world left place event told ≡ holds_ended world after next event outcome
+ended_same world left after place next event told outcome a b c = rw (a, b, c) refl
+
+event_told : (choice : Choice) (known : KnownView) (entry : Entry) → IsTaken known.scene.world entry
+    → told_event choice known.scene entry.event ≡ chosen_text choice known.scene (after_entry known.scene.world entry) entry.place entry.event entry.outcome
+event_told choice known entry t = chosen_same choice known.scene _ _ _ _ entry.event _ _ t.left t.place t.outcome
 
 event_known : (known : KnownView) (entry : Entry) → IsTaken known.scene.world entry → known_after known entry.event ≡ known_behind_entry known entry
 event_known known entry t = known_same known _ _ _ _ entry.event _ _ t.left t.place t.outcome
+
+event_ended : (world : World) (entry : Entry) → IsTaken world entry → ended_by world entry.event ≡ holds_ended world (after_entry world entry) entry.place entry.event entry.outcome
+event_ended world entry t = ended_same world _ _ _ _ entry.event _ _ t.left t.place t.outcome
 
 -- ---- all entries
 
@@ -94,18 +98,18 @@ entry_read numbers events world entry follows limits room =
 abbrev AreWithinLimits : List Entry → Type 0
 AreWithinLimits = AllByRecursion (λ entry. IsWithinLimits entry.event)
 
-entries_told : Ways → NumbersAreRead → EventsAreRead → (part : Part) (known : KnownView) (entries : List Entry) → IsLegal known.scene.world entries → AreWithinLimits entries → HasRoom known.scene.world
-    → told_rows part known (map entry_text entries) ≡ told_entries part known entries
-entries_told ways numbers events part known [] legal limits room = refl
-entries_told ways numbers events part known (entry ∷ entries) legal limits room =
+entries_told : Ways → NumbersAreRead → EventsAreRead → (choice : Choice) (known : KnownView) (entries : List Entry) → IsLegal known.scene.world entries → AreWithinLimits entries → HasRoom known.scene.world
+    → told_rows choice known (map entry_text entries) ≡ told_entries choice known entries
+entries_told ways numbers events choice known [] legal limits room = refl
+entries_told ways numbers events choice known (entry ∷ entries) legal limits room =
     let world = known.scene.world in
     let rows = map entry_text entries in
     let taken = taken_by world entry legal.0 (ways world entry.event) in
-    ap (λ (event : Option Event). told_row part known event ++ told_rows part (known_behind known event) rows) (entry_read numbers events world entry legal.0 limits.0 room)
-    ∙ ap (λ (text : List ℕ). text ++ told_rows part (known_after known entry.event) rows) (event_told part known entry taken)
-    ∙ ap (λ (k : KnownView). moment_text part known.scene (after_entry world entry) entry.place entry.event entry.outcome ++ told_rows part k rows) (event_known known entry taken)
-    ∙ ap (λ (text : List ℕ). moment_text part known.scene (after_entry world entry) entry.place entry.event entry.outcome ++ text)
-    (entries_told ways numbers events part (known_behind_entry known entry) entries legal.1 limits.1 (room_kept world entry legal.0 room))
+    ap (λ (event : Option Event). told_row choice known event ++ told_rows choice (known_behind known event) rows) (entry_read numbers events world entry legal.0 limits.0 room)
+    ∙ ap (λ (text : List ℕ). text ++ told_rows choice (known_after known entry.event) rows) (event_told choice known entry taken)
+    ∙ ap (λ (k : KnownView). chosen_text choice known.scene (after_entry world entry) entry.place entry.event entry.outcome ++ told_rows choice k rows) (event_known known entry taken)
+    ∙ ap (λ (text : List ℕ). chosen_text choice known.scene (after_entry world entry) entry.place entry.event entry.outcome ++ text)
+    (entries_told ways numbers events choice (known_behind_entry known entry) entries legal.1 limits.1 (room_kept world entry legal.0 room))
 
 entries_known : Ways → NumbersAreRead → EventsAreRead → (known : KnownView) (entries : List Entry) → IsLegal known.scene.world entries → AreWithinLimits entries → HasRoom known.scene.world
     → last_known known (map entry_text entries) ≡ known_behind_entries known entries
@@ -118,32 +122,46 @@ entries_known ways numbers events known (entry ∷ entries) legal limits room =
     ∙ ap (λ (k : KnownView). last_known k rows) (event_known known entry taken)
     ∙ entries_known ways numbers events (known_behind_entry known entry) entries legal.1 limits.1 (room_kept world entry legal.0 room)
 
+entries_ended : Ways → NumbersAreRead → EventsAreRead → (world : World) (entries : List Entry) → IsLegal world entries → AreWithinLimits entries → HasRoom world
+    → ended_by_rows world (map entry_text entries) ≡ ended_by_entries world entries
+entries_ended ways numbers events world [] legal limits room = refl
+entries_ended ways numbers events world (entry ∷ entries) legal limits room =
+    let rows = map entry_text entries in
+    let taken = taken_by world entry legal.0 (ways world entry.event) in
+    let ended = holds_ended world (after_entry world entry) entry.place entry.event entry.outcome in
+    ap (λ (event : Option Event). ended_by_row world event ++ ended_by_rows (world_behind world event) rows) (entry_read numbers events world entry legal.0 limits.0 room)
+    ∙ ap (λ (text : List ℕ). text ++ ended_by_rows (step world entry.event).world rows) (event_ended world entry taken)
+    ∙ ap (λ (w : World). ended ++ ended_by_rows w rows) taken.left
+    ∙ ap (λ (text : List ℕ). ended ++ text) (entries_ended ways numbers events (after_entry world entry) entries legal.1 limits.1 (room_kept world entry legal.0 room))
+
+entries_left : Ways → NumbersAreRead → EventsAreRead → (world : World) (entries : List Entry) → IsLegal world entries → AreWithinLimits entries → HasRoom world
+    → last_world world (map entry_text entries) ≡ after_entries world entries
+entries_left ways numbers events world [] legal limits room = refl
+entries_left ways numbers events world (entry ∷ entries) legal limits room =
+    let rows = map entry_text entries in
+    let taken = taken_by world entry legal.0 (ways world entry.event) in
+    ap (λ (event : Option Event). last_world (world_behind world event) rows) (entry_read numbers events world entry legal.0 limits.0 room)
+    ∙ ap (λ (w : World). last_world w rows) taken.left
+    ∙ entries_left ways numbers events (after_entry world entry) entries legal.1 limits.1 (room_kept world entry legal.0 room)
+
 -- ---- the explanation
 
-same_texts : (f g : ℕ → List ℕ) → ((address : ℕ) → f address ≡ g address) → (addresses : List ℕ) → flat_map f addresses ≡ flat_map g addresses
-same_texts f g same [] = refl
-same_texts f g same (address ∷ addresses) =
-    flat_map-cons f address addresses
-    ∙ ap (λ (text : List ℕ). text ++ flat_map f addresses) (same address)
-    ∙ ap (λ (text : List ℕ). g address ++ text) (same_texts f g same addresses)
-    ∙ sym (flat_map-cons g address addresses)
-
-whole_same : (a b c d x y z w : List ℕ) → a ≡ x → b ≡ y → c ≡ z → d ≡ w → (a ++ ((codes "holds\n" ++ b) ++ c)) ++ d ≡ (x ++ ((codes "holds\n" ++ y) ++ z)) ++ w
-whole_same a b c d x y z w first second third fourth = rw (first, second, third, fourth) refl
+whole_same : (a b c d e x y z v w : List ℕ) → a ≡ x → b ≡ y → c ≡ z → d ≡ v → e ≡ w → (a ++ ((codes "holds\n" ++ (b ++ c)) ++ d)) ++ e ≡ (x ++ ((codes "holds\n" ++ (y ++ z)) ++ v)) ++ w
+whole_same a b c d e x y z v w first second third fourth fifth = rw (first, second, third, fourth, fifth) refl
 
 pub told_by_entries : Ways → NumbersAreRead → EventsAreRead → ((line : Description) (text : List ℕ) (count : ℕ) → opening_fault line ≡ None → IsAuditOf line text count → checked line text ≡ Ok count) → IsToldByItsEntries
 told_by_entries ways numbers events accepted line text count choice opens audit =
     let places = places_of_header line audit.header in
     let start = first_known line places in
+    let world = first_world line places in
     let entries = audit.entries in
     let room = room_at_header line audit.header opens in
-    let told : (part : Part) → told_rows part start (map entry_text entries) ≡ told_entries part start entries = λ part. entries_told ways numbers events part start entries audit.legal audit.limits room in
-    let known : last_known start (map entry_text entries) ≡ known_behind_entries start entries = entries_known ways numbers events start entries audit.legal audit.limits room in
-    let holds : (address : ℕ) → holds_of line places (map entry_text entries) address ≡ holds_of_entries line places entries address = λ address.
-    ap (λ (front : List ℕ). front ++ hold_lasts address (shown_at (last_known start (map entry_text entries)).scene.world address)) (told (parts.HoldsOf address))
-    ∙ ap (λ (k : KnownView). told_entries (parts.HoldsOf address) start entries ++ hold_lasts address (shown_at k.scene.world address)) known in
     ap (λ (verdict : Result ℕ AuditFault). explained_by verdict line text choice) (accepted line text count opens audit)
     ∙ ap (λ (n : ℕ). told_text line n (right_rows (Ok count) text) choice ++ verdict_text (Ok count)) (places_are line text count audit)
-    ∙ ap (λ (rows : List (List ℕ)). told_text line places rows choice ++ verdict_text (Ok count)) (rows_are line text count audit)
-    ∙ whole_same _ _ _ _ _ _ _ _ (told (parts.Entries choice)) (same_texts _ _ holds (slave_addresses line))
-    (ap (λ (k : KnownView). tally_text k.tally) known) (ap (λ (n : ℕ). verdict_text (Ok n)) (sym audit.counted))
+    ∙ ap (λ (lines : List (List ℕ)). told_text line places lines choice ++ verdict_text (Ok count)) (rows_are line text count audit)
+    ∙ whole_same _ _ _ _ _ _ _ _ _ _
+    (entries_told ways numbers events choice start entries audit.legal audit.limits room)
+    (entries_ended ways numbers events world entries audit.legal audit.limits room)
+    (ap (λ (w : World). holds_lasting w line.slaves) (entries_left ways numbers events world entries audit.legal audit.limits room))
+    (ap (λ (k : KnownView). tally_text k.tally) (entries_known ways numbers events start entries audit.legal audit.limits room))
+    (ap (λ (n : ℕ). verdict_text (Ok n)) (sym audit.counted))

@@ -43,6 +43,7 @@ use Rattle.dp_sentences.specs.declared.who.Whom.TheVariants.{Slave, AllSlaves}
 use Rattle.dp_sentences.specs.Heads.{whom_of_frame}
 use Rattle.dp_sentences.specs.Results.{shown_at}
 use Rattle.dp_sentences.specs.Changes.{asked_addresses, change_of, change_row, changed_row, same_holder, same_state, touched}
+use Rattle.dp_explain.specs.Holds.{ended_at, hold_ended}
 use Rattle.dp_explain.specs.Standing.{standing_at}
 use Rattle.dp_explain.proofs.Reached.{IsConcerned, IsWay, leaves, reaches, operates, asks_it, at_after, found_address, heard_frame, telegram_frame, to_all_controls, way}
 use Rattle.dp_explain.proofs.Retold.{taken_by}
@@ -258,7 +259,7 @@ holders_same : (holder : Option ℕ) → same_holder holder holder ≡ true
 holders_same None = refl
 holders_same (Some master) = eq-eqb master master refl
 
-pub row_of_same : (address : ℕ) (before after : SlaveRecord) → state_and_holder after ≡ state_and_holder before → change_row address (Some (view_of before)) (Some (view_of after)) ≡ []
+row_of_same : (address : ℕ) (before after : SlaveRecord) → state_and_holder after ≡ state_and_holder before → change_row address (Some (view_of before)) (Some (view_of after)) ≡ []
 row_of_same address before after same =
     let state : after.state ≡ before.state = ap (λ (pair : State × Option ℕ). pair.0) same in
     let holder : after.holder ≡ before.holder = ap (λ (pair : State × Option ℕ). pair.1) same in
@@ -279,6 +280,28 @@ stays_without_row world entry address same =
     let at = at_after world entry.event address in
     ap (λ (found : Option SlaveRecord). change_row address (shown_at world address) (option_map view_of found)) at
     ∙ stays_by (slave_after world entry.event) address (slave_at world address) (ap (option_map state_and_holder) (sym at) ∙ same)
+
+-- ---- no hold of an unchanged slave ended
+
+end_of_same : (place : ℕ) (event : Event) (address : ℕ) (before after : SlaveRecord) → state_and_holder after ≡ state_and_holder before
+    → hold_ended place event address (Some (view_of before)) (Some (view_of after)) ≡ []
+end_of_same place event address before after same =
+    let holder : after.holder ≡ before.holder = ap (λ (pair : State × Option ℕ). pair.1) same in
+    let unchanged = holders_same before.holder in
+    rw (holder, unchanged) refl
+
+unended_by : (f : SlaveRecord → SlaveRecord) (place : ℕ) (event : Event) (address : ℕ) (found : Option SlaveRecord)
+    → option_map state_and_holder (option_map f found) ≡ option_map state_and_holder found
+    → hold_ended place event address (option_map view_of found) (option_map view_of (option_map f found)) ≡ []
+unended_by f place event address None same = refl
+unended_by f place event address (Some slave) same = end_of_same place event address slave (f slave) (some_parts _ _ same)
+
+pub stays_without_end : (world : World) (entry : Entry) (address : ℕ) → standing_at (after_entry world entry) address ≡ standing_at world address
+    → ended_at world (after_entry world entry) entry.place entry.event address ≡ []
+stays_without_end world entry address same =
+    let at = at_after world entry.event address in
+    ap (λ (found : Option SlaveRecord). hold_ended entry.place entry.event address (shown_at world address) (option_map view_of found)) at
+    ∙ unended_by (slave_after world entry.event) entry.place entry.event address (slave_at world address) (ap (option_map state_and_holder) (sym at) ∙ same)
 
 -- ---- a world of a journal
 

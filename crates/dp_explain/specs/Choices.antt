@@ -4,12 +4,14 @@ use Rattle.std.specs.List.{list_any}
 use Rattle.dp_line.specs.declared.event.Event.{Event}
 use Rattle.dp_line.specs.declared.event.Outcome.{Outcome}
 use Rattle.dp_line.specs.declared.event.Outcome.TheVariants.{Spread, Released}
-use Rattle.dp_line.specs.Refusals.{is_refused}
+use Rattle.dp_line.specs.Refusals.{is_refused_event}
 use Rattle.dp_explain.specs.declared.choice.Choice.{Choice}
 use Rattle.dp_sentences.specs.declared.who.Whom.TheVariants.{Slave}
 use Rattle.dp_sentences.specs.declared.who.Who.{Who}
 use Rattle.dp_sentences.specs.declared.who.Who.TheVariants as senders
 use Rattle.dp_sentences.specs.Heads.{who_of}
+use Rattle.dp_sentences.specs.Scenes.{SceneView}
+use Rattle.dp_sentences.specs.Ways.{is_fault}
 
 -- a place is not before the first chosen one, and not after the last
 abbrev pub is_from : Option ℕ → ℕ → Bool
@@ -45,12 +47,13 @@ abbrev pub is_of_master : Option ℕ → Who → Bool
 is_of_master None who = true
 is_of_master (Some master) who = comes_from master who
 
--- the entry passes every field of the choice
-abbrev pub is_chosen : Choice → ℕ → Event → Outcome → Bool
-is_chosen choice place event outcome =
+-- the entry, before which the scene is this one, passes every field of the choice
+abbrev pub is_chosen : Choice → SceneView → ℕ → Event → Outcome → Bool
+is_chosen choice scene place event outcome =
     is_from choice.from place
     && is_to choice.to place
     && is_of_slave choice.slave (who_of event) outcome
     && is_of_master choice.master (who_of event)
-    && (not choice.refused || is_refused outcome)
+    && (not choice.refused || is_refused_event event outcome)
+    && (not choice.faults || is_fault scene event outcome)
     && not choice.summary

@@ -2,7 +2,6 @@
 use Rattle.std.specs.Prelude.{codes, ◌≡◌, ℕ, ◌+◌, ◌-◌, if◌then◌else◌, List, [], ◌∷◌, ◌++◌, take, drop, Option, Some, None, option_map, option_and_then, Result, Ok, Err}
 use Rattle.std.specs.Io.KnownBytes.{Appends}
 use Rattle.std.specs.Fmt.{decimal}
-use Rattle.std.specs.List.{flat_map}
 use Rattle.dp_line.specs.declared.event.Event.{Event}
 use Rattle.dp_line.specs.declared.event.Outcome.{Outcome}
 use Rattle.dp_line.specs.World.{Description, World}
@@ -13,51 +12,76 @@ use Rattle.dp_audit.specs.declared.fault.AuditFault.{AuditFault}
 use Rattle.dp_audit.specs.declared.fault.AuditFault.TheVariants as faults
 use Rattle.dp_audit.specs.Check.{checked, parted, placed_of, places_of_lines}
 use Rattle.dp_explain.specs.declared.choice.Choice.{Choice}
-use Rattle.dp_explain.specs.declared.part.Part.{Part}
-use Rattle.dp_explain.specs.declared.part.Part.TheVariants as parts
 use Rattle.dp_explain.specs.declared.explain_fault.ExplainFault.{ExplainFault}
-use Rattle.dp_sentences.specs.Results.{shown_at}
 use Rattle.dp_sentences.specs.Scenes.{SceneView}
 use Rattle.dp_sentences.specs.Blocks.{block_text}
 use Rattle.dp_explain.specs.Choices.{is_chosen}
 use Rattle.dp_explain.specs.Tallies.{tally_text}
-use Rattle.dp_explain.specs.Holds.{hold_ended, hold_lasts}
-use Rattle.dp_explain.specs.Known.{KnownView, first_known, known_after, outcome_told, slave_addresses}
-
--- ---- the entries
+use Rattle.dp_explain.specs.Holds.{holds_ended, holds_lasting}
+use Rattle.dp_explain.specs.Known.{KnownView, first_known, first_world, known_after, outcome_told}
 
 -- the event of a text line, which stands between the place and the first bar
 abbrev pub event_of_row : List ℕ → Option Event
 event_of_row row = option_and_then (λ parts. option_map (λ placed. placed.event) (placed_of parts.0)) (parted row)
 
--- what one pass over the text writes of an event, by its outcome: its rows, if it is chosen; or the hold of a slave that it ended
-abbrev pub moment_text : Part → SceneView → World → ℕ → Event → Outcome → List ℕ
-moment_text (parts.Entries choice) scene after place event outcome =
-    if is_chosen choice place event outcome then block_text scene after place event outcome else []
-moment_text (parts.HoldsOf address) scene after place event outcome =
-    hold_ended place event address (shown_at scene.world address) (shown_at after address)
+-- ---- the entries
+
+-- the rows of an event with this outcome, if it is chosen
+abbrev pub chosen_text : Choice → SceneView → World → ℕ → Event → Outcome → List ℕ
+chosen_text choice scene after place event outcome =
+    if is_chosen choice scene place event outcome then block_text scene after place event outcome else []
 
 -- the event takes the next place of the line
-abbrev pub told_event : Part → SceneView → Event → List ℕ
-told_event part scene event =
-    moment_text part scene (step scene.world event).world (scene.world.count + 1) event (outcome_told scene.world event)
+abbrev pub told_event : Choice → SceneView → Event → List ℕ
+told_event choice scene event =
+    chosen_text choice scene (step scene.world event).world (scene.world.count + 1) event (outcome_told scene.world event)
 
-abbrev pub told_row : Part → KnownView → Option Event → List ℕ
-told_row part known None = []
-told_row part known (Some event) = told_event part known.scene event
+abbrev pub told_row : Choice → KnownView → Option Event → List ℕ
+told_row choice known None = []
+told_row choice known (Some event) = told_event choice known.scene event
 
 abbrev pub known_behind : KnownView → Option Event → KnownView
 known_behind known None = known
 known_behind known (Some event) = known_after known event
 
 -- what is written of the lines of an audit text, one after another, and what is known after the last
-abbrev pub told_rows : Part → KnownView → List (List ℕ) → List ℕ
-told_rows part known [] = []
-told_rows part known (row ∷ rows) = told_row part known (event_of_row row) ++ told_rows part (known_behind known (event_of_row row)) rows
+abbrev pub told_rows : Choice → KnownView → List (List ℕ) → List ℕ
+told_rows choice known [] = []
+told_rows choice known (row ∷ rows) = told_row choice known (event_of_row row) ++ told_rows choice (known_behind known (event_of_row row)) rows
 
 abbrev pub last_known : KnownView → List (List ℕ) → KnownView
 last_known known [] = known
 last_known known (row ∷ rows) = last_known (known_behind known (event_of_row row)) rows
+
+-- ---- the holds
+
+-- the holds that an event ended, which takes the next place of the line
+abbrev pub ended_by : World → Event → List ℕ
+ended_by world event = holds_ended world (step world event).world (world.count + 1) event (outcome_told world event)
+
+abbrev pub ended_by_row : World → Option Event → List ℕ
+ended_by_row world None = []
+ended_by_row world (Some event) = ended_by world event
+
+abbrev pub world_behind : World → Option Event → World
+world_behind world None = world
+world_behind world (Some event) = (step world event).world
+
+-- the holds that the lines of an audit text ended, in the order in which they ended, and the line after the last
+abbrev pub ended_by_rows : World → List (List ℕ) → List ℕ
+ended_by_rows world [] = []
+ended_by_rows world (row ∷ rows) = ended_by_row world (event_of_row row) ++ ended_by_rows (world_behind world (event_of_row row)) rows
+
+abbrev pub last_world : World → List (List ℕ) → World
+last_world world [] = world
+last_world world (row ∷ rows) = last_world (world_behind world (event_of_row row)) rows
+
+-- the holds of a line with this number of places: those that ended, and then those that last, in the order of the rack
+abbrev pub holds_of : Description → ℕ → List (List ℕ) → List ℕ
+holds_of line places rows = ended_by_rows (first_world line places) rows ++ holds_lasting (last_world (first_world line places) rows) line.slaves
+
+abbrev pub holds_text : Description → ℕ → List (List ℕ) → List ℕ
+holds_text line places rows = codes "holds\n" ++ holds_of line places rows
 
 -- ---- the text
 
@@ -84,22 +108,13 @@ verdict_status (Err fault) = 1
 abbrev pub right_rows : Result ℕ AuditFault → List ℕ → List (List ℕ)
 right_rows verdict text = take (right_entries verdict) (drop 1 (lines_of text))
 
--- the holds of a slave of a line with this number of places, in the order in which they began; the last one may last to the end
-abbrev pub holds_of : Description → ℕ → List (List ℕ) → ℕ → List ℕ
-holds_of line places rows address =
-    told_rows (parts.HoldsOf address) (first_known line places) rows
-    ++ hold_lasts address (shown_at (last_known (first_known line places) rows).scene.world address)
-
--- the holds of each slave in the order of the rack, and how many requests were answered by each rule
-abbrev pub holds_text : Description → ℕ → List (List ℕ) → List ℕ
-holds_text line places rows = codes "holds\n" ++ flat_map (holds_of line places rows) (slave_addresses line)
-
+-- the holds, and how many requests were answered in each way
 abbrev pub summary_text : Description → ℕ → List (List ℕ) → List ℕ
 summary_text line places rows = holds_text line places rows ++ tally_text (last_known (first_known line places) rows).tally
 
 -- the rows of the entries, and the summary
 abbrev pub told_text : Description → ℕ → List (List ℕ) → Choice → List ℕ
-told_text line places rows choice = told_rows (parts.Entries choice) (first_known line places) rows ++ summary_text line places rows
+told_text line places rows choice = told_rows choice (first_known line places) rows ++ summary_text line places rows
 
 -- the rows, the summary and the verdict
 abbrev pub explained_by : Result ℕ AuditFault → Description → List ℕ → Choice → List ℕ

@@ -8,28 +8,42 @@ use Rattle.dp_line.specs.World.{Description, World, start_of}
 use Rattle.dp_line.specs.Steps.{step}
 use Rattle.dp_sentences.specs.Notes.{first_notes, notes_after}
 use Rattle.dp_sentences.specs.Scenes.{SceneView}
-use Rattle.dp_explain.specs.declared.tally.Counted.{Counted}
+use Rattle.dp_sentences.specs.Times.{time_after}
+use Rattle.dp_explain.specs.declared.tally.SenderCounts.{SenderCounts}
 use Rattle.dp_explain.specs.Tallies.{first_tally, tally_after}
 
 pub record KnownView : Type 0 where
   pub scene : SceneView
-  pub tally : List Counted
+  pub tally : List SenderCounts
 
 abbrev pub slave_addresses : Description → List ℕ
 slave_addresses line = map (λ slave. slave.address) line.slaves
 
 -- before the first entry of a line with this number of places
+abbrev pub first_world : Description → ℕ → World
+first_world line places = start_of (record line { capacity = places })
+
 abbrev pub first_known : Description → ℕ → KnownView
 first_known line places = record {
-  scene = record { description = line; world = start_of (record line { capacity = places }); notes = first_notes (slave_addresses line) line.masters };
+  scene = record {
+    description = line;
+    world = first_world line places;
+    notes = first_notes (slave_addresses line) line.masters;
+    time = None;
+  };
   tally = first_tally line.masters;
 }
 
 -- after an event at this place, by its outcome and the line after it
 abbrev pub known_with : KnownView → World → ℕ → Event → Outcome → KnownView
 known_with known after place event outcome = record {
-  scene = record { description = known.scene.description; world = after; notes = notes_after known.scene.notes place event outcome };
-  tally = tally_after known.tally event outcome;
+  scene = record {
+    description = known.scene.description;
+    world = after;
+    notes = notes_after known.scene.notes place event outcome;
+    time = time_after known.scene.time event;
+  };
+  tally = tally_after known.tally known.scene event outcome;
 }
 
 -- ---- by the state of the line

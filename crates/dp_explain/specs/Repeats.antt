@@ -29,20 +29,20 @@ is_replied_anew slave master event outcome = false
 abbrev pub leaves_a_reply : ℕ → ℕ → Entry → Bool
 leaves_a_reply slave master entry = is_replied_anew slave master entry.event entry.outcome
 
--- the last entry that left a reply of the slave to the master has this place; its telegram has this FCB, and its reply is this one
-pub record IsLastReplied (entries : List Entry) (slave master place : ℕ) (fcb : Bool) (reply : List ℕ) : Type 0 where
+-- the last entry that left a reply of the slave to the master has this place and is a request of these octets; its telegram has this FCB, and
+-- its reply is this one
+pub record IsLastReplied (entries : List Entry) (slave master place : ℕ) (octets : ArrayVec ℕ) (fcb : Bool) (reply : List ℕ) : Type 0 where
   pub front : List Entry
   pub asked : Entry
   pub behind : List Entry
   pub split : entries ≡ front ++ asked ∷ behind
   pub at : asked.place ≡ place
   pub last : AllByRecursion (λ entry. leaves_a_reply slave master entry ≡ false) behind
-  pub octets : ArrayVec ℕ
-  pub telegram : Telegram
-  pub rule : Rule
   pub request : asked.event ≡ Request master octets
+  pub telegram : Telegram
   pub spelt : telegram_spelt octets.items ≡ Some telegram
   pub to_slave : is_srd_to slave telegram ≡ true
   pub count_bit : frame_count_bit telegram.fc ≡ fcb
+  pub rule : Rule
   pub anew : is_judged_anew rule ≡ true
   pub replied : asked.outcome ≡ Reply (record { items = reply }) rule

@@ -1,114 +1,142 @@
--- How many requests of each master were answered by each rule (own). A sender that is no master of the line counts as one of the others.
-use Rattle.std.specs.Prelude.{codes, ℕ, ◌+◌, ◌-◌, ◌^◌, ◌==◌, ◌&&◌, not, min, if◌then◌else◌, Bool, true, false, List, [], ◌∷◌, ◌++◌, map, Option, Some, None}
-use Rattle.std.specs.List.{flat_map, list_any}
+-- How many requests of each master were answered in each way (own). A sender that is no master of the line counts as one of the others.
+use Rattle.std.specs.Prelude.{codes, ℕ, ◌+◌, ◌-◌, ◌^◌, ◌==◌, ◌&&◌, not, min, if◌then◌else◌, Bool, true, false, List, [], ◌∷◌, ◌++◌, map, replicate, slice_index, slice_set, Option, Some, None}
+use Rattle.std.specs.List.{flat_map}
 use Rattle.std.specs.Option.{option_map_or}
 use Rattle.std.specs.Fmt.{decimal}
 use Rattle.dp_responder.specs.declared.rule.Rule.{Rule}
 use Rattle.dp_responder.specs.declared.rule.Rule.TheVariants as rules
-use Rattle.dp_responder.specs.Rules.{rule_code, rule_name}
+use Rattle.dp_responder.specs.Rules.{rule_code}
 use Rattle.dp_line.specs.declared.event.Event.{Event}
 use Rattle.dp_line.specs.declared.event.Event.TheVariants.{Request, Operator}
 use Rattle.dp_line.specs.declared.event.Outcome.{Outcome}
 use Rattle.dp_line.specs.declared.event.Outcome.TheVariants.{Reply, Silence, Spread, Done}
-use Rattle.dp_explain.specs.declared.tally.Counted.{Counted}
-use Rattle.dp_responder.specs.Rules.{all_rules, is_refusal}
+use Rattle.dp_sentences.specs.declared.way.Answered.{Answered}
+use Rattle.dp_sentences.specs.declared.way.Answered.TheVariants as ways
+use Rattle.dp_explain.specs.declared.tally.SenderCounts.{SenderCounts}
+use Rattle.dp_sentences.specs.Scenes.{SceneView}
+use Rattle.dp_sentences.specs.Ways.{answered_as, is_fault_way, way_name}
 use Rattle.dp_sentences.specs.Words.{at_left, at_right}
-use Rattle.dp_sentences.specs.Changes.{same_holder}
 
--- ---- counting
+-- ---- the counts of a sender
 
--- what is counted for a sender: its requests by each rule, and its requests to all slaves that reached no slave
-abbrev pub all_ways : List (Option Rule)
-all_ways = map Some all_rules ++ None ∷ []
+-- all ways in the order of their rows; None is that of a request to all slaves that reached no slave
+abbrev pub all_ways : List (Option Answered)
+all_ways =
+    Some (ways.ByRule rules.Halted) ∷ Some (ways.ByRule rules.NoFrame) ∷ Some (ways.ByRule rules.NoMaster) ∷ Some (ways.ByRule rules.ForeignSender)
+    ∷ Some (ways.ByRule rules.Token) ∷ Some (ways.ByRule rules.NotRequest) ∷ Some (ways.ByRule rules.BadFunction) ∷ Some (ways.ByRule rules.BadExtension)
+    ∷ Some (ways.ByRule rules.BadBroadcast) ∷ Some (ways.ByRule rules.NoStation) ∷ Some ways.LiveListPoll ∷ Some (ways.ByRule rules.Status)
+    ∷ Some (ways.ByRule rules.NoService) ∷ Some ways.Retry ∷ Some ways.OtherRepeat ∷ Some (ways.ByRule rules.NotActive)
+    ∷ Some (ways.ByRule rules.NotHolder) ∷ Some (ways.ByRule rules.NotListed) ∷ Some (ways.ByRule rules.Busy) ∷ Some (ways.ByRule rules.Length)
+    ∷ Some (ways.ByRule rules.NotSelected) ∷ Some (ways.ByRule rules.Done) ∷ Some ways.WrongSetPrm ∷ Some ways.WrongChkCfg ∷ None ∷ []
 
-abbrev pub uncounted : Option ℕ → Option Rule → Counted
-uncounted sender way = record { sender = sender; way = way; count = 0 }
+-- the number of a way among the counts of a sender: that of its rule, 1 to 20, or a later one. No way has the number of Repeat, because a repeat
+-- is a retry or another telegram
+abbrev pub way_number : Option Answered → ℕ
+way_number None = 0
+way_number (Some (ways.ByRule rule)) = rule_code rule
+way_number (Some ways.LiveListPoll) = 21
+way_number (Some ways.Retry) = 22
+way_number (Some ways.OtherRepeat) = 23
+way_number (Some ways.WrongSetPrm) = 24
+way_number (Some ways.WrongChkCfg) = 25
 
-abbrev pub uncounted_of : Option ℕ → List Counted
-uncounted_of sender = map (uncounted sender) all_ways
+-- before the first event
+abbrev pub uncounted : Option ℕ → SenderCounts
+uncounted sender = record { sender = sender; by_way = replicate 26 0 }
 
--- the counts before the first event: 0 for each master and for the others
-abbrev pub masters_tally : List ℕ → List Counted
-masters_tally masters = flat_map (λ master. uncounted_of (Some master)) masters
-
-abbrev pub first_tally : List ℕ → List Counted
-first_tally masters = masters_tally masters ++ uncounted_of None
-
-abbrev pub same_rule : Rule → Rule → Bool
-same_rule rule other = rule_code rule == rule_code other
-
-abbrev pub same_way : Option Rule → Option Rule → Bool
-same_way None None = true
-same_way (Some rule) (Some other) = same_rule rule other
-same_way way other = false
-
--- a master of the line as its address; None for any other sender
-abbrev pub counts_of : ℕ → Counted → Bool
-counts_of master counted = option_map_or (λ sender. sender == master) counted.sender false
-
-abbrev pub sender_in : List Counted → ℕ → Option ℕ
-sender_in tally master = if list_any (counts_of master) tally then Some master else None
+abbrev pub count_of : SenderCounts → Option Answered → ℕ
+count_of counts way = slice_index counts.by_way (way_number way)
 
 -- a count stops at the largest number of 64 bits
 abbrev pub added : ℕ → ℕ → ℕ
 added count more = min (count + more) (2 ^ 64 - 1)
 
-abbrev pub counted_at : Option ℕ → Option Rule → Counted → Counted
-counted_at sender way counted =
-    if same_holder counted.sender sender && same_way counted.way way then record counted { count = added counted.count 1 } else counted
+-- after one more request that was answered in this way
+abbrev pub one_more : Option Answered → SenderCounts → SenderCounts
+one_more way counts = record counts { by_way = slice_set counts.by_way (way_number way) (added (count_of counts way) 1) }
 
--- a request counts once; one to all slaves counts once for each slave that it reached, or once if it reached none
-abbrev pub tally_with : List Counted → Option ℕ → List (ℕ × Rule) → List Counted
-tally_with tally sender [] = tally
-tally_with tally sender (pair ∷ pairs) = tally_with (map (counted_at sender (Some pair.1)) tally) sender pairs
+-- ---- the tally: the counts of each master, and last those of all others
 
-abbrev pub tally_spread : List Counted → Option ℕ → List (ℕ × Rule) → List Counted
-tally_spread tally sender [] = map (counted_at sender None) tally
-tally_spread tally sender (pair ∷ pairs) = tally_with tally sender (pair ∷ pairs)
+abbrev pub masters_tally : List ℕ → List SenderCounts
+masters_tally masters = map (λ master. uncounted (Some master)) masters
 
-abbrev pub tally_answer : List Counted → Option ℕ → Outcome → List Counted
-tally_answer tally sender (Reply reply rule) = map (counted_at sender (Some rule)) tally
-tally_answer tally sender (Silence rule) = map (counted_at sender (Some rule)) tally
-tally_answer tally sender Done = map (counted_at sender (Some rules.Done)) tally
-tally_answer tally sender (Spread pairs) = tally_spread tally sender pairs.items
-tally_answer tally sender outcome = tally
+abbrev pub first_tally : List ℕ → List SenderCounts
+first_tally masters = masters_tally masters ++ uncounted None ∷ []
 
-abbrev pub tally_after : List Counted → Event → Outcome → List Counted
-tally_after tally (Request master octets) outcome = tally_answer tally (sender_in tally master) outcome
-tally_after tally (Operator op) outcome = tally
+-- the counts are for requests of this master; those of the others are for any
+abbrev pub is_for_sender : ℕ → SenderCounts → Bool
+is_for_sender master counts = option_map_or (λ sender. sender == master) counts.sender true
+
+-- the first counts that are for the sender are changed
+abbrev pub counted : ℕ → Option Answered → List SenderCounts → List SenderCounts
+counted master way [] = []
+counted master way (counts ∷ others) =
+    if is_for_sender master counts then one_more way counts ∷ others else counts ∷ counted master way others
+
+-- a request to all slaves counts once for each slave that it reached, by that slave's rule, or once if it reached none
+abbrev pub counted_each : ℕ → List (ℕ × Rule) → List SenderCounts → List SenderCounts
+counted_each master [] tally = tally
+counted_each master (pair ∷ pairs) tally = counted_each master pairs (counted master (Some (ways.ByRule pair.1)) tally)
+
+abbrev pub counted_spread : ℕ → List (ℕ × Rule) → List SenderCounts → List SenderCounts
+counted_spread master [] tally = counted master None tally
+counted_spread master (pair ∷ pairs) tally = counted_each master (pair ∷ pairs) tally
+
+-- another request counts once, by the way in which it was answered
+abbrev pub counted_answer : SceneView → ℕ → List ℕ → Outcome → List SenderCounts → List SenderCounts
+counted_answer scene master octets (Reply reply rule) tally = counted master (Some (answered_as scene master octets rule)) tally
+counted_answer scene master octets (Silence rule) tally = counted master (Some (answered_as scene master octets rule)) tally
+counted_answer scene master octets Done tally = counted master (Some (answered_as scene master octets rules.Done)) tally
+counted_answer scene master octets (Spread pairs) tally = counted_spread master pairs.items tally
+counted_answer scene master octets outcome tally = tally
+
+-- after an event, by the scene before it and its outcome
+abbrev pub tally_after : List SenderCounts → SceneView → Event → Outcome → List SenderCounts
+tally_after tally scene (Request master octets) outcome = counted_answer scene master octets.items outcome tally
+tally_after tally scene (Operator op) outcome = tally
 
 -- ---- rows
 
-abbrev pub way_words : Option Rule → List ℕ
+abbrev pub way_words : Option Answered → List ℕ
 way_words None = codes "to no slave"
-way_words (Some rule) = rule_name rule
+way_words (Some answered) = way_name answered
 
-abbrev pub count_columns : Option Rule → ℕ → List ℕ
+abbrev pub count_columns : Option Answered → ℕ → List ℕ
 count_columns way count = at_left 14 (way_words way) ++ at_right 8 (decimal count) ++ codes "\n"
 
 abbrev pub sender_words : Option ℕ → List ℕ
 sender_words None = codes "others"
 sender_words (Some master) = codes "master " ++ decimal master
 
-abbrev pub counted_row : Counted → List ℕ
-counted_row counted =
-    if counted.count == 0 then []
-    else codes "  " ++ at_left 12 (sender_words counted.sender) ++ count_columns counted.way counted.count
+-- the row of a sender and a way; no row if the count is 0
+abbrev pub counted_row : SenderCounts → Option Answered → List ℕ
+counted_row counts way =
+    if count_of counts way == 0 then []
+    else codes "  " ++ at_left 12 (sender_words counts.sender) ++ count_columns way (count_of counts way)
 
--- the requests of all senders that a rule answered
-abbrev pub total : List Counted → Rule → ℕ
-total [] rule = 0
-total (counted ∷ others) rule = if same_way counted.way (Some rule) then added (total others rule) counted.count else total others rule
+-- the rows of a sender
+unfoldable pub sender_rows : SenderCounts → List ℕ
+sender_rows counts = flat_map (counted_row counts) all_ways
 
-abbrev pub refused_row : List Counted → Rule → List ℕ
-refused_row tally rule =
-    if is_refusal rule && not (total tally rule == 0) then codes "  " ++ count_columns (Some rule) (total tally rule) else []
+-- the requests of all senders that were answered in a way
+abbrev pub total : List SenderCounts → Option Answered → ℕ
+total [] way = 0
+total (counts ∷ others) way = added (total others way) (count_of counts way)
 
-abbrev pub counted_table : List Counted → List ℕ
-counted_table tally = codes "requests by rule\n" ++ flat_map counted_row tally
+-- a way that is a fault of the bus; that a request reached no slave is none
+abbrev pub is_fault : Option Answered → Bool
+is_fault way = option_map_or is_fault_way way false
 
-abbrev pub refused_table : List Counted → List ℕ
-refused_table tally = codes "refusals by rule\n" ++ flat_map (refused_row tally) all_rules
+-- the row of a fault that was counted
+abbrev pub fault_row : List SenderCounts → Option Answered → List ℕ
+fault_row tally way =
+    if is_fault way && not (total tally way == 0) then codes "  " ++ count_columns way (total tally way) else []
 
-abbrev pub tally_text : List Counted → List ℕ
-tally_text tally = counted_table tally ++ refused_table tally
+abbrev pub counted_table : List SenderCounts → List ℕ
+counted_table tally = codes "requests by rule\n" ++ flat_map sender_rows tally
+
+abbrev pub faults_table : List SenderCounts → List ℕ
+faults_table tally = codes "faults\n" ++ flat_map (fault_row tally) all_ways
+
+abbrev pub tally_text : List SenderCounts → List ℕ
+tally_text tally = counted_table tally ++ faults_table tally

@@ -4,9 +4,9 @@ ghost use Rattle.std.specs.Prelude.{◌≡◌, ◌==◌};
 ghost use Rattle.std.specs.List.{list_any};
 ghost use Rattle.dp_explain.specs.Choices.{is_from, is_to, goes_to, is_about, is_of_slave, comes_from, is_of_master, is_chosen};
 
-use dp_line::{Event, Outcome};
+use dp_line::{Event, Outcome, is_refused};
 use dp_responder::Rule;
-use dp_sentences::{Who, Whom};
+use dp_sentences::{Scene, Who, Whom, is_fault};
 
 /// A choice of entries: those that pass every field.
 #[derive(Clone, Copy)]
@@ -19,25 +19,36 @@ pub struct Choice {
     pub slave: Option<u8>,
     /// The address of the master that sent the request; None chooses every master, and the operator.
     pub master: Option<u8>,
-    /// Chooses only requests that were refused; a request to all slaves if any of them refused it.
+    /// Chooses only events that were refused. A request to all slaves is refused if at least one of them refuses it by
+    /// another rule than NotSelected. A live-list poll, which is an FDL status to an address without a slave, is not.
     pub refused: bool,
+    /// Chooses only the faults of the bus: requests that were answered in a way that is a fault, refused events of the
+    /// operator, ticks that release a slave, and the halt.
+    pub faults: bool,
     /// Chooses no entry at all: only the summary is written.
     pub summary: bool,
 }
 
-/// Returns whether the choice includes the entry.
+/// Returns whether the choice includes the entry. The scene is that before its event.
 ///
-/// A refusal is decided by the rule. So a wrong Set_Prm or Chk_Cfg, which is Done, is left out: the slave took it and
-/// was released.
-pub(crate) fn is_chosen(choice: &Choice, place: u64, event: &Event, outcome: &Outcome) -> bool
-    ensures { result ≡ is_chosen choice.now place event.now outcome.now }
+/// A refusal is decided by the rule. So a wrong Set_Prm or Chk_Cfg, which is Done, is no refusal: the slave took it and
+/// was released. It is a fault.
+pub(crate) fn is_chosen(
+    choice: &Choice,
+    scene: &Scene<'_>,
+    place: u64,
+    event: &Event,
+    outcome: &Outcome,
+) -> bool
+    ensures { result ≡ is_chosen choice.now scene.now place event.now outcome.now }
 {
     let who = Who::from_event(event);
     is_from(choice.from, place)
         && is_to(choice.to, place)
         && is_of_slave(choice.slave, who, outcome)
         && is_of_master(choice.master, who)
-        && (!choice.refused || outcome.is_refusal())
+        && (!choice.refused || is_refused(event, outcome))
+        && (!choice.faults || is_fault(scene, event, outcome))
         && !choice.summary
 }
 

@@ -1,24 +1,22 @@
 //! The explanation of an audit text.
 //!
 //! The text is checked first and explained afterwards, so the explanation of a text that isn't legal stops where the
-//! check does. The program reads the text whole, as a check does, because several passes go over it, and a file may
-//! change between two readings. The holds of each slave are a pass of their own, so that no list grows with the text.
+//! check does. The program reads the text whole, as a check does, because three passes go over it, and a file may
+//! change between two readings. The holds are written by a separate pass, so that no list grows with the text.
 //!
 //! The summary is always of the whole text, whatever is chosen: someone who asks for the entries of one slave sees
 //! its holds there.
 
 ghost use Rattle.std.specs.Prelude.{◌≡◌, ◌++◌, None, take, drop};
-ghost use Rattle.std.specs.List.{flat_map};
 ghost use Rattle.dp_text.specs.Words.{lines_of};
 ghost use Rattle.dp_line.specs.World.{description_of, opening_fault};
 ghost use Rattle.dp_audit.specs.Check.{checked, places_of_lines};
 ghost use Rattle.dp_explain.specs.Tallies.{tally_text};
-ghost use Rattle.dp_explain.specs.Known.{slave_addresses};
 ghost use Rattle.dp_explain.specs.Explained.{right_entries, verdict_text, verdict_status, holds_of, holds_text, told_text, explained, explained_by, Leaves, Explains};
 
 use crate::choice::Choice;
 use crate::explain_fault::ExplainFault;
-use crate::part::Part;
+use crate::holds_pass::HoldsPass;
 use crate::telling::Telling;
 use dp_audit::{AuditFault, check_text};
 use dp_line::LineSpec;
@@ -106,7 +104,7 @@ fn tell_text<W: Write>(
         Ok(telling) => telling,
         Err(fault) => return Err(fault),
     };
-    match telling.tell_rows(&Part::Entries(*choice), count, &mut rows_of(text), writer) {
+    match telling.tell_rows(choice, count, &mut rows_of(text), writer) {
         Ok(()) => tell_summary(&mut telling, alloc, line, text, count, writer),
         Err(fault) => Err(fault),
     }
@@ -125,14 +123,14 @@ fn tell_summary<W: Write>(
     ensures { Leaves (holds_text (description_of line.now) (places_of_lines (description_of line.now) (lines_of text.now)) (take count (drop 1 (lines_of text.now))) ++ tally_text telling.old.tally)
         (W.contents writer.old) (W.contents writer.new) result }
 {
-    match tell_all_holds(alloc, line, text, count, writer) {
+    match tell_holds(alloc, line, text, count, writer) {
         Ok(()) => telling.tell_tally(writer),
         Err(fault) => Err(fault),
     }
 }
 
 /// Writes a title, and the holds of all slaves of the line.
-fn tell_all_holds<W: Write>(
+fn tell_holds<W: Write>(
     alloc: Global,
     line: &LineSpec,
     text: &str,
@@ -144,13 +142,14 @@ fn tell_all_holds<W: Write>(
         (W.contents writer.old) (W.contents writer.new) result }
 {
     match write_whole(writer, b"holds\n") {
-        Ok(()) => tell_holds(alloc, line, text, count, writer),
+        Ok(()) => tell_hold_rows(alloc, line, text, count, writer),
         Err(_) => Err(ExplainFault::WriteFault),
     }
 }
 
-/// Writes the holds of each slave of the line.
-fn tell_holds<W: Write>(
+/// Writes the holds of all slaves of the line, in a separate pass over the text: those that ended, and then those that
+/// last.
+fn tell_hold_rows<W: Write>(
     alloc: Global,
     line: &LineSpec,
     text: &str,
@@ -158,37 +157,15 @@ fn tell_holds<W: Write>(
     writer: &mut W,
 ) -> Result<(), ExplainFault>
     requires { opening_fault (description_of line.now) ≡ None }
-    ensures { Leaves (flat_map (holds_of (description_of line.now) (places_of_lines (description_of line.now) (lines_of text.now)) (take count (drop 1 (lines_of text.now)))) (slave_addresses (description_of line.now)))
+    ensures { Leaves (holds_of (description_of line.now) (places_of_lines (description_of line.now) (lines_of text.now)) (take count (drop 1 (lines_of text.now))))
         (W.contents writer.old) (W.contents writer.new) result }
 {
-    for slave in line.slaves.as_slice() {
-        match tell_holds_of(alloc, line, text, count, slave.address, writer) {
-            Ok(()) => {}
-            Err(fault) => return Err(fault),
-        }
-    }
-    Ok(())
-}
-
-/// Writes the holds of the slave with this address, in a separate pass over the text.
-fn tell_holds_of<W: Write>(
-    alloc: Global,
-    line: &LineSpec,
-    text: &str,
-    count: u64,
-    address: u8,
-    writer: &mut W,
-) -> Result<(), ExplainFault>
-    requires { opening_fault (description_of line.now) ≡ None }
-    ensures { Leaves (holds_of (description_of line.now) (places_of_lines (description_of line.now) (lines_of text.now)) (take count (drop 1 (lines_of text.now))) address)
-        (W.contents writer.old) (W.contents writer.new) result }
-{
-    let mut telling = match Telling::open(alloc, line, text) {
-        Ok(telling) => telling,
+    let mut pass = match HoldsPass::open(alloc, line, text) {
+        Ok(pass) => pass,
         Err(fault) => return Err(fault),
     };
-    match telling.tell_rows(&Part::HoldsOf(address), count, &mut rows_of(text), writer) {
-        Ok(()) => telling.tell_lasting(address, writer),
+    match pass.tell_rows(count, &mut rows_of(text), writer) {
+        Ok(()) => pass.tell_lasting(line.slaves.as_slice(), writer),
         Err(fault) => Err(fault),
     }
 }

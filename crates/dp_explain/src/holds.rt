@@ -1,48 +1,49 @@
-//! The holds of slaves: by which master, from which place to which, and how each ended.
+//! The holds of slaves: by which master, from which entry to which, and how each ended.
 
 ghost use Rattle.std.specs.Prelude.{◌≡◌, ◌≤◌, length, Some};
-ghost use Rattle.dp_sentences.specs.Results.{shown_at};
-ghost use Rattle.dp_explain.specs.Holds.{places_words, station_column, hold_row, hold_ended, hold_lasts};
+ghost use Rattle.std.specs.List.{flat_map};
+ghost use Rattle.dp_sentences.specs.Changes.{asked_addresses, let_go};
+ghost use Rattle.dp_explain.specs.Holds.{entries_words, station_column, hold_row, ended_at, holds_ended, lasts_at, holds_lasting};
 
-use dp_line::{Event, LineState};
-use dp_sentences::{Ending, Spaces, digits_of, digits_of_long, same_holder};
+use dp_line::{Event, LineState, Outcome, SlaveSpec};
+use dp_sentences::{Ending, Spaces, Whom, digits_of, digits_of_long, same_holder};
 use std::fmt;
 
-/// The widths of the columns of a slave or a master, and of places.
+/// The widths of the columns of a slave or a master, and of entries.
 const STATION_COLUMNS: usize = 12;
 
-const PLACES_COLUMNS: usize = 24;
+const ENTRIES_COLUMNS: usize = 24;
 
-/// The places at which a hold began and ended.
+/// The entries at which a hold began and ended.
 #[derive(Clone, Copy)]
-struct Places {
+struct Entries {
     since: u32,
     /// The place of the event that ended the hold; None if it lasts.
     place: Option<u64>,
 }
 
-impl fmt::Display for Places {
-    ghost output = { λ s. Some (places_words s.since s.place) };
+impl fmt::Display for Entries {
+    ghost output = { λ s. Some (entries_words s.since s.place) };
 
     fn fmt<W: fmt::Write>(&self, f: &mut fmt::Formatter<W>) -> fmt::Result {
         let since = self.since;
         match self.place {
-            None => write!(f, "place {since} on"),
-            Some(place) => write!(f, "places {since} to {place}"),
+            None => write!(f, "entry {since} on"),
+            Some(place) => write!(f, "entries {since} to {place}"),
         }
     }
 }
 
-impl Places {
+impl Entries {
     /// Returns the number of characters of its text.
     fn width(self) -> usize
-        ensures width { result ≡ length (places_words self.since self.place) }
-        ensures few { result ≤ 51 }
+        ensures width { result ≡ length (entries_words self.since self.place) }
+        ensures few { result ≤ 52 }
     {
         let since = digits_of_long(u64::from(self.since));
         match self.place {
             None => 9 + since,
-            Some(place) => 11 + since + digits_of_long(place),
+            Some(place) => 12 + since + digits_of_long(place),
         }
     }
 }
@@ -52,12 +53,12 @@ impl Places {
 struct HoldRow {
     address: u8,
     master: u8,
-    places: Places,
+    entries: Entries,
     ending: Ending,
 }
 
 impl fmt::Display for HoldRow {
-    ghost output = { λ s. Some (hold_row s.address s.master s.places.since s.places.place s.ending) };
+    ghost output = { λ s. Some (hold_row s.address s.master s.entries.since s.entries.place s.ending) };
 
     fn fmt<W: fmt::Write>(&self, f: &mut fmt::Formatter<W>) -> fmt::Result {
         let slave = StationColumn {
@@ -68,10 +69,10 @@ impl fmt::Display for HoldRow {
             name: "master ",
             address: self.master,
         };
-        let places = self.places;
-        let behind = Spaces(PLACES_COLUMNS.saturating_sub(places.width()));
+        let entries = self.entries;
+        let behind = Spaces(ENTRIES_COLUMNS.saturating_sub(entries.width()));
         let ending = self.ending.name();
-        write!(f, "  {slave}{master}{places}{behind}{ending}\n")
+        write!(f, "  {slave}{master}{entries}{behind}{ending}\n")
     }
 }
 
@@ -94,26 +95,32 @@ impl<'a> fmt::Display for StationColumn<'a> {
     }
 }
 
-/// The hold of a slave that an event ended, as a row; writes nothing if the event ended no hold of the slave.
+/// An event at its place, and the line before and after it.
 #[derive(Clone, Copy)]
-pub(crate) struct HoldEnded<'a> {
+pub(crate) struct Taken<'a> {
     pub(crate) place: u64,
     pub(crate) event: &'a Event,
-    /// The address of the slave.
-    pub(crate) address: u8,
-    /// The line before and after the event.
     pub(crate) before: &'a LineState,
     pub(crate) after: &'a LineState,
 }
 
+/// The hold of a slave that an event ended, as a row; writes nothing if the event ended no hold of the slave.
+#[derive(Clone, Copy)]
+struct HoldEnded<'a> {
+    taken: Taken<'a>,
+    /// The address of the slave.
+    address: u8,
+}
+
 impl<'a> fmt::Display for HoldEnded<'a> {
-    ghost output = { λ s. Some (hold_ended s.place s.event.now s.address (shown_at s.before.now.world s.address) (shown_at s.after.now.world s.address)) };
+    ghost output = { λ s. Some (ended_at s.taken.before.now.world s.taken.after.now.world s.taken.place s.taken.event.now s.address) };
 
     fn fmt<W: fmt::Write>(&self, f: &mut fmt::Formatter<W>) -> fmt::Result {
-        let Some(before) = self.before.view(self.address) else {
+        let taken = self.taken;
+        let Some(before) = taken.before.view(self.address) else {
             return Ok(());
         };
-        let Some(after) = self.after.view(self.address) else {
+        let Some(after) = taken.after.view(self.address) else {
             return Ok(());
         };
         if same_holder(before.holder, after.holder) {
@@ -124,11 +131,11 @@ impl<'a> fmt::Display for HoldEnded<'a> {
                 let row = HoldRow {
                     address: self.address,
                     master,
-                    places: Places {
+                    entries: Entries {
                         since: before.since,
-                        place: Some(self.place),
+                        place: Some(taken.place),
                     },
-                    ending: Ending::by(self.event),
+                    ending: Ending::by(taken.event),
                 };
                 write!(f, "{row}")
             }
@@ -137,26 +144,133 @@ impl<'a> fmt::Display for HoldEnded<'a> {
     }
 }
 
+/// The holds of these slaves that an event ended.
+#[derive(Clone, Copy)]
+struct HoldsEndedOf<'a> {
+    taken: Taken<'a>,
+    addresses: &'a [u8],
+}
+
+impl<'a> fmt::Display for HoldsEndedOf<'a> {
+    ghost output = { λ s. Some (flat_map (ended_at s.taken.before.now.world s.taken.after.now.world s.taken.place s.taken.event.now) s.addresses.now) };
+
+    fn fmt<W: fmt::Write>(&self, f: &mut fmt::Formatter<W>) -> fmt::Result {
+        for address in self.addresses {
+            let hold = HoldEnded {
+                taken: self.taken,
+                address: *address,
+            };
+            write!(f, "{hold}")?;
+        }
+        Ok(())
+    }
+}
+
+/// The hold that a request ended, of the slave that it is sent to.
+#[derive(Clone, Copy)]
+struct AskedHold<'a> {
+    taken: Taken<'a>,
+    whom: Whom,
+}
+
+impl<'a> fmt::Display for AskedHold<'a> {
+    ghost output = { λ s. Some (flat_map (ended_at s.taken.before.now.world s.taken.after.now.world s.taken.place s.taken.event.now) (asked_addresses s.whom)) };
+
+    fn fmt<W: fmt::Write>(&self, f: &mut fmt::Formatter<W>) -> fmt::Result {
+        match self.whom {
+            Whom::Slave(address) => {
+                let hold = HoldEnded {
+                    taken: self.taken,
+                    address,
+                };
+                write!(f, "{hold}")
+            }
+            Whom::AllSlaves => Ok(()),
+            Whom::Station(_) => Ok(()),
+            Whom::Nobody => Ok(()),
+        }
+    }
+}
+
+/// The holds that a tick or the halt ended.
+#[derive(Clone, Copy)]
+struct ReleasedHolds<'a> {
+    taken: Taken<'a>,
+    outcome: &'a Outcome,
+}
+
+impl<'a> fmt::Display for ReleasedHolds<'a> {
+    ghost output = { λ s. Some (flat_map (ended_at s.taken.before.now.world s.taken.after.now.world s.taken.place s.taken.event.now) (let_go s.outcome.now)) };
+
+    fn fmt<W: fmt::Write>(&self, f: &mut fmt::Formatter<W>) -> fmt::Result {
+        match self.outcome {
+            Outcome::Released(addresses) => {
+                let holds = HoldsEndedOf {
+                    taken: self.taken,
+                    addresses: addresses.as_slice(),
+                };
+                write!(f, "{holds}")
+            }
+            Outcome::Reply { .. } => Ok(()),
+            Outcome::Silence(_) => Ok(()),
+            Outcome::Spread(_) => Ok(()),
+            Outcome::Done => Ok(()),
+            Outcome::Refused(_) => Ok(()),
+        }
+    }
+}
+
+/// The holds that an event with this outcome ended, as rows. It looks only at slaves whose holder the event can change.
+#[derive(Clone, Copy)]
+pub(crate) struct HoldsEnded<'a> {
+    pub(crate) taken: Taken<'a>,
+    pub(crate) outcome: &'a Outcome,
+}
+
+impl<'a> fmt::Display for HoldsEnded<'a> {
+    ghost output = { λ s. Some (holds_ended s.taken.before.now.world s.taken.after.now.world s.taken.place s.taken.event.now s.outcome.now) };
+
+    fn fmt<W: fmt::Write>(&self, f: &mut fmt::Formatter<W>) -> fmt::Result {
+        match self.taken.event {
+            Event::Request { octets, .. } => {
+                let hold = AskedHold {
+                    taken: self.taken,
+                    whom: Whom::from_octets(octets.as_slice()),
+                };
+                write!(f, "{hold}")
+            }
+            Event::Operator(_) => {
+                let holds = ReleasedHolds {
+                    taken: self.taken,
+                    outcome: self.outcome,
+                };
+                write!(f, "{holds}")
+            }
+        }
+    }
+}
+
 /// The hold of a slave that lasts, as a row; writes nothing if nobody holds the slave.
 #[derive(Clone, Copy)]
-pub(crate) struct HoldLasts<'a> {
-    pub(crate) address: u8,
-    pub(crate) line: &'a LineState,
+struct HoldLasts<'a> {
+    line: &'a LineState,
+    slave: &'a SlaveSpec,
 }
 
 impl<'a> fmt::Display for HoldLasts<'a> {
-    ghost output = { λ s. Some (hold_lasts s.address (shown_at s.line.now.world s.address)) };
+    ghost output = { λ s. Some (lasts_at s.line.now.world s.slave.now) };
 
     fn fmt<W: fmt::Write>(&self, f: &mut fmt::Formatter<W>) -> fmt::Result {
-        let Some(slave) = self.line.view(self.address) else {
+        let address = self.slave.address;
+        let Some(slave) = self.line.view(address) else {
             return Ok(());
         };
         match slave.holder {
             Some(master) => {
                 let row = HoldRow {
-                    address: self.address,
+                    address,
                     master,
-                    places: Places {
+                    entries: Entries {
                         since: slave.since,
                         place: None,
                     },
@@ -166,5 +280,27 @@ impl<'a> fmt::Display for HoldLasts<'a> {
             }
             None => Ok(()),
         }
+    }
+}
+
+/// The holds of these slaves that last, as rows.
+#[derive(Clone, Copy)]
+pub(crate) struct HoldsLasting<'a> {
+    pub(crate) line: &'a LineState,
+    pub(crate) slaves: &'a [SlaveSpec],
+}
+
+impl<'a> fmt::Display for HoldsLasting<'a> {
+    ghost output = { λ s. Some (holds_lasting s.line.now.world s.slaves.now) };
+
+    fn fmt<W: fmt::Write>(&self, f: &mut fmt::Formatter<W>) -> fmt::Result {
+        for slave in self.slaves {
+            let hold = HoldLasts {
+                line: self.line,
+                slave,
+            };
+            write!(f, "{hold}")?;
+        }
+        Ok(())
     }
 }

@@ -1,10 +1,12 @@
 //! Laws of explanations: each is the contract of a function that does nothing.
 
-ghost use Rattle.std.specs.Prelude.{codes, ◌≡◌, ◌==◌, ◌++◌, ℕ, true, false, List, [], ◌∷◌, map, Some, is_some};
+ghost use Rattle.std.specs.Prelude.{◌≡◌, ◌≢◌, ◌==◌, ◌++◌, ℕ, true, false, List, [], ◌∷◌, map, Some, is_some};
 ghost use Rattle.std.specs.List.{flat_map, list_any};
+ghost use Rattle.std.specs.Option.{IsSomeAnd, option_and_then};
 ghost use Rattle.arrayvec.specs.ArrayVec.{ArrayVec};
 ghost use Rattle.dp_telegram.specs.declared.frame.Telegram.{Telegram};
-ghost use Rattle.dp_telegram.specs.Access.{address_of};
+ghost use Rattle.dp_telegram.specs.declared.access.Parts.{Parts};
+ghost use Rattle.dp_telegram.specs.Access.{address_of, parts_of};
 ghost use Rattle.dp_telegram.specs.FunctionCode.{frame_count_bit};
 ghost use Rattle.dp_responder.specs.declared.rule.Rule.{Rule};
 ghost use Rattle.dp_line.specs.declared.event.Event.{Event};
@@ -14,9 +16,11 @@ ghost use Rattle.dp_line.specs.Hearing.{telegram_spelt};
 ghost use Rattle.dp_audit.specs.declared.entry.Entry.{Entry};
 ghost use Rattle.dp_audit.specs.Legal.{IsLegal, after_entries};
 ghost use Rattle.dp_sentences.specs.Changes.{change_of, change_rows, touched};
-ghost use Rattle.dp_sentences.specs.Notes.{place_noted};
+ghost use Rattle.dp_sentences.specs.declared.notes.Noted.{Noted};
+ghost use Rattle.dp_sentences.specs.Notes.{note_of};
 ghost use Rattle.dp_sentences.specs.Refusals.{repeat_text};
 ghost use Rattle.dp_sentences.specs.Results.{result_row, result_rows};
+ghost use Rattle.dp_explain.specs.Holds.{ended_at, holds_ended};
 ghost use Rattle.dp_explain.specs.JournalTold.{IsToldByItsEntries, known_behind_entries};
 ghost use Rattle.dp_explain.specs.Known.{first_known};
 ghost use Rattle.dp_explain.specs.Repeats.{IsLastReplied};
@@ -55,30 +59,56 @@ pub fn a_slave_without_a_row_is_as_it_was()
     dp_line::laws::every_line_has();
 }
 
-/// The place that is named for a repeat is that of the request whose reply is sent again, at each entry of a legal
-/// journal since the line was opened. This request is the last SRD before the repeat from the same master to the same
-/// slave that the slave judged and replied to, other than by a repeat. It has this place and the FCB of the repeat, and
-/// its reply is the one that is sent again. The row of the repeat names this place. A request that gets a reply, as a
-/// repeat does, always is a telegram. The line may have any number of places, as an endless line has.
+/// The holds that are written for an entry are those of all slaves of the line, in the order of their addresses, at each
+/// entry of a legal journal since the line was opened: the entry ended no other hold.
+pub fn every_hold_that_ended_is_written()
+    ensures { (line : Description) (before : List Entry) (entry : Entry)
+        → IsLegal (start_of line) (before ++ entry ∷ [])
+        → holds_ended (after_entries (start_of line) before) (after_entries (start_of line) (before ++ entry ∷ [])) entry.place entry.event entry.outcome
+        ≡ flat_map (ended_at (after_entries (start_of line) before) (after_entries (start_of line) (before ++ entry ∷ [])) entry.place entry.event)
+        (map address_of_slave (after_entries (start_of line) before).slaves) }
+{
+    dp_audit::laws::an_event_goes_one_of_four_ways();
+    dp_line::laws::every_line_has();
+}
+
+/// The request that is noted for a repeat is the one whose reply is sent again, at each entry of a legal journal since the
+/// line was opened. It is the last SRD before the repeat from the same master to the same slave that the slave judged
+/// and replied to, other than by a repeat. The note has its place and its octets; it has the FCB of the repeat, and its
+/// reply is the one that is sent again. The row of a repeat with the same octets is that of a retry of this place, and the
+/// row of any other repeat is that of another telegram. A request that gets a reply, as a repeat does, always is a
+/// telegram whose access points can be read. The line may have any number of places, as an endless line has.
 pub fn a_repeat_is_told_by_the_place_of_its_request()
     ensures telegram { (line : Description) (places : ℕ) (before : List Entry) (entry : Entry) (master : ℕ) (octets reply : ArrayVec ℕ) (rule : Rule)
         → IsLegal (start_of (record line { capacity = places })) (before ++ entry ∷ [])
         → entry.event ≡ Event.Request master octets
         → entry.outcome ≡ Outcome.Reply reply rule
-        → is_some (telegram_spelt octets.items) ≡ true }
+        → is_some (option_and_then parts_of (telegram_spelt octets.items)) ≡ true }
     ensures request { (line : Description) (places : ℕ) (before : List Entry) (entry : Entry) (master : ℕ) (octets reply : ArrayVec ℕ) (telegram : Telegram)
         → IsLegal (start_of (record line { capacity = places })) (before ++ entry ∷ [])
         → entry.event ≡ Event.Request master octets
         → telegram_spelt octets.items ≡ Some telegram
         → entry.outcome ≡ Outcome.Reply reply Rule.Repeat
-        → IsLastReplied before (address_of telegram.da) master
-        (place_noted (known_behind_entries (first_known line places) before).scene.notes (address_of telegram.da) master)
-        (frame_count_bit telegram.fc) reply.items }
-    ensures row { (line : Description) (places : ℕ) (before : List Entry) (entry : Entry) (master : ℕ) (octets reply : ArrayVec ℕ) (telegram : Telegram)
+        → IsSomeAnd (note_of (known_behind_entries (first_known line places) before).scene.notes (address_of telegram.da) master)
+        (λ noted. IsLastReplied before (address_of telegram.da) master noted.place noted.octets (frame_count_bit telegram.fc) reply.items) }
+    ensures retry { (line : Description) (places : ℕ) (before : List Entry) (entry : Entry) (master : ℕ) (octets reply : ArrayVec ℕ) (telegram : Telegram) (parts : Parts) (noted : Noted)
         → IsLegal (start_of (record line { capacity = places })) (before ++ entry ∷ [])
         → entry.event ≡ Event.Request master octets
         → telegram_spelt octets.items ≡ Some telegram
+        → parts_of telegram ≡ Some parts
         → entry.outcome ≡ Outcome.Reply reply Rule.Repeat
+        → note_of (known_behind_entries (first_known line places) before).scene.notes (address_of telegram.da) master ≡ Some noted
+        → noted.octets.items ≡ octets.items
         → result_rows (known_behind_entries (first_known line places) before).scene entry.event entry.outcome
-        ≡ result_row (codes "repeat: " ++ repeat_text (place_noted (known_behind_entries (first_known line places) before).scene.notes (address_of telegram.da) master)) }
+        ≡ result_row (repeat_text true noted.place parts.dsap parts.payload.items) }
+    ensures other { (line : Description) (places : ℕ) (before : List Entry) (entry : Entry) (master : ℕ) (octets reply : ArrayVec ℕ) (telegram : Telegram) (parts : Parts) (noted : Noted)
+        → IsLegal (start_of (record line { capacity = places })) (before ++ entry ∷ [])
+        → entry.event ≡ Event.Request master octets
+        → telegram_spelt octets.items ≡ Some telegram
+        → parts_of telegram ≡ Some parts
+        → entry.outcome ≡ Outcome.Reply reply Rule.Repeat
+        → note_of (known_behind_entries (first_known line places) before).scene.notes (address_of telegram.da) master ≡ Some noted
+        → noted.octets.items ≢ octets.items
+        → result_rows (known_behind_entries (first_known line places) before).scene entry.event entry.outcome
+        ≡ result_row (repeat_text false noted.place parts.dsap parts.payload.items) }
 {}

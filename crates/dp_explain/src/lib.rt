@@ -1,5 +1,5 @@
 //! Explanations of audit texts for a person: what each entry is, its result and the reason, and what it changed, in the
-//! rows of [`dp_sentences`]; then who held which slave, and how many requests were answered by each rule.
+//! rows of [`dp_sentences`]; then who held which slave, and how many requests were answered in each way.
 //!
 //! [`explain_text`] writes to any writer. A pass over the text replays the events on two lines, one of which is one
 //! event behind the other. At most two passes are open at a time, so it takes memory for four lines, and for the rows
@@ -10,8 +10,10 @@ mod choice;
 mod explain;
 mod explain_fault;
 mod holds;
+mod holds_pass;
 pub mod laws;
-mod part;
+mod output;
+mod replay;
 mod row;
 mod tally;
 mod telling;

@@ -1,13 +1,13 @@
-//! The number of requests of each master that were answered by each rule.
+//! The number of requests of each master that were answered in each way.
 
-ghost use Rattle.std.specs.Prelude.{◌≡◌, [], ◌∷◌, ◌++◌, length, map, IfOk, OnOk, Some};
-ghost use Rattle.std.specs.List.{flat_map, list_any};
-ghost use Rattle.dp_sentences.specs.Changes.{same_holder};
-ghost use Rattle.dp_explain.specs.Tallies.{uncounted, uncounted_of, first_tally, same_way, counts_of, sender_in, counted_at, tally_with, tally_spread, tally_answer, tally_after, way_words, count_columns, sender_words, counted_row, total, refused_row, counted_table, refused_table, tally_text};
+ghost use Rattle.std.specs.Prelude.{◌≡◌, ◌<◌, [], ◌∷◌, ◌++◌, length, IfOk, Some};
+ghost use Rattle.std.specs.List.{flat_map};
+ghost use Rattle.dp_sentences.specs.Ways.{answered_as};
+ghost use Rattle.dp_explain.specs.Tallies.{all_ways, way_number, uncounted, count_of, one_more, first_tally, is_for_sender, counted, counted_each, counted_spread, counted_answer, tally_after, way_words, count_columns, sender_words, counted_row, sender_rows, total, is_fault, fault_row, counted_table, faults_table, tally_text};
 
 use dp_line::{Event, Outcome};
 use dp_responder::Rule;
-use dp_sentences::{Spaces, digits_of, digits_of_long, same_holder};
+use dp_sentences::{Answered, Scene, Spaces, answered, digits_of, digits_of_long};
 use std::alloc::{AllocError, Global};
 use std::fmt;
 
@@ -18,198 +18,219 @@ const WAY_COLUMNS: usize = 14;
 
 const COUNT_COLUMNS: usize = 8;
 
-/// The number of requests of one sender that were answered in one way.
+/// The number of counts of a sender.
+const WAYS: usize = 26;
+
+/// All ways in the order of their rows. None is the way of a request to all slaves that reached no slave.
+const ALL_WAYS: [Option<Answered>; 25] = [
+    Some(Answered::ByRule(Rule::Halted)),
+    Some(Answered::ByRule(Rule::NoFrame)),
+    Some(Answered::ByRule(Rule::NoMaster)),
+    Some(Answered::ByRule(Rule::ForeignSender)),
+    Some(Answered::ByRule(Rule::Token)),
+    Some(Answered::ByRule(Rule::NotRequest)),
+    Some(Answered::ByRule(Rule::BadFunction)),
+    Some(Answered::ByRule(Rule::BadExtension)),
+    Some(Answered::ByRule(Rule::BadBroadcast)),
+    Some(Answered::ByRule(Rule::NoStation)),
+    Some(Answered::LiveListPoll),
+    Some(Answered::ByRule(Rule::Status)),
+    Some(Answered::ByRule(Rule::NoService)),
+    Some(Answered::Retry),
+    Some(Answered::OtherRepeat),
+    Some(Answered::ByRule(Rule::NotActive)),
+    Some(Answered::ByRule(Rule::NotHolder)),
+    Some(Answered::ByRule(Rule::NotListed)),
+    Some(Answered::ByRule(Rule::Busy)),
+    Some(Answered::ByRule(Rule::Length)),
+    Some(Answered::ByRule(Rule::NotSelected)),
+    Some(Answered::ByRule(Rule::Done)),
+    Some(Answered::WrongSetPrm),
+    Some(Answered::WrongChkCfg),
+    None,
+];
+
+/// The number of requests of one sender that were answered in each way.
 ///
 /// Senders that are no master of the line are counted together, because they may have any of 256 addresses.
 #[derive(Drop)]
-pub(crate) struct Counted {
+pub(crate) struct SenderCounts {
     /// A master of the line, 0 to 126; None stands for all other senders.
     pub(crate) sender: Option<u8>,
-    /// A rule; None stands for a request to all slaves that reached no slave.
-    pub(crate) way: Option<Rule>,
-    /// The number, which stops at the largest number of 64 bits.
-    pub(crate) count: u64,
+    /// For each way, at its number, the number of requests, which stops at the largest number of 64 bits.
+    pub(crate) by_way: [u64; WAYS],
 }
 
-impl Counted {
-    /// Counts a request if it is from this sender and was answered in this way.
-    fn add(&mut self, sender: Option<u8>, way: Option<Rule>)
-        ensures { self.new ≡ counted_at sender way self.old }
+impl SenderCounts {
+    /// Returns the counts of a sender before the first event.
+    fn new(sender: Option<u8>) -> SenderCounts
+        ensures { result ≡ uncounted sender }
     {
-        if same_holder(self.sender, sender) && same_way(self.way, way) {
-            self.count = self.count.saturating_add(1);
+        SenderCounts {
+            sender,
+            by_way: [0; WAYS],
         }
     }
 
-    /// Returns whether it counts requests of this master.
-    fn counts(&self, master: u8) -> bool
-        ensures { result ≡ counts_of master self.now }
+    /// Returns whether it counts requests of this master. The counts of the others count requests of any.
+    fn is_for(&self, master: u8) -> bool
+        ensures { result ≡ is_for_sender master self.now }
     {
         match self.sender {
             Some(sender) => sender == master,
-            None => false,
+            None => true,
         }
     }
-}
 
-fn same_way(way: Option<Rule>, other: Option<Rule>) -> bool
-    ensures { result ≡ same_way way other }
-{
-    match (way, other) {
-        (None, None) => true,
-        (Some(rule), Some(other)) => rule.code() == other.code(),
-        (None, Some(_)) => false,
-        (Some(_), None) => false,
+    fn count_of(&self, way: Option<Answered>) -> u64
+        ensures { result ≡ count_of self.now way }
+    {
+        self.by_way[way_number(way)]
+    }
+
+    /// Counts one more request that was answered in this way.
+    fn add(&mut self, way: Option<Answered>)
+        ensures { self.new ≡ one_more way self.old }
+    {
+        let number = way_number(way);
+        self.by_way[number] = self.by_way[number].saturating_add(1);
     }
 }
 
-/// Returns a master of the line as its address; None for any other sender.
-fn sender_in(tally: &[Counted], master: u8) -> Option<u8>
-    ensures { result ≡ sender_in tally.now master }
+/// Returns the number of a way among the counts of a sender.
+fn way_number(way: Option<Answered>) -> usize
+    ensures number { result ≡ way_number way }
+    ensures few { result < 26 }
 {
-    if has_sender(tally, master) {
-        Some(master)
-    } else {
-        None
+    match way {
+        None => 0,
+        Some(Answered::ByRule(rule)) => usize::from(rule.code()),
+        Some(Answered::LiveListPoll) => 21,
+        Some(Answered::Retry) => 22,
+        Some(Answered::OtherRepeat) => 23,
+        Some(Answered::WrongSetPrm) => 24,
+        Some(Answered::WrongChkCfg) => 25,
     }
-}
-
-/// Returns whether requests of this master are counted separately.
-fn has_sender(tally: &[Counted], master: u8) -> bool
-    ensures { result ≡ list_any (counts_of master) tally.now }
-{
-    tally.iter().any(|counted| counted.counts(master))
 }
 
 /// Counts a request of a sender that was answered in this way.
-fn count(tally: &mut [Counted], sender: Option<u8>, way: Option<Rule>)
-    ensures { tally.new ≡ map (counted_at sender way) tally.old }
+fn count(tally: &mut [SenderCounts], master: u8, way: Option<Answered>)
+    ensures { tally.new ≡ counted master way tally.old }
 {
-    for counted in tally.iter_mut() {
-        counted.add(sender, way);
+    for counts in tally.iter_mut() {
+        if counts.is_for(master) {
+            counts.add(way);
+            return;
+        }
     }
 }
 
 /// Counts a request to all slaves once for each slave that it reached.
-fn count_each(tally: &mut [Counted], sender: Option<u8>, pairs: &[(u8, Rule)])
-    ensures { tally.new ≡ tally_with tally.old sender pairs.now }
+fn count_each(tally: &mut [SenderCounts], master: u8, pairs: &[(u8, Rule)])
+    ensures { tally.new ≡ counted_each master pairs.now tally.old }
 {
     let mut left = pairs;
     while let [pair, others @ ..] = left {
-        count(tally, sender, Some(pair.1));
+        count(tally, master, Some(Answered::ByRule(pair.1)));
         left = others;
     }
 }
 
 /// Counts a request to all slaves, also one that reached no slave.
-fn count_spread(tally: &mut [Counted], sender: Option<u8>, pairs: &[(u8, Rule)])
-    ensures { tally.new ≡ tally_spread tally.old sender pairs.now }
+fn count_spread(tally: &mut [SenderCounts], master: u8, pairs: &[(u8, Rule)])
+    ensures { tally.new ≡ counted_spread master pairs.now tally.old }
 {
     match pairs {
-        [] => count(tally, sender, None),
-        [_, ..] => count_each(tally, sender, pairs),
+        [] => count(tally, master, None),
+        [_, ..] => count_each(tally, master, pairs),
     }
 }
 
-/// Counts an event that is a request, by its outcome.
-pub(crate) fn count_event(tally: &mut Vec<Counted>, event: &Event, outcome: &Outcome)
-    ensures { tally.new.items ≡ tally_after tally.old.items event.now outcome.now }
+/// Counts a request by the way in which it was answered.
+fn count_answered(
+    tally: &mut [SenderCounts],
+    scene: &Scene<'_>,
+    master: u8,
+    octets: &[u8],
+    rule: Rule,
+)
+    ensures { tally.new ≡ counted master (Some (answered_as scene.now master octets.now rule)) tally.old }
 {
-    count_in(tally.as_mut_slice(), event, outcome);
+    let way = answered(scene, master, octets, rule);
+    count(tally, master, Some(way));
+}
+
+/// Counts an event that is a request, by the scene before it and its outcome.
+pub(crate) fn count_event(
+    tally: &mut Vec<SenderCounts>,
+    scene: &Scene<'_>,
+    event: &Event,
+    outcome: &Outcome,
+)
+    ensures { tally.new.items ≡ tally_after tally.old.items scene.now event.now outcome.now }
+{
+    count_in(tally.as_mut_slice(), scene, event, outcome);
 }
 
 /// Counts an event in this slice of counts. See [`count_event`].
-fn count_in(tally: &mut [Counted], event: &Event, outcome: &Outcome)
-    ensures { tally.new ≡ tally_after tally.old event.now outcome.now }
+fn count_in(tally: &mut [SenderCounts], scene: &Scene<'_>, event: &Event, outcome: &Outcome)
+    ensures { tally.new ≡ tally_after tally.old scene.now event.now outcome.now }
 {
     match event {
-        Event::Request { master, .. } => {
-            let sender = sender_in(tally, *master);
-            count_answer(tally, sender, outcome);
+        Event::Request { master, octets } => {
+            count_answer(tally, scene, *master, octets.as_slice(), outcome)
         }
         Event::Operator(_) => {}
     }
 }
 
 /// Counts a request by its outcome.
-fn count_answer(tally: &mut [Counted], sender: Option<u8>, outcome: &Outcome)
-    ensures { tally.new ≡ tally_answer tally.old sender outcome.now }
+fn count_answer(
+    tally: &mut [SenderCounts],
+    scene: &Scene<'_>,
+    master: u8,
+    octets: &[u8],
+    outcome: &Outcome,
+)
+    ensures { tally.new ≡ counted_answer scene.now master octets.now outcome.now tally.old }
 {
     match outcome {
-        Outcome::Reply { rule, .. } => count(tally, sender, Some(*rule)),
-        Outcome::Silence(rule) => count(tally, sender, Some(*rule)),
-        Outcome::Done => count(tally, sender, Some(Rule::Done)),
-        Outcome::Spread(pairs) => count_spread(tally, sender, pairs.as_slice()),
+        Outcome::Reply { rule, .. } => count_answered(tally, scene, master, octets, *rule),
+        Outcome::Silence(rule) => count_answered(tally, scene, master, octets, *rule),
+        Outcome::Done => count_answered(tally, scene, master, octets, Rule::Done),
+        Outcome::Spread(pairs) => count_spread(tally, master, pairs.as_slice()),
         Outcome::Released(_) => {}
         Outcome::Refused(_) => {}
     }
 }
 
-/// Returns the counts before the first event: 0 for each master, for the other senders, and for each way. `AllocError`
+/// Returns the counts before the first event: 0 for each master and for the other senders, in each way. `AllocError`
 /// if memory runs out.
-pub(crate) fn first_tally(alloc: Global, masters: &[u8]) -> Result<Vec<Counted>, AllocError>
+pub(crate) fn first_tally(alloc: Global, masters: &[u8]) -> Result<Vec<SenderCounts>, AllocError>
     ensures { IfOk result (λ tally. tally.items ≡ first_tally masters.now) }
 {
     let mut tally = Vec::new(alloc);
     for master in masters {
-        push_sender(&mut tally, Some(*master))?;
+        tally.push(SenderCounts::new(Some(*master)))?;
     }
-    push_sender(&mut tally, None)?;
+    tally.push(SenderCounts::new(None))?;
     Ok(tally)
 }
 
-/// Appends a sender with each way, counted 0. `AllocError` if memory runs out.
-fn push_sender(tally: &mut Vec<Counted>, sender: Option<u8>) -> Result<(), AllocError>
-    ensures { OnOk result (tally.new.items ≡ tally.old.items ++ uncounted_of sender) }
-{
-    push_rules(tally, sender, &Rule::ALL)?;
-    push_way(tally, sender, None)
-}
-
-/// Appends a sender with each of these rules, counted 0. `AllocError` if memory runs out.
-fn push_rules(
-    tally: &mut Vec<Counted>,
-    sender: Option<u8>,
-    rules: &[Rule],
-) -> Result<(), AllocError>
-    ensures { OnOk result (tally.new.items ≡ tally.old.items ++ map (λ rule. uncounted sender (Some rule)) rules.now) }
-{
-    for rule in rules {
-        push_way(tally, sender, Some(*rule))?;
-    }
-    Ok(())
-}
-
-/// Appends a sender with a way, counted 0. `AllocError` if memory runs out.
-fn push_way(
-    tally: &mut Vec<Counted>,
-    sender: Option<u8>,
-    way: Option<Rule>,
-) -> Result<(), AllocError>
-    ensures { OnOk result (tally.new.items ≡ tally.old.items ++ uncounted sender way ∷ []) }
-{
-    tally.push(Counted {
-        sender,
-        way,
-        count: 0,
-    })?;
-    Ok(())
-}
-
 /// Returns the name of a way.
-fn way_name(way: Option<Rule>) -> &'static str
+fn way_name(way: Option<Answered>) -> &'static str
     ensures { result.now ≡ way_words way }
 {
     match way {
         None => "to no slave",
-        Some(rule) => rule.name(),
+        Some(answered) => answered.name(),
     }
 }
 
 /// A way and a count, in their columns.
 #[derive(Clone, Copy)]
 struct CountColumns {
-    way: Option<Rule>,
+    way: Option<Answered>,
     count: u64,
 }
 
@@ -247,54 +268,118 @@ impl fmt::Display for SenderColumn {
 
 /// The row of a sender and a way; writes nothing if the count is 0.
 #[derive(Clone, Copy)]
-struct CountedRow<'a>(&'a Counted);
+struct CountedRow<'a> {
+    counts: &'a SenderCounts,
+    way: Option<Answered>,
+}
 
 impl<'a> fmt::Display for CountedRow<'a> {
-    ghost output = { λ s. Some (counted_row s.0.now) };
+    ghost output = { λ s. Some (counted_row s.counts.now s.way) };
 
     fn fmt<W: fmt::Write>(&self, f: &mut fmt::Formatter<W>) -> fmt::Result {
-        if self.0.count == 0 {
+        let count = self.counts.count_of(self.way);
+        if count == 0 {
             return Ok(());
         }
-        let sender = SenderColumn(self.0.sender);
+        let sender = SenderColumn(self.counts.sender);
         let columns = CountColumns {
-            way: self.0.way,
-            count: self.0.count,
+            way: self.way,
+            count,
         };
         write!(f, "  {sender}{columns}")
     }
 }
 
-/// Returns how often requests of all senders were answered by a rule; stops at the largest number of 64 bits.
-fn total(tally: &[Counted], rule: Rule) -> u64
-    ensures { result ≡ total tally.now rule }
-{
-    let [first, others @ ..] = tally else {
-        return 0;
-    };
-    let rest = total(others, rule);
-    if same_way(first.way, Some(rule)) {
-        rest.saturating_add(first.count)
-    } else {
-        rest
+/// The rows of a sender and each of these ways.
+#[derive(Clone, Copy)]
+struct CountedRows<'a> {
+    counts: &'a SenderCounts,
+    ways: &'a [Option<Answered>],
+}
+
+impl<'a> fmt::Display for CountedRows<'a> {
+    ghost output = { λ s. Some (flat_map (counted_row s.counts.now) s.ways.now) };
+
+    fn fmt<W: fmt::Write>(&self, f: &mut fmt::Formatter<W>) -> fmt::Result {
+        for way in self.ways {
+            let row = CountedRow {
+                counts: self.counts,
+                way: *way,
+            };
+            write!(f, "{row}")?;
+        }
+        Ok(())
     }
 }
 
-/// The row of a rule that refused requests; writes nothing if the rule refused none.
+/// The rows of a sender.
 #[derive(Clone, Copy)]
-struct RefusedRow<'a> {
-    tally: &'a [Counted],
-    rule: Rule,
+struct SenderRows<'a>(&'a SenderCounts);
+
+impl<'a> fmt::Display for SenderRows<'a> {
+    ghost output = { λ s. Some (sender_rows s.0.now) };
+
+    #[tactic(auto, unfolding(crate::specs::Tallies::sender_rows))]
+    fn fmt<W: fmt::Write>(&self, f: &mut fmt::Formatter<W>) -> fmt::Result {
+        let rows = CountedRows {
+            counts: self.0,
+            ways: &ALL_WAYS,
+        };
+        write!(f, "{rows}")
+    }
 }
 
-impl<'a> fmt::Display for RefusedRow<'a> {
-    ghost output = { λ s. Some (refused_row s.tally.now s.rule) };
+/// The rows of all senders.
+#[derive(Clone, Copy)]
+struct AllSenderRows<'a>(&'a [SenderCounts]);
+
+impl<'a> fmt::Display for AllSenderRows<'a> {
+    ghost output = { λ s. Some (flat_map sender_rows s.0.now) };
 
     fn fmt<W: fmt::Write>(&self, f: &mut fmt::Formatter<W>) -> fmt::Result {
-        let count = total(self.tally, self.rule);
-        if self.rule.is_refusal() && count != 0 {
+        for counts in self.0 {
+            let rows = SenderRows(counts);
+            write!(f, "{rows}")?;
+        }
+        Ok(())
+    }
+}
+
+/// Returns how often requests of all senders were answered in a way; stops at the largest number of 64 bits.
+fn total(tally: &[SenderCounts], way: Option<Answered>) -> u64
+    ensures { result ≡ total tally.now way }
+{
+    let [counts, others @ ..] = tally else {
+        return 0;
+    };
+    total(others, way).saturating_add(counts.count_of(way))
+}
+
+/// Returns whether a way is a fault of the bus.
+fn is_fault(way: Option<Answered>) -> bool
+    ensures { result ≡ is_fault way }
+{
+    match way {
+        None => false,
+        Some(answered) => answered.is_fault(),
+    }
+}
+
+/// The row of a way that is a fault; writes nothing if no request was answered in it.
+#[derive(Clone, Copy)]
+struct FaultRow<'a> {
+    tally: &'a [SenderCounts],
+    way: Option<Answered>,
+}
+
+impl<'a> fmt::Display for FaultRow<'a> {
+    ghost output = { λ s. Some (fault_row s.tally.now s.way) };
+
+    fn fmt<W: fmt::Write>(&self, f: &mut fmt::Formatter<W>) -> fmt::Result {
+        let count = total(self.tally, self.way);
+        if is_fault(self.way) && count != 0 {
             let columns = CountColumns {
-                way: Some(self.rule),
+                way: self.way,
                 count,
             };
             write!(f, "  {columns}")
@@ -304,37 +389,21 @@ impl<'a> fmt::Display for RefusedRow<'a> {
     }
 }
 
-/// The rows of all senders and ways.
+/// The rows of those of these ways that are faults and were counted.
 #[derive(Clone, Copy)]
-struct CountedRows<'a>(&'a [Counted]);
-
-impl<'a> fmt::Display for CountedRows<'a> {
-    ghost output = { λ s. Some (flat_map counted_row s.0.now) };
-
-    fn fmt<W: fmt::Write>(&self, f: &mut fmt::Formatter<W>) -> fmt::Result {
-        for counted in self.0 {
-            let row = CountedRow(counted);
-            write!(f, "{row}")?;
-        }
-        Ok(())
-    }
+struct FaultRows<'a> {
+    tally: &'a [SenderCounts],
+    ways: &'a [Option<Answered>],
 }
 
-/// The rows of those of these rules that refused requests.
-#[derive(Clone, Copy)]
-struct RefusedRows<'a> {
-    tally: &'a [Counted],
-    rules: &'a [Rule],
-}
-
-impl<'a> fmt::Display for RefusedRows<'a> {
-    ghost output = { λ s. Some (flat_map (refused_row s.tally.now) s.rules.now) };
+impl<'a> fmt::Display for FaultRows<'a> {
+    ghost output = { λ s. Some (flat_map (fault_row s.tally.now) s.ways.now) };
 
     fn fmt<W: fmt::Write>(&self, f: &mut fmt::Formatter<W>) -> fmt::Result {
-        for rule in self.rules {
-            let row = RefusedRow {
+        for way in self.ways {
+            let row = FaultRow {
                 tally: self.tally,
-                rule: *rule,
+                way: *way,
             };
             write!(f, "{row}")?;
         }
@@ -342,45 +411,45 @@ impl<'a> fmt::Display for RefusedRows<'a> {
     }
 }
 
-/// The table of how many requests of each master were answered by each rule.
+/// The table of how many requests of each master were answered in each way.
 #[derive(Clone, Copy)]
-struct CountedTable<'a>(&'a [Counted]);
+struct CountedTable<'a>(&'a [SenderCounts]);
 
 impl<'a> fmt::Display for CountedTable<'a> {
     ghost output = { λ s. Some (counted_table s.0.now) };
 
     fn fmt<W: fmt::Write>(&self, f: &mut fmt::Formatter<W>) -> fmt::Result {
-        let rows = CountedRows(self.0);
+        let rows = AllSenderRows(self.0);
         write!(f, "requests by rule\n{rows}")
     }
 }
 
-/// The table of how many requests were refused by each rule.
+/// The table of the faults: how many requests of all senders were answered in each way that is one.
 #[derive(Clone, Copy)]
-struct RefusedTable<'a>(&'a [Counted]);
+struct FaultsTable<'a>(&'a [SenderCounts]);
 
-impl<'a> fmt::Display for RefusedTable<'a> {
-    ghost output = { λ s. Some (refused_table s.0.now) };
+impl<'a> fmt::Display for FaultsTable<'a> {
+    ghost output = { λ s. Some (faults_table s.0.now) };
 
     fn fmt<W: fmt::Write>(&self, f: &mut fmt::Formatter<W>) -> fmt::Result {
-        let rows = RefusedRows {
+        let rows = FaultRows {
             tally: self.0,
-            rules: &Rule::ALL,
+            ways: &ALL_WAYS,
         };
-        write!(f, "refusals by rule\n{rows}")
+        write!(f, "faults\n{rows}")
     }
 }
 
-/// Both tables: the requests of each master by rule, and the refusals by rule.
+/// Both tables: the requests of each master by way, and the faults of the bus.
 #[derive(Clone, Copy)]
-pub(crate) struct TallyRows<'a>(pub(crate) &'a [Counted]);
+pub(crate) struct TallyRows<'a>(pub(crate) &'a [SenderCounts]);
 
 impl<'a> fmt::Display for TallyRows<'a> {
     ghost output = { λ s. Some (tally_text s.0.now) };
 
     fn fmt<W: fmt::Write>(&self, f: &mut fmt::Formatter<W>) -> fmt::Result {
         let counted = CountedTable(self.0);
-        let refused = RefusedTable(self.0);
-        write!(f, "{counted}{refused}")
+        let faults = FaultsTable(self.0);
+        write!(f, "{counted}{faults}")
     }
 }

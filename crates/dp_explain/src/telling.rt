@@ -1,46 +1,36 @@
-//! Writes the entries of an audit text, one after another.
-//!
-//! Each event is taken by two lines, one after the other, because its sentences are about the state before and after
-//! it.
+//! The pass over an audit text that writes the chosen entries, and counts the requests.
 
-ghost use Rattle.std.specs.Prelude.{◌≡◌, ◌+◌, if◌then◌else◌, [], take, None, Some, IfSome, OnOk, MatchResult};
+ghost use Rattle.std.specs.Prelude.{◌≡◌, ◌+◌, if◌then◌else◌, [], take, None, Some, OnOk, MatchResult};
 ghost use Rattle.dp_text.specs.Words.{lines_of};
 ghost use Rattle.dp_line.specs.World.{description_of, opening_fault};
 ghost use Rattle.dp_audit.specs.Check.{places_of_lines};
-ghost use Rattle.dp_line.specs.Steps.{step};
-ghost use Rattle.dp_sentences.specs.Results.{shown_at};
-ghost use Rattle.dp_sentences.specs.Blocks.{block_text};
-ghost use Rattle.dp_explain.specs.Holds.{hold_lasts};
 ghost use Rattle.dp_explain.specs.Tallies.{tally_text};
-ghost use Rattle.dp_explain.specs.Choices.{is_chosen};
-ghost use Rattle.dp_explain.specs.Known.{first_known, known_after, outcome_with};
-ghost use Rattle.dp_explain.specs.Explained.{event_of_row, told_event, told_row, told_rows, known_behind, last_known, moment_text, Leaves};
+ghost use Rattle.dp_explain.specs.Known.{first_known, known_after};
+ghost use Rattle.dp_explain.specs.Explained.{event_of_row, told_event, told_row, told_rows, known_behind, last_known, chosen_text, Leaves};
 
 use crate::choice::{Choice, is_chosen};
 use crate::explain_fault::ExplainFault;
-use crate::holds::{HoldEnded, HoldLasts};
-use crate::part::Part;
+use crate::output::write_rows;
+use crate::replay::{open_before, take_event};
 use crate::row::event_of_row;
-use crate::tally::{Counted, TallyRows, count_event, first_tally};
-use arrayvec::ArrayVec;
-use dp_audit::open_line;
-use dp_line::{Event, LineSpec, LineState, MOST_SLAVES, Outcome};
-use dp_sentences::{Block, Noted, Scene, first_notes, note_event};
-use dp_text::{Lines, write_whole};
+use crate::tally::{SenderCounts, TallyRows, count_event, first_tally};
+use dp_line::{Event, LineSpec, LineState, Outcome};
+use dp_sentences::{Block, Noted, Scene, first_notes, note_event, time_after};
+use dp_text::Lines;
 use std::alloc::Global;
-use std::fmt::Display;
 use std::io::Write;
 use std::marker::Model;
 
-/// A pass over an audit text: the line before and after the event that is being written, and the notes and counts.
-/// Between two events both lines are equal. Contracts see what is known before the next event.
+/// A pass over an audit text that writes its entries: the line before and after the event that is being written, and
+/// the notes, the time and the counts. Between two events both lines are equal. Contracts see what is known before the next event.
 #[derive(Drop)]
 pub(crate) struct Telling<'a> {
     line: &'a LineSpec,
     before: LineState,
     after: LineState,
     notes: Vec<Noted>,
-    tally: Vec<Counted>,
+    time: Option<u64>,
+    tally: Vec<SenderCounts>,
     /// A buffer for the rows of one entry.
     rows: String,
 }
@@ -53,7 +43,7 @@ impl<'a> Model for Telling<'a> {
     ghost Value = { KnownView };
 
     ghost view = { λ t. record {
-      scene = record { description = description_of t.line.now; world = t.before.world; notes = t.notes.items };
+      scene = record { description = description_of t.line.now; world = t.before.world; notes = t.notes.items; time = t.time };
       tally = t.tally.items;
     } };
 
@@ -72,10 +62,10 @@ impl<'a> Telling<'a> {
         ensures { MatchResult result (λ telling. telling ≡ first_known (description_of line.now) (places_of_lines (description_of line.now) (lines_of text.now)))
             (λ fault. fault ≡ ExplainFault.OutOfMemory) }
     {
-        let Ok(before) = open_line(alloc, line, text) else {
+        let Ok(before) = open_before(alloc, line, text) else {
             return Err(ExplainFault::OutOfMemory);
         };
-        let Ok(after) = open_line(alloc, line, text) else {
+        let Ok(after) = open_before(alloc, line, text) else {
             return Err(ExplainFault::OutOfMemory);
         };
         let Ok(notes) = first_notes(alloc, line) else {
@@ -89,75 +79,78 @@ impl<'a> Telling<'a> {
             before,
             after,
             notes,
+            time: None,
             tally,
             rows: String::new(alloc),
         })
     }
 
-    /// Takes the next event, and writes this part of it.
+    /// Takes the next event, and writes its rows if it is chosen.
     fn tell_event<W: Write>(
         &mut self,
-        part: &Part,
+        choice: &Choice,
         event: &Event,
         writer: &mut W,
     ) -> Result<(), ExplainFault>
         ensures known { self.new ≡ known_after self.old event.now }
-        ensures told { Leaves (told_event part.now self.old.scene event.now) (W.contents writer.old) (W.contents writer.new) result }
+        ensures told { Leaves (told_event choice.now self.old.scene event.now) (W.contents writer.old) (W.contents writer.new) result }
     {
         let place = u64::from(self.before.count()) + 1;
-        let step = self.after.take(event);
-        let outcome = outcome_with(step.outcome, step.halted);
+        let outcome = take_event(&mut self.after, event);
         let scene = Scene {
             line: self.line,
             before: &self.before,
             notes: self.notes.as_slice(),
+            time: self.time,
         };
-        let moment = Moment {
+        let block = Block {
             scene: &scene,
             after: &self.after,
             place,
             event,
             outcome: &outcome,
         };
-        let told = tell_moment(&moment, part, &mut self.rows, writer);
+        let told = tell_chosen(&block, choice, &mut self.rows, writer);
+        count_event(&mut self.tally, &scene, event, &outcome);
         let _ = self.before.take(event);
         note_event(&mut self.notes, place, event, &outcome);
-        count_event(&mut self.tally, event, &outcome);
+        self.time = time_after(self.time, event);
         told
     }
 
-    /// Reads the next text line, takes its event, and writes this part of it. A text line without an event is skipped.
+    /// Reads the next text line, takes its event, and writes its rows if it is chosen. A text line without an event is
+    /// skipped.
     fn tell_row<W: Write>(
         &mut self,
-        part: &Part,
+        choice: &Choice,
         row: &[u8],
         writer: &mut W,
     ) -> Result<(), ExplainFault>
         ensures known { self.new ≡ known_behind self.old (event_of_row row.now) }
-        ensures told { Leaves (told_row part.now self.old (event_of_row row.now)) (W.contents writer.old) (W.contents writer.new) result }
+        ensures told { Leaves (told_row choice.now self.old (event_of_row row.now)) (W.contents writer.old) (W.contents writer.new) result }
     {
         match event_of_row(row) {
-            Some(event) => self.tell_event(part, &event, writer),
+            Some(event) => self.tell_event(choice, &event, writer),
             None => Ok(()),
         }
     }
 
-    /// Reads the next `count` text lines, or all that are left, and writes this part of each.
+    /// Reads the next `count` text lines, or all that are left, and writes the rows of each that is chosen.
     pub(crate) fn tell_rows<W: Write>(
         &mut self,
-        part: &Part,
+        choice: &Choice,
         count: u64,
         rows: &mut Lines<'_>,
         writer: &mut W,
     ) -> Result<(), ExplainFault>
-        ensures told { Leaves (told_rows part.now self.old (take count rows.old)) (W.contents writer.old) (W.contents writer.new) result }
+        ensures told { Leaves (told_rows choice.now self.old (take count rows.old)) (W.contents writer.old) (W.contents writer.new) result }
         ensures known { OnOk result (self.new ≡ last_known self.old (take count rows.old)) }
     {
         for _told in 0..count {
             let Some(row) = rows.next() else {
                 return Ok(());
             };
-            match self.tell_row(part, row, writer) {
+            match self.tell_row(choice, row, writer) {
                 Ok(()) => {}
                 Err(fault) => return Err(fault),
             }
@@ -165,22 +158,7 @@ impl<'a> Telling<'a> {
         Ok(())
     }
 
-    /// Writes the hold of a slave that lasts.
-    pub(crate) fn tell_lasting<W: Write>(
-        &mut self,
-        address: u8,
-        writer: &mut W,
-    ) -> Result<(), ExplainFault>
-        ensures { Leaves (hold_lasts address (shown_at self.old.scene.world address)) (W.contents writer.old) (W.contents writer.new) result }
-    {
-        let rows = HoldLasts {
-            address,
-            line: &self.before,
-        };
-        write_rows(&rows, &mut self.rows, writer)
-    }
-
-    /// Writes how many requests were answered by each rule.
+    /// Writes how many requests were answered in each way.
     pub(crate) fn tell_tally<W: Write>(&mut self, writer: &mut W) -> Result<(), ExplainFault>
         ensures { Leaves (tally_text self.old.tally) (W.contents writer.old) (W.contents writer.new) result }
     {
@@ -189,92 +167,18 @@ impl<'a> Telling<'a> {
     }
 }
 
-/// Returns the outcome of an entry; that of the halt if its event reached the last place.
-fn outcome_with(outcome: Outcome, halted: Option<ArrayVec<u8, MOST_SLAVES>>) -> Outcome
-    ensures { result ≡ outcome_with outcome halted }
-{
-    match halted {
-        None => outcome,
-        Some(addresses) => Outcome::Released(addresses),
-    }
-}
-
-/// An event with its outcome, and the line before and after it.
-#[derive(Clone, Copy)]
-struct Moment<'a> {
-    scene: &'a Scene<'a>,
-    after: &'a LineState,
-    place: u64,
-    event: &'a Event,
-    outcome: &'a Outcome,
-}
-
-/// Writes this part of an event; `rows` is a buffer for the text.
-fn tell_moment<W: Write>(
-    moment: &Moment<'_>,
-    part: &Part,
-    rows: &mut String,
-    writer: &mut W,
-) -> Result<(), ExplainFault>
-    ensures { Leaves (moment_text part.now moment.now.scene.now moment.now.after.now.world moment.now.place moment.now.event.now moment.now.outcome.now)
-        (W.contents writer.old) (W.contents writer.new) result }
-{
-    match part {
-        Part::Entries(choice) => tell_entry(moment, choice, rows, writer),
-        Part::HoldsOf(address) => {
-            let scene = moment.scene;
-            let hold = HoldEnded {
-                place: moment.place,
-                event: moment.event,
-                address: *address,
-                before: scene.before,
-                after: moment.after,
-            };
-            write_rows(&hold, rows, writer)
-        }
-    }
-}
-
-/// Writes the rows of an event if it is chosen.
-fn tell_entry<W: Write>(
-    moment: &Moment<'_>,
+/// Writes the rows of an event if it is chosen; `rows` is a buffer for the text.
+fn tell_chosen<W: Write>(
+    block: &Block<'_>,
     choice: &Choice,
     rows: &mut String,
     writer: &mut W,
 ) -> Result<(), ExplainFault>
-    ensures { Leaves (if is_chosen choice.now moment.now.place moment.now.event.now moment.now.outcome.now
-        then block_text moment.now.scene.now moment.now.after.now.world moment.now.place moment.now.event.now moment.now.outcome.now else [])
+    ensures { Leaves (chosen_text choice.now block.now.scene.now block.now.after.now.world block.now.place block.now.event.now block.now.outcome.now)
         (W.contents writer.old) (W.contents writer.new) result }
 {
-    if !is_chosen(choice, moment.place, moment.event, moment.outcome) {
+    if !is_chosen(choice, block.scene, block.place, block.event, block.outcome) {
         return Ok(());
     }
-    let block = Block {
-        scene: moment.scene,
-        after: moment.after,
-        place: moment.place,
-        event: moment.event,
-        outcome: moment.outcome,
-    };
-    write_rows(&block, rows, writer)
-}
-
-/// Formats a text into `rows`, and then writes it. Returns `OutOfMemory` if memory runs out, and `WriteFault` if the
-/// write fails.
-pub(crate) fn write_rows<W: Write, D: Display>(
-    told: &D,
-    rows: &mut String,
-    writer: &mut W,
-) -> Result<(), ExplainFault>
-    ensures { IfSome (D.output told.now) (λ text. Leaves text (W.contents writer.old) (W.contents writer.new) result) }
-{
-    rows.clear();
-    match write!(rows, "{told}") {
-        Ok(()) => {}
-        Err(_) => return Err(ExplainFault::OutOfMemory),
-    }
-    match write_whole(writer, rows.as_bytes()) {
-        Ok(()) => Ok(()),
-        Err(_) => Err(ExplainFault::WriteFault),
-    }
+    write_rows(block, rows, writer)
 }

@@ -9,12 +9,12 @@ use Rattle.dp_explain.proofs.explain.tell_summary.Goals as goal
 
 pub returns-in-Ok : goal.returns-in-Ok
 returns-in-Ok g c =
-    then_leaves (g.W.Write.contents c.args.writer.now) (g.W.Write.contents c.tell_all_holds.new.writer) (g.W.Write.contents c.tell_tally.new.writer)
+    then_leaves (g.W.Write.contents c.args.writer.now) (g.W.Write.contents c.tell_holds.new.writer) (g.W.Write.contents c.tell_tally.new.writer)
     (holds_text (description_of c.args.line.now) (places_of_lines (description_of c.args.line.now) (lines_of c.args.text.now)) (take c.args.count (drop 1 (lines_of c.args.text.now)))) (tally_text c.args.telling.now.tally)
     c.tell_tally.result c.in-Ok.ensures c.tell_tally.ensures
 
 pub returns-in-Err : goal.returns-in-Err
 returns-in-Err g c =
-    front_cut (g.W.Write.contents c.args.writer.now) (g.W.Write.contents c.tell_all_holds.new.writer)
+    front_cut (g.W.Write.contents c.args.writer.now) (g.W.Write.contents c.tell_holds.new.writer)
     (holds_text (description_of c.args.line.now) (places_of_lines (description_of c.args.line.now) (lines_of c.args.text.now)) (take c.args.count (drop 1 (lines_of c.args.text.now)))) (tally_text c.args.telling.now.tally)
     c.in-Err.ensures

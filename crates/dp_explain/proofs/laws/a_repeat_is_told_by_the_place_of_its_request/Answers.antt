@@ -1,4 +1,4 @@
-use Rattle.dp_explain.proofs.Repeated.{repeat_told, repeats, replied_telegram}
+use Rattle.dp_explain.proofs.Repeated.{repeats, replied_telegram, retry_told, other_told}
 use Rattle.dp_explain.proofs.laws.a_repeat_is_told_by_the_place_of_its_request.Goals as goal
 
 pub returns-clause-telegram : goal.returns-clause-telegram
@@ -7,5 +7,8 @@ returns-clause-telegram c = replied_telegram
 pub returns-clause-request : goal.returns-clause-request
 returns-clause-request c = repeats
 
-pub returns-clause-row : goal.returns-clause-row
-returns-clause-row c = repeat_told
+pub returns-clause-retry : goal.returns-clause-retry
+returns-clause-retry c = retry_told
+
+pub returns-clause-other : goal.returns-clause-other
+returns-clause-other c = other_told

@@ -1,8 +1,16 @@
-use Rattle.dp_explain.specs.Tallies.{counted_at}
-use Rattle.dp_explain.proofs.Edits.{set_over}
+use Rattle.std.proofs.Common.{sym, ◌∙◌}
+use Rattle.dp_explain.proofs.Counting.{none_passed, one_passed, counted_here}
 use Rattle.dp_explain.proofs.tally.count.Goals as goal
 
-pub loop-counted-preserved : goal.loop-counted-preserved
-loop-counted-preserved c =
-    set_over (counted_at c.args.sender c.args.way) c.args.tally.now c.loop-counted.tally c.loop-counted.counted-index _ c.add.new.self
-    c.loop-counted-test.true c.loop-counted.auto.tally c.loop-counted.invariant c.add.ensures
+pub loop-counts-init : goal.loop-counts-init
+loop-counts-init c = none_passed c.args.master c.args.way c.args.tally.now
+
+pub returns-then-is_for : goal.returns-then-is_for
+returns-then-is_for c =
+    counted_here c.args.master c.args.way c.args.tally.now c.loop-counts.tally c.loop-counts.counts-index _ c.add.new.self
+    c.loop-counts-test.true (sym c.is_for.ensures ∙ c.if-is_for.true) c.loop-counts.invariant c.add.ensures
+
+pub loop-counts-preserved : goal.loop-counts-preserved
+loop-counts-preserved c =
+    one_passed c.args.master c.args.way c.args.tally.now c.loop-counts.tally c.loop-counts.counts-index _
+    c.loop-counts-test.true (sym c.is_for.ensures ∙ c.if-is_for.false) c.loop-counts.invariant
