@@ -85,7 +85,7 @@ rack() {
 { rack 1 1 1; printf '%%%%\n'; for n in $(seq 5000); do printf '# a comment, which is read and does nothing: %s\n' "$n"; done; } >"$work/comments"
 { rack 1 1 1; printf '%%%%\nm 100'; for _ in $(seq 3000); do printf ' 33'; done; } >"$work/noise"
 printf 'what is no rack' >"$work/bad"
-{ rack 1 1 1; printf 'colour = "%s"\n' red; } >"$work/bad-key"
+{ rack 1 1 1; printf 'fail_safe = true\n'; } >"$work/bad-key"
 rack 1 1 1 >"$work/rack"
 printf 'm 100 68 05 05 68 81 E4 6D 3C 3E 4C 16\njournal\n' >"$work/script"
 printf 'rack-audit 2 line 1\n' >"$work/audit"
@@ -181,6 +181,7 @@ else
   in_turn 'a check of a text that is not the policy' /dev/null check "$work/rack" "$work/other"
   in_turn 'a rack whose culprit is named' "$work/one-place"
   in_turn 'an explanation' /dev/null explain "$work/rack" "$work/audit"
+  in_turn 'an explanation of a slave' /dev/null explain "$work/rack" "$work/audit" --slave 1
   mapfile -t knocked < <("$top/tests/serve_client.py" ports 2)
   sed "s/^number = 1$/&\nlisten = ${knocked[0]}\noperator = ${knocked[1]}/" "$work/rack" >"$work/served"
   in_turn 'a rack that is served' /dev/null serve "$work/served" --sessions 1
