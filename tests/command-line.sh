@@ -323,10 +323,10 @@ run '' check "$work/rack" "$work/facts"; expect 'other facts' 1 'not the policy 
   the policy gives \"$entry\"
 $other_rack"
 run '' explain --summary "$work/rack" "$work/audit" --slave 5; expect 'options before and behind the files' 0 $'holds\nrequests by rule\n  master 1    Done                 1\nfaults\nlegal 1' ''
-run '' explain "$work/rack" "$work/audit" --slave 0; expect 'a slave that the line lacks' 2 '' 'rackd: line 1 has no slave 0'
-run '' explain "$work/rack" "$work/audit" --slave 1; expect 'a slave that is a master' 2 '' 'rackd: line 1 has no slave 1'
-run '' explain "$work/rack" "$work/audit" --master 5; expect 'a master that is a slave' 2 '' 'rackd: line 1 has no master 5'
-run '' explain "$work/rack" "$work/audit" --slave 9 --master 9; expect 'neither slave nor master' 2 '' 'rackd: line 1 has no slave 9'
+run '' explain "$work/rack" "$work/audit" --slave 0; expect 'a slave that the line lacks' 2 '' 'rackd: the line has no slave 0'
+run '' explain "$work/rack" "$work/audit" --slave 1; expect 'a slave that is a master' 2 '' 'rackd: the line has no slave 1'
+run '' explain "$work/rack" "$work/audit" --master 5; expect 'a master that is a slave' 2 '' 'rackd: the line has no master 5'
+run '' explain "$work/rack" "$work/audit" --slave 9 --master 9; expect 'neither slave nor master' 2 '' 'rackd: the line has no slave 9'
 run '' explain "$work/rack" "$work/empty" --slave 9; expect 'a slave and no header' 1 'bad line 1' ''
 run '' explain "$work/script" "$work/audit" --slave 9; expect 'a slave, and a file that is no rack' 2 '' $'rackd: rack NotToml\n  row 1: key with no value, expected `=`'
 # more than a pipe takes, and a reader that ends after the first row

@@ -1799,9 +1799,9 @@ def missing_station(explained: Explained, options: Options) -> str:
         return ''
     spec = explained.line.spec
     if options.slave is not None and options.slave not in [slave.address for slave in spec.slaves]:
-        return f'rackd: line {spec.number} has no slave {options.slave}\n'
+        return f'rackd: the line has no slave {options.slave}\n'
     if options.master is not None and options.master not in spec.masters:
-        return f'rackd: line {spec.number} has no master {options.master}\n'
+        return f'rackd: the line has no master {options.master}\n'
     return ''
 
 

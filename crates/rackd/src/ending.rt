@@ -23,10 +23,10 @@ pub enum Fault<'a> {
     CannotConnect(u16, Cause),
     /// The connection to this port ended before standard input did, or before a line of standard input was answered.
     PortEnded(u16),
-    /// The line of this number has no slave at this address, whose entries are asked for.
-    NoSlave(u8, u8),
-    /// The line of this number has no master at this address, whose requests are asked for.
-    NoMaster(u8, u8),
+    /// The line of the audit text has no slave at this address, whose entries are asked for.
+    NoSlave(u8),
+    /// The line of the audit text has no master at this address, whose requests are asked for.
+    NoMaster(u8),
     /// The run ended early.
     Run(RunFault),
     /// The rack is not served, or no longer served.
@@ -77,7 +77,7 @@ pub fn status(fault: Fault<'_>) -> u8
         Fault::Run(RunFault::WriteFault) => 4,
         Fault::BadWord | Fault::CannotRead(_, _) => 2,
         Fault::CannotConnect(_, _) | Fault::PortEnded(_) => 2,
-        Fault::NoSlave(_, _) | Fault::NoMaster(_, _) => 2,
+        Fault::NoSlave(_) | Fault::NoMaster(_) => 2,
         Fault::Run(RunFault::Rack(_) | RunFault::Script(_)) => 2,
         Fault::Serve(fault) => status_of_serving(fault),
     }
@@ -103,7 +103,7 @@ pub fn cause(fault: Fault<'_>) -> Option<Cause>
     match fault {
         Fault::CannotRead(_, cause) | Fault::CannotConnect(_, cause) => Some(cause),
         Fault::BadWord | Fault::PortEnded(_) | Fault::Run(_) => None,
-        Fault::NoSlave(_, _) | Fault::NoMaster(_, _) => None,
+        Fault::NoSlave(_) | Fault::NoMaster(_) => None,
         Fault::Serve(fault) => cause_of_serving(fault),
     }
 }
@@ -128,12 +128,8 @@ impl<'a> fmt::Display for Fault<'a> {
             Fault::CannotRead(path, _) => write!(f, "rackd: cannot read {path}"),
             Fault::CannotConnect(port, _) => write!(f, "rackd: cannot connect to {port}"),
             Fault::PortEnded(port) => write!(f, "rackd: port {port} has ended"),
-            Fault::NoSlave(line, address) => {
-                write!(f, "rackd: line {line} has no slave {address}")
-            }
-            Fault::NoMaster(line, address) => {
-                write!(f, "rackd: line {line} has no master {address}")
-            }
+            Fault::NoSlave(address) => write!(f, "rackd: the line has no slave {address}"),
+            Fault::NoMaster(address) => write!(f, "rackd: the line has no master {address}"),
             Fault::Run(fault) => write!(f, "rackd: {fault}"),
             Fault::Serve(fault) => write!(f, "rackd: {fault}"),
         }

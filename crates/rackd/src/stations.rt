@@ -37,12 +37,12 @@ fn check_line<'a>(line: &LineSpec, entries: Entries) -> Result<(), Fault<'a>> {
     if let Some(address) = entries.slave
         && !line.slaves.iter().any(|slave| slave.address == address)
     {
-        return Err(Fault::NoSlave(line.number, address));
+        return Err(Fault::NoSlave(address));
     }
     if let Some(address) = entries.master
         && !line.masters.contains(&address)
     {
-        return Err(Fault::NoMaster(line.number, address));
+        return Err(Fault::NoMaster(address));
     }
     Ok(())
 }
