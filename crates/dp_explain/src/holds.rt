@@ -220,7 +220,7 @@ impl<'a> fmt::Display for ReleasedHolds<'a> {
     }
 }
 
-/// The holds that an event with this outcome ended, as rows. It looks only at slaves whose holder the event can change.
+/// The holds that an event with this outcome ended, as rows. Reads only slaves whose holder the event can change.
 #[derive(Clone, Copy)]
 pub(crate) struct HoldsEnded<'a> {
     pub(crate) taken: Taken<'a>,

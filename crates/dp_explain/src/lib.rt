@@ -16,6 +16,7 @@ mod output;
 mod replay;
 mod row;
 mod tally;
+mod tally_rows;
 mod telling;
 
 pub use choice::Choice;

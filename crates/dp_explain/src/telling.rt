@@ -13,7 +13,8 @@ use crate::explain_fault::ExplainFault;
 use crate::output::write_rows;
 use crate::replay::{open_before, take_event};
 use crate::row::event_of_row;
-use crate::tally::{SenderCounts, TallyRows, count_event, first_tally};
+use crate::tally::{SenderCounts, count_event, first_tally};
+use crate::tally_rows::TallyRows;
 use dp_line::{Event, LineSpec, LineState, Outcome};
 use dp_sentences::{Block, Noted, Scene, first_notes, note_event, time_after};
 use dp_text::Lines;
@@ -22,7 +23,8 @@ use std::io::Write;
 use std::marker::Model;
 
 /// A pass over an audit text that writes its entries: the line before and after the event that is being written, and
-/// the notes, the time and the counts. Between two events both lines are equal. Contracts see what is known before the next event.
+/// the notes, the time and the counts. Between two events both lines are equal. Contracts see what is known before the
+/// next event.
 #[derive(Drop)]
 pub(crate) struct Telling<'a> {
     line: &'a LineSpec,

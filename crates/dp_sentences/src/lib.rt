@@ -23,6 +23,7 @@ mod notes;
 mod operations;
 mod prm_fault;
 mod refusals;
+mod repeats;
 mod requests;
 mod scene;
 mod sentences;

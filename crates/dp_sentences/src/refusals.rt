@@ -2,11 +2,11 @@
 
 ghost use Rattle.std.specs.Prelude.{◌≡◌, option_map, Some};
 ghost use Rattle.dp_sap.specs.AccessTable.{same_point, set_prm};
-ghost use Rattle.dp_sentences.specs.Refusals.{not_active_text, holds_words, not_holder_text, listed_words, not_named_text, not_listed_text, other_service, no_service_text, busy_text, taken_data_words, taken_words, length_text, selecting_words, grouped_words, not_selected_text, undone_words, other_telegram_text, repeat_text, status_text};
+ghost use Rattle.dp_sentences.specs.Refusals.{not_active_text, holds_words, not_holder_text, listed_words, not_named_text, not_listed_text, other_service, no_service_text, busy_text, taken_data_words, taken_words, length_text, selecting_words, grouped_words, not_selected_text, status_text};
 
 use crate::words::{CountWords, NumbersWords, PointWords, SinceWords, state_name};
 use arrayvec::ArrayVec;
-use dp_decode::{Groups, Hex, HexPair};
+use dp_decode::{Groups, HexPair};
 use dp_sap::{CHK_CFG, GLOBAL_CONTROL, Lists, MOST_LISTED, SET_PRM, State, is_point};
 use dp_telegram::Function;
 use std::fmt;
@@ -365,86 +365,6 @@ impl fmt::Display for Grouped {
         };
         let octet = HexPair(self.group);
         write!(f, "slave {address} is in {groups} (Group_Ident {octet})")
-    }
-}
-
-/// What is not done because the request is treated as a repeat.
-#[derive(Clone, Copy)]
-struct Undone<'a> {
-    point: Option<u8>,
-    octets: &'a [u8],
-}
-
-impl<'a> fmt::Display for Undone<'a> {
-    ghost output = { λ s. Some (undone_words s.point s.octets.now) };
-
-    fn fmt<W: fmt::Write>(&self, f: &mut fmt::Formatter<W>) -> fmt::Result {
-        match (self.point, self.octets) {
-            (None, [_, ..]) => {
-                let octets = Hex(self.octets);
-                write!(f, "outputs {octets} not taken")
-            }
-            (None, []) => f.write_str("Data_Exchange not done"),
-            (Some(_), _) => {
-                let point = PointWords(self.point);
-                write!(f, "{point} not done")
-            }
-        }
-    }
-}
-
-/// The answer to a request that is treated as a repeat, but has other octets than the request whose reply it gets.
-#[derive(Clone, Copy)]
-struct OtherTelegram<'a> {
-    /// The place of the request whose reply it gets.
-    place: u64,
-    point: Option<u8>,
-    octets: &'a [u8],
-}
-
-impl<'a> fmt::Display for OtherTelegram<'a> {
-    ghost output = { λ s. Some (other_telegram_text s.place s.point s.octets.now) };
-
-    fn fmt<W: fmt::Write>(&self, f: &mut fmt::Formatter<W>) -> fmt::Result {
-        let place = self.place;
-        let undone = Undone {
-            point: self.point,
-            octets: self.octets,
-        };
-        write!(
-            f,
-            "repeat: FCB as in entry {place}, but another telegram: {undone}."
-        )
-    }
-}
-
-/// The answer to a request that is treated as a repeat.
-#[derive(Clone, Copy)]
-pub(crate) struct Repeated<'a> {
-    /// Whether both requests have the same octets.
-    pub(crate) is_same: bool,
-    /// The place of the request whose reply it gets, from 1; 0 if there is none.
-    pub(crate) place: u64,
-    /// The point and the data of the request.
-    pub(crate) point: Option<u8>,
-    pub(crate) octets: &'a [u8],
-}
-
-impl<'a> fmt::Display for Repeated<'a> {
-    ghost output = { λ s. Some (repeat_text s.is_same s.place s.point s.octets.now) };
-
-    fn fmt<W: fmt::Write>(&self, f: &mut fmt::Formatter<W>) -> fmt::Result {
-        let place = self.place;
-        if self.is_same {
-            write!(f, "retry of entry {place}: its reply is sent again.")
-        } else {
-            let other = OtherTelegram {
-                place,
-                point: self.point,
-                octets: self.octets,
-            };
-            write!(f, "{other}")
-        }
     }
 }
 

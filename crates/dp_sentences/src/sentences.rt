@@ -11,8 +11,9 @@ use crate::frames::is_fdl_status;
 use crate::meeting::Meeting;
 use crate::notes::note_of;
 use crate::refusals::{
-    Busy, NoService, NotActive, NotHolder, NotListed, NotSelected, Repeated, Status, WrongLength,
+    Busy, NoService, NotActive, NotHolder, NotListed, NotSelected, Status, WrongLength,
 };
+use crate::repeats::Repeated;
 use crate::services::DoneService;
 use crate::words::{NumbersWords, octet_at};
 use dp_prm::Prm;

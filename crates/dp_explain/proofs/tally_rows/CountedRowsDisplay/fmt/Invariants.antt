@@ -2,7 +2,7 @@ use Rattle.std.proofs.Common.{take}
 use Rattle.std.specs.List.{flat_map}
 use Rattle.std.specs.Fmt.{HasWritten, IsPlainFormatter}
 use Rattle.dp_explain.specs.Tallies.{counted_row}
-use Rattle.dp_explain.proofs.tally.CountedRowsDisplay.fmt.Given as goal
+use Rattle.dp_explain.proofs.tally_rows.CountedRowsDisplay.fmt.Given as goal
 
 abbrev pub invariant-loop-way : goal.invariant-loop-way
 invariant-loop-way g l =

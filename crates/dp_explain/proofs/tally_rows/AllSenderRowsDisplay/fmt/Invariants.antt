@@ -2,7 +2,7 @@ use Rattle.std.proofs.Common.{take}
 use Rattle.std.specs.List.{flat_map}
 use Rattle.std.specs.Fmt.{HasWritten, IsPlainFormatter}
 use Rattle.dp_explain.specs.Tallies.{sender_rows}
-use Rattle.dp_explain.proofs.tally.AllSenderRowsDisplay.fmt.Given as goal
+use Rattle.dp_explain.proofs.tally_rows.AllSenderRowsDisplay.fmt.Given as goal
 
 abbrev pub invariant-loop-counts : goal.invariant-loop-counts
 invariant-loop-counts g l =
