@@ -1,7 +1,8 @@
 //! The lines of the tests, and how a test compares a text.
 
+use crate::lines::slave;
 use arrayvec::ArrayVec;
-use dp_line::{Device, LineSpec, Lists, SlaveSpec};
+use dp_line::LineSpec;
 use std::alloc::Global;
 use std::test::Fail;
 
@@ -25,7 +26,8 @@ pub(crate) fn line(
 ) -> Result<LineSpec, Fail> {
     let mut described = Vec::new(alloc);
     for address in slaves {
-        described.push(slave(*address))?;
+        let slave = slave(*address, &[0x21, 0x11])?;
+        described.push(slave)?;
     }
     Ok(LineSpec {
         number,
@@ -33,26 +35,4 @@ pub(crate) fn line(
         masters: ArrayVec::try_from(masters)?,
         slaves: described,
     })
-}
-
-fn slave(address: u8) -> SlaveSpec {
-    let mut cfg = ArrayVec::new();
-    cfg.push(0x21);
-    cfg.push(0x11);
-    let mut cfgs = ArrayVec::new();
-    cfgs.push(cfg);
-    SlaveSpec {
-        address,
-        ident: 0x80A1,
-        cfgs,
-        sync: true,
-        freeze: true,
-        user_max: 237,
-        device: Device::Still,
-        lists: Lists {
-            lockers: None,
-            readers: None,
-        },
-        failsafe: false,
-    }
 }

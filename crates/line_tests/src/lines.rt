@@ -16,7 +16,7 @@ pub(crate) fn octets_of(word: &[u8]) -> Result<Octets, Fail> {
 }
 
 /// Returns a slave with Sync and Freeze, and this configuration.
-fn slave(address: u8, configuration: &[u8]) -> Result<SlaveSpec, Fail> {
+pub(crate) fn slave(address: u8, configuration: &[u8]) -> Result<SlaveSpec, Fail> {
     let mut cfg = ArrayVec::new();
     cfg.try_extend_from_slice(configuration)?;
     let mut cfgs = ArrayVec::new();
@@ -46,7 +46,8 @@ fn slaves(
     let mut slaves = Vec::new(alloc);
     while let Some(word) = addresses.next() {
         let address = octet_in(word).ok_or("an address")?;
-        slaves.push(slave(address, configuration)?)?;
+        let slave = slave(address, configuration)?;
+        slaves.push(slave)?;
     }
     Ok(slaves)
 }
