@@ -12,6 +12,7 @@ usage: explainer.py RACK AUDIT.. [--from N] [--to N] [--slave A] [--master M] [-
 import os
 import re
 import sys
+from collections import Counter
 from dataclasses import dataclass, field
 from itertools import zip_longest
 from typing import Any, Dict, List, Optional, Tuple
@@ -1224,6 +1225,7 @@ class Entry:
     ways: List[str] = field(default_factory=list)       # of a request: how it was answered, at each slave
     named: List[int] = field(default_factory=list)      # addresses in the outcome of a broadcast, a tick or a halt
     master: Optional[int] = None   # of a request
+    telegram: Optional[Telegram] = None                 # of a request, if its frame is one
     ends: bool = False             # an operator's event that releases slaves by a watchdog, or halts the line
     time: Optional[int] = None     # ms, once a tick has come before
 
@@ -1234,11 +1236,14 @@ class Entry:
         head = f'{self.place:{PLACE_WIDTH}}  {route:<{ROUTE_WIDTH}}{self.kind}{time}\n'
         return head + ''.join(f'{ROW_INDENT}{label:<{LABEL_WIDTH}}{text}\n' for label, text in self.rows)
 
+    def refuses(self, way: str) -> bool:
+        """Returns whether a way refuses the request; a slave of a broadcast that is not selected refuses nothing."""
+        return way not in NOT_REFUSED + (('NotSelected',) if self.named else ())
+
     @property
     def is_refused(self) -> bool:
-        """Whether it is a refused request; a slave of a broadcast that is not selected refuses nothing."""
-        accepted = NOT_REFUSED + (('NotSelected',) if self.named else ())
-        return any(way not in accepted for way in self.ways)
+        """Whether it is a refused request."""
+        return any(self.refuses(way) for way in self.ways)
 
     @property
     def is_fault(self) -> bool:
@@ -1262,7 +1267,9 @@ class Hold:
     slave: int
     master: int
     first: int
+    began: int                     # the time after its first entry, in ms
     last: Optional[int] = None
+    ended: Optional[int] = None    # the time after its last entry, in ms
     cause: str = 'to the end'
 
 
@@ -1278,6 +1285,11 @@ class Line:
         self.time: Optional[int] = None               # ms of all ticks, None before the first one
         self.holds: List[Hold] = []
 
+    @property
+    def passed(self) -> int:
+        """The ms of all ticks, 0 before the first one."""
+        return self.time or 0
+
     def take(self, event: Any) -> Optional[Entry]:
         """Takes an event; returns its entry, or None if it is not recorded at this place."""
         if self.halted or not self.fits(event):
@@ -1289,7 +1301,7 @@ class Line:
         entry = self.take_request(event) if isinstance(event, Request) else self.take_operator(event)
         entry.time = self.time
         if isinstance(event, Tick):
-            self.time = (self.time or 0) + event.units * MS_PER_UNIT
+            self.time = self.passed + event.units * MS_PER_UNIT
         self.note_changes(entry, before)
         return entry
 
@@ -1312,12 +1324,12 @@ class Line:
             if slave.holder != holder and holder is not None:
                 self.end_hold(slave)
             if slave.holder != holder and slave.holder is not None:
-                self.holds.append(Hold(address, slave.holder, self.count))
+                self.holds.append(Hold(address, slave.holder, self.count, self.passed))
 
     def end_hold(self, slave: Slave) -> None:
         for hold in self.holds:
             if hold.slave == slave.address and hold.last is None:
-                hold.last, hold.cause = self.count, slave.released_by
+                hold.last, hold.ended, hold.cause = self.count, self.passed, slave.released_by
 
     # ---- Operator
 
@@ -1373,7 +1385,7 @@ class Line:
             entry.silent('NoFrame', 'The octets are no single frame.')
             return entry
         entry = Entry(self.count, sender, frame_target(frame), frame_kind(frame), master=event.master,
-                      rows=content_row(frame))
+                      telegram=frame if isinstance(frame, Telegram) else None, rows=content_row(frame))
         refusal = self.refuse_on_line(event.master, frame)
         if refusal:
             entry.silent(refusal.rule, refusal.reason, refusal.way)
@@ -1644,11 +1656,11 @@ def take_row(line: Line, row: str, is_whole: bool) -> Optional[Entry]:
     place, event = number_in(words[0], LARGEST_WORD), read_event(words[1:])
     if place != line.count + 1:
         return None
-    holds = [Hold(**vars(hold)) for hold in line.holds]
+    holds, time = [Hold(**vars(hold)) for hold in line.holds], line.time
     entry = line.take(event)
     if entry is not None and (entry.facts, entry.outcome) == (parts[1], parts[2]):
         return entry
-    line.holds = holds                 # the holds of the summary end before the wrong row
+    line.holds, line.time = holds, time          # the holds of the summary end before the wrong row
     return None
 
 
@@ -1656,7 +1668,7 @@ def take_row(line: Line, row: str, is_whole: bool) -> Optional[Entry]:
 # Summary
 # ---------------------------------------------------------------------------------------------------------------------
 
-SENDER_WIDTH, SPAN_WIDTH, WAY_WIDTH, COUNT_WIDTH = 12, 24, 14, 8
+SENDER_WIDTH, SPAN_WIDTH, WAY_WIDTH, ITEM_WIDTH, COUNT_WIDTH = 12, 24, 14, 32, 8
 
 
 def hold_row(hold: Hold) -> str:
@@ -1677,8 +1689,89 @@ def count_row(name: str, count: int) -> str:
     return f'{name:<{WAY_WIDTH}}{count:>{COUNT_WIDTH}}\n'
 
 
+EXCHANGES, DIAGNOSES, RETRIES, HELD = 'exchanges', 'diagnoses', 'retries', 'held'
+COUNTED_SERVICES = {DATA_EXCHANGE: EXCHANGES, SLAVE_DIAG: DIAGNOSES}
+CAUSES = ('wrong configuration', 'wrong parameters', 'unlocked', 'the line halted', 'its watchdog ran out')
+
+
+def refused_by(way: str) -> str:
+    return f'refused: {way}'
+
+
+def released_by(cause: str) -> str:
+    return f'released: {cause}'
+
+
+REFUSALS = tuple(refused_by(way) for way in WAYS if way not in NOT_REFUSED)
+RELEASES = tuple(released_by(cause) for cause in CAUSES)
+ITEMS = (EXCHANGES, DIAGNOSES, RETRIES) + REFUSALS + RELEASES + (HELD,)      # what is counted of a station
+
+
+def item_of(entry: Entry, way: str) -> Optional[str]:
+    """Returns the item in which a request that is answered in this way counts, or None."""
+    if way == 'Done':
+        return COUNTED_SERVICES.get(entry.telegram.parts().dsap)
+    if way == RETRY:
+        return RETRIES
+    return refused_by(way) if entry.refuses(way) else None
+
+
+def receivers_of(entry: Entry) -> List[Optional[int]]:
+    """Returns the receiver for each way of a request: for a Global_Control to all, the slaves of its outcome."""
+    return entry.named or [entry.telegram.destination if entry.telegram else None]
+
+
+def count_requests(entries: List[Entry], counts: Counter) -> None:
+    """Counts each request for its receiver and for its sender, also if they are no stations of the line."""
+    for entry in entries:
+        for receiver, way in zip(receivers_of(entry), entry.ways):
+            item = item_of(entry, way)
+            if item:
+                counts[f'slave {receiver}', item] += 1
+                counts[f'master {entry.master}', item] += 1
+
+
+def count_holds(line: Line, counts: Counter) -> None:
+    """Counts the releases, and the time in ms, of each hold for its slave and for its master."""
+    for hold in line.holds:
+        for station in (f'slave {hold.slave}', f'master {hold.master}'):
+            if hold.ended is not None:
+                counts[station, released_by(hold.cause)] += 1
+            counts[station, HELD] += (line.passed if hold.ended is None else hold.ended) - hold.began
+
+
+def statistics_row(station: str, item: str, count: int) -> str:
+    unit = ' ms' if item == HELD else ''
+    return f'  {station:<{SENDER_WIDTH}}{item:<{ITEM_WIDTH}}{count:>{COUNT_WIDTH}}{unit}\n'
+
+
+def statistics_table(title: str, stations: List[str], counts: Counter) -> str:
+    """Returns a table of stations. It has rows for these stations only, and no row whose count is 0."""
+    return f'{title}\n' + ''.join(statistics_row(station, item, counts[station, item])
+                                  for station in stations for item in ITEMS if counts[station, item])
+
+
+def live_list_table(line: Line, entries: List[Entry]) -> str:
+    """Returns how often each address was polled by FDL status, and what stands there."""
+    polls = Counter(entry.telegram.destination for entry in entries for way in entry.ways
+                    if way in ('Status', LIVE_LIST_POLL))
+    stations = {**dict.fromkeys(line.slaves, 'slave'), **dict.fromkeys(line.spec.masters, 'master')}
+    return 'live list\n' + ''.join(statistics_row(f'address {address}', stations.get(address, 'nothing'), count)
+                                   for address, count in sorted(polls.items()))
+
+
+def statistics(line: Line, entries: List[Entry]) -> str:
+    """Returns the tables `slaves`, `masters` and `live list`."""
+    counts: Counter = Counter()
+    count_requests(entries, counts)
+    count_holds(line, counts)
+    return (statistics_table('slaves', [f'slave {slave.address}' for slave in line.spec.slaves], counts)
+            + statistics_table('masters', [f'master {master}' for master in line.spec.masters], counts)
+            + live_list_table(line, entries))
+
+
 def summary(line: Line, entries: List[Entry]) -> str:
-    """Returns the three tables at the end."""
+    """Returns the tables at the end."""
     senders = [f'master {master}' for master in line.spec.masters] + ['others']
     counts = {sender: dict.fromkeys(WAYS, 0) for sender in senders}
     for entry in entries:
@@ -1690,7 +1783,7 @@ def summary(line: Line, entries: List[Entry]) -> str:
         for way in WAYS:
             if counts[sender][way]:
                 text += f'  {sender:<{SENDER_WIDTH}}' + count_row(way, counts[sender][way])
-    text += 'faults\n'
+    text += statistics(line, entries) + 'faults\n'
     for way in FAULTS:
         total = sum(counts[sender][way] for sender in senders)
         if total:

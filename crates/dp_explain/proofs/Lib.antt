@@ -1,6 +1,8 @@
 pub mod Bars
 pub mod Edits
 pub mod Counting
+pub mod AtAddress
+pub mod TenTimes
 pub mod Writing
 pub mod Told
 pub mod Knowing

@@ -23,9 +23,8 @@ use Rattle.dp_audit.proofs.Texts.{HasRoom, room_at_header, room_kept, small_plac
 use Rattle.dp_sentences.specs.Scenes.{SceneView}
 use Rattle.dp_explain.specs.declared.choice.Choice.{Choice}
 use Rattle.dp_explain.specs.Holds.{holds_ended, holds_lasting}
-use Rattle.dp_explain.specs.Tallies.{tally_text}
 use Rattle.dp_explain.specs.Known.{KnownView, first_known, first_world, known_after, known_with, outcome_told, outcome_with}
-use Rattle.dp_explain.specs.Explained.{chosen_text, ended_by, ended_by_row, ended_by_rows, event_of_row, explained_by, known_behind, last_known, last_world, right_rows, told_event, told_row, told_rows, told_text, verdict_text, world_behind}
+use Rattle.dp_explain.specs.Explained.{chosen_text, counts_text, ended_by, ended_by_row, ended_by_rows, event_of_row, explained_by, known_behind, last_known, last_world, right_rows, told_event, told_row, told_rows, told_text, verdict_text, world_behind}
 use Rattle.dp_explain.specs.JournalTold.{IsToldByItsEntries, ended_by_entries, known_behind_entries, known_behind_entry, told_entries}
 use Rattle.dp_explain.proofs.Rows.{places_are, row_is_read, rows_are}
 
@@ -163,5 +162,5 @@ told_by_entries ways numbers events accepted line text count choice opens audit 
     (entries_told ways numbers events choice start entries audit.legal audit.limits room)
     (entries_ended ways numbers events world entries audit.legal audit.limits room)
     (ap (λ (w : World). holds_lasting w line.slaves) (entries_left ways numbers events world entries audit.legal audit.limits room))
-    (ap (λ (k : KnownView). tally_text k.tally) (entries_known ways numbers events start entries audit.legal audit.limits room))
+    (ap counts_text (entries_known ways numbers events start entries audit.legal audit.limits room))
     (ap (λ (n : ℕ). verdict_text (Ok n)) (sym audit.counted))

@@ -16,9 +16,9 @@ use Rattle.dp_explain.specs.declared.explain_fault.ExplainFault.{ExplainFault}
 use Rattle.dp_sentences.specs.Scenes.{SceneView}
 use Rattle.dp_sentences.specs.Blocks.{block_text}
 use Rattle.dp_explain.specs.Choices.{is_chosen}
-use Rattle.dp_explain.specs.Tallies.{tally_text}
+use Rattle.dp_explain.specs.StatisticsRows.{counts_tables}
 use Rattle.dp_explain.specs.Holds.{holds_ended, holds_lasting}
-use Rattle.dp_explain.specs.Known.{KnownView, first_known, first_world, known_after, outcome_told}
+use Rattle.dp_explain.specs.Known.{KnownView, first_known, first_world, known_after, last_statistics, outcome_told}
 
 -- the event of a text line, which stands between the place and the first bar
 abbrev pub event_of_row : List ℕ → Option Event
@@ -108,9 +108,13 @@ verdict_status (Err fault) = 1
 abbrev pub right_rows : Result ℕ AuditFault → List ℕ → List (List ℕ)
 right_rows verdict text = take (right_entries verdict) (drop 1 (lines_of text))
 
--- the holds, and how many requests were answered in each way
+-- how many requests were answered in each way, the statistics, and the faults
+abbrev pub counts_text : KnownView → List ℕ
+counts_text known = counts_tables known.scene.description known.tally (last_statistics known)
+
+-- the holds and the counts
 abbrev pub summary_text : Description → ℕ → List (List ℕ) → List ℕ
-summary_text line places rows = holds_text line places rows ++ tally_text (last_known (first_known line places) rows).tally
+summary_text line places rows = holds_text line places rows ++ counts_text (last_known (first_known line places) rows)
 
 -- the rows of the entries, and the summary
 abbrev pub told_text : Description → ℕ → List (List ℕ) → Choice → List ℕ

@@ -5,10 +5,9 @@ use Rattle.dp_audit.specs.declared.entry.Entry.{Entry}
 use Rattle.dp_audit.specs.Legal.{after_entries, after_entry}
 use Rattle.dp_audit.specs.Check.{IsAuditOf, places_of_header}
 use Rattle.dp_explain.specs.declared.choice.Choice.{Choice}
-use Rattle.dp_explain.specs.Tallies.{tally_text}
 use Rattle.dp_explain.specs.Holds.{holds_ended, holds_lasting}
 use Rattle.dp_explain.specs.Known.{KnownView, first_known, first_world, known_with}
-use Rattle.dp_explain.specs.Explained.{chosen_text, explained, verdict_text}
+use Rattle.dp_explain.specs.Explained.{chosen_text, counts_text, explained, verdict_text}
 
 -- what is known after an entry
 abbrev pub known_behind_entry : KnownView → Entry → KnownView
@@ -37,7 +36,7 @@ holds_of_entries line places entries =
 
 abbrev pub summary_of_entries : Description → ℕ → List Entry → List ℕ
 summary_of_entries line places entries =
-    (codes "holds\n" ++ holds_of_entries line places entries) ++ tally_text (known_behind_entries (first_known line places) entries).tally
+    (codes "holds\n" ++ holds_of_entries line places entries) ++ counts_text (known_behind_entries (first_known line places) entries)
 
 -- for a line with this number of places: the chosen entries, the summary, and that the text is legal
 abbrev pub journal_told : Description → ℕ → List Entry → Choice → List ℕ

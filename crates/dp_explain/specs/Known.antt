@@ -1,4 +1,4 @@
--- What is known before an event: the scene and the tally (own).
+-- What is known before an event: the scene, the tally and the statistics (own).
 use Rattle.std.specs.Prelude.{ℕ, ◌+◌, List, map, Option, Some, None}
 use Rattle.arrayvec.specs.ArrayVec.{ArrayVec}
 use Rattle.dp_line.specs.declared.event.Event.{Event}
@@ -9,12 +9,17 @@ use Rattle.dp_line.specs.Steps.{step}
 use Rattle.dp_sentences.specs.Notes.{first_notes, notes_after}
 use Rattle.dp_sentences.specs.Scenes.{SceneView}
 use Rattle.dp_sentences.specs.Times.{time_after}
+use Rattle.dp_explain.specs.declared.statistics.AddressCounts.{AddressCounts}
 use Rattle.dp_explain.specs.declared.tally.SenderCounts.{SenderCounts}
+use Rattle.dp_explain.specs.StationCounts.{first_statistics}
+use Rattle.dp_explain.specs.Statistics.{all_lasting_counted, moment, statistics_after}
 use Rattle.dp_explain.specs.Tallies.{first_tally, tally_after}
 
 pub record KnownView : Type 0 where
   pub scene : SceneView
   pub tally : List SenderCounts
+  -- the counts of each address, at its index
+  pub statistics : List AddressCounts
 
 abbrev pub slave_addresses : Description → List ℕ
 slave_addresses line = map (λ slave. slave.address) line.slaves
@@ -32,6 +37,7 @@ first_known line places = record {
     time = None;
   };
   tally = first_tally line.masters;
+  statistics = first_statistics;
 }
 
 -- after an event at this place, by its outcome and the line after it
@@ -44,6 +50,7 @@ known_with known after place event outcome = record {
     time = time_after known.scene.time event;
   };
   tally = tally_after known.tally known.scene event outcome;
+  statistics = statistics_after known.statistics known.scene after event outcome;
 }
 
 -- ---- by the state of the line
@@ -60,3 +67,9 @@ outcome_told world event = outcome_with (step world event).answer.outcome (step 
 abbrev pub known_after : KnownView → Event → KnownView
 known_after known event =
     known_with known (step known.scene.world event).world (known.scene.world.count + 1) event (outcome_told known.scene.world event)
+
+-- ---- at the end
+
+-- the statistics, with the holds that last
+abbrev pub last_statistics : KnownView → List AddressCounts
+last_statistics known = all_lasting_counted known.scene.world (moment known.scene.time) known.scene.description.slaves known.statistics

@@ -2,7 +2,11 @@ pub mod Names
 pub mod Choices
 pub mod Tallies
 pub mod Holds
+pub mod StationCounts
+pub mod Statistics
+pub mod StatisticsRows
 pub mod Known
+pub mod StatisticsExamples
 pub mod Explained
 pub mod JournalTold
 pub mod Standing

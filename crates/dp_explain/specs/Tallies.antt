@@ -137,6 +137,3 @@ counted_table tally = codes "requests by rule\n" ++ flat_map sender_rows tally
 
 abbrev pub faults_table : List SenderCounts → List ℕ
 faults_table tally = codes "faults\n" ++ flat_map (fault_row tally) all_ways
-
-abbrev pub tally_text : List SenderCounts → List ℕ
-tally_text tally = counted_table tally ++ faults_table tally

@@ -11,8 +11,7 @@ ghost use Rattle.std.specs.Prelude.{◌≡◌, ◌++◌, None, take, drop};
 ghost use Rattle.dp_text.specs.Words.{lines_of};
 ghost use Rattle.dp_line.specs.World.{description_of, opening_fault};
 ghost use Rattle.dp_audit.specs.Check.{checked, places_of_lines};
-ghost use Rattle.dp_explain.specs.Tallies.{tally_text};
-ghost use Rattle.dp_explain.specs.Explained.{right_entries, verdict_text, verdict_status, holds_of, holds_text, told_text, explained, explained_by, Leaves, Explains};
+ghost use Rattle.dp_explain.specs.Explained.{right_entries, verdict_text, verdict_status, holds_of, holds_text, counts_text, told_text, explained, explained_by, Leaves, Explains};
 
 use crate::choice::Choice;
 use crate::explain_fault::ExplainFault;
@@ -28,8 +27,9 @@ use std::io::Write;
 /// the text that differs from what the line would have written, then a summary, and then the verdict, as a check writes
 /// it: `legal N`, `bad line N` or `not the policy N`. Returns the exit status: 0 if the text is legal, else 1.
 ///
-/// It takes memory for two passes, each with two lines and with the rows of one entry, however long the text is.
-/// Returns `OutOfMemory` if memory runs out, `WriteFault` if a write fails; either leaves a prefix of the output.
+/// It takes memory for two passes, each with two lines and with the rows of one entry or of the summary, and for the
+/// counts of 128 addresses, however long the text is. Returns `OutOfMemory` if memory runs out, `WriteFault` if a write
+/// fails; either leaves a prefix of the output.
 pub fn explain_text<W: Write>(
     alloc: Global,
     line: &LineSpec,
@@ -120,11 +120,11 @@ fn tell_summary<W: Write>(
     writer: &mut W,
 ) -> Result<(), ExplainFault>
     requires { opening_fault (description_of line.now) ≡ None }
-    ensures { Leaves (holds_text (description_of line.now) (places_of_lines (description_of line.now) (lines_of text.now)) (take count (drop 1 (lines_of text.now))) ++ tally_text telling.old.tally)
+    ensures { Leaves (holds_text (description_of line.now) (places_of_lines (description_of line.now) (lines_of text.now)) (take count (drop 1 (lines_of text.now))) ++ counts_text telling.old)
         (W.contents writer.old) (W.contents writer.new) result }
 {
     match tell_holds(alloc, line, text, count, writer) {
-        Ok(()) => telling.tell_tally(writer),
+        Ok(()) => telling.tell_counts(writer),
         Err(fault) => Err(fault),
     }
 }

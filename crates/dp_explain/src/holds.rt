@@ -3,15 +3,14 @@
 ghost use Rattle.std.specs.Prelude.{◌≡◌, ◌≤◌, length, Some};
 ghost use Rattle.std.specs.List.{flat_map};
 ghost use Rattle.dp_sentences.specs.Changes.{asked_addresses, let_go};
-ghost use Rattle.dp_explain.specs.Holds.{entries_words, station_column, hold_row, ended_at, holds_ended, lasts_at, holds_lasting};
+ghost use Rattle.dp_explain.specs.Holds.{entries_words, hold_row, ended_at, holds_ended, lasts_at, holds_lasting};
 
+use crate::columns::StationColumn;
 use dp_line::{Event, LineState, Outcome, SlaveSpec};
-use dp_sentences::{Ending, Spaces, Whom, digits_of, digits_of_long, same_holder};
+use dp_sentences::{Ending, Spaces, Whom, digits_of_long, same_holder};
 use std::fmt;
 
-/// The widths of the columns of a slave or a master, and of entries.
-const STATION_COLUMNS: usize = 12;
-
+/// The width of the column of entries.
 const ENTRIES_COLUMNS: usize = 24;
 
 /// The entries at which a hold began and ended.
@@ -73,25 +72,6 @@ impl fmt::Display for HoldRow {
         let behind = Spaces(ENTRIES_COLUMNS.saturating_sub(entries.width()));
         let ending = self.ending.name();
         write!(f, "  {slave}{master}{entries}{behind}{ending}\n")
-    }
-}
-
-/// A station in its column.
-#[derive(Clone, Copy)]
-struct StationColumn<'a> {
-    name: &'a str,
-    address: u8,
-}
-
-impl<'a> fmt::Display for StationColumn<'a> {
-    ghost output = { λ s. Some (station_column s.name.now s.address) };
-
-    fn fmt<W: fmt::Write>(&self, f: &mut fmt::Formatter<W>) -> fmt::Result {
-        let name = self.name;
-        let address = self.address;
-        let width = name.len().saturating_add(digits_of(address));
-        let behind = Spaces(STATION_COLUMNS.saturating_sub(width));
-        write!(f, "{name}{address}{behind}")
     }
 }
 

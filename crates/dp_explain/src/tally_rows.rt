@@ -2,19 +2,16 @@
 
 ghost use Rattle.std.specs.Prelude.{◌≡◌, ◌<◌, Some};
 ghost use Rattle.std.specs.List.{flat_map};
-ghost use Rattle.dp_explain.specs.Tallies.{count_of, way_words, count_columns, sender_words, counted_row, sender_rows, total, is_fault, fault_row, counted_table, faults_table, tally_text};
+ghost use Rattle.dp_explain.specs.Tallies.{count_of, way_words, count_columns, sender_words, counted_row, sender_rows, total, is_fault, fault_row, counted_table, faults_table};
 
+use crate::columns::{NumberColumn, StationColumn};
 use crate::tally::SenderCounts;
 use dp_responder::Rule;
-use dp_sentences::{Answered, Spaces, digits_of, digits_of_long};
+use dp_sentences::{Answered, Spaces};
 use std::fmt;
 
-/// The widths of the columns of a sender, of a way and of a count.
-const SENDER_COLUMNS: usize = 12;
-
+/// The width of the column of a way.
 const WAY_COLUMNS: usize = 14;
-
-const COUNT_COLUMNS: usize = 8;
 
 /// All ways in the order of their rows. None is the way of a request to all slaves that reached no slave.
 const ALL_WAYS: [Option<Answered>; 25] = [
@@ -67,10 +64,9 @@ impl fmt::Display for CountColumns {
 
     fn fmt<W: fmt::Write>(&self, f: &mut fmt::Formatter<W>) -> fmt::Result {
         let name = way_name(self.way);
-        let count = self.count;
+        let count = NumberColumn(self.count);
         let behind = Spaces(WAY_COLUMNS.saturating_sub(name.len()));
-        let before = Spaces(COUNT_COLUMNS.saturating_sub(digits_of_long(count)));
-        write!(f, "{name}{behind}{before}{count}\n")
+        write!(f, "{name}{behind}{count}\n")
     }
 }
 
@@ -86,8 +82,11 @@ impl fmt::Display for SenderColumn {
     fn fmt<W: fmt::Write>(&self, f: &mut fmt::Formatter<W>) -> fmt::Result {
         match self.0 {
             Some(master) => {
-                let behind = Spaces(SENDER_COLUMNS.saturating_sub(7 + digits_of(master)));
-                write!(f, "master {master}{behind}")
+                let station = StationColumn {
+                    name: "master ",
+                    address: master,
+                };
+                write!(f, "{station}")
             }
             None => f.write_str("others      "),
         }
@@ -241,7 +240,7 @@ impl<'a> fmt::Display for FaultRows<'a> {
 
 /// The table of how many requests of each master were answered in each way.
 #[derive(Clone, Copy)]
-struct CountedTable<'a>(&'a [SenderCounts]);
+pub(crate) struct CountedTable<'a>(pub(crate) &'a [SenderCounts]);
 
 impl<'a> fmt::Display for CountedTable<'a> {
     ghost output = { λ s. Some (counted_table s.0.now) };
@@ -254,7 +253,7 @@ impl<'a> fmt::Display for CountedTable<'a> {
 
 /// The table of the faults: how many requests of all senders were answered in each way that is one.
 #[derive(Clone, Copy)]
-struct FaultsTable<'a>(&'a [SenderCounts]);
+pub(crate) struct FaultsTable<'a>(pub(crate) &'a [SenderCounts]);
 
 impl<'a> fmt::Display for FaultsTable<'a> {
     ghost output = { λ s. Some (faults_table s.0.now) };
@@ -265,19 +264,5 @@ impl<'a> fmt::Display for FaultsTable<'a> {
             ways: &ALL_WAYS,
         };
         write!(f, "faults\n{rows}")
-    }
-}
-
-/// Both tables: the requests of each master by way, and the faults of the bus.
-#[derive(Clone, Copy)]
-pub(crate) struct TallyRows<'a>(pub(crate) &'a [SenderCounts]);
-
-impl<'a> fmt::Display for TallyRows<'a> {
-    ghost output = { λ s. Some (tally_text s.0.now) };
-
-    fn fmt<W: fmt::Write>(&self, f: &mut fmt::Formatter<W>) -> fmt::Result {
-        let counted = CountedTable(self.0);
-        let faults = FaultsTable(self.0);
-        write!(f, "{counted}{faults}")
     }
 }

@@ -1,20 +1,22 @@
-//! The pass over an audit text that writes the chosen entries, and counts the requests.
+//! The pass over an audit text that writes the chosen entries, and counts the requests and the holds.
 
 ghost use Rattle.std.specs.Prelude.{◌≡◌, ◌+◌, if◌then◌else◌, [], take, None, Some, OnOk, MatchResult};
 ghost use Rattle.dp_text.specs.Words.{lines_of};
 ghost use Rattle.dp_line.specs.World.{description_of, opening_fault};
 ghost use Rattle.dp_audit.specs.Check.{places_of_lines};
-ghost use Rattle.dp_explain.specs.Tallies.{tally_text};
 ghost use Rattle.dp_explain.specs.Known.{first_known, known_after};
-ghost use Rattle.dp_explain.specs.Explained.{event_of_row, told_event, told_row, told_rows, known_behind, last_known, chosen_text, Leaves};
+ghost use Rattle.dp_explain.specs.Explained.{event_of_row, told_event, told_row, told_rows, known_behind, last_known, chosen_text, counts_text, Leaves};
 
 use crate::choice::{Choice, is_chosen};
+use crate::count_event::count_statistics;
+use crate::count_holds::{count_all_lasting, moment};
+use crate::counts_tables::CountsTables;
 use crate::explain_fault::ExplainFault;
 use crate::output::write_rows;
 use crate::replay::{open_before, take_event};
 use crate::row::event_of_row;
+use crate::statistics::{AddressCounts, first_statistics};
 use crate::tally::{SenderCounts, count_event, first_tally};
-use crate::tally_rows::TallyRows;
 use dp_line::{Event, LineSpec, LineState, Outcome};
 use dp_sentences::{Block, Noted, Scene, first_notes, note_event, time_after};
 use dp_text::Lines;
@@ -33,6 +35,8 @@ pub(crate) struct Telling<'a> {
     notes: Vec<Noted>,
     time: Option<u64>,
     tally: Vec<SenderCounts>,
+    /// The counts of each address, at its index.
+    statistics: Vec<AddressCounts>,
     /// A buffer for the rows of one entry.
     rows: String,
 }
@@ -47,14 +51,15 @@ impl<'a> Model for Telling<'a> {
     ghost view = { λ t. record {
       scene = record { description = description_of t.line.now; world = t.before.world; notes = t.notes.items; time = t.time };
       tally = t.tally.items;
+      statistics = t.statistics.items;
     } };
 
     ghost invariant = { λ t. t.after.world ≡ t.before.world };
 }
 
 impl<'a> Telling<'a> {
-    /// Opens the line on which this text is judged, before its first entry. It takes memory for two lines; returns
-    /// `OutOfMemory` if there is too little.
+    /// Opens the line on which this text is judged, before its first entry. It takes memory for two lines and for the
+    /// counts; returns `OutOfMemory` if there is too little.
     pub(crate) fn open(
         alloc: Global,
         line: &'a LineSpec,
@@ -76,6 +81,9 @@ impl<'a> Telling<'a> {
         let Ok(tally) = first_tally(alloc, line.masters.as_slice()) else {
             return Err(ExplainFault::OutOfMemory);
         };
+        let Ok(statistics) = first_statistics(alloc) else {
+            return Err(ExplainFault::OutOfMemory);
+        };
         Ok(Telling {
             line,
             before,
@@ -83,6 +91,7 @@ impl<'a> Telling<'a> {
             notes,
             time: None,
             tally,
+            statistics,
             rows: String::new(alloc),
         })
     }
@@ -114,6 +123,7 @@ impl<'a> Telling<'a> {
         };
         let told = tell_chosen(&block, choice, &mut self.rows, writer);
         count_event(&mut self.tally, &scene, event, &outcome);
+        count_statistics(&mut self.statistics, &scene, &self.after, event, &outcome);
         let _ = self.before.take(event);
         note_event(&mut self.notes, place, event, &outcome);
         self.time = time_after(self.time, event);
@@ -160,12 +170,20 @@ impl<'a> Telling<'a> {
         Ok(())
     }
 
-    /// Writes how many requests were answered in each way.
-    pub(crate) fn tell_tally<W: Write>(&mut self, writer: &mut W) -> Result<(), ExplainFault>
-        ensures { Leaves (tally_text self.old.tally) (W.contents writer.old) (W.contents writer.new) result }
+    /// Writes how many requests were answered in each way, the statistics, and the faults. It counts the holds that last
+    /// to the end, so call it once, after the last entry.
+    pub(crate) fn tell_counts<W: Write>(&mut self, writer: &mut W) -> Result<(), ExplainFault>
+        ensures { Leaves (counts_text self.old) (W.contents writer.old) (W.contents writer.new) result }
     {
-        let rows = TallyRows(self.tally.as_slice());
-        write_rows(&rows, &mut self.rows, writer)
+        let time = moment(self.time);
+        let slaves = self.line.slaves.as_slice();
+        count_all_lasting(&mut self.statistics, &self.before, time, slaves);
+        let counts = CountsTables {
+            line: self.line,
+            tally: self.tally.as_slice(),
+            statistics: self.statistics.as_slice(),
+        };
+        write_rows(&counts, &mut self.rows, writer)
     }
 }
 

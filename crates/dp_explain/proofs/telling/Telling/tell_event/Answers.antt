@@ -4,8 +4,9 @@ use Rattle.dp_line.specs.Steps.{step}
 use Rattle.dp_sentences.specs.Notes.{notes_after}
 use Rattle.dp_sentences.specs.Times.{time_after}
 use Rattle.dp_explain.specs.Known.{KnownView, outcome_told}
+use Rattle.dp_explain.specs.Statistics.{statistics_after}
 use Rattle.dp_explain.specs.Tallies.{tally_after}
-use Rattle.dp_explain.proofs.Knowing.{counted_is, known_is, noted_is, scene_is, scene_of, told_is}
+use Rattle.dp_explain.proofs.Knowing.{counted_is, known_is, more_is, noted_is, scene_is, scene_of, told_is}
 use Rattle.dp_explain.proofs.telling.Telling.tell_event.Goals as goal
 
 pub returns-clause-known : goal.returns-clause-known
@@ -30,8 +31,13 @@ returns-clause-known g c =
     let counted : c.count_event.new.tally.items ≡ tally_after k.tally s event (outcome_told s.world event) =
     counted_is c.count_event.new.tally.items c.self.inside.tally.items k.tally
     (scene_of (description_of c.self.inside.line.now) c.self.inside.before.world c.as_slice.result.now c.self.inside.time) s event c.take_event-outcome.result (outcome_told s.world event) tally scene outcome c.count_event.ensures in
+    let stepped : c.take_event-outcome.new.line.world ≡ (step s.world event).world = c.take_event-outcome.ensures.world ∙ ap (λ (w : World). (step w event).world) after in
+    let more : c.count_statistics.new.statistics.items ≡ statistics_after k.statistics s (step s.world event).world event (outcome_told s.world event) =
+    more_is c.count_statistics.new.statistics.items c.self.inside.statistics.items k.statistics
+    (scene_of (description_of c.self.inside.line.now) c.self.inside.before.world c.as_slice.result.now c.self.inside.time) s c.take_event-outcome.new.line.world (step s.world event).world event c.take_event-outcome.result (outcome_told s.world event)
+    (ap (λ (v : KnownView). v.statistics) c.self.view_is) scene stepped outcome c.count_statistics.ensures in
     let timed : c.time_after-self-inside.result ≡ time_after s.time event = c.time_after-self-inside.ensures ∙ ap (λ (t : Option ℕ). time_after t event) time in
-    known_is k event (description_of c.self.inside.line.now) c.take.new.self.world c.note_event.new.notes.items c.time_after-self-inside.result c.count_event.new.tally.items described left noted timed counted
+    known_is k event (description_of c.self.inside.line.now) c.take.new.self.world c.note_event.new.notes.items c.time_after-self-inside.result c.count_event.new.tally.items c.count_statistics.new.statistics.items described left noted timed counted more
 
 pub returns-clause-told : goal.returns-clause-told
 returns-clause-told g c =
