@@ -7,6 +7,11 @@ pub mod Writing
 pub mod Told
 pub mod Knowing
 pub mod Rows
+pub mod RightRows
+pub mod Following
+pub mod FollowedRow
+pub mod FollowedRows
+pub mod Ending
 pub mod Retold
 pub mod Reached
 pub mod Standings

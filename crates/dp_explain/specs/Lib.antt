@@ -6,8 +6,10 @@ pub mod StationCounts
 pub mod Statistics
 pub mod StatisticsRows
 pub mod Known
-pub mod StatisticsExamples
 pub mod Explained
+pub mod Followed
+pub mod Following
+pub mod StatisticsExamples
 pub mod JournalTold
 pub mod Standing
 pub mod Repeats

@@ -1,35 +1,44 @@
 //! The explanation of an audit text.
 //!
-//! The text is checked first and explained afterwards, so the explanation of a text that isn't legal stops where the
-//! check does. The program reads the text whole, as a check does, because three passes go over it, and a file may
-//! change between two readings. The holds are written by a separate pass, so that no list grows with the text.
+//! The rows of the text are followed one after another, and each is checked before its entry is explained, so the
+//! explanation of a text that isn't legal stops where the check does. One pass goes over the text. The holds that ended
+//! are stored meanwhile, because they are written after the last entry.
 //!
 //! The summary is always of the whole text, whatever is chosen: someone who asks for the entries of one slave sees
 //! its holds there.
 
-ghost use Rattle.std.specs.Prelude.{◌≡◌, ◌++◌, None, take, drop};
+ghost use Rattle.std.specs.Prelude.{◌≡◌, ◌++◌, ◌∷◌, [], codes, None, unwrap_or, IfOk, OnOk, OnErr};
+ghost use Rattle.std.specs.Io.KnownBytes.{Appends};
 ghost use Rattle.dp_text.specs.Words.{lines_of};
+ghost use Rattle.dp_text.specs.Writes.{WritesPrefix};
 ghost use Rattle.dp_line.specs.World.{description_of, opening_fault};
-ghost use Rattle.dp_audit.specs.Check.{checked, places_of_lines};
-ghost use Rattle.dp_explain.specs.Explained.{right_entries, verdict_text, verdict_status, holds_of, holds_text, counts_text, told_text, explained, explained_by, Leaves, Explains};
+ghost use Rattle.dp_audit.specs.Check.{checked, checked_lines};
+ghost use Rattle.dp_explain.specs.Holds.{holds_lasting};
+ghost use Rattle.dp_explain.specs.Explained.{verdict_text, verdict_status, explained, Leaves, Explains};
+ghost use Rattle.dp_explain.specs.Followed.{first_follower, followed, followed_summary, followed_text, whole_rows};
+ghost use Rattle.dp_explain.specs.Following.{stored_with};
 
 use crate::choice::Choice;
+use crate::ended_holds::EndedHolds;
 use crate::explain_fault::ExplainFault;
-use crate::holds_pass::HoldsPass;
-use crate::telling::Telling;
-use dp_audit::{AuditFault, check_text};
+use crate::follow_fault::FollowFault;
+use crate::follower::Follower;
+use dp_audit::{AuditFault, is_header_of};
 use dp_line::LineSpec;
 use dp_text::{Lines, Text, write_whole};
 use std::alloc::Global;
 use std::io::Write;
 
+/// The number of entries of a legal text, or the fault of the first wrong row.
+type Verdict = Result<u32, AuditFault>;
+
 /// Explains an audit text of a line that can be opened. Writes the rows of each chosen entry, up to the first line of
 /// the text that differs from what the line would have written, then a summary, and then the verdict, as a check writes
 /// it: `legal N`, `bad line N` or `not the policy N`. Returns the exit status: 0 if the text is legal, else 1.
 ///
-/// It takes memory for two passes, each with two lines and with the rows of one entry or of the summary, and for the
-/// counts of 128 addresses, however long the text is. Returns `OutOfMemory` if memory runs out, `WriteFault` if a write
-/// fails; either leaves a prefix of the output.
+/// It takes memory for two lines, for the counts of 128 addresses, for the rows of one entry or of the summary, and for
+/// one row for each hold that ended. Returns `OutOfMemory` if memory runs out, `WriteFault` if a write fails; either
+/// leaves a prefix of the output.
 pub fn explain_text<W: Write>(
     alloc: Global,
     line: &LineSpec,
@@ -41,158 +50,149 @@ pub fn explain_text<W: Write>(
     ensures { Explains (checked (description_of line.now) text.now) (explained (description_of line.now) text.now choice.now)
         (W.contents writer.old) (W.contents writer.new) result }
 {
-    match check_text(alloc, line, text) {
-        Err(AuditFault::OutOfMemory) => Err(ExplainFault::OutOfMemory),
-        Ok(count) => explain_by(alloc, Ok(count), line, text, choice, writer),
-        Err(AuditFault::BadLine(row)) => {
-            explain_by(
-                alloc,
-                Err(AuditFault::BadLine(row)),
-                line,
-                text,
-                choice,
-                writer,
-            )
-        }
-        Err(AuditFault::NotThePolicy(row)) => {
-            explain_by(
-                alloc,
-                Err(AuditFault::NotThePolicy(row)),
-                line,
-                text,
-                choice,
-                writer,
-            )
-        }
-    }
-}
-
-/// Explains an audit text that has this verdict.
-fn explain_by<W: Write>(
-    alloc: Global,
-    verdict: Result<u32, AuditFault>,
-    line: &LineSpec,
-    text: &str,
-    choice: &Choice,
-    writer: &mut W,
-) -> Result<u8, ExplainFault>
-    requires { opening_fault (description_of line.now) ≡ None }
-    ensures { Explains verdict (explained_by verdict (description_of line.now) text.now choice.now)
-        (W.contents writer.old) (W.contents writer.new) result }
-{
-    let count = right_entries(verdict);
-    match tell_text(alloc, line, text, count, choice, writer) {
-        Ok(()) => tell_verdict(verdict, writer),
-        Err(fault) => Err(fault),
-    }
-}
-
-/// Writes the first `count` entries of an audit text, and the summary.
-fn tell_text<W: Write>(
-    alloc: Global,
-    line: &LineSpec,
-    text: &str,
-    count: u64,
-    choice: &Choice,
-    writer: &mut W,
-) -> Result<(), ExplainFault>
-    requires { opening_fault (description_of line.now) ≡ None }
-    ensures { Leaves (told_text (description_of line.now) (places_of_lines (description_of line.now) (lines_of text.now)) (take count (drop 1 (lines_of text.now))) choice.now)
-        (W.contents writer.old) (W.contents writer.new) result }
-{
-    let mut telling = match Telling::open(alloc, line, text) {
-        Ok(telling) => telling,
+    let mut follower = match Follower::open(alloc, line, text) {
+        Ok(follower) => follower,
         Err(fault) => return Err(fault),
     };
-    match telling.tell_rows(choice, count, &mut rows_of(text), writer) {
-        Ok(()) => tell_summary(&mut telling, alloc, line, text, count, writer),
+    let mut ended = EndedHolds::stored(alloc);
+    match follow_text(&mut follower, line, text, choice, &mut ended, writer) {
+        Ok(verdict) => write_end(&mut follower, line, &ended, verdict, writer),
         Err(fault) => Err(fault),
     }
 }
 
-/// Writes the summary of a text, after a pass over the whole text.
-fn tell_summary<W: Write>(
-    telling: &mut Telling<'_>,
-    alloc: Global,
+/// Follows the rows of a text, until the first wrong one, and stores the holds that they ended. Returns the verdict on
+/// the text.
+fn follow_text<W: Write>(
+    follower: &mut Follower<'_>,
     line: &LineSpec,
     text: &str,
-    count: u64,
+    choice: &Choice,
+    ended: &mut EndedHolds,
     writer: &mut W,
-) -> Result<(), ExplainFault>
-    requires { opening_fault (description_of line.now) ≡ None }
-    ensures { Leaves (holds_text (description_of line.now) (places_of_lines (description_of line.now) (lines_of text.now)) (take count (drop 1 (lines_of text.now))) ++ counts_text telling.old)
+) -> Result<Verdict, ExplainFault>
+    requires { follower.old ≡ first_follower (description_of line.now) (lines_of text.now) }
+    ensures verdict { IfOk result (λ verdict. verdict ≡ checked (description_of line.now) text.now) }
+    ensures known { OnOk result (follower.new ≡ (followed_text choice.now (description_of line.now) text.now).last) }
+    ensures stored { OnOk result (ended.new ≡ stored_with (followed_text choice.now (description_of line.now) text.now).ended ended.old) }
+    ensures told { OnOk result (Appends (W.contents writer.old) (W.contents writer.new) (followed_text choice.now (description_of line.now) text.now).told) }
+    ensures cut { OnErr result (WritesPrefix (W.contents writer.old) (W.contents writer.new) (followed_text choice.now (description_of line.now) text.now).told) }
+{
+    let mut rows = Lines::new(text.as_bytes());
+    let Some(header) = rows.next() else {
+        return Ok(Err(AuditFault::BadLine(1)));
+    };
+    let Some(first) = rows.next() else {
+        return Ok(Err(AuditFault::BadLine(1)));
+    };
+    if !is_header_of(header, line) {
+        return Ok(Err(AuditFault::BadLine(1)));
+    }
+    follow_rows(follower, first, &mut rows, choice, ended, writer)
+}
+
+/// Follows this row and the rows after it, until the first wrong one, and stores the holds that they ended. Returns the
+/// verdict on the text.
+fn follow_rows<W: Write>(
+    follower: &mut Follower<'_>,
+    first: &[u8],
+    rows: &mut Lines<'_>,
+    choice: &Choice,
+    ended: &mut EndedHolds,
+    writer: &mut W,
+) -> Result<Verdict, ExplainFault>
+    requires { follower.old.fault ≡ None }
+    ensures verdict { IfOk result (λ verdict. verdict ≡ checked_lines follower.old.known.scene.world follower.old.known.scene.world.count (first.now ∷ rows.old)) }
+    ensures known { OnOk result (follower.new ≡ (followed choice.now follower.old (whole_rows (first.now ∷ rows.old))).last) }
+    ensures stored { OnOk result (ended.new ≡ stored_with (followed choice.now follower.old (whole_rows (first.now ∷ rows.old))).ended ended.old) }
+    ensures told { OnOk result (Appends (W.contents writer.old) (W.contents writer.new) (followed choice.now follower.old (whole_rows (first.now ∷ rows.old))).told) }
+    ensures cut { OnErr result (WritesPrefix (W.contents writer.old) (W.contents writer.new) (followed choice.now follower.old (whole_rows (first.now ∷ rows.old))).told) }
+{
+    let mut row = first;
+    while let Some(next) = rows.next() {
+        match follower.follow_row(row, choice, ended, writer) {
+            Ok(()) => {}
+            Err(FollowFault::Wrong(fault)) => return Ok(Err(fault)),
+            Err(FollowFault::Explain(fault)) => return Err(fault),
+        }
+        row = next;
+    }
+    if row.is_empty() {
+        Ok(Ok(follower.count()))
+    } else {
+        let number = u64::from(follower.count()) + 2;
+        Ok(Err(AuditFault::BadLine(number)))
+    }
+}
+
+/// Writes what follows the last entry: the summary, and then the verdict. Returns the exit status.
+fn write_end<W: Write>(
+    follower: &mut Follower<'_>,
+    line: &LineSpec,
+    ended: &EndedHolds,
+    verdict: Verdict,
+    writer: &mut W,
+) -> Result<u8, ExplainFault>
+    ensures { Explains verdict (followed_summary (description_of line.now) (unwrap_or ended.now []) follower.old.known ++ verdict_text verdict)
         (W.contents writer.old) (W.contents writer.new) result }
 {
-    match tell_holds(alloc, line, text, count, writer) {
-        Ok(()) => telling.tell_counts(writer),
+    match write_summary(follower, line, ended, writer) {
+        Ok(()) => write_verdict(verdict, writer),
         Err(fault) => Err(fault),
     }
 }
 
-/// Writes a title, and the holds of all slaves of the line.
-fn tell_holds<W: Write>(
-    alloc: Global,
+/// Writes the holds of all slaves of the line, and the counts.
+fn write_summary<W: Write>(
+    follower: &mut Follower<'_>,
     line: &LineSpec,
-    text: &str,
-    count: u64,
+    ended: &EndedHolds,
     writer: &mut W,
 ) -> Result<(), ExplainFault>
-    requires { opening_fault (description_of line.now) ≡ None }
-    ensures { Leaves (holds_text (description_of line.now) (places_of_lines (description_of line.now) (lines_of text.now)) (take count (drop 1 (lines_of text.now))))
+    ensures { Leaves (followed_summary (description_of line.now) (unwrap_or ended.now []) follower.old.known)
+        (W.contents writer.old) (W.contents writer.new) result }
+{
+    match write_holds(follower, line, ended, writer) {
+        Ok(()) => follower.write_counts(writer),
+        Err(fault) => Err(fault),
+    }
+}
+
+/// Writes a title, and the holds of all slaves of the line: those that ended, and then those that last.
+fn write_holds<W: Write>(
+    follower: &mut Follower<'_>,
+    line: &LineSpec,
+    ended: &EndedHolds,
+    writer: &mut W,
+) -> Result<(), ExplainFault>
+    ensures same { follower.new ≡ follower.old }
+    ensures told { Leaves (codes "holds\n" ++ (unwrap_or ended.now [] ++ holds_lasting follower.old.known.scene.world (description_of line.now).slaves))
         (W.contents writer.old) (W.contents writer.new) result }
 {
     match write_whole(writer, b"holds\n") {
-        Ok(()) => tell_hold_rows(alloc, line, text, count, writer),
+        Ok(()) => write_hold_rows(follower, line, ended, writer),
         Err(_) => Err(ExplainFault::WriteFault),
     }
 }
 
-/// Writes the holds of all slaves of the line, in a separate pass over the text: those that ended, and then those that
-/// last.
-fn tell_hold_rows<W: Write>(
-    alloc: Global,
+fn write_hold_rows<W: Write>(
+    follower: &mut Follower<'_>,
     line: &LineSpec,
-    text: &str,
-    count: u64,
+    ended: &EndedHolds,
     writer: &mut W,
 ) -> Result<(), ExplainFault>
-    requires { opening_fault (description_of line.now) ≡ None }
-    ensures { Leaves (holds_of (description_of line.now) (places_of_lines (description_of line.now) (lines_of text.now)) (take count (drop 1 (lines_of text.now))))
+    ensures same { follower.new ≡ follower.old }
+    ensures told { Leaves (unwrap_or ended.now [] ++ holds_lasting follower.old.known.scene.world (description_of line.now).slaves)
         (W.contents writer.old) (W.contents writer.new) result }
 {
-    let mut pass = match HoldsPass::open(alloc, line, text) {
-        Ok(pass) => pass,
-        Err(fault) => return Err(fault),
-    };
-    match pass.tell_rows(count, &mut rows_of(text), writer) {
-        Ok(()) => pass.tell_lasting(line.slaves.as_slice(), writer),
-        Err(fault) => Err(fault),
-    }
-}
-
-/// Returns the lines of an audit text after its header.
-fn rows_of(text: &str) -> Lines<'_>
-    ensures { result ≡ drop 1 (lines_of text.now) }
-{
-    let mut rows = Lines::new(text.as_bytes());
-    let _ = rows.next();
-    rows
-}
-
-/// Returns how many entries there are before the first wrong one.
-fn right_entries(verdict: Result<u32, AuditFault>) -> u64
-    ensures { result ≡ right_entries verdict }
-{
-    match verdict {
-        Ok(count) => u64::from(count),
-        Err(AuditFault::OutOfMemory) => 0,
-        Err(AuditFault::BadLine(row)) => row.saturating_sub(2),
-        Err(AuditFault::NotThePolicy(row)) => row.saturating_sub(2),
+    match write_whole(writer, ended.rows()) {
+        Ok(()) => follower.write_lasting_holds(line.slaves.as_slice(), writer),
+        Err(_) => Err(ExplainFault::WriteFault),
     }
 }
 
 /// Writes the verdict on an audit text, and returns the exit status: 0 if it is legal, else 1.
-fn tell_verdict<W: Write>(
+fn write_verdict<W: Write>(
     verdict: Result<u32, AuditFault>,
     writer: &mut W,
 ) -> Result<u8, ExplainFault>

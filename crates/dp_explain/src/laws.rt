@@ -20,6 +20,7 @@ ghost use Rattle.dp_sentences.specs.declared.notes.Noted.{Noted};
 ghost use Rattle.dp_sentences.specs.Notes.{note_of};
 ghost use Rattle.dp_sentences.specs.Refusals.{repeat_text};
 ghost use Rattle.dp_sentences.specs.Results.{result_row, result_rows};
+ghost use Rattle.dp_explain.specs.Followed.{HasTheVerdictOfItsRows, IsToldByItsRows};
 ghost use Rattle.dp_explain.specs.Holds.{ended_at, holds_ended};
 ghost use Rattle.dp_explain.specs.JournalTold.{IsToldByItsEntries, known_behind_entries};
 ghost use Rattle.dp_explain.specs.Known.{first_known};
@@ -36,6 +37,14 @@ pub fn a_legal_text_is_told_by_its_entries()
     dp_audit::laws::an_event_goes_one_of_four_ways();
     dp_audit::text_laws::every_legal_text_is_accepted();
 }
+
+/// Following the rows of a text one by one gives the same as explaining the whole text. The explanation of a text is what
+/// is written of its rows after an accepted header until the first wrong one, then the summary of the right ones, and then
+/// the verdict. The verdict on a text is the fault of its first wrong row, or the number of its rows.
+pub fn a_text_is_told_by_its_rows()
+    ensures text { IsToldByItsRows }
+    ensures verdict { HasTheVerdictOfItsRows }
+{}
 
 /// What has no row of changes is unchanged, at each entry of a legal journal since the line was opened. A slave that
 /// the entry's event can't change has the same state and holder as before, and so has a slave without a row. The rows

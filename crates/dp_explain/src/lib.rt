@@ -2,9 +2,11 @@
 //! rows of [`dp_sentences`]; then who held which slave, how many requests were answered in each way, and statistics of
 //! each station.
 //!
-//! [`explain_text`] writes to any writer. A pass over the text replays the events on two lines, one of which is one
-//! event behind the other. At most two passes are open at a time, so it takes memory for four lines, for the counts of
-//! 128 addresses, and for the rows of one entry in each pass.
+//! [`explain_text`] explains a whole text. A [`Follower`] takes the rows of a text one after another, so it explains a
+//! text that is still being written. Both write to any writer, and both check each row before they explain it.
+//!
+//! An event is taken by two lines, one of which is one event behind the other. They, the counts of 128 addresses and the
+//! rows of one entry are all that takes memory; [`explain_text`] stores one more row for each hold that ended.
 #![tactic(auto)]
 
 mod choice;
@@ -13,23 +15,26 @@ mod count_event;
 mod count_holds;
 mod count_requests;
 mod counts_tables;
+mod ended_holds;
 mod explain;
 mod explain_fault;
+mod follow_fault;
+mod follower;
+mod history;
 mod holds;
-mod holds_pass;
 pub mod laws;
 mod live_list;
 mod output;
-mod replay;
 mod row;
 mod station_rows;
 mod statistics;
 mod statistics_rows;
 mod tally;
 mod tally_rows;
-mod telling;
 
 pub use choice::Choice;
 pub use explain::{explain_text, set_verdict};
 pub use explain_fault::ExplainFault;
+pub use follow_fault::FollowFault;
+pub use follower::Follower;
 pub use row::event_of_row;

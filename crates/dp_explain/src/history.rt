@@ -1,0 +1,125 @@
+//! What is known from the entries so far, besides the state of the line.
+
+ghost use Rattle.std.specs.Prelude.{◌≡◌, ℕ, IfOk};
+ghost use Rattle.dp_line.specs.World.{description_of};
+ghost use Rattle.dp_explain.specs.Known.{first_known, first_world, known_with};
+ghost use Rattle.dp_explain.specs.Explained.{chosen_text, counts_text, Leaves};
+ghost use Rattle.dp_explain.specs.Following.{known_at};
+
+use crate::choice::{Choice, is_chosen};
+use crate::count_event::count_statistics;
+use crate::count_holds::{count_all_lasting, moment};
+use crate::counts_tables::CountsTables;
+use crate::explain_fault::ExplainFault;
+use crate::holds::Taken;
+use crate::output::write_rows;
+use crate::statistics::{AddressCounts, first_statistics};
+use crate::tally::{SenderCounts, count_event, first_tally};
+use dp_line::{LineSpec, LineState, Outcome};
+use dp_sentences::{Block, Noted, Scene, first_notes, note_event, time_after};
+use std::alloc::{AllocError, Global};
+use std::io::Write;
+
+/// What is known from the entries so far, besides the state of the line: the notes, the time and the counts.
+#[derive(Drop)]
+pub(crate) struct History<'a> {
+    line: &'a LineSpec,
+    notes: Vec<Noted>,
+    time: Option<u64>,
+    tally: Vec<SenderCounts>,
+    /// The counts of each address, at its index.
+    statistics: Vec<AddressCounts>,
+}
+
+impl<'a> History<'a> {
+    /// Returns what is known before the first entry. `AllocError` if memory runs out.
+    pub(crate) fn new(alloc: Global, line: &'a LineSpec) -> Result<History<'a>, AllocError>
+        ensures { IfOk result (λ history. (places : ℕ) → known_at history (first_world (description_of line.now) places) ≡ first_known (description_of line.now) places) }
+    {
+        let notes = first_notes(alloc, line)?;
+        let tally = first_tally(alloc, line.masters.as_slice())?;
+        let statistics = first_statistics(alloc)?;
+        Ok(History {
+            line,
+            notes,
+            time: None,
+            tally,
+            statistics,
+        })
+    }
+
+    /// Writes the rows of an event if it is chosen; `rows` is a buffer for the text.
+    pub(crate) fn write_entry<W: Write>(
+        &self,
+        taken: &Taken<'_>,
+        outcome: &Outcome,
+        choice: &Choice,
+        rows: &mut String,
+        writer: &mut W,
+    ) -> Result<(), ExplainFault>
+        ensures { Leaves (chosen_text choice.now (known_at self.now taken.now.before.now.world).scene taken.now.after.now.world taken.now.place taken.now.event.now outcome.now)
+            (W.contents writer.old) (W.contents writer.new) result }
+    {
+        let scene = Scene {
+            line: self.line,
+            before: taken.before,
+            notes: self.notes.as_slice(),
+            time: self.time,
+        };
+        if !is_chosen(choice, &scene, taken.place, taken.event, outcome) {
+            return Ok(());
+        }
+        let block = Block {
+            scene: &scene,
+            after: taken.after,
+            place: taken.place,
+            event: taken.event,
+            outcome,
+        };
+        write_rows(&block, rows, writer)
+    }
+
+    /// Counts and notes an event.
+    pub(crate) fn take_event(&mut self, taken: &Taken<'_>, outcome: &Outcome)
+        ensures { known_at self.new taken.now.after.now.world
+            ≡ known_with (known_at self.old taken.now.before.now.world) taken.now.after.now.world taken.now.place taken.now.event.now outcome.now }
+    {
+        let scene = Scene {
+            line: self.line,
+            before: taken.before,
+            notes: self.notes.as_slice(),
+            time: self.time,
+        };
+        count_event(&mut self.tally, &scene, taken.event, outcome);
+        count_statistics(
+            &mut self.statistics,
+            &scene,
+            taken.after,
+            taken.event,
+            outcome,
+        );
+        note_event(&mut self.notes, taken.place, taken.event, outcome);
+        self.time = time_after(self.time, taken.event);
+    }
+
+    /// Writes how many requests were answered in each way, the statistics, and the faults, after the last entry. `line` is
+    /// the line after it, and `rows` is a buffer for the text. It counts the holds that last to the end, so call it once.
+    pub(crate) fn write_counts<W: Write>(
+        &mut self,
+        line: &LineState,
+        rows: &mut String,
+        writer: &mut W,
+    ) -> Result<(), ExplainFault>
+        ensures { Leaves (counts_text (known_at self.old line.now.world)) (W.contents writer.old) (W.contents writer.new) result }
+    {
+        let time = moment(self.time);
+        let slaves = self.line.slaves.as_slice();
+        count_all_lasting(&mut self.statistics, line, time, slaves);
+        let counts = CountsTables {
+            line: self.line,
+            tally: self.tally.as_slice(),
+            statistics: self.statistics.as_slice(),
+        };
+        write_rows(&counts, rows, writer)
+    }
+}
