@@ -1,7 +1,7 @@
 //! Rows about octets that sessions drop.
 
+use dp_decode::WrongEndWords;
 use dp_sessions::DroppedOctets;
-use dp_telegram::WrongEnd;
 use std::{fmt, mem};
 
 /// How many rows a session may have in one second.
@@ -65,7 +65,7 @@ impl fmt::Display for DroppedRow {
         self.write_faults(f)?;
         self.write_octets(f)?;
         match self.dropped.wrong_end {
-            Some(end) => write_wrong_end(f, end),
+            Some(end) => write!(f, ", {}", WrongEndWords(end)),
             None => Ok(()),
         }
     }
@@ -100,20 +100,4 @@ impl DroppedRow {
         let are_all = self.dropped.count as usize == self.dropped.first.len();
         f.write_str(if are_all { ")" } else { " ..)" })
     }
-}
-
-/// Writes what is wrong at the end of a frame.
-fn write_wrong_end<W: fmt::Write>(f: &mut fmt::Formatter<W>, end: WrongEnd) -> fmt::Result {
-    let WrongEnd {
-        check_sequence,
-        expected,
-        end_delimiter,
-    } = end;
-    if check_sequence == expected {
-        return write!(f, ", the end delimiter is {end_delimiter:02x}, not 16");
-    }
-    write!(
-        f,
-        ", the check sequence is {check_sequence:02x}, not {expected:02x}"
-    )
 }
