@@ -411,13 +411,13 @@ not_true true none = absurd (none refl)
 not_true false none = refl
 
 -- the row of a repeat whose octets are those of the noted request, or are not
-text_of_row : (line : Description) (places : ℕ) (before : List Entry) (entry : Entry) (master : ℕ) (octets reply : ArrayVec ℕ) (telegram : Telegram) (parts : Parts) (noted : Noted) (same : Bool)
+row_told : (line : Description) (places : ℕ) (before : List Entry) (entry : Entry) (master : ℕ) (octets reply : ArrayVec ℕ) (telegram : Telegram) (parts : Parts) (noted : Noted) (same : Bool)
     → IsLegal (start_of (record line { capacity = places })) (before ++ entry ∷ [])
     → entry.event ≡ Request master octets → telegram_spelt octets.items ≡ Some telegram → parts_of telegram ≡ Some parts → entry.outcome ≡ Reply reply rules.Repeat
     → note_of (known_behind_entries (first_known line places) before).scene.notes (address_of telegram.da) master ≡ Some noted → has_octets (Some noted) octets.items ≡ same
     → result_rows (known_behind_entries (first_known line places) before).scene entry.event entry.outcome
     ≡ result_row (repeat_text same noted.place parts.dsap parts.payload.items)
-text_of_row line places before entry master octets reply telegram parts noted same legal request spelt read told found is =
+row_told line places before entry master octets reply telegram parts noted same legal request spelt read told found is =
     let there = told_there line places before entry master octets reply telegram legal request spelt told in
     let scene = (known_behind_entries (first_known line places) before).scene in
     let m = there.met_there in
@@ -435,7 +435,7 @@ pub retry_told : (line : Description) (places : ℕ) (before : List Entry) (entr
     → result_rows (known_behind_entries (first_known line places) before).scene entry.event entry.outcome
     ≡ result_row (repeat_text true noted.place parts.dsap parts.payload.items)
 retry_told line places before entry master octets reply telegram parts noted legal request spelt read told found same =
-    text_of_row line places before entry master octets reply telegram parts noted true legal request spelt read told found
+    row_told line places before entry master octets reply telegram parts noted true legal request spelt read told found
     (ap (λ (l : List ℕ). are_same l octets.items) same ∙ same_self octets.items)
 
 pub other_told : (line : Description) (places : ℕ) (before : List Entry) (entry : Entry) (master : ℕ) (octets reply : ArrayVec ℕ) (telegram : Telegram) (parts : Parts) (noted : Noted)
@@ -445,5 +445,5 @@ pub other_told : (line : Description) (places : ℕ) (before : List Entry) (entr
     → result_rows (known_behind_entries (first_known line places) before).scene entry.event entry.outcome
     ≡ result_row (repeat_text false noted.place parts.dsap parts.payload.items)
 other_told line places before entry master octets reply telegram parts noted legal request spelt read told found apart =
-    text_of_row line places before entry master octets reply telegram parts noted false legal request spelt read told found
+    row_told line places before entry master octets reply telegram parts noted false legal request spelt read told found
     (not_true (has_octets (Some noted) octets.items) (λ same. apart (same_is noted.octets.items octets.items same)))

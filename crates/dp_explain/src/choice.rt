@@ -1,7 +1,10 @@
 //! The choice of the entries that are explained.
 
-ghost use Rattle.std.specs.Prelude.{◌≡◌, ◌==◌};
+ghost use Rattle.std.specs.Prelude.{◌≡◌, ◌==◌, ◌&&◌, ◌||◌, not};
 ghost use Rattle.std.specs.List.{list_any};
+ghost use Rattle.dp_line.specs.Refusals.{is_refused_event};
+ghost use Rattle.dp_sentences.specs.Heads.{who_of};
+ghost use Rattle.dp_sentences.specs.Ways.{is_fault};
 ghost use Rattle.dp_explain.specs.Choices.{is_from, is_to, goes_to, is_about, is_of_slave, comes_from, is_of_master, is_chosen};
 
 use dp_line::{Event, Outcome, is_refused};
@@ -42,14 +45,39 @@ pub(crate) fn is_chosen(
 ) -> bool
     ensures { result ≡ is_chosen choice.now scene.now place event.now outcome.now }
 {
+    if choice.summary {
+        return false;
+    }
+    if !is_in_range(choice, place) {
+        return false;
+    }
+    is_of_stations(choice, event, outcome) && is_of_kind(choice, scene, event, outcome)
+}
+
+/// Returns whether the place is chosen.
+fn is_in_range(choice: &Choice, place: u64) -> bool
+    ensures { result ≡ (is_from choice.now.from place && is_to choice.now.to place) }
+{
+    is_from(choice.from, place) && is_to(choice.to, place)
+}
+
+/// Returns whether the slave and the master of an entry are chosen. Decodes the telegram only if one of them is given.
+fn is_of_stations(choice: &Choice, event: &Event, outcome: &Outcome) -> bool
+    ensures { result ≡ (is_of_slave choice.now.slave (who_of event.now) outcome.now && is_of_master choice.now.master (who_of event.now)) }
+{
+    if choice.slave.is_none() && choice.master.is_none() {
+        return true;
+    }
     let who = Who::from_event(event);
-    is_from(choice.from, place)
-        && is_to(choice.to, place)
-        && is_of_slave(choice.slave, who, outcome)
-        && is_of_master(choice.master, who)
-        && (!choice.refused || is_refused(event, outcome))
+    is_of_slave(choice.slave, who, outcome) && is_of_master(choice.master, who)
+}
+
+/// Returns whether the entry is of a chosen kind: refused, or a fault, if only these are chosen.
+fn is_of_kind(choice: &Choice, scene: &Scene<'_>, event: &Event, outcome: &Outcome) -> bool
+    ensures { result ≡ ((not choice.now.refused || is_refused_event event.now outcome.now) && (not choice.now.faults || is_fault scene.now event.now outcome.now)) }
+{
+    (!choice.refused || is_refused(event, outcome))
         && (!choice.faults || is_fault(scene, event, outcome))
-        && !choice.summary
 }
 
 fn is_from(first: Option<u32>, place: u64) -> bool
