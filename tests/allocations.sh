@@ -182,6 +182,7 @@ else
   in_turn 'a rack whose culprit is named' "$work/one-place"
   in_turn 'an explanation' /dev/null explain "$work/rack" "$work/audit"
   in_turn 'an explanation of a slave' /dev/null explain "$work/rack" "$work/audit" --slave 1
+  in_turn 'a text that is followed' /dev/null explain "$work/rack" "$work/other" --follow
   mapfile -t knocked < <("$top/tests/serve_client.py" ports 2)
   sed "s/^number = 1$/&\nlisten = ${knocked[0]}\noperator = ${knocked[1]}/" "$work/rack" >"$work/served"
   in_turn 'a rack that is served' /dev/null serve "$work/served" --sessions 1

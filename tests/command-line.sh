@@ -190,9 +190,9 @@ hold 'the help of run: usage, arguments, the commands of a script' has run.help 
 hold 'the help of check: usage, arguments, results' has check.help 'Usage: rackd check RACK AUDIT..' '<RACK>' '<AUDIT>...' \
   "'ready'" '  legal N ' '  bad line N ' '  not the policy N ' $'\nExamples:\n  rackd '
 hold 'the help of explain: usage, options, ranges' has explain.help \
-  'Usage: rackd explain RACK AUDIT.. [--faults] [--from N] [--to N] [--slave A] [--master M]' '[--refused] [--summary]' \
+  'Usage: rackd explain RACK AUDIT.. [--faults] [--from N] [--to N] [--slave A] [--master M]' '[--refused] [--summary] [--follow]' \
   '--from <N>' '1 to 4294967295 [default: 1]' '--to <N>' '1 to 4294967295' '--slave <A>' '0 to 255' '--master <M>' '0 to 255' \
-  '--faults' '--refused' '--summary' $'\nExamples:\n  rackd '
+  '--faults' '--refused' '--summary' '--follow' $'\nExamples:\n  rackd '
 hold 'the help of serve: usage, options, ranges' has serve.help \
   'Usage: rackd serve RACK [--sessions N] [--audit FOLDER [--endless [--part MB]]] [--log [WHAT]]' \
   '--sessions <N>' '1 to 1000000 [default: no limit]' '--audit <FOLDER>' '--endless' '4294967295; requires --audit' \
@@ -257,7 +257,7 @@ for words in word -x --hel --help=1 --version=1 '' '--line 1' 'help word' 'help 
   explain 'explain rack' 'explain rack audit --from' 'explain rack audit --from 0' \
   'explain rack audit --to 4294967296' 'explain rack audit --from 4294967296' 'explain rack audit --slave 256' 'explain rack audit --slave 05' \
   'explain rack audit --master +1' 'explain rack audit --refused 1' 'explain rack audit --faults 1' 'explain rack audit --summary --summary' \
-  'explain rack audit --why' 'check rack audit --summary' \
+  'explain rack audit --why' 'check rack audit --summary' 'check rack audit --follow' 'explain rack --follow' 'explain rack audit --follow --follow' \
   serve 'serve rack word' 'serve --sessions 1' 'serve rack --sessions' 'serve rack --sessions 0' \
   'serve rack --sessions 1000001' 'serve rack --sessions x' 'serve rack --sessions -1' \
   'serve rack --sessions 1 --sessions 1' 'serve rack --session 1' 'serve rack --sessions +5' 'serve rack --sessions 05' \
@@ -322,7 +322,7 @@ run '' check "$work/rack" "$work/facts"; expect 'other facts' 1 'not the policy 
   "  row 2: written \"${entry/WaitPrm/WaitCfg}\"
   the policy gives \"$entry\"
 $other_rack"
-run '' explain --summary "$work/rack" "$work/audit" --slave 5; expect 'options before and behind the files' 0 $'holds\nrequests by rule\n  master 1    Done                 1\nfaults\nlegal 1' ''
+run '' explain --summary "$work/rack" "$work/audit" --slave 5; expect 'options before and behind the files' 0 $'holds\nrequests by rule\n  master 1    Done                 1\nslaves\n  slave 5     diagnoses                              1\nmasters\n  master 1    diagnoses                              1\nlive list\nfaults\nlegal 1' ''
 run '' explain "$work/rack" "$work/audit" --slave 0; expect 'a slave that the line lacks' 2 '' 'rackd: the line has no slave 0'
 run '' explain "$work/rack" "$work/audit" --slave 1; expect 'a slave that is a master' 2 '' 'rackd: the line has no slave 1'
 run '' explain "$work/rack" "$work/audit" --master 5; expect 'a master that is a slave' 2 '' 'rackd: the line has no master 5'

@@ -63,7 +63,7 @@ pub fn line_named<'a>(lines: &'a [RackLine], header: &[u8]) -> Option<&'a RackLi
 
 /// Writes the verdict on an audit text, and returns the exit status: 0 if it is legal, else 1. Returns `OutOfMemory` if
 /// that is the verdict, and `WriteFault` if the write fails.
-pub(crate) fn tell_verdict<W: Write>(
+pub fn tell_verdict<W: Write>(
     verdict: Result<u32, AuditFault>,
     writer: &mut W,
 ) -> Result<u8, RunFault>

@@ -11,6 +11,8 @@ mod answers;
 mod differences;
 mod ending;
 mod files;
+mod follow;
+mod followed_rows;
 mod missing_port;
 mod output;
 mod rack_cause;
@@ -23,6 +25,7 @@ use answers::answer_words;
 use dp_script::RunFault;
 use ending::Fault;
 use files::read_file;
+use follow::follow_files;
 use log::{Level, Log, Logged, info};
 use operator_client::{Operation, operate};
 use output::{buffered, flushed};
@@ -68,8 +71,15 @@ fn main(rt: HostRuntime) -> ExitCode {
                 rack,
                 audit,
                 entries,
+                follows,
             },
-        ) => ended(&rt, explain_files(&rt, rack, audit.as_slice(), entries)),
+        ) => {
+            if follows {
+                ended(&rt, follow_files(&rt, rack, audit.as_slice(), entries))
+            } else {
+                ended(&rt, explain_files(&rt, rack, audit.as_slice(), entries))
+            }
+        }
         Ok(Invocation::Serve { rack, service }) => match before_serving(&rt, rack) {
             Ok((rack, queue, written)) => {
                 let host = Logged::new(rt, Level::Info, queue);

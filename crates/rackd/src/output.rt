@@ -20,6 +20,11 @@ pub(crate) fn flushed<W: Write + Drop>(mut output: BufWriter<W>) -> Result<(), R
 /// Writes what is left in the buffer, and returns whether standard output still has a reader. Any fault other than
 /// a missing reader takes precedence over any other.
 pub(crate) fn has_reader<W: Write + Drop>(mut output: BufWriter<W>) -> Result<bool, RunFault> {
+    reaches_reader(&mut output)
+}
+
+/// Writes what is in the buffer. See [`has_reader`].
+pub(crate) fn reaches_reader<W: Write>(output: &mut W) -> Result<bool, RunFault> {
     match output.flush() {
         Ok(()) => Ok(true),
         Err(error) => match error.kind() {

@@ -33,7 +33,7 @@ pub(crate) fn check_stations<'a>(
 }
 
 /// Returns a fault if a line lacks the slave or the master whose entries are asked for.
-fn check_line<'a>(line: &LineSpec, entries: Entries) -> Result<(), Fault<'a>> {
+pub(crate) fn check_line<'a>(line: &LineSpec, entries: Entries) -> Result<(), Fault<'a>> {
     if let Some(address) = entries.slave
         && !line.slaves.iter().any(|slave| slave.address == address)
     {

@@ -128,7 +128,7 @@ fn explain_out<'a>(
 }
 
 /// Returns the entries that the words choose.
-fn choice_of(entries: Entries) -> Choice {
+pub(crate) fn choice_of(entries: Entries) -> Choice {
     Choice {
         from: entries.from,
         to: entries.to,
@@ -143,8 +143,15 @@ fn choice_of(entries: Entries) -> Choice {
 /// Returns the exit status of an audit text. If the text does not begin as an audit text, reports that.
 fn noted_header(rt: &impl Eprint, audit: &str, status: u8) -> ExitCode {
     // A text that ends within its header is reported on standard output only.
-    if status != 0 && !audit.starts_with(HEADER) && !HEADER.starts_with(audit) {
-        let _ = rt.eprintln(NO_HEADER);
+    if status != 0 && !HEADER.starts_with(audit) {
+        note_header(rt, audit.as_bytes());
     }
     ExitCode::from(status)
+}
+
+/// Reports that a text does not begin as an audit text, unless it does.
+pub(crate) fn note_header(rt: &impl Eprint, text: &[u8]) {
+    if !text.starts_with(HEADER.as_bytes()) {
+        let _ = rt.eprintln(NO_HEADER);
+    }
 }

@@ -27,6 +27,8 @@ pub(crate) const FAULTS: &str = "faults";
 
 pub(crate) const SUMMARY: &str = "summary";
 
+pub(crate) const FOLLOW: &str = "follow";
+
 /// The most entries of an audit text, which only an endless line has.
 const MOST_ENTRIES: u64 = 4_294_967_295;
 
@@ -148,14 +150,15 @@ fn place<'a>(alloc: Global, name: &'a str, help: &'a str) -> Arg<'a> {
         .help(help)
 }
 
-/// Adds the options that choose entries by slave, master, fault and refusal, and `--summary`.
+/// Adds the options that choose entries by slave, master, fault and refusal, `--summary` and `--follow`.
 fn with_choice<'a>(alloc: Global, words: Command<'a>) -> Result<Command<'a>, AllocError> {
     words
         .arg(address(alloc, SLAVE, "A", help::SLAVE))?
         .arg(address(alloc, MASTER, "M", help::MASTER))?
         .arg(flag(alloc, FAULTS).help(help::FAULTS))?
         .arg(flag(alloc, REFUSED).help(help::REFUSED))?
-        .arg(flag(alloc, SUMMARY).help(help::SUMMARY))
+        .arg(flag(alloc, SUMMARY).help(help::SUMMARY))?
+        .arg(flag(alloc, FOLLOW).help(help::FOLLOW))
 }
 
 /// Returns an option with an address.

@@ -124,7 +124,7 @@ pub(crate) const EXPLAIN: Help = Help {
     about: "Explain an audit text in words, and check it as 'check' does",
     usage: "\
 rackd explain RACK AUDIT.. [--faults] [--from N] [--to N] [--slave A] [--master M]
-             [--refused] [--summary]
+             [--refused] [--summary] [--follow]
        rackd explain --help",
     details: "\
 For each entry, standard output gets what was sent, in the names of the standard, the result and
@@ -133,13 +133,17 @@ all given options are explained, and only those before the first wrong line.
 
 If a slave doesn't come into data exchange, begin with --faults.
 
-The summary of all entries follows: which master held which slave, and how often each rule
-applied. The last line and the exit status are those of 'check': status 0 if the text is legal,
-else 1.
+The summary of all entries follows: which master held which slave, how often each rule applied,
+what each slave and each master did, and which addresses were polled. The last line and the exit
+status are those of 'check': status 0 if the text is legal, else 1.
+
+With --follow a rack may still be writing the last file. Each entry is explained once its row is
+there, without a summary, until a row is wrong or rackd is stopped.
 
 Examples:
   rackd explain examples/audit-rack.toml examples/audit.txt
-  rackd explain examples/day-of-a-line-rack.toml examples/day-of-a-line.audit --faults --slave 5",
+  rackd explain examples/day-of-a-line-rack.toml examples/day-of-a-line.audit --faults --slave 5
+  rackd explain rack.toml audit/line-1-1.audit --faults --follow",
 };
 
 /// The help of `serve`.
@@ -231,6 +235,10 @@ pub(crate) const REFUSED: &str = "Explain only requests that were refused";
 
 pub(crate) const SUMMARY: &str =
     "Explain no entries; print the summary and the result of the check";
+
+pub(crate) const FOLLOW: &str = "\
+Explain each entry as its row is written to the last file; print no
+summary, and end only at a row that is not what the policy gives";
 
 /// The options of `serve`.
 pub(crate) const SESSIONS: &str = "\

@@ -73,6 +73,8 @@ pub enum Invocation<'a> {
         audit: Vec<&'a str>,
         /// The entries that are shown.
         entries: Entries,
+        /// Whether the last file is still being written, so that its rows are explained as they come.
+        follows: bool,
     },
     /// `serve RACK`: serve the rack of a file at sockets.
     Serve {

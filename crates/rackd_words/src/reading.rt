@@ -1,8 +1,8 @@
 //! Reads what the words of the command line ask for.
 
 use crate::commands::{
-    AUDIT, ENDLESS, FAULTS, FOLDER, FROM, LOG, MASTER, PART, PORT, RACK, REFUSED, SCRIPT, SESSIONS,
-    SLAVE, STEP, SUMMARY, TICK, TO, explaining, known, operating, serving,
+    AUDIT, ENDLESS, FAULTS, FOLDER, FOLLOW, FROM, LOG, MASTER, PART, PORT, RACK, REFUSED, SCRIPT,
+    SESSIONS, SLAVE, STEP, SUMMARY, TICK, TO, explaining, known, operating, serving,
 };
 use crate::invocation::{Entries, Invocation, LogDetail, Service, WordsFault};
 use clap::error::ErrorKind as Refused;
@@ -168,6 +168,7 @@ fn invocation_of<'a>(
             rack: path_in(words, RACK),
             audit: paths_in(alloc, words, AUDIT)?,
             entries: entries_of(words),
+            follows: words.get_flag(FOLLOW),
         }),
         "operate" => Ok(Invocation::Operate {
             port: words.get_one(PORT).unwrap_or(0),

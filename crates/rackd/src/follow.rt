@@ -1,0 +1,130 @@
+//! Explains an audit text while a rack writes it.
+
+use crate::ending::Fault;
+use crate::files::read_file;
+use crate::followed_rows::FollowedRows;
+use crate::output::{buffered, reaches_reader};
+use crate::reporting::reported;
+use crate::stations::check_line;
+use crate::texts::{choice_of, note_header};
+use dp_audit::AuditFault;
+use dp_explain::{Choice, ExplainFault, FollowFault, Follower};
+use dp_line::LineSpec;
+use dp_script::{RunFault, line_named, tell_verdict};
+use rack_file::read_rack;
+use rackd_words::Entries;
+use std::fs::Files;
+use std::io::{Read, Write};
+use std::process::ExitCode;
+use std::rt::Runtime;
+use std::sync::Wait;
+use std::time::Clock;
+
+/// Explains the audit text of these files on the rack of another. A rack may still be writing the last file: each entry is
+/// explained once its row is there. It ends at the first wrong row with the row of a check, or when nobody reads standard
+/// output any more.
+pub(crate) fn follow_files<'a, H: Runtime + AllocGlobal + Wait + Clock>(
+    rt: &H,
+    rack: &'a str,
+    audit: &[&'a str],
+    entries: Entries,
+) -> Result<ExitCode, Fault<'a>> {
+    let rack = read_file(rt, rack)?;
+    let followed = follow_on(rt, rack.as_str(), audit, entries);
+    reported(rt, rt.alloc(), rack.as_str(), followed)
+}
+
+/// Follows a text on the line of the rack that its first row names.
+fn follow_on<'a, H: Runtime + AllocGlobal + Wait + Clock>(
+    rt: &H,
+    rack: &str,
+    audit: &[&'a str],
+    entries: Entries,
+) -> Result<ExitCode, Fault<'a>> {
+    let rack = match read_rack(rt.alloc(), rack) {
+        Ok(rack) => rack,
+        Err(fault) => return Err(Fault::Run(RunFault::Rack(fault))),
+    };
+    let mut rows = FollowedRows::open(rt, audit)?;
+    let mut output = buffered(rt, rt.alloc())?;
+    if !rows.read(rt, &mut output)? {
+        return Ok(ExitCode::SUCCESS);
+    }
+    match line_named(&rack.lines, rows.row()) {
+        Some(line) => {
+            check_line(&line.spec, entries)?;
+            follow_line(rt, &line.spec, &mut rows, &choice_of(entries), &mut output)
+        }
+        None => end_at_header(rt, rows.row(), &mut output),
+    }
+}
+
+/// Follows a text on its line, behind its header.
+fn follow_line<
+    'a,
+    R: Read + Drop,
+    H: Runtime + AllocGlobal + Files<File = R> + Wait + Clock,
+    W: Write,
+>(
+    rt: &H,
+    line: &LineSpec,
+    rows: &mut FollowedRows<'a, '_, R>,
+    choice: &Choice,
+    output: &mut W,
+) -> Result<ExitCode, Fault<'a>> {
+    // No line of an accepted rack has a fault.
+    if line.fault().is_some() {
+        return end_at_header(rt, rows.row(), output);
+    }
+    let Ok(header) = std::str::from_utf8(rows.row()) else {
+        return end_at_header(rt, rows.row(), output);
+    };
+    let Ok(mut follower) = Follower::open(rt.alloc(), line, header) else {
+        return Err(Fault::Run(RunFault::OutOfMemory));
+    };
+    for _ in rt.forever() {
+        if !rows.read(rt, output)? {
+            return Ok(ExitCode::SUCCESS);
+        }
+        match follower.take_row(rows.row(), choice, output) {
+            Ok(()) => {}
+            Err(FollowFault::Wrong(fault)) => return end_at(fault, output),
+            Err(FollowFault::Explain(fault)) => return end_early(fault, output),
+        }
+    }
+    unreachable!()
+}
+
+/// Writes the row of a check of a text whose first row is no header of the rack.
+fn end_at_header<'a, W: Write>(
+    errors: &impl Eprint,
+    row: &[u8],
+    output: &mut W,
+) -> Result<ExitCode, Fault<'a>> {
+    note_header(errors, row);
+    end_at(AuditFault::BadLine(1), output)
+}
+
+/// Writes the row of a check that found this fault, and returns its exit status.
+fn end_at<'a, W: Write>(fault: AuditFault, output: &mut W) -> Result<ExitCode, Fault<'a>> {
+    let status = tell_verdict(Err(fault), output)?;
+    if reaches_reader(output)? {
+        Ok(ExitCode::from(status))
+    } else {
+        Ok(ExitCode::SUCCESS)
+    }
+}
+
+/// Returns the fault for rows that were not written. That nobody reads standard output any more is none.
+fn end_early<'a, W: Write>(fault: ExplainFault, output: &mut W) -> Result<ExitCode, Fault<'a>> {
+    match fault {
+        ExplainFault::OutOfMemory => Err(Fault::Run(RunFault::OutOfMemory)),
+        ExplainFault::WriteFault => {
+            if reaches_reader(output)? {
+                Err(Fault::Run(RunFault::WriteFault))
+            } else {
+                Ok(ExitCode::SUCCESS)
+            }
+        }
+    }
+}
