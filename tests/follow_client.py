@@ -216,7 +216,7 @@ def chosen_entries(program, folder):
 def stored_texts(program, folder):
     """Each stored text, in pieces of any size, is explained as it is when it is whole."""
     chance = random.Random(5)
-    told = 0
+    count = 0
     for audit in sorted(glob.glob(os.path.join(TOP, "tests", "explain", "*", "*.audit"))):
         text, wanted = read(audit), read(audit[:-len(".audit")] + ".out")
         if not wanted or not text.endswith(b"\n"):
@@ -232,9 +232,9 @@ def stored_texts(program, folder):
                 followed.process.wait(PATIENCE)
                 expect(f"what is explained of {audit}", entries_of(wanted) + verdict_of(wanted), followed.read())
                 expect("the status", 1, followed.process.returncode)
-        told += 1
-    hold("there are no stored texts", told > 50)
-    print(f"{told} texts")
+        count += 1
+    hold("there are no stored texts", count > 50)
+    print(f"{count} texts")
 
 
 def resident(process):
