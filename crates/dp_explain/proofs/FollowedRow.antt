@@ -14,8 +14,8 @@ use Rattle.dp_explain.specs.declared.explain_fault.ExplainFault.{ExplainFault}
 use Rattle.dp_explain.specs.declared.follow_fault.FollowFault.{FollowFault}
 use Rattle.dp_explain.specs.declared.history.History.{History}
 use Rattle.dp_explain.specs.Holds.{holds_ended}
-use Rattle.dp_explain.specs.Known.{KnownView, first_known, first_world, known_with, outcome_told, outcome_with}
-use Rattle.dp_explain.specs.Explained.{Leaves, chosen_text, ended_by_row, known_behind, told_row}
+use Rattle.dp_explain.specs.Known.{KnownView, first_known, first_world, known_with, outcome_reported, outcome_with}
+use Rattle.dp_explain.specs.Explained.{Leaves, chosen_text, ended_by_row, known_behind, reported_row}
 use Rattle.dp_explain.specs.Followed.{FollowerView, FollowsRow, after_row, event_taken, event_unless, first_wrong, first_follower, following, judged_next, holds_of_row, text_of_row}
 use Rattle.dp_explain.specs.Following.{StoresHolds, first_fault, known_at, stored_with}
 
@@ -56,7 +56,7 @@ pub record IsEntry (self : FollowerView) (row : List ℕ) (event : Event) (befor
   pub fault : (after_row self row).fault ≡ None
   pub left : after ≡ (step self.known.scene.world event).world
   pub placed : place ≡ self.known.scene.world.count + 1
-  pub outcome_is : outcome ≡ outcome_told self.known.scene.world event
+  pub outcome_is : outcome ≡ outcome_reported self.known.scene.world event
 
 pub entry_is : (self : FollowerView) (row : List ℕ) (event : Event) (history : History) (before state after : World) (fault : Option AuditFault) (answer halted : Step) (place : ℕ)
     → record { known = known_at history before; fault = fault } ≡ self → fault ≡ None → (fault ≡ None → state ≡ before)
@@ -76,22 +76,22 @@ entry_is self row event history before state after fault answer halted place vie
       outcome_is =
           ap (λ (s : Step). s.outcome) halts
           ∙ ap (λ (s : Step). outcome_with s.outcome s.halted) taken.answered
-          ∙ ap (λ (w : World). outcome_told w event) world;
+          ∙ ap (λ (w : World). outcome_reported w event) world;
     }
 
 -- ---- what is known after it, what is written of it, and the holds that it ended
 
-with_same : (before known : KnownView) (after next : World) (place there : ℕ) (event : Event) (outcome told : Outcome) → before ≡ known → after ≡ next → place ≡ there → outcome ≡ told
-    → known_with before after place event outcome ≡ known_with known next there event told
-with_same before known after next place there event outcome told a b c d = rw (a, b, c, d) refl
+with_same : (before known : KnownView) (after next : World) (place there : ℕ) (event : Event) (outcome reported : Outcome) → before ≡ known → after ≡ next → place ≡ there → outcome ≡ reported
+    → known_with before after place event outcome ≡ known_with known next there event reported
+with_same before known after next place there event outcome reported a b c d = rw (a, b, c, d) refl
 
-chosen_same : (choice : Choice) (before known : KnownView) (after next : World) (place there : ℕ) (event : Event) (outcome told : Outcome) → before ≡ known → after ≡ next → place ≡ there → outcome ≡ told
-    → chosen_text choice before.scene after place event outcome ≡ chosen_text choice known.scene next there event told
-chosen_same choice before known after next place there event outcome told a b c d = rw (a, b, c, d) refl
+chosen_same : (choice : Choice) (before known : KnownView) (after next : World) (place there : ℕ) (event : Event) (outcome reported : Outcome) → before ≡ known → after ≡ next → place ≡ there → outcome ≡ reported
+    → chosen_text choice before.scene after place event outcome ≡ chosen_text choice known.scene next there event reported
+chosen_same choice before known after next place there event outcome reported a b c d = rw (a, b, c, d) refl
 
-ended_same : (before known : KnownView) (after next : World) (place there : ℕ) (event : Event) (outcome told : Outcome) → before ≡ known → after ≡ next → place ≡ there → outcome ≡ told
-    → holds_ended before.scene.world after place event outcome ≡ holds_ended known.scene.world next there event told
-ended_same before known after next place there event outcome told a b c d = rw (a, b, c, d) refl
+ended_same : (before known : KnownView) (after next : World) (place there : ℕ) (event : Event) (outcome reported : Outcome) → before ≡ known → after ≡ next → place ≡ there → outcome ≡ reported
+    → holds_ended before.scene.world after place event outcome ≡ holds_ended known.scene.world next there event reported
+ended_same before known after next place there event outcome reported a b c d = rw (a, b, c, d) refl
 
 abbrev follower_of : KnownView → Option AuditFault → FollowerView
 follower_of known fault = record { known = known; fault = fault }
@@ -103,40 +103,40 @@ known_is self row event history later before after left fault place outcome entr
     let same : left ≡ after = follows ∙ ap (λ (k : KnownView). (step k.scene.world event).world) entry.known ∙ sym entry.left in
     let known : known_at later left ≡ known_behind self.known (event_taken self row) =
     ap (known_at later) same ∙ noted
-    ∙ with_same (known_at history before) self.known after (step self.known.scene.world event).world place (self.known.scene.world.count + 1) event outcome (outcome_told self.known.scene.world event) entry.known entry.left entry.placed entry.outcome_is
+    ∙ with_same (known_at history before) self.known after (step self.known.scene.world event).world place (self.known.scene.world.count + 1) event outcome (outcome_reported self.known.scene.world event) entry.known entry.left entry.placed entry.outcome_is
     ∙ sym (ap (known_behind self.known) entry.taken) in
     ap (λ (k : KnownView). follower_of k fault) known ∙ ap (follower_of (known_behind self.known (event_taken self row))) (none ∙ sym entry.fault)
 
 -- a text that is written, and then a fault of the holds
-written_follows : (text : List ℕ) (old new : Option (List ℕ)) (told stored : Result (Unit {0}) ExplainFault) (result : Result (Unit {0}) FollowFault) → Leaves text old new told → result ≡ first_fault told stored
+written_follows : (text : List ℕ) (old new : Option (List ℕ)) (reported stored : Result (Unit {0}) ExplainFault) (result : Result (Unit {0}) FollowFault) → Leaves text old new reported → result ≡ first_fault reported stored
     → FollowsRow text None old new result
 written_follows text old new (Ok done) (Ok stored) result leaves is = subst (FollowsRow text None old new) (sym is) leaves
 written_follows text old new (Ok done) (Err fault) result leaves is = subst (FollowsRow text None old new) (sym is) (text, [], sym (append-nil text), leaves)
 written_follows text old new (Err fault) stored result leaves is = subst (FollowsRow text None old new) (sym is) leaves
 
-pub told_is : (choice : Choice) (self : FollowerView) (row : List ℕ) (event : Event) (before : KnownView) (after : World) (place : ℕ) (outcome : Outcome) (old new : Option (List ℕ))
-    (told stored : Result (Unit {0}) ExplainFault) (result : Result (Unit {0}) FollowFault)
-    → IsEntry self row event before after place outcome → Leaves (chosen_text choice before.scene after place event outcome) old new told → result ≡ first_fault told stored
+pub reported_is : (choice : Choice) (self : FollowerView) (row : List ℕ) (event : Event) (before : KnownView) (after : World) (place : ℕ) (outcome : Outcome) (old new : Option (List ℕ))
+    (reported stored : Result (Unit {0}) ExplainFault) (result : Result (Unit {0}) FollowFault)
+    → IsEntry self row event before after place outcome → Leaves (chosen_text choice before.scene after place event outcome) old new reported → result ≡ first_fault reported stored
     → FollowsRow (text_of_row choice self row) (after_row self row).fault old new result
-told_is choice self row event before after place outcome old new told stored result entry leaves is =
+reported_is choice self row event before after place outcome old new reported stored result entry leaves is =
     let text : chosen_text choice before.scene after place event outcome ≡ text_of_row choice self row =
-    chosen_same choice before self.known after (step self.known.scene.world event).world place (self.known.scene.world.count + 1) event outcome (outcome_told self.known.scene.world event) entry.known entry.left entry.placed entry.outcome_is
-    ∙ sym (ap (told_row choice self.known) entry.taken) in
+    chosen_same choice before self.known after (step self.known.scene.world event).world place (self.known.scene.world.count + 1) event outcome (outcome_reported self.known.scene.world event) entry.known entry.left entry.placed entry.outcome_is
+    ∙ sym (ap (reported_row choice self.known) entry.taken) in
     subst (λ (f : Option AuditFault). FollowsRow (text_of_row choice self row) f old new result) (sym entry.fault)
-    (subst (λ (t : List ℕ). FollowsRow t None old new result) text (written_follows (chosen_text choice before.scene after place event outcome) old new told stored result leaves is))
+    (subst (λ (t : List ℕ). FollowsRow t None old new result) text (written_follows (chosen_text choice before.scene after place event outcome) old new reported stored result leaves is))
 
-holds_stored : (text : List ℕ) (old new : Option (List ℕ)) (told stored : Result (Unit {0}) ExplainFault) (result : Result (Unit {0}) FollowFault) → OnOk stored (new ≡ stored_with text old) → result ≡ first_fault told stored
+holds_stored : (text : List ℕ) (old new : Option (List ℕ)) (reported stored : Result (Unit {0}) ExplainFault) (result : Result (Unit {0}) FollowFault) → OnOk stored (new ≡ stored_with text old) → result ≡ first_fault reported stored
     → StoresHolds text old new result
 holds_stored text old new (Ok done) (Ok stored) result stores is = subst (StoresHolds text old new) (sym is) stores
 holds_stored text old new (Ok done) (Err fault) result stores is = subst (StoresHolds text old new) (sym is) tt
 holds_stored text old new (Err fault) stored result stores is = subst (StoresHolds text old new) (sym is) tt
 
 pub stored_is : (self : FollowerView) (row : List ℕ) (event : Event) (before : KnownView) (after : World) (place : ℕ) (outcome : Outcome) (old new : Option (List ℕ))
-    (told stored : Result (Unit {0}) ExplainFault) (result : Result (Unit {0}) FollowFault)
-    → IsEntry self row event before after place outcome → OnOk stored (new ≡ stored_with (holds_ended before.scene.world after place event outcome) old) → result ≡ first_fault told stored
+    (reported stored : Result (Unit {0}) ExplainFault) (result : Result (Unit {0}) FollowFault)
+    → IsEntry self row event before after place outcome → OnOk stored (new ≡ stored_with (holds_ended before.scene.world after place event outcome) old) → result ≡ first_fault reported stored
     → StoresHolds (holds_of_row self row) old new result
-stored_is self row event before after place outcome old new told stored result entry stores is =
+stored_is self row event before after place outcome old new reported stored result entry stores is =
     let text : holds_ended before.scene.world after place event outcome ≡ holds_of_row self row =
-    ended_same before self.known after (step self.known.scene.world event).world place (self.known.scene.world.count + 1) event outcome (outcome_told self.known.scene.world event) entry.known entry.left entry.placed entry.outcome_is
+    ended_same before self.known after (step self.known.scene.world event).world place (self.known.scene.world.count + 1) event outcome (outcome_reported self.known.scene.world event) entry.known entry.left entry.placed entry.outcome_is
     ∙ sym (ap (ended_by_row self.known.scene.world) entry.taken) in
-    subst (λ (t : List ℕ). StoresHolds t old new result) text (holds_stored (holds_ended before.scene.world after place event outcome) old new told stored result stores is)
+    subst (λ (t : List ℕ). StoresHolds t old new result) text (holds_stored (holds_ended before.scene.world after place event outcome) old new reported stored result stores is)

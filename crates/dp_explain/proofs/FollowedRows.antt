@@ -11,12 +11,12 @@ use Rattle.dp_explain.specs.declared.explain_fault.ExplainFault.{ExplainFault}
 use Rattle.dp_explain.specs.declared.follow_fault.FollowFault.{FollowFault}
 use Rattle.dp_explain.specs.declared.follow_fault.FollowFault.TheVariants.{Wrong, Explain}
 use Rattle.dp_explain.specs.Known.{KnownView}
-use Rattle.dp_explain.specs.Explained.{ended_by_row, known_behind, told_row}
+use Rattle.dp_explain.specs.Explained.{ended_by_row, known_behind, reported_row}
 use Rattle.dp_explain.specs.Followed.{Followed, FollowerView, FollowsRow, after_row, event_taken, event_unless, first_wrong, followed, judged_next, holds_of_row, text_of_row, whole_rows}
 use Rattle.dp_explain.specs.Following.{stored_with}
 use Rattle.dp_explain.proofs.RightRows.{checked_on}
-use Rattle.dp_explain.proofs.Following.{after_wrong, nothing_told}
-use Rattle.dp_explain.proofs.Told.{SoFar, at_end, cut_short, one_more}
+use Rattle.dp_explain.proofs.Following.{after_wrong, nothing_reported}
+use Rattle.dp_explain.proofs.Reported.{SoFar, at_end, cut_short, one_more}
 
 -- ---- the result of a row
 
@@ -74,13 +74,13 @@ checked_next self new row next lines known faultless =
 
 -- what is written so far, if this is all
 pub written_next : (choice : Choice) (all : List ℕ) (self new_self : FollowerView) (row next : List ℕ) (rows lines : List (List ℕ)) (first old new : Option (List ℕ)) (done : Unit {0})
-    → rows ≡ next ∷ lines → new_self ≡ after_row self row → SoFar all first old (followed choice self (whole_rows (row ∷ rows))).told → FollowsRow (text_of_row choice self row) (after_row self row).fault old new (Ok done)
-    → SoFar all first new (followed choice new_self (whole_rows (next ∷ lines))).told
+    → rows ≡ next ∷ lines → new_self ≡ after_row self row → SoFar all first old (followed choice self (whole_rows (row ∷ rows))).reported → FollowsRow (text_of_row choice self row) (after_row self row).fault old new (Ok done)
+    → SoFar all first new (followed choice new_self (whole_rows (next ∷ lines))).reported
 written_next choice all self new_self row next rows lines first old new done split known written follows =
-    let now : SoFar all first old (text_of_row choice self row ++ (followed choice (after_row self row) (whole_rows (next ∷ lines))).told) =
-    subst (λ (r : List (List ℕ)). SoFar all first old (followed choice self (whole_rows (row ∷ r))).told) split written in
-    subst (λ (f : FollowerView). SoFar all first new (followed choice f (whole_rows (next ∷ lines))).told) (sym known)
-    (one_more all first old new (text_of_row choice self row) (followed choice (after_row self row) (whole_rows (next ∷ lines))).told now
+    let now : SoFar all first old (text_of_row choice self row ++ (followed choice (after_row self row) (whole_rows (next ∷ lines))).reported) =
+    subst (λ (r : List (List ℕ)). SoFar all first old (followed choice self (whole_rows (row ∷ r))).reported) split written in
+    subst (λ (f : FollowerView). SoFar all first new (followed choice f (whole_rows (next ∷ lines))).reported) (sym known)
+    (one_more all first old new (text_of_row choice self row) (followed choice (after_row self row) (whole_rows (next ∷ lines))).reported now
     (appended (text_of_row choice self row) (after_row self row).fault old new done follows))
 
 stored_twice : (first more : List ℕ) (stored : Option (List ℕ)) → stored_with more (stored_with first stored) ≡ stored_with (first ++ more) stored
@@ -113,22 +113,22 @@ no_event None entries not_the_policy fault e = refl
 no_event None entries (right event) fault e = absurd cc
 
 after_fault : (choice : Choice) (known : KnownView) (found : Option AuditFault) (fault : AuditFault) (rows : List (List ℕ)) → found ≡ Some fault
-    → followed choice (record { known = known; fault = found }) rows ≡ nothing_told (record { known = known; fault = found })
+    → followed choice (record { known = known; fault = found }) rows ≡ nothing_reported (record { known = known; fault = found })
 after_fault choice known found fault rows is =
-    subst (λ (f : Option AuditFault). followed choice (record { known = known; fault = f }) rows ≡ nothing_told (record { known = known; fault = f })) (sym is) (after_wrong choice known fault rows)
+    subst (λ (f : Option AuditFault). followed choice (record { known = known; fault = f }) rows ≡ nothing_reported (record { known = known; fault = f })) (sym is) (after_wrong choice known fault rows)
 
 -- nothing is written of the row and of those after it
 ends : (choice : Choice) (self : FollowerView) (row : List ℕ) (rows : List (List ℕ)) (fault : AuditFault) → (after_row self row).fault ≡ Some fault
-    → followed choice self (row ∷ rows) ≡ nothing_told (after_row self row)
+    → followed choice self (row ∷ rows) ≡ nothing_reported (after_row self row)
 ends choice self row rows fault is =
     let others = followed choice (after_row self row) rows in
-    ap (λ (e : Option Event). record { told = told_row choice self.known e ++ others.told; ended = ended_by_row self.known.scene.world e ++ others.ended; last = others.last })
+    ap (λ (e : Option Event). record { reported = reported_row choice self.known e ++ others.reported; ended = ended_by_row self.known.scene.world e ++ others.ended; last = others.last })
     (no_event self.fault self.known.scene.world.count (judged_next self row) fault is)
-    ∙ ap (λ (f : Followed). record { told = f.told; ended = f.ended; last = f.last })
+    ∙ ap (λ (f : Followed). record { reported = f.reported; ended = f.ended; last = f.last })
     (after_fault choice (known_behind self.known (event_taken self row)) (after_row self row).fault fault rows is)
 
 rows_end : (choice : Choice) (self : FollowerView) (row next : List ℕ) (rows lines : List (List ℕ)) (fault : AuditFault) → rows ≡ next ∷ lines → (after_row self row).fault ≡ Some fault
-    → followed choice self (whole_rows (row ∷ rows)) ≡ nothing_told (after_row self row)
+    → followed choice self (whole_rows (row ∷ rows)) ≡ nothing_reported (after_row self row)
 rows_end choice self row next rows lines fault split is =
     ap (λ (r : List (List ℕ)). followed choice self (whole_rows (row ∷ r))) split ∙ ends choice self row (whole_rows (next ∷ lines)) fault is
 
@@ -152,17 +152,17 @@ stored_at_wrong choice self row next rows lines old new stored after all fault s
     ∙ holds
 
 pub written_at_wrong : (choice : Choice) (all : List ℕ) (self : FollowerView) (row next : List ℕ) (rows lines : List (List ℕ)) (first old new : Option (List ℕ)) (fault : AuditFault) → rows ≡ next ∷ lines
-    → SoFar all first old (followed choice self (whole_rows (row ∷ rows))).told → FollowsRow (text_of_row choice self row) (after_row self row).fault old new (Err (Wrong fault)) → Appends first new all
+    → SoFar all first old (followed choice self (whole_rows (row ∷ rows))).reported → FollowsRow (text_of_row choice self row) (after_row self row).fault old new (Err (Wrong fault)) → Appends first new all
 written_at_wrong choice all self row next rows lines first old new fault split written follows =
     let is = wrong_after (text_of_row choice self row) (after_row self row).fault old new fault follows in
     subst (λ (w : Option (List ℕ)). Appends first w all) (sym is.1)
     (at_end all first old
-    (subst (SoFar all first old) (ap (λ (f : Followed). f.told) (rows_end choice self row next rows lines fault split is.0)) written))
+    (subst (SoFar all first old) (ap (λ (f : Followed). f.reported) (rows_end choice self row next rows lines fault split is.0)) written))
 
 -- a row that is not written whole
 pub cut_at : (choice : Choice) (all : List ℕ) (self : FollowerView) (row next : List ℕ) (rows lines : List (List ℕ)) (first old new : Option (List ℕ)) (fault : ExplainFault) → rows ≡ next ∷ lines
-    → SoFar all first old (followed choice self (whole_rows (row ∷ rows))).told → FollowsRow (text_of_row choice self row) (after_row self row).fault old new (Err (Explain fault)) → WritesPrefix first new all
+    → SoFar all first old (followed choice self (whole_rows (row ∷ rows))).reported → FollowsRow (text_of_row choice self row) (after_row self row).fault old new (Err (Explain fault)) → WritesPrefix first new all
 cut_at choice all self row next rows lines first old new fault split written follows =
-    cut_short all first old new (text_of_row choice self row) (followed choice (after_row self row) (whole_rows (next ∷ lines))).told
-    (subst (λ (r : List (List ℕ)). SoFar all first old (followed choice self (whole_rows (row ∷ r))).told) split written)
+    cut_short all first old new (text_of_row choice self row) (followed choice (after_row self row) (whole_rows (next ∷ lines))).reported
+    (subst (λ (r : List (List ℕ)). SoFar all first old (followed choice self (whole_rows (row ∷ r))).reported) split written)
     (cut_after (text_of_row choice self row) (after_row self row).fault old new fault follows)

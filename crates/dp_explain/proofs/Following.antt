@@ -10,8 +10,8 @@ use Rattle.dp_audit.specs.Check.{Judged, bad, not_the_policy, right, checked, ch
 use Rattle.dp_explain.specs.declared.choice.Choice.{Choice}
 use Rattle.dp_explain.specs.Holds.{holds_lasting}
 use Rattle.dp_explain.specs.Known.{KnownView, first_known, first_world, known_after}
-use Rattle.dp_explain.specs.Explained.{counts_text, ended_by, ended_by_row, ended_by_rows, event_of_row, known_behind, last_known, last_world, right_entries, told_event, told_row, told_rows, verdict_text, world_behind}
-use Rattle.dp_explain.specs.Followed.{Followed, FollowerView, HasTheVerdictOfItsRows, IsToldByItsRows, first_follower, followed, followed_lines, followed_summary, followed_text, followed_verdict, following, judged_fault, last_line, right_event, verdict_at, whole_rows}
+use Rattle.dp_explain.specs.Explained.{counts_text, ended_by, ended_by_row, ended_by_rows, event_of_row, known_behind, last_known, last_world, right_entries, reported_event, reported_row, reported_rows, verdict_text, world_behind}
+use Rattle.dp_explain.specs.Followed.{Followed, FollowerView, HasTheVerdictOfItsRows, IsExplainedByItsRows, first_follower, followed, followed_lines, followed_summary, followed_text, followed_verdict, following, judged_fault, last_line, right_event, verdict_at, whole_rows}
 use Rattle.dp_explain.proofs.Rows.{row_is_read}
 use Rattle.dp_explain.proofs.RightRows.{checked_on, checked_stops, fails, right_is_step, step_counts}
 
@@ -21,19 +21,19 @@ abbrev pub wrong : KnownView → AuditFault → FollowerView
 wrong known fault = record { known = known; fault = Some fault }
 
 -- nothing is written, and this is the end
-abbrev pub nothing_told : FollowerView → Followed
-nothing_told follower = record { told = []; ended = []; last = follower }
+abbrev pub nothing_reported : FollowerView → Followed
+nothing_reported follower = record { reported = []; ended = []; last = follower }
 
-pub after_wrong : (choice : Choice) (known : KnownView) (fault : AuditFault) (rows : List (List ℕ)) → followed choice (wrong known fault) rows ≡ nothing_told (wrong known fault)
+pub after_wrong : (choice : Choice) (known : KnownView) (fault : AuditFault) (rows : List (List ℕ)) → followed choice (wrong known fault) rows ≡ nothing_reported (wrong known fault)
 after_wrong choice known fault [] = refl
-after_wrong choice known fault (row ∷ rows) = ap (λ (f : Followed). record { told = f.told; ended = f.ended; last = f.last }) (after_wrong choice known fault rows)
+after_wrong choice known fault (row ∷ rows) = ap (λ (f : Followed). record { reported = f.reported; ended = f.ended; last = f.last }) (after_wrong choice known fault rows)
 
 -- rows of which the first is judged so
 abbrev by_judged : Choice → KnownView → List (List ℕ) → Judged → Followed
 by_judged choice known rows judged =
     let others = followed choice (record { known = known_behind known (right_event judged); fault = judged_fault known.scene.world.count judged }) rows in
     record {
-      told = told_row choice known (right_event judged) ++ others.told;
+      reported = reported_row choice known (right_event judged) ++ others.reported;
       ended = ended_by_row known.scene.world (right_event judged) ++ others.ended;
       last = others.last;
     }
@@ -44,7 +44,7 @@ by_judged choice known rows judged =
 pub record Agrees (choice : Choice) (known : KnownView) (lines : List (List ℕ)) (verdict : Result ℕ AuditFault) (f : Followed) : Type 0 where
   pub many : ℕ
   pub counted : right_entries verdict ≡ known.scene.world.count + many
-  pub told : told_rows choice known (take many lines) ≡ f.told
+  pub reported : reported_rows choice known (take many lines) ≡ f.reported
   pub ended : ended_by_rows known.scene.world (take many lines) ≡ f.ended
   pub known_last : last_known known (take many lines) ≡ f.last.known
   pub world_last : last_world known.scene.world (take many lines) ≡ f.last.known.scene.world
@@ -56,11 +56,11 @@ last_counts false n = omega arith
 
 -- the first row is wrong
 stays : (choice : Choice) (known : KnownView) (lines : List (List ℕ)) (verdict : Result ℕ AuditFault) (f : Followed) (fault : AuditFault)
-    → verdict ≡ fails fault → right_entries (fails fault) ≡ known.scene.world.count + 0 → f ≡ nothing_told (wrong known fault) → Agrees choice known lines verdict f
+    → verdict ≡ fails fault → right_entries (fails fault) ≡ known.scene.world.count + 0 → f ≡ nothing_reported (wrong known fault) → Agrees choice known lines verdict f
 stays choice known lines verdict f fault is counts stopped = record {
   many = 0;
   counted = ap right_entries is ∙ counts;
-  told = sym (ap (λ (f : Followed). f.told) stopped);
+  reported = sym (ap (λ (f : Followed). f.reported) stopped);
   ended = sym (ap (λ (f : Followed). f.ended) stopped);
   known_last = sym (ap (λ (f : Followed). f.last.known) stopped);
   world_last = sym (ap (λ (f : Followed). f.last.known.scene.world) stopped);
@@ -82,10 +82,10 @@ goes_on choice known row next lines event judged others =
     record {
       many = suc others.many;
       counted = ap right_entries on ∙ others.counted ∙ ap (λ (n : ℕ). n + others.many) counts ∙ omega arith;
-      told =
-          ap (λ (e : Option Event). told_row choice known e ++ told_rows choice (known_behind known e) rows) read
-          ∙ ap (λ (text : List ℕ). told_event choice known.scene event ++ text) others.told
-          ∙ sym (ap (λ (f : Followed). f.told) is);
+      reported =
+          ap (λ (e : Option Event). reported_row choice known e ++ reported_rows choice (known_behind known e) rows) read
+          ∙ ap (λ (text : List ℕ). reported_event choice known.scene event ++ text) others.reported
+          ∙ sym (ap (λ (f : Followed). f.reported) is);
       ended =
           ap (λ (e : Option Event). ended_by_row world e ++ ended_by_rows (world_behind world e) rows) read
           ∙ ap (λ (text : List ℕ). ended_by world event ++ text) others.ended
@@ -104,7 +104,7 @@ agrees : (choice : Choice) (known : KnownView) (lines : List (List ℕ))
 agrees choice known [] = record {
   many = 0;
   counted = omega arith;
-  told = refl;
+  reported = refl;
   ended = refl;
   known_last = refl;
   world_last = refl;
@@ -113,7 +113,7 @@ agrees choice known [] = record {
 agrees choice known (last ∷ []) = record {
   many = 0;
   counted = last_counts (length last == 0) known.scene.world.count;
-  told = refl;
+  reported = refl;
   ended = refl;
   known_last = refl;
   world_last = refl;
@@ -123,7 +123,7 @@ agrees choice known (row ∷ next ∷ lines) = by (judged_line known.scene.world
   where
     stopped : (judged : Judged) (fault : AuditFault) → judged_line known.scene.world row ≡ judged → judged_fault known.scene.world.count judged ≡ Some fault
         → right_entries (fails fault) ≡ known.scene.world.count + 0
-        → by_judged choice known (whole_rows (next ∷ lines)) judged ≡ nothing_told (wrong known fault)
+        → by_judged choice known (whole_rows (next ∷ lines)) judged ≡ nothing_reported (wrong known fault)
         → Agrees choice known (row ∷ next ∷ lines) (checked_lines known.scene.world known.scene.world.count (row ∷ next ∷ lines)) (followed choice (following known) (whole_rows (row ∷ next ∷ lines)))
     stopped judged fault is e counts nothing =
         stays choice known (row ∷ next ∷ lines) _ _ fault
@@ -135,25 +135,25 @@ agrees choice known (row ∷ next ∷ lines) = by (judged_line known.scene.world
         → Agrees choice known (row ∷ next ∷ lines) (checked_lines known.scene.world known.scene.world.count (row ∷ next ∷ lines)) (followed choice (following known) (whole_rows (row ∷ next ∷ lines)))
     by bad is others =
         stopped bad (BadLine (known.scene.world.count + 2)) is refl (omega arith)
-        (ap (λ (f : Followed). record { told = f.told; ended = f.ended; last = f.last }) (after_wrong choice known (BadLine (known.scene.world.count + 2)) (whole_rows (next ∷ lines))))
+        (ap (λ (f : Followed). record { reported = f.reported; ended = f.ended; last = f.last }) (after_wrong choice known (BadLine (known.scene.world.count + 2)) (whole_rows (next ∷ lines))))
     by not_the_policy is others =
         stopped not_the_policy (NotThePolicy (known.scene.world.count + 2)) is refl (omega arith)
-        (ap (λ (f : Followed). record { told = f.told; ended = f.ended; last = f.last }) (after_wrong choice known (NotThePolicy (known.scene.world.count + 2)) (whole_rows (next ∷ lines))))
+        (ap (λ (f : Followed). record { reported = f.reported; ended = f.ended; last = f.last }) (after_wrong choice known (NotThePolicy (known.scene.world.count + 2)) (whole_rows (next ∷ lines))))
     by (right event) is others = goes_on choice known row next lines event is (others event)
 
 -- ---- a text
 
 -- what is written of a text is what is written of the rows that are followed
 pub record IsFollowed (choice : Choice) (line : Description) (lines : List (List ℕ)) (verdict : Result ℕ AuditFault) (f : Followed) : Type 0 where
-  pub told : told_rows choice (first_known line (places_of_lines line lines)) (take (right_entries verdict) (drop 1 lines)) ≡ f.told
+  pub reported : reported_rows choice (first_known line (places_of_lines line lines)) (take (right_entries verdict) (drop 1 lines)) ≡ f.reported
   pub ended : ended_by_rows (first_world line (places_of_lines line lines)) (take (right_entries verdict) (drop 1 lines)) ≡ f.ended
   pub known_last : last_known (first_known line (places_of_lines line lines)) (take (right_entries verdict) (drop 1 lines)) ≡ f.last.known
   pub world_last : last_world (first_world line (places_of_lines line lines)) (take (right_entries verdict) (drop 1 lines)) ≡ f.last.known.scene.world
 
 -- no row is followed
-none_followed : (choice : Choice) (line : Description) (lines : List (List ℕ)) → IsFollowed choice line lines (fails (BadLine 1)) (nothing_told (first_follower line lines))
+none_followed : (choice : Choice) (line : Description) (lines : List (List ℕ)) → IsFollowed choice line lines (fails (BadLine 1)) (nothing_reported (first_follower line lines))
 none_followed choice line lines = record {
-  told = refl;
+  reported = refl;
   ended = refl;
   known_last = refl;
   world_last = refl;
@@ -172,7 +172,7 @@ with_header choice line header rows true =
     let same = agrees choice first rows in
     let many : right_entries (checked_lines (start_of (line_of_header line header)) 0 rows) ≡ same.many = same.counted ∙ omega arith in
     record {
-      told = ap (λ (n : ℕ). told_rows choice first (take n rows)) many ∙ same.told;
+      reported = ap (λ (n : ℕ). reported_rows choice first (take n rows)) many ∙ same.reported;
       ended = ap (λ (n : ℕ). ended_by_rows first.scene.world (take n rows)) many ∙ same.ended;
       known_last = ap (λ (n : ℕ). last_known first (take n rows)) many ∙ same.known_last;
       world_last = ap (λ (n : ℕ). last_world first.scene.world (take n rows)) many ∙ same.world_last;
@@ -191,12 +191,12 @@ text_followed choice line text = lines_followed choice line (lines_of text)
 -- the explanation, from equal parts
 same_explanation : (line : Description) (a b c d verdict : List ℕ) (x y : KnownView) (world : World) → a ≡ b → c ≡ d → x ≡ y → world ≡ y.scene.world
     → (a ++ ((codes "holds\n" ++ (c ++ holds_lasting world line.slaves)) ++ counts_text x)) ++ verdict ≡ (b ++ followed_summary line d y) ++ verdict
-same_explanation line a b c d verdict x y world told ended known left = rw (told, ended, known, left) refl
+same_explanation line a b c d verdict x y world reported ended known left = rw (reported, ended, known, left) refl
 
-pub told_by_rows : IsToldByItsRows
-told_by_rows choice line text =
+pub reported_by_rows : IsExplainedByItsRows
+reported_by_rows choice line text =
     let f = text_followed choice line text in
-    same_explanation line _ _ _ _ (verdict_text (checked line text)) _ _ _ f.told f.ended f.known_last f.world_last
+    same_explanation line _ _ _ _ (verdict_text (checked line text)) _ _ _ f.reported f.ended f.known_last f.world_last
 
 lines_verdict : (choice : Choice) (line : Description) (lines : List (List ℕ)) → checked_from_header line lines ≡ followed_verdict choice line lines
 lines_verdict choice line [] = refl

@@ -153,16 +153,16 @@ no_srd SdnHigh sdn srd = absurd cc
 no_srd other sdn srd = absurd cc
 
 -- an SRD that reaches the slave and is judged and replied to, other than by a repeat, gets such an outcome
-told_anew : (world : World) (event : Event) (outcome : Outcome) (slave : SlaveRecord) (address master : ℕ) (octets : ArrayVec ℕ) (telegram : Telegram) (parts : Parts) (text : List ℕ) (all : Bool)
+reported_again : (world : World) (event : Event) (outcome : Outcome) (slave : SlaveRecord) (address master : ℕ) (octets : ArrayVec ℕ) (telegram : Telegram) (parts : Parts) (text : List ℕ) (all : Bool)
     → is_to_all telegram ≡ all → event ≡ Request master octets → outcome ≡ outcome_of world event → slave_at world address ≡ Some slave
     → IsConcerned (heard world master octets.items) telegram parts → is_for telegram slave ≡ true → asks_srd (function_of telegram.fc) ≡ true
     → is_judged_anew (rule_at master telegram parts slave) ≡ true → reply_text slave master telegram parts (rule_at master telegram parts slave) ≡ Some text
     → is_replied_anew address master event outcome ≡ true
-told_anew world event outcome slave address master octets telegram parts text true to_all request told here concerned asked srd anew replied =
+reported_again world event outcome slave address master octets telegram parts text true to_all request reported here concerned asked srd anew replied =
     let control = and_parts (asks_sdn (function_of telegram.fc)) (same_point parts.dsap global_control)
     (to_all_controls (heard world master octets.items) telegram parts concerned to_all) in
     absurd (no_srd (function_of telegram.fc) control.0 srd)
-told_anew world event outcome slave address master octets telegram parts text false to_all request told here concerned asked srd anew replied =
+reported_again world event outcome slave address master octets telegram parts text false to_all request reported here concerned asked srd anew replied =
     let hearing = heard world master octets.items in
     let rule = rule_at master telegram parts slave in
     let spelt = sym (spelt_is world master octets.items) ∙ concerned.spelt in
@@ -170,9 +170,9 @@ told_anew world event outcome slave address master octets telegram parts text fa
     let found = heard_slave world master octets.items telegram spelt to_all ∙ ap (slave_at world) (sym at) ∙ here in
     let answer = subst (λ (n : ℕ). outcome_heard hearing ≡ answered (rule_at n telegram parts slave) (reply_text slave n telegram parts (rule_at n telegram parts slave)))
     (heard_sender world master octets.items) (outcome_one hearing telegram parts slave concerned to_all found) in
-    let outcome_told = told ∙ ap (outcome_of world) request ∙ outcome_is world master octets ∙ answer ∙ ap (answered rule) replied in
+    let outcome_reported = reported ∙ ap (outcome_of world) request ∙ outcome_is world master octets ∙ answer ∙ ap (answered rule) replied in
     ap (λ (e : Event). is_replied_anew address master e outcome) request
-    ∙ ap (is_replied_anew address master (Request master octets)) outcome_told
+    ∙ ap (is_replied_anew address master (Request master octets)) outcome_reported
     ∙ and_from (eqb master master && is_judged_anew rule) (option_map_or (is_srd_to address) (telegram_spelt octets.items) false)
     (and_from (eqb master master) (is_judged_anew rule) (eq-eqb master master refl) anew)
     (ap (λ (t : Option Telegram). option_map_or (is_srd_to address) t false) spelt
@@ -183,13 +183,13 @@ reached_by : (world : World) (event : Event) (outcome : Outcome) (slave : SlaveR
     → IsConcerned (heard world sender octets.items) telegram parts → is_for telegram slave ≡ true → is_replied_anew address master event outcome ≡ false
     → is_judged_anew (rule_at sender telegram parts slave) ≡ true → reply_text slave sender telegram parts (rule_at sender telegram parts slave) ≡ Some text
     → remembered_of (with_remembered slave.memory sender telegram.fc text) master ≡ remembered_of slave.memory master
-reached_by world event outcome slave address master sender octets telegram parts text false same none e request told here concerned asked out anew replied =
+reached_by world event outcome slave address master sender octets telegram parts text false same none e request reported here concerned asked out anew replied =
     no_srd_stays slave.memory sender telegram.fc text master none
-reached_by world event outcome slave address master sender octets telegram parts text true false srd apart request told here concerned asked out anew replied =
+reached_by world event outcome slave address master sender octets telegram parts text true false srd apart request reported here concerned asked out anew replied =
     other_master slave.memory sender telegram.fc text master apart
-reached_by world event outcome slave address master sender octets telegram parts text true true srd e request told here concerned asked out anew replied =
+reached_by world event outcome slave address master sender octets telegram parts text true true srd e request reported here concerned asked out anew replied =
     let mine = eqb-true sender master e in
-    let inside = told_anew world event outcome slave address sender octets telegram parts text (is_to_all telegram) refl request told here concerned asked srd anew replied in
+    let inside = reported_again world event outcome slave address sender octets telegram parts text (is_to_all telegram) refl request reported here concerned asked srd anew replied in
     absurd (both_ways (is_replied_anew address master event outcome) out (subst (λ (n : ℕ). is_replied_anew address n event outcome ≡ true) mine inside))
 
 op_memory : (slave : SlaveRecord) (op : Op) → (acted slave (act_of_op op)).memory ≡ slave.memory
@@ -198,13 +198,13 @@ op_memory slave op = refl
 
 pub way_memory : (world : World) (event : Event) (outcome : Outcome) (address master : ℕ) (slave after : SlaveRecord) → slave_at world address ≡ Some slave → outcome ≡ outcome_of world event
     → is_replied_anew address master event outcome ≡ false → IsWay world event slave after → remembered_of after.memory master ≡ remembered_of slave.memory master
-way_memory world event outcome address master slave after here told out (leaves is) = ap (λ (s : SlaveRecord). remembered_of s.memory master) is
-way_memory world event outcome address master slave after here told out (reaches sender octets telegram parts request concerned asked is) =
+way_memory world event outcome address master slave after here reported out (leaves is) = ap (λ (s : SlaveRecord). remembered_of s.memory master) is
+way_memory world event outcome address master slave after here reported out (reaches sender octets telegram parts request concerned asked is) =
     let rule = rule_at sender telegram parts slave in
     ap (λ (s : SlaveRecord). remembered_of s.memory master) is
     ∙ ap (λ (memory : List MasterMemory). remembered_of memory master) (served_memory slave sender (world.count + 1) telegram parts)
     ∙ memory_by slave sender telegram master rule (reply_text slave sender telegram parts rule)
     (λ text anew replied. reached_by world event outcome slave address master sender octets telegram parts text (asks_srd (function_of telegram.fc)) (eqb sender master) refl refl
-    request told here concerned asked out anew replied)
-way_memory world event outcome address master slave after here told out (operates op operator is) =
+    request reported here concerned asked out anew replied)
+way_memory world event outcome address master slave after here reported out (operates op operator is) =
     ap (λ (s : SlaveRecord). remembered_of s.memory master) is ∙ ap (λ (memory : List MasterMemory). remembered_of memory master) (op_memory slave op)

@@ -4,7 +4,7 @@ pub mod Counting
 pub mod AtAddress
 pub mod TenTimes
 pub mod Writing
-pub mod Told
+pub mod Reported
 pub mod Knowing
 pub mod Rows
 pub mod RightRows
@@ -12,10 +12,10 @@ pub mod Following
 pub mod FollowedRow
 pub mod FollowedRows
 pub mod Ending
-pub mod Retold
+pub mod ReportedAgain
 pub mod Reached
 pub mod Standings
-pub mod ChangesTold
+pub mod ChangesReported
 pub mod Noted
 pub mod FrameMemories
 pub mod Replies

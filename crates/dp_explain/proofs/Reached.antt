@@ -146,11 +146,11 @@ no_reply rules.Done reply other is = absurd cc
 no_reply rule reply other is = absurd cc
 
 replied_by : (hearing : Hearing) (reply : ArrayVec ℕ) (rule : Rule) (b : Bool) → concerns_a_slave (verdict_of hearing) ≡ b → outcome_heard hearing ≡ Reply reply rule → concerns_a_slave (verdict_of hearing) ≡ true
-replied_by hearing reply rule true concerns told = concerns
-replied_by hearing reply rule false silent told =
+replied_by hearing reply rule true concerns reported = concerns
+replied_by hearing reply rule false silent reported =
     let none = silent_reply hearing.sender (verdict_of hearing) (option_and_then telegram_of_frame hearing.frame) hearing.parts hearing.slave silent in
     let outcome : outcome_heard hearing ≡ answered (verdict_of hearing) None = rw (silent, none) refl in
-    absurd (no_reply (verdict_of hearing) reply rule (sym outcome ∙ told))
+    absurd (no_reply (verdict_of hearing) reply rule (sym outcome ∙ reported))
 
 -- a request that gets a reply concerns a slave
 pub replied_concerns : (hearing : Hearing) (reply : ArrayVec ℕ) (rule : Rule) → outcome_heard hearing ≡ Reply reply rule → concerns_a_slave (verdict_of hearing) ≡ true
@@ -161,16 +161,16 @@ no_spread hearing reply rule is = absurd cc
 
 alone_by : (hearing : Hearing) (telegram : Telegram) (reply : ArrayVec ℕ) (rule : Rule) (all : Bool) → is_to_all telegram ≡ all → concerns_a_slave (verdict_of hearing) ≡ true
     → option_and_then telegram_of_frame hearing.frame ≡ Some telegram → outcome_heard hearing ≡ Reply reply rule → is_to_all telegram ≡ false
-alone_by hearing telegram reply rule false to_all concerns spelt told = to_all
-alone_by hearing telegram reply rule true to_all concerns spelt told =
+alone_by hearing telegram reply rule false to_all concerns spelt reported = to_all
+alone_by hearing telegram reply rule true to_all concerns spelt reported =
     let spread : outcome_heard hearing ≡ outcome_spread hearing = rw (concerns, spelt, to_all) refl in
-    absurd (no_spread hearing reply rule (sym spread ∙ told))
+    absurd (no_spread hearing reply rule (sym spread ∙ reported))
 
 -- a request that gets a reply is for one slave
 pub replied_alone : (hearing : Hearing) (telegram : Telegram) (reply : ArrayVec ℕ) (rule : Rule) → option_and_then telegram_of_frame hearing.frame ≡ Some telegram → outcome_heard hearing ≡ Reply reply rule
     → is_to_all telegram ≡ false
-replied_alone hearing telegram reply rule spelt told =
-    alone_by hearing telegram reply rule (is_to_all telegram) refl (replied_concerns hearing reply rule told) spelt told
+replied_alone hearing telegram reply rule spelt reported =
+    alone_by hearing telegram reply rule (is_to_all telegram) refl (replied_concerns hearing reply rule reported) spelt reported
 
 -- ---- the request as it was heard
 

@@ -34,9 +34,9 @@ use Rattle.dp_audit.specs.Legal.{Follows, IsLegal, after_entries}
 use Rattle.dp_sentences.specs.declared.notes.Noted.{Noted}
 use Rattle.dp_sentences.specs.Notes.{has_octets, note_of, notes_after}
 use Rattle.dp_sentences.specs.Refusals.{repeat_text}
-use Rattle.dp_sentences.specs.Results.{result_row, result_rows, shown_at, told_of_parts, told_of_telegram, told_where_known}
+use Rattle.dp_sentences.specs.Results.{result_row, result_rows, shown_at, reported_of_parts, reported_of_telegram, reported_where_known}
 use Rattle.dp_sentences.specs.Scenes.{AskedView, SceneView}
-use Rattle.dp_explain.specs.JournalTold.{known_behind_entries, known_behind_entry}
+use Rattle.dp_explain.specs.JournalReported.{known_behind_entries, known_behind_entry}
 use Rattle.dp_explain.specs.Known.{KnownView, first_known}
 use Rattle.dp_explain.specs.Repeats.{IsLastReplied, is_replied_anew, leaves_a_reply}
 use Rattle.dp_explain.proofs.Reached.{at_after, found_address, heard_by_slaves, outcome_is, replied_concerns, way}
@@ -90,8 +90,8 @@ new_last : (line : Description) (done : List Entry) (known : KnownView) (entry :
     → IsReplyNoted (done ++ entry ∷ []) (notes_after known.scene.notes entry.place entry.event entry.outcome) address master last.fcb last.reply
 new_last line done known entry address master slave last kept follows here remembered is =
     let world = known.scene.world in
-    let told = ap (outcome_of world) (sym is.request) ∙ sym follows.outcome ∙ is.told in
-    let m = met world master is.octets is.reply is.rule is.telegram is.spelt told in
+    let reported = ap (outcome_of world) (sym is.request) ∙ sym follows.outcome ∙ is.reported in
+    let m = met world master is.octets is.reply is.rule is.telegram is.spelt reported in
     let both = and_parts (asks_srd (function_of is.telegram.fc)) (eqb (address_of is.telegram.da) address) is.srd in
     let at = eqb-true (address_of is.telegram.da) address both.1 in
     let there = ap (slave_at world) (sym at) ∙ m.here in
@@ -112,7 +112,7 @@ new_last line done known entry address master slave last kept follows here remem
     let given = note_given address master entry.place known.scene.notes is.octets is.reply is.rule is.telegram is.spelt is.srd is.anew note in
     let after : notes_after known.scene.notes entry.place entry.event entry.outcome ≡ notes_after known.scene.notes entry.place (Request master is.octets) (Reply is.reply is.rule) =
     ap (λ (e : Event). notes_after known.scene.notes entry.place e entry.outcome) is.request
-    ∙ ap (notes_after known.scene.notes entry.place (Request master is.octets)) is.told in
+    ∙ ap (notes_after known.scene.notes entry.place (Request master is.octets)) is.reported in
     record {
       note = given.note;
       found = ap (λ (l : List Noted). note_of l address master) after ∙ given.found;
@@ -130,7 +130,7 @@ new_last line done known entry address master slave last kept follows here remem
         count_bit = new.bit;
         rule = is.rule;
         anew = is.anew;
-        replied = is.told ∙ ap (λ (text : List ℕ). Reply (record { items = text }) is.rule) new.text;
+        replied = is.reported ∙ ap (λ (text : List ℕ). Reply (record { items = text }) is.rule) new.text;
       };
     }
 
@@ -317,20 +317,20 @@ some_parts : {A : Type 0} (a b : A) → Some a ≡ Some b → a ≡ b
 some_parts a b is = cc
 
 -- what is known before an entry, and the slave that its request reached
-record IsTold (line : Description) (places : ℕ) (before : List Entry) (entry : Entry) (master : ℕ) (octets reply : ArrayVec ℕ) (telegram : Telegram) : Type 0 where
+record IsReported (line : Description) (places : ℕ) (before : List Entry) (entry : Entry) (master : ℕ) (octets reply : ArrayVec ℕ) (telegram : Telegram) : Type 0 where
   kept : IsKept line before (known_behind_entries (first_known line places) before)
   met_there : IsMet (known_behind_entries (first_known line places) before).scene.world master octets reply rules.Repeat telegram
 
-told_there : (line : Description) (places : ℕ) (before : List Entry) (entry : Entry) (master : ℕ) (octets reply : ArrayVec ℕ) (telegram : Telegram) → IsLegal (start_of (record line { capacity = places })) (before ++ entry ∷ [])
-    → entry.event ≡ Request master octets → telegram_spelt octets.items ≡ Some telegram → entry.outcome ≡ Reply reply rules.Repeat → IsTold line places before entry master octets reply telegram
-told_there line places before entry master octets reply telegram legal request spelt told =
+reported_there : (line : Description) (places : ℕ) (before : List Entry) (entry : Entry) (master : ℕ) (octets reply : ArrayVec ℕ) (telegram : Telegram) → IsLegal (start_of (record line { capacity = places })) (before ++ entry ∷ [])
+    → entry.event ≡ Request master octets → telegram_spelt octets.items ≡ Some telegram → entry.outcome ≡ Reply reply rules.Repeat → IsReported line places before entry master octets reply telegram
+reported_there line places before entry master octets reply telegram legal request spelt reported =
     let last = last_of (start_of (record line { capacity = places })) before entry legal in
     let world = (known_behind_entries (first_known line places) before).scene.world in
     let same = sym (world_known (first_known line places) before) in
     let follows = subst (λ (w : World). Follows w entry) same last.follows in
     record {
       kept = kept_entries line [] (first_known line places) before (kept_first line places) last.legal;
-      met_there = met world master octets reply rules.Repeat telegram spelt (ap (outcome_of world) (sym request) ∙ sym follows.outcome ∙ told);
+      met_there = met world master octets reply rules.Repeat telegram spelt (ap (outcome_of world) (sym request) ∙ sym follows.outcome ∙ reported);
     }
 
 some_there : (parts : Option Parts) → is_none parts ≡ false → is_some parts ≡ true
@@ -340,10 +340,10 @@ some_there (Some parts) there = refl
 -- a request that gets a reply is a telegram whose access points can be read
 pub replied_telegram : (line : Description) (places : ℕ) (before : List Entry) (entry : Entry) (master : ℕ) (octets reply : ArrayVec ℕ) (rule : Rule) → IsLegal (start_of (record line { capacity = places })) (before ++ entry ∷ [])
     → entry.event ≡ Request master octets → entry.outcome ≡ Reply reply rule → is_some (option_and_then parts_of (telegram_spelt octets.items)) ≡ true
-replied_telegram line places before entry master octets reply rule legal request told =
+replied_telegram line places before entry master octets reply rule legal request reported =
     let last = last_of (start_of (record line { capacity = places })) before entry legal in
     let world = after_entries (start_of (record line { capacity = places })) before in
-    let outcome = sym (outcome_is world master octets) ∙ ap (outcome_of world) (sym request) ∙ sym last.follows.outcome ∙ told in
+    let outcome = sym (outcome_is world master octets) ∙ ap (outcome_of world) (sym request) ∙ sym last.follows.outcome ∙ reported in
     let known = heard_by_slaves (heard world master octets.items) (replied_concerns (heard world master octets.items) reply rule outcome) in
     ap is_some (sym (parts_heard world master octets.items)) ∙ some_there (heard world master octets.items).parts known.extension
 
@@ -354,8 +354,8 @@ pub repeats : (line : Description) (places : ℕ) (before : List Entry) (entry :
     → entry.event ≡ Request master octets → telegram_spelt octets.items ≡ Some telegram → entry.outcome ≡ Reply reply rules.Repeat
     → IsSomeAnd (note_of (known_behind_entries (first_known line places) before).scene.notes (address_of telegram.da) master)
     (λ noted. IsLastReplied before (address_of telegram.da) master noted.place noted.octets (frame_count_bit telegram.fc) reply.items)
-repeats line places before entry master octets reply telegram legal request spelt told =
-    let there = told_there line places before entry master octets reply telegram legal request spelt told in
+repeats line places before entry master octets reply telegram legal request spelt reported =
+    let there = reported_there line places before entry master octets reply telegram legal request spelt reported in
     let notes = (known_behind_entries (first_known line places) before).scene.notes in
     let m = there.met_there in
     let again = again_by (remembered_of m.slave.memory master) telegram.fc (repeat_row master telegram m.parts m.slave m.ruled) in
@@ -384,11 +384,11 @@ row_by : (scene : SceneView) (master : ℕ) (octets reply : ArrayVec ℕ) (teleg
 row_by scene master octets reply telegram parts noted description slave spelt read found described shown =
     let asked : AskedView = record { master = master; octets = octets.items; telegram = telegram; parts = parts } in
     let address = address_of telegram.da in
-    ap (λ (t : Option Telegram). result_row (told_of_telegram scene master octets.items false rules.Repeat t)) spelt
-    ∙ ap (λ (p : Option Parts). result_row (told_of_parts scene master octets.items false rules.Repeat telegram p)) read
-    ∙ ap (λ (n : Option Noted). result_row (told_where_known asked n false rules.Repeat (described_at scene.description.slaves address) (shown_at scene.world address))) found
-    ∙ ap (λ (d : Option SlaveSpec). result_row (told_where_known asked (Some noted) false rules.Repeat d (shown_at scene.world address))) described
-    ∙ ap (λ (s : Option SlaveView). result_row (told_where_known asked (Some noted) false rules.Repeat (Some description) s)) shown
+    ap (λ (t : Option Telegram). result_row (reported_of_telegram scene master octets.items false rules.Repeat t)) spelt
+    ∙ ap (λ (p : Option Parts). result_row (reported_of_parts scene master octets.items false rules.Repeat telegram p)) read
+    ∙ ap (λ (n : Option Noted). result_row (reported_where_known asked n false rules.Repeat (described_at scene.description.slaves address) (shown_at scene.world address))) found
+    ∙ ap (λ (d : Option SlaveSpec). result_row (reported_where_known asked (Some noted) false rules.Repeat d (shown_at scene.world address))) described
+    ∙ ap (λ (s : Option SlaveView). result_row (reported_where_known asked (Some noted) false rules.Repeat (Some description) s)) shown
 
 -- equal octets are found equal, and others are not
 abbrev are_same : List ℕ → List ℕ → Bool
@@ -411,39 +411,39 @@ not_true true none = absurd (none refl)
 not_true false none = refl
 
 -- the row of a repeat whose octets are those of the noted request, or are not
-row_told : (line : Description) (places : ℕ) (before : List Entry) (entry : Entry) (master : ℕ) (octets reply : ArrayVec ℕ) (telegram : Telegram) (parts : Parts) (noted : Noted) (same : Bool)
+row_reported : (line : Description) (places : ℕ) (before : List Entry) (entry : Entry) (master : ℕ) (octets reply : ArrayVec ℕ) (telegram : Telegram) (parts : Parts) (noted : Noted) (same : Bool)
     → IsLegal (start_of (record line { capacity = places })) (before ++ entry ∷ [])
     → entry.event ≡ Request master octets → telegram_spelt octets.items ≡ Some telegram → parts_of telegram ≡ Some parts → entry.outcome ≡ Reply reply rules.Repeat
     → note_of (known_behind_entries (first_known line places) before).scene.notes (address_of telegram.da) master ≡ Some noted → has_octets (Some noted) octets.items ≡ same
     → result_rows (known_behind_entries (first_known line places) before).scene entry.event entry.outcome
     ≡ result_row (repeat_text same noted.place parts.dsap parts.payload.items)
-row_told line places before entry master octets reply telegram parts noted same legal request spelt read told found is =
-    let there = told_there line places before entry master octets reply telegram legal request spelt told in
+row_reported line places before entry master octets reply telegram parts noted same legal request spelt read reported found is =
+    let there = reported_there line places before entry master octets reply telegram legal request spelt reported in
     let scene = (known_behind_entries (first_known line places) before).scene in
     let m = there.met_there in
     let spec = described_there (described_at line.slaves (address_of telegram.da)) (there.kept.stations (address_of telegram.da) m.slave m.here) in
     let described = ap (λ (d : Description). described_at d.slaves (address_of telegram.da)) there.kept.described ∙ spec.is in
     ap (λ (e : Event). result_rows scene e entry.outcome) request
-    ∙ ap (result_rows scene (Request master octets)) told
+    ∙ ap (result_rows scene (Request master octets)) reported
     ∙ row_by scene master octets reply telegram parts noted spec.description (view_of m.slave) spelt read found described (ap (option_map view_of) m.here)
     ∙ ap (λ (b : Bool). result_row (repeat_text b noted.place parts.dsap parts.payload.items)) is
 
-pub retry_told : (line : Description) (places : ℕ) (before : List Entry) (entry : Entry) (master : ℕ) (octets reply : ArrayVec ℕ) (telegram : Telegram) (parts : Parts) (noted : Noted)
+pub retry_reported : (line : Description) (places : ℕ) (before : List Entry) (entry : Entry) (master : ℕ) (octets reply : ArrayVec ℕ) (telegram : Telegram) (parts : Parts) (noted : Noted)
     → IsLegal (start_of (record line { capacity = places })) (before ++ entry ∷ [])
     → entry.event ≡ Request master octets → telegram_spelt octets.items ≡ Some telegram → parts_of telegram ≡ Some parts → entry.outcome ≡ Reply reply rules.Repeat
     → note_of (known_behind_entries (first_known line places) before).scene.notes (address_of telegram.da) master ≡ Some noted → noted.octets.items ≡ octets.items
     → result_rows (known_behind_entries (first_known line places) before).scene entry.event entry.outcome
     ≡ result_row (repeat_text true noted.place parts.dsap parts.payload.items)
-retry_told line places before entry master octets reply telegram parts noted legal request spelt read told found same =
-    row_told line places before entry master octets reply telegram parts noted true legal request spelt read told found
+retry_reported line places before entry master octets reply telegram parts noted legal request spelt read reported found same =
+    row_reported line places before entry master octets reply telegram parts noted true legal request spelt read reported found
     (ap (λ (l : List ℕ). are_same l octets.items) same ∙ same_self octets.items)
 
-pub other_told : (line : Description) (places : ℕ) (before : List Entry) (entry : Entry) (master : ℕ) (octets reply : ArrayVec ℕ) (telegram : Telegram) (parts : Parts) (noted : Noted)
+pub other_reported : (line : Description) (places : ℕ) (before : List Entry) (entry : Entry) (master : ℕ) (octets reply : ArrayVec ℕ) (telegram : Telegram) (parts : Parts) (noted : Noted)
     → IsLegal (start_of (record line { capacity = places })) (before ++ entry ∷ [])
     → entry.event ≡ Request master octets → telegram_spelt octets.items ≡ Some telegram → parts_of telegram ≡ Some parts → entry.outcome ≡ Reply reply rules.Repeat
     → note_of (known_behind_entries (first_known line places) before).scene.notes (address_of telegram.da) master ≡ Some noted → noted.octets.items ≢ octets.items
     → result_rows (known_behind_entries (first_known line places) before).scene entry.event entry.outcome
     ≡ result_row (repeat_text false noted.place parts.dsap parts.payload.items)
-other_told line places before entry master octets reply telegram parts noted legal request spelt read told found apart =
-    row_told line places before entry master octets reply telegram parts noted false legal request spelt read told found
+other_reported line places before entry master octets reply telegram parts noted legal request spelt read reported found apart =
+    row_reported line places before entry master octets reply telegram parts noted false legal request spelt read reported found
     (not_true (has_octets (Some noted) octets.items) (λ same. apart (same_is noted.octets.items octets.items same)))

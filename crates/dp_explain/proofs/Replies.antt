@@ -33,7 +33,7 @@ pub record IsAnew (slave master : ℕ) (event : Event) (outcome : Outcome) : Typ
   pub rule : Rule
   pub telegram : Telegram
   pub request : event ≡ Request master octets
-  pub told : outcome ≡ Reply reply rule
+  pub reported : outcome ≡ Reply reply rule
   pub spelt : telegram_spelt octets.items ≡ Some telegram
   pub srd : is_srd_to slave telegram ≡ true
   pub anew : is_judged_anew rule ≡ true
@@ -51,7 +51,7 @@ anew_by slave master sender octets reply rule (Some telegram) spelt is =
       rule = rule;
       telegram = telegram;
       request = ap (λ (n : ℕ). Request n octets) (eqb-true sender master front.0);
-      told = refl;
+      reported = refl;
       spelt = spelt;
       srd = both.1;
       anew = front.1;
@@ -80,14 +80,14 @@ slave_there None there = absurd cc
 slave_there (Some slave) there = record { found = slave; is = refl }
 
 -- the parts of an answer with a reply
-record IsAnswer (answer : Option (List ℕ)) (rule : Rule) (reply : ArrayVec ℕ) (told : Rule) : Type 0 where
+record IsAnswer (answer : Option (List ℕ)) (rule : Rule) (reply : ArrayVec ℕ) (reported : Rule) : Type 0 where
   text : answer ≡ Some reply.items
-  same : rule ≡ told
+  same : rule ≡ reported
 
-answer_by : (rule : Rule) (answer : Option (List ℕ)) (reply : ArrayVec ℕ) (told : Rule) → answered rule answer ≡ Reply reply told → IsAnswer answer rule reply told
-answer_by rules.Done None reply told is = absurd cc
-answer_by rule None reply told is = absurd cc
-answer_by rule (Some text) reply told is =
+answer_by : (rule : Rule) (answer : Option (List ℕ)) (reply : ArrayVec ℕ) (reported : Rule) → answered rule answer ≡ Reply reply reported → IsAnswer answer rule reply reported
+answer_by rules.Done None reply reported is = absurd cc
+answer_by rule None reply reported is = absurd cc
+answer_by rule (Some text) reply reported is =
     let octets : record { items = text } ≡ reply = cc in
     record { text = ap (λ (r : ArrayVec ℕ). Some r.items) octets; same = cc }
 
@@ -120,9 +120,9 @@ met_by : (world : World) (master : ℕ) (octets reply : ArrayVec ℕ) (rule : Ru
     → outcome_heard (heard world master octets.items) ≡ Reply reply rule → IsMet world master octets reply rule telegram
 met_by world master octets reply rule telegram parts slave spelt concerned alone found outcome =
     let hearing = heard world master octets.items in
-    let told = sym (outcome_one hearing telegram parts slave concerned alone found) ∙ outcome in
+    let reported = sym (outcome_one hearing telegram parts slave concerned alone found) ∙ outcome in
     let answers = subst (λ (n : ℕ). answered (rule_at n telegram parts slave) (reply_text slave n telegram parts (rule_at n telegram parts slave)) ≡ Reply reply rule)
-    (heard_sender world master octets.items) told in
+    (heard_sender world master octets.items) reported in
     let answer = answer_by (rule_at master telegram parts slave) (reply_text slave master telegram parts (rule_at master telegram parts slave)) reply rule answers in
     record {
       parts = parts;
@@ -138,9 +138,9 @@ met_by world master octets reply rule telegram parts slave spelt concerned alone
 
 pub met : (world : World) (master : ℕ) (octets reply : ArrayVec ℕ) (rule : Rule) (telegram : Telegram) → telegram_spelt octets.items ≡ Some telegram
     → outcome_of world (Request master octets) ≡ Reply reply rule → IsMet world master octets reply rule telegram
-met world master octets reply rule telegram spelt told =
+met world master octets reply rule telegram spelt reported =
     let hearing = heard world master octets.items in
-    let outcome = sym (outcome_is world master octets) ∙ told in
+    let outcome = sym (outcome_is world master octets) ∙ reported in
     let spells = spelt_is world master octets.items ∙ spelt in
     let concerns = replied_concerns hearing reply rule outcome in
     let alone = replied_alone hearing telegram reply rule spells outcome in

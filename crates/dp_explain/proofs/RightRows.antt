@@ -9,9 +9,9 @@ use Rattle.dp_line.specs.declared.fault.OperatorFault.{OperatorFault}
 use Rattle.dp_line.specs.World.{World, is_last_place}
 use Rattle.dp_line.specs.Events.{is_halt, misfit}
 use Rattle.dp_line.specs.Effects.{effect, halted_world, held_addresses}
-use Rattle.dp_line.specs.Steps.{step, step_by_fit, told_halted, unrecorded}
+use Rattle.dp_line.specs.Steps.{step, step_by_fit, reported_halted, unrecorded}
 use Rattle.dp_audit.specs.declared.fault.AuditFault.{AuditFault}
-use Rattle.dp_audit.specs.Check.{Judged, LineParts, Placed, bad, not_the_policy, right, checked_lines, going_on, is_recorded_at, judged_line, judged_parts, judged_placed, line_parts, placed_of, tells_policy}
+use Rattle.dp_audit.specs.Check.{Judged, LineParts, Placed, bad, not_the_policy, right, checked_lines, going_on, is_recorded_at, judged_line, judged_parts, judged_placed, line_parts, placed_of, reports_policy}
 use Rattle.dp_audit.proofs.Taken.{is_the_halt}
 use Rattle.dp_explain.specs.Followed.{judged_fault}
 
@@ -21,14 +21,14 @@ abbrev pub IsStep : World → Event → Type 0
 IsStep world event = (step world event).world ≡ (effect world event).world
 
 by_place : (last : Bool) (world : World) (event : Event) → (last ≡ true → event ≡ Operator Halt)
-    → (cond last (record { world = halted_world world; answer = unrecorded (told_halted event) (Some (held_addresses world)) }) (effect world event)).world ≡ (effect world event).world
+    → (cond last (record { world = halted_world world; answer = unrecorded (reported_halted event) (Some (held_addresses world)) }) (effect world event)).world ≡ (effect world event).world
 by_place true world event halts = ap (λ (e : Event). (effect world e).world) (sym (halts refl))
 by_place false world event halts = refl
 
 step_is : (world : World) (event : Event) → world.halted ≡ false → misfit world event ≡ None → (is_last_place world ≡ true → event ≡ Operator Halt) → IsStep world event
 unfolding step
 step_is world event running fits halts =
-    ap (λ (halted : Bool). (cond halted (record { world = world; answer = unrecorded (told_halted event) None }) (step_by_fit world event (misfit world event))).world) running
+    ap (λ (halted : Bool). (cond halted (record { world = world; answer = unrecorded (reported_halted event) None }) (step_by_fit world event (misfit world event))).world) running
     ∙ ap (λ (fit : Option OperatorFault). (step_by_fit world event fit).world) fits
     ∙ by_place (is_last_place world) world event halts
 
@@ -38,17 +38,17 @@ record IsFit (halted : Bool) (fit : Option OperatorFault) (last halt : Bool) : T
   fits : fit ≡ None
   halts : last ≡ true → halt ≡ true
 
-fit_is : (here halted : Bool) (fit : Option OperatorFault) (last halt told : Bool) → ((here && not halted && is_none fit && (not last || halt)) && told) ≡ true → IsFit halted fit last halt
-fit_is false halted fit last halt told e = absurd (false≢true e)
-fit_is true true fit last halt told e = absurd (false≢true e)
-fit_is true false (Some fault) last halt told e = absurd (false≢true e)
-fit_is true false None true false told e = absurd (false≢true e)
-fit_is true false None true true told e = record { running = refl; fits = refl; halts = λ last. refl }
-fit_is true false None false halt told e = record { running = refl; fits = refl; halts = λ last. absurd (false≢true last) }
+fit_is : (here halted : Bool) (fit : Option OperatorFault) (last halt reported : Bool) → ((here && not halted && is_none fit && (not last || halt)) && reported) ≡ true → IsFit halted fit last halt
+fit_is false halted fit last halt reported e = absurd (false≢true e)
+fit_is true true fit last halt reported e = absurd (false≢true e)
+fit_is true false (Some fault) last halt reported e = absurd (false≢true e)
+fit_is true false None true false reported e = absurd (false≢true e)
+fit_is true false None true true reported e = record { running = refl; fits = refl; halts = λ last. refl }
+fit_is true false None false halt reported e = record { running = refl; fits = refl; halts = λ last. absurd (false≢true last) }
 
-recorded_is_step : (world : World) (parts : LineParts) (placed : Placed) → (is_recorded_at world placed.place placed.event && tells_policy world placed.event parts.facts parts.outcome) ≡ true → IsStep world placed.event
+recorded_is_step : (world : World) (parts : LineParts) (placed : Placed) → (is_recorded_at world placed.place placed.event && reports_policy world placed.event parts.facts parts.outcome) ≡ true → IsStep world placed.event
 recorded_is_step world parts placed e =
-    let fit = fit_is (placed.place == world.count + 1) world.halted (misfit world placed.event) (is_last_place world) (is_halt placed.event) (tells_policy world placed.event parts.facts parts.outcome) e in
+    let fit = fit_is (placed.place == world.count + 1) world.halted (misfit world placed.event) (is_last_place world) (is_halt placed.event) (reports_policy world placed.event parts.facts parts.outcome) e in
     step_is world placed.event fit.running fit.fits (λ last. is_the_halt placed.event (fit.halts last))
 
 by_test : (test : Bool) (world : World) (found event : Event) → cond test (right found) not_the_policy ≡ right event → (test ≡ true → IsStep world found) → IsStep world event
@@ -58,7 +58,7 @@ by_test false world found event e is = absurd cc
 by_placed : (world : World) (parts : LineParts) (placed : Option Placed) (event : Event) → judged_placed world parts placed ≡ right event → IsStep world event
 by_placed world parts None event e = absurd cc
 by_placed world parts (Some placed) event e =
-    by_test (is_recorded_at world placed.place placed.event && tells_policy world placed.event parts.facts parts.outcome) world placed.event event e (recorded_is_step world parts placed)
+    by_test (is_recorded_at world placed.place placed.event && reports_policy world placed.event parts.facts parts.outcome) world placed.event event e (recorded_is_step world parts placed)
 
 by_parts : (world : World) (parts : Option LineParts) (event : Event) → judged_parts world parts ≡ right event → IsStep world event
 by_parts world None event e = absurd cc

@@ -46,7 +46,7 @@ use Rattle.dp_sentences.specs.Changes.{asked_addresses, change_of, change_row, c
 use Rattle.dp_explain.specs.Holds.{ended_at, hold_ended}
 use Rattle.dp_explain.specs.Standing.{standing_at}
 use Rattle.dp_explain.proofs.Reached.{IsConcerned, IsWay, leaves, reaches, operates, asks_it, at_after, found_address, heard_frame, telegram_frame, to_all_controls, way}
-use Rattle.dp_explain.proofs.Retold.{taken_by}
+use Rattle.dp_explain.proofs.ReportedAgain.{taken_by}
 
 -- the rows of changes can show the slave at an address
 abbrev pub is_touched : ℕ → Event → Outcome → Bool
@@ -154,25 +154,25 @@ halt_standing slave waiting free =
 op_standing : (world : World) (op : Op) (outcome : Outcome) (address : ℕ) (slave : SlaveRecord) → slave_at world address ≡ Some slave → is_in_wait_prm slave.state ≡ is_none slave.holder
     → outcome ≡ outcome_of world (Operator op) → is_touched address (Operator op) outcome ≡ false → state_and_holder (acted slave (act_of_op op)) ≡ state_and_holder slave
 unfolding acted outcome_of
-op_standing world (Input at octets) outcome address slave here waiting told out = refl
-op_standing world (Diag at ext stat overflow octets) outcome address slave here waiting told out = refl
-op_standing world (Busy at point on) outcome address slave here waiting told out = refl
-op_standing world (Tick time) outcome address slave here waiting told out =
-    tick_standing slave time (not_where (expires time) world address slave here (subst (λ (o : Outcome). is_touched address (Operator (Tick time)) o ≡ false) told out))
-op_standing world Halt outcome address slave here waiting told out =
-    halt_standing slave waiting (not_where is_held world address slave here (subst (λ (o : Outcome). is_touched address (Operator Halt) o ≡ false) told out))
+op_standing world (Input at octets) outcome address slave here waiting reported out = refl
+op_standing world (Diag at ext stat overflow octets) outcome address slave here waiting reported out = refl
+op_standing world (Busy at point on) outcome address slave here waiting reported out = refl
+op_standing world (Tick time) outcome address slave here waiting reported out =
+    tick_standing slave time (not_where (expires time) world address slave here (subst (λ (o : Outcome). is_touched address (Operator (Tick time)) o ≡ false) reported out))
+op_standing world Halt outcome address slave here waiting reported out =
+    halt_standing slave waiting (not_where is_held world address slave here (subst (λ (o : Outcome). is_touched address (Operator Halt) o ≡ false) reported out))
 
 -- ---- each slave
 
 way_standing : (world : World) (event : Event) (outcome : Outcome) (address : ℕ) (slave after : SlaveRecord) → slave_at world address ≡ Some slave → is_in_wait_prm slave.state ≡ is_none slave.holder
     → outcome ≡ outcome_of world event → is_touched address event outcome ≡ false → IsWay world event slave after → state_and_holder after ≡ state_and_holder slave
-way_standing world event outcome address slave after here waiting told out (leaves is) = ap state_and_holder is
-way_standing world event outcome address slave after here waiting told out (reaches master octets telegram parts request concerned asked is) =
+way_standing world event outcome address slave after here waiting reported out (leaves is) = ap state_and_holder is
+way_standing world event outcome address slave after here waiting reported out (reaches master octets telegram parts request concerned asked is) =
     let at : address ≡ address_of_slave slave = sym (found_address world.slaves address slave here) in
     ap state_and_holder is ∙ reached_standing world event outcome slave master octets telegram parts (is_to_all telegram) refl request concerned asked
     (subst (λ (a : ℕ). is_touched a event outcome ≡ false) at out)
-way_standing world event outcome address slave after here waiting told out (operates op operator is) =
-    ap state_and_holder is ∙ op_standing world op outcome address slave here waiting (subst (λ (e : Event). outcome ≡ outcome_of world e) operator told)
+way_standing world event outcome address slave after here waiting reported out (operates op operator is) =
+    ap state_and_holder is ∙ op_standing world op outcome address slave here waiting (subst (λ (e : Event). outcome ≡ outcome_of world e) operator reported)
     (subst (λ (e : Event). is_touched address e outcome ≡ false) operator out)
 
 found_by : (P : SlaveRecord → Type 0) (first slave : SlaveRecord) (found : Option SlaveRecord) (b : Bool) → P first → (found ≡ Some slave → P slave) → cond b (Some first) found ≡ Some slave → P slave

@@ -18,7 +18,7 @@ use Rattle.dp_sentences.specs.Blocks.{block_text}
 use Rattle.dp_explain.specs.Choices.{is_chosen}
 use Rattle.dp_explain.specs.StatisticsRows.{counts_tables}
 use Rattle.dp_explain.specs.Holds.{holds_ended, holds_lasting}
-use Rattle.dp_explain.specs.Known.{KnownView, first_known, first_world, known_after, last_statistics, outcome_told}
+use Rattle.dp_explain.specs.Known.{KnownView, first_known, first_world, known_after, last_statistics, outcome_reported}
 
 -- the event of a text line, which stands between the place and the first bar
 abbrev pub event_of_row : List ℕ → Option Event
@@ -32,22 +32,22 @@ chosen_text choice scene after place event outcome =
     if is_chosen choice scene place event outcome then block_text scene after place event outcome else []
 
 -- the event takes the next place of the line
-abbrev pub told_event : Choice → SceneView → Event → List ℕ
-told_event choice scene event =
-    chosen_text choice scene (step scene.world event).world (scene.world.count + 1) event (outcome_told scene.world event)
+abbrev pub reported_event : Choice → SceneView → Event → List ℕ
+reported_event choice scene event =
+    chosen_text choice scene (step scene.world event).world (scene.world.count + 1) event (outcome_reported scene.world event)
 
-abbrev pub told_row : Choice → KnownView → Option Event → List ℕ
-told_row choice known None = []
-told_row choice known (Some event) = told_event choice known.scene event
+abbrev pub reported_row : Choice → KnownView → Option Event → List ℕ
+reported_row choice known None = []
+reported_row choice known (Some event) = reported_event choice known.scene event
 
 abbrev pub known_behind : KnownView → Option Event → KnownView
 known_behind known None = known
 known_behind known (Some event) = known_after known event
 
 -- what is written of the lines of an audit text, one after another, and what is known after the last
-abbrev pub told_rows : Choice → KnownView → List (List ℕ) → List ℕ
-told_rows choice known [] = []
-told_rows choice known (row ∷ rows) = told_row choice known (event_of_row row) ++ told_rows choice (known_behind known (event_of_row row)) rows
+abbrev pub reported_rows : Choice → KnownView → List (List ℕ) → List ℕ
+reported_rows choice known [] = []
+reported_rows choice known (row ∷ rows) = reported_row choice known (event_of_row row) ++ reported_rows choice (known_behind known (event_of_row row)) rows
 
 abbrev pub last_known : KnownView → List (List ℕ) → KnownView
 last_known known [] = known
@@ -57,7 +57,7 @@ last_known known (row ∷ rows) = last_known (known_behind known (event_of_row r
 
 -- the holds that an event ended, which takes the next place of the line
 abbrev pub ended_by : World → Event → List ℕ
-ended_by world event = holds_ended world (step world event).world (world.count + 1) event (outcome_told world event)
+ended_by world event = holds_ended world (step world event).world (world.count + 1) event (outcome_reported world event)
 
 abbrev pub ended_by_row : World → Option Event → List ℕ
 ended_by_row world None = []
@@ -117,12 +117,12 @@ abbrev pub summary_text : Description → ℕ → List (List ℕ) → List ℕ
 summary_text line places rows = holds_text line places rows ++ counts_text (last_known (first_known line places) rows)
 
 -- the rows of the entries, and the summary
-abbrev pub told_text : Description → ℕ → List (List ℕ) → Choice → List ℕ
-told_text line places rows choice = told_rows choice (first_known line places) rows ++ summary_text line places rows
+abbrev pub reported_text : Description → ℕ → List (List ℕ) → Choice → List ℕ
+reported_text line places rows choice = reported_rows choice (first_known line places) rows ++ summary_text line places rows
 
 -- the rows, the summary and the verdict
 abbrev pub explained_by : Result ℕ AuditFault → Description → List ℕ → Choice → List ℕ
-explained_by verdict line text choice = told_text line (places_of_lines line (lines_of text)) (right_rows verdict text) choice ++ verdict_text verdict
+explained_by verdict line text choice = reported_text line (places_of_lines line (lines_of text)) (right_rows verdict text) choice ++ verdict_text verdict
 
 -- the explanation of an audit text of a line
 abbrev pub explained : Description → List ℕ → Choice → List ℕ

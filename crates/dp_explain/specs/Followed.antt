@@ -13,7 +13,7 @@ use Rattle.dp_explain.specs.declared.follow_fault.FollowFault.{FollowFault}
 use Rattle.dp_explain.specs.declared.follow_fault.FollowFault.TheVariants as faults
 use Rattle.dp_explain.specs.Holds.{holds_lasting}
 use Rattle.dp_explain.specs.Known.{KnownView, first_known}
-use Rattle.dp_explain.specs.Explained.{told_row, known_behind, ended_by_row, counts_text, explained, verdict_text}
+use Rattle.dp_explain.specs.Explained.{reported_row, known_behind, ended_by_row, counts_text, explained, verdict_text}
 
 -- ---- one row
 
@@ -64,7 +64,7 @@ after_row follower row = record {
 
 -- what is written of a row
 abbrev pub text_of_row : Choice → FollowerView → List ℕ → List ℕ
-text_of_row choice follower row = told_row choice follower.known (event_taken follower row)
+text_of_row choice follower row = reported_row choice follower.known (event_taken follower row)
 
 -- the holds that the event of a row ended
 abbrev pub holds_of_row : FollowerView → List ℕ → List ℕ
@@ -87,15 +87,15 @@ FollowsRow text (Some fault) old new result = (result ≡ Err (faults.Wrong faul
 
 -- what is written of rows, which holds they ended, and what a follower is after them
 pub record Followed : Type 0 where
-  pub told : List ℕ
+  pub reported : List ℕ
   pub ended : List ℕ
   pub last : FollowerView
 
 -- rows that are followed one after another, until the first wrong one: nothing is written after that
 abbrev pub followed : Choice → FollowerView → List (List ℕ) → Followed
-followed choice follower [] = record { told = []; ended = []; last = follower }
+followed choice follower [] = record { reported = []; ended = []; last = follower }
 followed choice follower (row ∷ rows) = record {
-  told = text_of_row choice follower row ++ (followed choice (after_row follower row) rows).told;
+  reported = text_of_row choice follower row ++ (followed choice (after_row follower row) rows).reported;
   ended = holds_of_row follower row ++ (followed choice (after_row follower row) rows).ended;
   last = (followed choice (after_row follower row) rows).last;
 }
@@ -151,11 +151,11 @@ followed_verdict choice line (header ∷ next ∷ rows) =
     else Err (BadLine 1)
 
 -- the explanation of a text is what is written of its rows until the first wrong one, then the summary of the right ones, then the verdict
-abbrev pub IsToldByItsRows : Type 0
-IsToldByItsRows =
+abbrev pub IsExplainedByItsRows : Type 0
+IsExplainedByItsRows =
     (choice : Choice) (line : Description) (text : List ℕ)
     → explained line text choice
-    ≡ ((followed_text choice line text).told ++ followed_summary line (followed_text choice line text).ended (followed_text choice line text).last.known)
+    ≡ ((followed_text choice line text).reported ++ followed_summary line (followed_text choice line text).ended (followed_text choice line text).last.known)
     ++ verdict_text (checked line text)
 
 -- the verdict on a text is that of its rows

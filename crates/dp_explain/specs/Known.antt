@@ -60,13 +60,13 @@ abbrev pub outcome_with : Outcome → Option (ArrayVec ℕ) → Outcome
 outcome_with outcome None = outcome
 outcome_with outcome (Some addresses) = Released addresses
 
-abbrev pub outcome_told : World → Event → Outcome
-outcome_told world event = outcome_with (step world event).answer.outcome (step world event).answer.halted
+abbrev pub outcome_reported : World → Event → Outcome
+outcome_reported world event = outcome_with (step world event).answer.outcome (step world event).answer.halted
 
 -- the event takes the next place of the line
 abbrev pub known_after : KnownView → Event → KnownView
 known_after known event =
-    known_with known (step known.scene.world event).world (known.scene.world.count + 1) event (outcome_told known.scene.world event)
+    known_with known (step known.scene.world event).world (known.scene.world.count + 1) event (outcome_reported known.scene.world event)
 
 -- ---- at the end
 

@@ -10,6 +10,6 @@ pub mod Explained
 pub mod Followed
 pub mod Following
 pub mod StatisticsExamples
-pub mod JournalTold
+pub mod JournalReported
 pub mod Standing
 pub mod Repeats

@@ -75,8 +75,8 @@ fn follow_text<W: Write>(
     ensures verdict { IfOk result (λ verdict. verdict ≡ checked (description_of line.now) text.now) }
     ensures known { OnOk result (follower.new ≡ (followed_text choice.now (description_of line.now) text.now).last) }
     ensures stored { OnOk result (ended.new ≡ stored_with (followed_text choice.now (description_of line.now) text.now).ended ended.old) }
-    ensures told { OnOk result (Appends (W.contents writer.old) (W.contents writer.new) (followed_text choice.now (description_of line.now) text.now).told) }
-    ensures cut { OnErr result (WritesPrefix (W.contents writer.old) (W.contents writer.new) (followed_text choice.now (description_of line.now) text.now).told) }
+    ensures reported { OnOk result (Appends (W.contents writer.old) (W.contents writer.new) (followed_text choice.now (description_of line.now) text.now).reported) }
+    ensures cut { OnErr result (WritesPrefix (W.contents writer.old) (W.contents writer.new) (followed_text choice.now (description_of line.now) text.now).reported) }
 {
     let mut rows = Lines::new(text.as_bytes());
     let Some(header) = rows.next() else {
@@ -105,8 +105,8 @@ fn follow_rows<W: Write>(
     ensures verdict { IfOk result (λ verdict. verdict ≡ checked_lines follower.old.known.scene.world follower.old.known.scene.world.count (first.now ∷ rows.old)) }
     ensures known { OnOk result (follower.new ≡ (followed choice.now follower.old (whole_rows (first.now ∷ rows.old))).last) }
     ensures stored { OnOk result (ended.new ≡ stored_with (followed choice.now follower.old (whole_rows (first.now ∷ rows.old))).ended ended.old) }
-    ensures told { OnOk result (Appends (W.contents writer.old) (W.contents writer.new) (followed choice.now follower.old (whole_rows (first.now ∷ rows.old))).told) }
-    ensures cut { OnErr result (WritesPrefix (W.contents writer.old) (W.contents writer.new) (followed choice.now follower.old (whole_rows (first.now ∷ rows.old))).told) }
+    ensures reported { OnOk result (Appends (W.contents writer.old) (W.contents writer.new) (followed choice.now follower.old (whole_rows (first.now ∷ rows.old))).reported) }
+    ensures cut { OnErr result (WritesPrefix (W.contents writer.old) (W.contents writer.new) (followed choice.now follower.old (whole_rows (first.now ∷ rows.old))).reported) }
 {
     let mut row = first;
     while let Some(next) = rows.next() {
@@ -166,7 +166,7 @@ fn write_holds<W: Write>(
     writer: &mut W,
 ) -> Result<(), ExplainFault>
     ensures same { follower.new ≡ follower.old }
-    ensures told { Leaves (codes "holds\n" ++ (unwrap_or ended.now [] ++ holds_lasting follower.old.known.scene.world (description_of line.now).slaves))
+    ensures reported { Leaves (codes "holds\n" ++ (unwrap_or ended.now [] ++ holds_lasting follower.old.known.scene.world (description_of line.now).slaves))
         (W.contents writer.old) (W.contents writer.new) result }
 {
     match write_whole(writer, b"holds\n") {
@@ -182,7 +182,7 @@ fn write_hold_rows<W: Write>(
     writer: &mut W,
 ) -> Result<(), ExplainFault>
     ensures same { follower.new ≡ follower.old }
-    ensures told { Leaves (unwrap_or ended.now [] ++ holds_lasting follower.old.known.scene.world (description_of line.now).slaves)
+    ensures reported { Leaves (unwrap_or ended.now [] ++ holds_lasting follower.old.known.scene.world (description_of line.now).slaves)
         (W.contents writer.old) (W.contents writer.new) result }
 {
     match write_whole(writer, ended.rows()) {

@@ -112,7 +112,7 @@ impl<'a> Follower<'a> {
         writer: &mut W,
     ) -> Result<(), FollowFault>
         ensures known { self.new ≡ after_row self.old row.now }
-        ensures told { FollowsRow (text_of_row choice.now self.old row.now) (after_row self.old row.now).fault
+        ensures reported { FollowsRow (text_of_row choice.now self.old row.now) (after_row self.old row.now).fault
             (W.contents writer.old) (W.contents writer.new) result }
     {
         self.follow_row(row, choice, &mut EndedHolds::not_stored(), writer)
@@ -127,7 +127,7 @@ impl<'a> Follower<'a> {
         writer: &mut W,
     ) -> Result<(), FollowFault>
         ensures known { self.new ≡ after_row self.old row.now }
-        ensures told { FollowsRow (text_of_row choice.now self.old row.now) (after_row self.old row.now).fault
+        ensures reported { FollowsRow (text_of_row choice.now self.old row.now) (after_row self.old row.now).fault
             (W.contents writer.old) (W.contents writer.new) result }
         ensures stored { StoresHolds (holds_of_row self.old row.now) ended.old ended.new result }
     {
@@ -165,7 +165,7 @@ impl<'a> Follower<'a> {
         writer: &mut W,
     ) -> Result<(), ExplainFault>
         ensures same { self.new ≡ self.old }
-        ensures told { Leaves (holds_lasting self.old.known.scene.world slaves.now) (W.contents writer.old) (W.contents writer.new) result }
+        ensures reported { Leaves (holds_lasting self.old.known.scene.world slaves.now) (W.contents writer.old) (W.contents writer.new) result }
     {
         let holds = HoldsLasting {
             line: &self.before,

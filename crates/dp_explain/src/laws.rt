@@ -20,17 +20,17 @@ ghost use Rattle.dp_sentences.specs.declared.notes.Noted.{Noted};
 ghost use Rattle.dp_sentences.specs.Notes.{note_of};
 ghost use Rattle.dp_sentences.specs.Refusals.{repeat_text};
 ghost use Rattle.dp_sentences.specs.Results.{result_row, result_rows};
-ghost use Rattle.dp_explain.specs.Followed.{HasTheVerdictOfItsRows, IsToldByItsRows};
+ghost use Rattle.dp_explain.specs.Followed.{HasTheVerdictOfItsRows, IsExplainedByItsRows};
 ghost use Rattle.dp_explain.specs.Holds.{ended_at, holds_ended};
-ghost use Rattle.dp_explain.specs.JournalTold.{IsToldByItsEntries, known_behind_entries};
+ghost use Rattle.dp_explain.specs.JournalReported.{IsExplainedByItsEntries, known_behind_entries};
 ghost use Rattle.dp_explain.specs.Known.{first_known};
 ghost use Rattle.dp_explain.specs.Repeats.{IsLastReplied};
 ghost use Rattle.dp_explain.specs.Standing.{standing_at};
 
 /// The explanation of a legal audit text is that of its journal: for each chosen entry, in their order, the rows of the
 /// recorded place, event and outcome, and then the holds and counts of all entries.
-pub fn a_legal_text_is_told_by_its_entries()
-    ensures { IsToldByItsEntries }
+pub fn a_legal_text_is_explained_by_its_entries()
+    ensures { IsExplainedByItsEntries }
 {
     dp_text::laws::a_number_is_read_from_its_text();
     dp_text::laws::an_event_is_read_from_its_text();
@@ -41,8 +41,8 @@ pub fn a_legal_text_is_told_by_its_entries()
 /// Following the rows of a text one by one gives the same as explaining the whole text. The explanation of a text is what
 /// is written of its rows after an accepted header until the first wrong one, then the summary of the right ones, and then
 /// the verdict. The verdict on a text is the fault of its first wrong row, or the number of its rows.
-pub fn a_text_is_told_by_its_rows()
-    ensures text { IsToldByItsRows }
+pub fn a_text_is_explained_by_its_rows()
+    ensures text { IsExplainedByItsRows }
     ensures verdict { HasTheVerdictOfItsRows }
 {}
 
@@ -87,7 +87,7 @@ pub fn every_hold_that_ended_is_written()
 /// reply is the one that is sent again. The row of a repeat with the same octets is that of a retry of this place, and the
 /// row of any other repeat is that of another telegram. A request that gets a reply, as a repeat does, always is a
 /// telegram whose access points can be read. The line may have any number of places, as an endless line has.
-pub fn a_repeat_is_told_by_the_place_of_its_request()
+pub fn a_repeat_names_the_place_of_its_request()
     ensures telegram { (line : Description) (places : ℕ) (before : List Entry) (entry : Entry) (master : ℕ) (octets reply : ArrayVec ℕ) (rule : Rule)
         → IsLegal (start_of (record line { capacity = places })) (before ++ entry ∷ [])
         → entry.event ≡ Event.Request master octets

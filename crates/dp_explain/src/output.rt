@@ -11,14 +11,14 @@ use std::io::Write;
 /// Formats a text into `rows`, and then writes it. Returns `OutOfMemory` if memory runs out, and `WriteFault` if the
 /// write fails.
 pub(crate) fn write_rows<W: Write, D: Display>(
-    told: &D,
+    reported: &D,
     rows: &mut String,
     writer: &mut W,
 ) -> Result<(), ExplainFault>
-    ensures { IfSome (D.output told.now) (λ text. Leaves text (W.contents writer.old) (W.contents writer.new) result) }
+    ensures { IfSome (D.output reported.now) (λ text. Leaves text (W.contents writer.old) (W.contents writer.new) result) }
 {
     rows.clear();
-    match write!(rows, "{told}") {
+    match write!(rows, "{reported}") {
         Ok(()) => {}
         Err(_) => return Err(ExplainFault::OutOfMemory),
     }

@@ -129,7 +129,7 @@ replied_by : TextsAgree → (world : World) (master : ℕ) (octets reply : Array
     → parts_of telegram ≡ Some parts → slave_at world (address_of telegram.da) ≡ Some slave → IsEnding (heard world master octets.items) outcome → outcome ≡ Reply reply rules.Done
     → slave_at (step world (Request master octets)).world (address_of telegram.da)
     ≡ Some (record (acted slave (act_in world master parts slave)) { memory = with_remembered slave.memory master telegram.fc reply.items })
-replied_by agree world master octets reply telegram parts slave outcome spelt read here (replies t p s text concerned to_all found srd has is) told =
+replied_by agree world master octets reply telegram parts slave outcome spelt read here (replies t p s text concerned to_all found srd has is) reported =
     let hearing = heard world master octets.items in
     let framed = ap (option_and_then telegram_of_frame) (frame_heard agree world master octets.items (frames.Telegram telegram) spelt) in
     let own : IsConcerned hearing telegram parts = record { concerned = concerned.concerned; spelt = framed; read = heard_parts agree world master octets.items telegram spelt ∙ read } in
@@ -148,16 +148,16 @@ replied_by agree world master octets reply telegram parts slave outcome spelt re
     ∙ found_after world (Request master octets) (address_of telegram.da) slave here
     ∙ ap (λ (x : SlaveRecord). Some x) (slave_served world master octets slave telegram parts own asked ∙ served_done slave master (world.count + 1) telegram parts text done texts)
     ∙ ap (λ (r : ArrayVec ℕ). Some (record (acted slave (act_in world master parts slave)) { memory = with_remembered slave.memory master telegram.fc r.items })) written
-replied_by agree world master octets reply telegram parts slave outcome spelt read here (keeps_off silent is) told = absurd cc
-replied_by agree world master octets reply telegram parts slave outcome spelt read here (is_silent t p concerned sdn no_reply ruled) told = absurd (no_reply reply rules.Done told)
+replied_by agree world master octets reply telegram parts slave outcome spelt read here (keeps_off silent is) reported = absurd cc
+replied_by agree world master octets reply telegram parts slave outcome spelt read here (is_silent t p concerned sdn no_reply ruled) reported = absurd (no_reply reply rules.Done reported)
 
 pub done_reply : TextsAgree → (world : World) (master : ℕ) (octets reply : ArrayVec ℕ) (telegram : Telegram) (parts : Parts) (slave : SlaveRecord) → Spells octets.items (frames.Telegram telegram)
     → parts_of telegram ≡ Some parts → slave_at world (address_of telegram.da) ≡ Some slave
     → (step world (Request master octets)).answer.outcome ≡ Reply reply rules.Done
     → slave_at (step world (Request master octets)).world (address_of telegram.da)
     ≡ Some (record (acted slave (act_in world master parts slave)) { memory = with_remembered slave.memory master telegram.fc reply.items })
-done_reply agree world master octets reply telegram parts slave spelt read here told =
-    replied_by agree world master octets reply telegram parts slave (step world (Request master octets)).answer.outcome spelt read here (step_ending world master octets) told
+done_reply agree world master octets reply telegram parts slave spelt read here reported =
+    replied_by agree world master octets reply telegram parts slave (step world (Request master octets)).answer.outcome spelt read here (step_ending world master octets) reported
 
 -- ---- a good Chk_Cfg
 
@@ -182,11 +182,11 @@ pub configured : StaysSound → TextsAgree → (line : Description) (events : Li
     → slave_at (run (start_of line) events).world (address_of telegram.da) ≡ Some slave → chosen (configurations slave.description) parts.payload.items ≡ Some number
     → (step (run (start_of line) events).world (Request master octets)).answer.outcome ≡ Reply reply rules.Done
     → slave_at (step (run (start_of line) events).world (Request master octets)).world (address_of telegram.da) ≡ Some after → IsConfigured number after
-configured sound agree line events master number octets reply telegram parts slave after spelt read at here found told there =
+configured sound agree line events master number octets reply telegram parts slave after spelt read at here found reported there =
     let world = (run (start_of line) events).world in
     let next = (step world (Request master octets)).world in
     let lived = kept_run HaveLived world (Request master octets ∷ []) have_lived (kept_run HaveLived (start_of line) events have_lived (start_lived line)) in
-    let is = same_Some _ _ (sym there ∙ done_reply agree world master octets reply telegram parts slave spelt read here told) in
+    let is = same_Some _ _ (sym there ∙ done_reply agree world master octets reply telegram parts slave spelt read here reported) in
     configured_by slave after number (with_remembered slave.memory master telegram.fc reply.items)
     (is ∙ ap (λ (act : Act). record (acted slave act) { memory = with_remembered slave.memory master telegram.fc reply.items }) (service_at slave master (world.count + 1) number parts.dsap parts.payload.items at found))
     (found_is IsSound next.slaves (address_of telegram.da) after (world_sound sound next lived) there)

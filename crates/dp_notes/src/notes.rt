@@ -108,7 +108,7 @@ impl<'a, L: Log + Clock> Notes<'a, L> {
 
     /// Reports that a connection began like a web request and is closed.
     pub fn web_request<W: Wait>(&self, rt: &W, line: u8) {
-        self.tell(
+        self.log_row(
             rt,
             format_args!("line {line}: a request of the web, closed"),
         );
@@ -116,18 +116,18 @@ impl<'a, L: Log + Clock> Notes<'a, L> {
 
     /// Reports that an operator's session begins.
     pub fn operator_connected<W: Wait>(&self, rt: &W, line: u8) {
-        self.tell(rt, format_args!("line {line}: operator connected"));
+        self.log_row(rt, format_args!("line {line}: operator connected"));
     }
 
     /// Reports that an operator's session has ended.
     pub fn operator_ended<W: Wait>(&self, rt: &W, line: u8, end: SessionEnd) {
         let end = end.name();
-        self.tell(rt, format_args!("line {line}: operator ended: {end}"));
+        self.log_row(rt, format_args!("line {line}: operator ended: {end}"));
     }
 
     /// Reports that a connection cannot be accepted.
     pub fn cannot_accept<W: Wait>(&self, rt: &W, line: u8, error: Error) {
-        self.tell(
+        self.log_row(
             rt,
             format_args!("line {line}: cannot accept a connection: {error}"),
         );
@@ -135,7 +135,7 @@ impl<'a, L: Log + Clock> Notes<'a, L> {
 
     /// Reports that the audit text of a line continues in another file.
     pub fn goes_on<W: Wait>(&self, rt: &W, line: u8, file: impl Display + Drop) {
-        self.tell(rt, format_args!("line {line} goes on in {file}"));
+        self.log_row(rt, format_args!("line {line} goes on in {file}"));
     }
 
     /// Returns the number of the line whose port has this place, or 0 if there is none.
@@ -147,7 +147,7 @@ impl<'a, L: Log + Clock> Notes<'a, L> {
     }
 
     /// Reports something about connections, sessions or requests, unless only halts are reported.
-    fn tell<W: Wait>(&self, rt: &W, row: impl Display + Drop) {
+    fn log_row<W: Wait>(&self, rt: &W, row: impl Display + Drop) {
         if self.log_detail != LogDetail::Warnings {
             let _one_row_at_a_time = self.noted.lock(rt);
             let time = TimeOfDay::now(self.log);
@@ -158,7 +158,7 @@ impl<'a, L: Log + Clock> Notes<'a, L> {
     /// Reports once that a line is halted, with the cause. While a halt of its operator is not answered yet, only the answer
     /// to that halt shows the cause: a master that is answered `Halted` meanwhile may have come after the operator's halt.
     /// That is exact for one operator at a time, which is what `serve` has.
-    fn tell_halt<W: Wait>(&self, rt: &W, line: u8, is_halt: bool, outcome: &Outcome) {
+    fn report_halt<W: Wait>(&self, rt: &W, line: u8, is_halt: bool, outcome: &Outcome) {
         let Some(cause) = cause_of_halt(is_halt, outcome) else {
             return;
         };
@@ -174,13 +174,13 @@ impl<'a, L: Log + Clock> Notes<'a, L> {
     }
 
     /// Reports an event and its answer.
-    fn tell_answer<W: Wait>(&self, rt: &W, line: u8, event: &Event, outcome: &Outcome) {
+    fn report_answer<W: Wait>(&self, rt: &W, line: u8, event: &Event, outcome: &Outcome) {
         let mut text = Text::new();
         text.push_event(event);
         text.push_str(" -> ");
         text.push_outcome(outcome);
         if let Ok(row) = std::str::from_utf8(text.as_bytes()) {
-            self.tell(rt, format_args!("line {line}: {row}"));
+            self.log_row(rt, format_args!("line {line}: {row}"));
         }
     }
 
@@ -247,7 +247,7 @@ impl<L: Log + Clock> Gate for Notes<'_, L> {
     fn accepted<W: Wait>(&self, rt: &W, line: u8, master: u8) {
         if self.log_detail != LogDetail::Warnings {
             self.begin(rt, line, master);
-            self.tell(rt, format_args!("line {line}: master {master} connected"));
+            self.log_row(rt, format_args!("line {line}: master {master} connected"));
         }
     }
 
@@ -259,7 +259,7 @@ impl<L: Log + Clock> Gate for Notes<'_, L> {
         frame: &WholeFrame<'_>,
         answer: &Step,
     ) {
-        self.tell_halt(rt, line, false, &answer.outcome);
+        self.report_halt(rt, line, false, &answer.outcome);
         if self.log_detail != LogDetail::Warnings {
             let is_refused = is_refused_request(frame.octets(), &answer.outcome);
             self.count(rt, line, master, is_refused);
@@ -268,7 +268,7 @@ impl<L: Log + Clock> Gate for Notes<'_, L> {
             && let Ok(octets) = ArrayVec::try_from(frame.octets())
         {
             let event = Event::Request { master, octets };
-            self.tell_answer(rt, line, &event, &answer.outcome);
+            self.report_answer(rt, line, &event, &answer.outcome);
         }
     }
 
@@ -294,7 +294,7 @@ impl<L: Log + Clock> Gate for Notes<'_, L> {
                 ..
             } = self.finish(rt, line, master);
             let end = end.name();
-            self.tell(
+            self.log_row(
                 rt,
                 format_args!(
                     "line {line}: master {master} ended: {end}, {requests} requests, {refused} refused"
@@ -307,29 +307,29 @@ impl<L: Log + Clock> Gate for Notes<'_, L> {
         self.leaves(rt);
         let (line, end) = (self.line_at(port), end.name());
         match address {
-            Some(master) => self.tell(
+            Some(master) => self.log_row(
                 rt,
                 format_args!("line {line}: master {master} refused: {end}"),
             ),
-            None => self.tell(rt, format_args!("line {line}: no address came: {end}")),
+            None => self.log_row(rt, format_args!("line {line}: no address came: {end}")),
         }
     }
 
     fn faulty_line<W: Wait>(&self, rt: &W, line: u8, octets: &[u8], fault: LineFault) {
         match fault {
-            LineFault::TooLong => self.tell(
+            LineFault::TooLong => self.log_row(
                 rt,
                 format_args!("line {line}: operator: a line has more than {LONGEST_LINE} octets"),
             ),
             LineFault::NotACommand => match std::str::from_utf8(octets) {
                 Ok(text) => {
                     let form = operator_form(text);
-                    self.tell(
+                    self.log_row(
                         rt,
                         format_args!("line {line}: operator: no command, \"{text}\": {form}"),
                     );
                 }
-                Err(_) => self.tell(
+                Err(_) => self.log_row(
                     rt,
                     format_args!("line {line}: operator: a line is not UTF-8"),
                 ),
@@ -344,9 +344,9 @@ impl<L: Log + Clock> Gate for Notes<'_, L> {
     }
 
     fn operated<W: Wait>(&self, rt: &W, line: u8, receipt: &Receipt) {
-        self.tell_halt(rt, line, is_halt(&receipt.event), &receipt.outcome);
+        self.report_halt(rt, line, is_halt(&receipt.event), &receipt.outcome);
         if self.log_detail == LogDetail::Requests {
-            self.tell_answer(rt, line, &receipt.event, &receipt.outcome);
+            self.report_answer(rt, line, &receipt.event, &receipt.outcome);
         }
     }
 }

@@ -1,3 +1,3 @@
 pub mod Rounds
-pub mod Telling
+pub mod Reporting
 pub mod Stepping

@@ -18,8 +18,8 @@ due_by : (beat : Beat) (moment : ℕ) (due : Bool) → is_due beat moment ≡ du
 due_by beat moment true is = omega (arith, ltb-true _ _ is)
 due_by beat moment false is = omega arith
 
-one_by : (steps : Option Beat) (units moment : ℕ) (tells : Bool)
-    → steps_in (if tells then Some (Tick units) else step_at steps moment) + rounds_of steps ≤ rounds_of (if tells then steps else option_map (λ beat. beat_after beat moment) steps)
+one_by : (steps : Option Beat) (units moment : ℕ) (reports : Bool)
+    → steps_in (if reports then Some (Tick units) else step_at steps moment) + rounds_of steps ≤ rounds_of (if reports then steps else option_map (λ beat. beat_after beat moment) steps)
 one_by steps units moment true = omega arith
 one_by None units moment false = omega arith
 one_by (Some beat) units moment false = due_by beat moment (is_due beat moment) refl
@@ -40,8 +40,8 @@ by_due : (every latest moment : ℕ) (beat : Beat) (due : Bool) → moment ≤ l
 by_due every latest moment beat true before is = (is.0, before)
 by_due every latest moment beat false before is = is
 
-by_next : (every latest moment : ℕ) (steps : Option Beat) (tells : Bool) → moment ≤ latest → IsBy every latest steps
-    → IsBy every latest (if tells then steps else option_map (λ beat. beat_after beat moment) steps)
+by_next : (every latest moment : ℕ) (steps : Option Beat) (reports : Bool) → moment ≤ latest → IsBy every latest steps
+    → IsBy every latest (if reports then steps else option_map (λ beat. beat_after beat moment) steps)
 by_next every latest moment steps true before is = is
 by_next every latest moment None false before is = is
 by_next every latest moment (Some beat) false before is = by_due every latest moment beat (is_due beat moment) before is

@@ -28,7 +28,7 @@ wait_at beat moment = if is_due beat moment then 0 else beat.every - moment % be
 -- ---- ticks
 
 abbrev pub first_ticks : ℕ → Ticks
-first_ticks every = record { beat = first_beat every; told = 0 }
+first_ticks every = record { beat = first_beat every; reported = 0 }
 
 -- the units of 10 ms that have passed at a moment
 abbrev pub units_passed : ℕ → ℕ
@@ -40,10 +40,10 @@ most_units = 4294967295
 
 -- the units that are sent at a moment: if a tick is due, those that have passed and weren't sent, as many as one tick can send
 abbrev pub units_at : Ticks → ℕ → ℕ
-units_at ticks moment = if is_due ticks.beat moment then min (units_passed moment - ticks.told) most_units else 0
+units_at ticks moment = if is_due ticks.beat moment then min (units_passed moment - ticks.reported) most_units else 0
 
 abbrev pub ticks_after : Ticks → ℕ → Ticks
-ticks_after ticks moment = record { beat = beat_after ticks.beat moment; told = ticks.told + units_at ticks moment }
+ticks_after ticks moment = record { beat = beat_after ticks.beat moment; reported = ticks.reported + units_at ticks moment }
 
 -- ---- a schedule
 

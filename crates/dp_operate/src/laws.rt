@@ -20,7 +20,7 @@ pub fn no_time_is_lost()
 {}
 
 /// No time is sent twice: the units that are sent over any list of moments have passed by the latest of them.
-pub fn no_time_is_told_twice()
+pub fn no_time_is_reported_twice()
     ensures { (every : ℕ) (step : Option ℕ) (moments : List ℕ) (latest : ℕ)
         → All (λ moment. moment ≤ latest) moments
         → units_in_all (sent_at_each (first_schedule (Some every) step) moments) ≤ units_passed latest }

@@ -12,7 +12,7 @@ const UNIT: u64 = 10;
 #[derive(Clone, Copy, Debug, PartialEq, Eq)]
 pub struct Ticks {
     beat: Beat,
-    told: u64,
+    reported: u64,
 }
 
 impl Ticks {
@@ -22,7 +22,7 @@ impl Ticks {
     {
         Ticks {
             beat: Beat::new(every),
-            told: 0,
+            reported: 0,
         }
     }
 
@@ -37,9 +37,9 @@ impl Ticks {
         }
         self.beat.pass(moment);
         let units = (moment / UNIT)
-            .saturating_sub(self.told)
+            .saturating_sub(self.reported)
             .min(u64::from(u32::MAX));
-        self.told += units;
+        self.reported += units;
         units as u32
     }
 

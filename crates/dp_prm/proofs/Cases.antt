@@ -80,9 +80,9 @@ sets_min_tsdr octets limits tsdr = (
   λ (neither, same). min_tsdr_by octets limits neither ∙ ap MinTsdr (sym same),
 )
 
-pub tells_not_supported : (octets : List ℕ) (limits : Limits)
+pub reports_not_supported : (octets : List ℕ) (limits : Limits)
     → (meaning_of octets limits ≡ Fault true) ↔ (IsLocking octets × AsksUnsupported octets limits)
-tells_not_supported octets limits = (
+reports_not_supported octets limits = (
   λ e. let rows = unsupported_case (is_short octets) (unlock_req octets) (lock_req octets) (is_faulty octets limits) (is_not_supported octets limits) (min_tsdr octets) (parameters octets) e in
       (record { whole = ltb-false (length octets) 7 rows.0; no_unlock = rows.1; lock = rows.2 }, is_not_supported-asks octets limits rows.3),
   λ (locking, asked). unsupported_by octets limits locking (asks-is_not_supported octets limits asked),

@@ -6,4 +6,4 @@ mod Passing
 mod Played
 mod Sending
 mod Checked
-mod Tellings
+mod Reportings

@@ -34,23 +34,23 @@ prefix_so_far played old new script_rack n lines s = (s.text, (play script_rack 
 
 pub line_left : (text : List ℕ) (script_rack next : ScriptRack) (n : ℕ) (line more : List ℕ) (lines : List (List ℕ)) → line_obeyed script_rack line ≡ Some (record { script_rack = next; text = more })
     → after_line text (play script_rack n (line ∷ lines)) ≡ after_line (text ++ more) (play next (n + 1) lines)
-line_left text script_rack next n line more lines told =
-    ap (λ o. after_line text (going_on o n (λ d. play d (n + 1) lines))) told
+line_left text script_rack next n line more lines reported =
+    ap (λ o. after_line text (going_on o n (λ d. play d (n + 1) lines))) reported
     ∙ ap (λ t. record { text = t; fault = (play next (n + 1) lines).fault }) (sym (append_assoc text more (play next (n + 1) lines).text))
 
 pub line_played : (played : Played) (old new newer : Option (List ℕ)) (script_rack next : ScriptRack) (n : ℕ) (line more : List ℕ) (lines : List (List ℕ)) → SoFar played old new script_rack n (line ∷ lines)
     → line_obeyed script_rack line ≡ Some (record { script_rack = next; text = more }) → Appends new newer more → SoFar played old newer next (n + 1) lines
-line_played played old new newer script_rack next n line more lines s told written = record {
+line_played played old new newer script_rack next n line more lines s reported written = record {
   text = s.text ++ more;
   written = appends_more old new newer s.text more s.written written;
-  left = sym (line_left s.text script_rack next n line more lines told) ∙ s.left;
+  left = sym (line_left s.text script_rack next n line more lines reported) ∙ s.left;
 }
 
 pub line_cut : (played : Played) (old new newer : Option (List ℕ)) (script_rack next : ScriptRack) (n : ℕ) (line more : List ℕ) (lines : List (List ℕ)) → SoFar played old new script_rack n (line ∷ lines)
     → line_obeyed script_rack line ≡ Some (record { script_rack = next; text = more }) → WritesPrefix new newer more → WritesPrefix old newer played.text
-line_cut played old new newer script_rack next n line more lines s told cut =
+line_cut played old new newer script_rack next n line more lines s reported cut =
     more_prefix old new newer s.text more (play next (n + 1) lines).text played.text s.written cut
-    (sym (append_assoc s.text more (play next (n + 1) lines).text) ∙ ap (λ (p : Played). p.text) (sym (line_left s.text script_rack next n line more lines told) ∙ s.left))
+    (sym (append_assoc s.text more (play next (n + 1) lines).text) ∙ ap (λ (p : Played). p.text) (sym (line_left s.text script_rack next n line more lines reported) ∙ s.left))
 
 -- ---- a line that was obeyed, or wasn't
 
@@ -84,6 +84,6 @@ pub line_written_in_part : (played : Played) (old new newer : Option (List ℕ))
 line_written_in_part played old new newer script_rack next n line lines s obeys = fault_by played old new newer script_rack next n line lines (line_obeyed script_rack line) refl s obeys
 
 -- memory ran out before anything was written
-pub memory_told : (rack : Result RackDescription RackFault) (script : List ℕ) (old : Option (List ℕ)) → RunsText rack script old old (Err runs.OutOfMemory)
-memory_told (Ok rack) script old = ([], (script_text rack script).text, refl, appends_none old)
-memory_told (Err fault) script old = keeps_same old
+pub memory_reported : (rack : Result RackDescription RackFault) (script : List ℕ) (old : Option (List ℕ)) → RunsText rack script old old (Err runs.OutOfMemory)
+memory_reported (Ok rack) script old = ([], (script_text rack script).text, refl, appends_none old)
+memory_reported (Err fault) script old = keeps_same old

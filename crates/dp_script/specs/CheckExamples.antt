@@ -113,14 +113,14 @@ pub a_tick_of_the_endless_line : checked_on (rack_with 2 slave_5) (codes "rack-a
 unfolding check_on_entries
 a_tick_of_the_endless_line = refl
 
-pub legal_told : verdict_text (Ok 5) ≡ codes "legal 5\n"
+pub legal_reported : verdict_text (Ok 5) ≡ codes "legal 5\n"
 unfolding check_on_literals
-legal_told = refl
+legal_reported = refl
 
-pub bad_line_told : verdict_text (Err (BadLine 65538)) ≡ codes "bad line 65538\n"
+pub bad_line_reported : verdict_text (Err (BadLine 65538)) ≡ codes "bad line 65538\n"
 unfolding check_on_literals
-bad_line_told = refl
+bad_line_reported = refl
 
-pub not_the_policy_told : verdict_text (Err (NotThePolicy 3)) ≡ codes "not the policy 3\n"
+pub not_the_policy_reported : verdict_text (Err (NotThePolicy 3)) ≡ codes "not the policy 3\n"
 unfolding check_on_literals
-not_the_policy_told = refl
+not_the_policy_reported = refl

@@ -41,7 +41,7 @@ Plays played old new (Err (runs.Rack fault)) = ⊥
 
 -- if a rack isn't accepted, its fault is reported, or that memory ran out, and nothing is written
 abbrev pub RefusesRack : {T : Type 0} → RackFault → Option (List ℕ) → Option (List ℕ) → Result T RunFault → Type 0
-RefusesRack fault old new (Err (runs.Rack told)) = (told ≡ fault) × Keeps old new
+RefusesRack fault old new (Err (runs.Rack reported)) = (reported ≡ fault) × Keeps old new
 RefusesRack fault old new (Err runs.OutOfMemory) = Keeps old new
 RefusesRack fault old new other = ⊥
 
@@ -51,14 +51,14 @@ RunsText (Ok rack) script old new result = Plays (script_text rack script) old n
 RunsText (Err fault) script old new result = RefusesRack fault old new result
 
 -- at the end of a check the writer has the whole verdict, a prefix of it if a write failed, and nothing if memory ran out
-abbrev pub Tells : Result ℕ AuditFault → Option (List ℕ) → Option (List ℕ) → Result ℕ RunFault → Type 0
-Tells verdict old new (Ok status) = (status ≡ verdict_status verdict) × Appends old new (verdict_text verdict)
-Tells verdict old new (Err runs.WriteFault) = WritesPrefix old new (verdict_text verdict)
-Tells verdict old new (Err runs.OutOfMemory) = Keeps old new
-Tells verdict old new (Err (runs.Script line)) = ⊥
-Tells verdict old new (Err (runs.Rack fault)) = ⊥
+abbrev pub Reports : Result ℕ AuditFault → Option (List ℕ) → Option (List ℕ) → Result ℕ RunFault → Type 0
+Reports verdict old new (Ok status) = (status ≡ verdict_status verdict) × Appends old new (verdict_text verdict)
+Reports verdict old new (Err runs.WriteFault) = WritesPrefix old new (verdict_text verdict)
+Reports verdict old new (Err runs.OutOfMemory) = Keeps old new
+Reports verdict old new (Err (runs.Script line)) = ⊥
+Reports verdict old new (Err (runs.Rack fault)) = ⊥
 
 -- the check of an audit text on the rack that a text describes, or the fault of that text
 abbrev pub RunsCheck : Result RackDescription RackFault → List ℕ → Option (List ℕ) → Option (List ℕ) → Result ℕ RunFault → Type 0
-RunsCheck (Ok rack) audit old new result = Tells (checked_on rack audit) old new result
+RunsCheck (Ok rack) audit old new result = Reports (checked_on rack audit) old new result
 RunsCheck (Err fault) audit old new result = RefusesRack fault old new result

@@ -40,8 +40,8 @@ abbrev pub line_at_start : Description → ScriptLine
 line_at_start line = record { journal = opened line; streams = map empty_stream line.masters; driven = driven_slaves line.slaves }
 
 -- the outcome of an event
-abbrev pub told_of : Journal → LineEvent → Outcome
-told_of journal event = (step journal.state.world event).answer.outcome
+abbrev pub reported_of : Journal → LineEvent → Outcome
+reported_of journal event = (step journal.state.world event).answer.outcome
 
 -- the result of pieces of a stream: the journal, and the text that is written
 pub record Answered : Type 0 where
@@ -51,7 +51,7 @@ pub record Answered : Type 0 where
 -- a frame is one event, and its answer is written; dropped octets are no event, and are reported
 abbrev pub piece_answered : Journal → ℕ → Cut → Answered
 piece_answered journal master (pieces.Frame frame octets) =
-    record { journal = taken journal (Request master octets); text = answer_text master (told_of journal (Request master octets)) }
+    record { journal = taken journal (Request master octets); text = answer_text master (reported_of journal (Request master octets)) }
 piece_answered journal master (pieces.Dropped fault count) = record { journal = journal; text = dropped_text master fault count }
 
 -- pieces one after another
@@ -118,7 +118,7 @@ abbrev pub took : ScriptLine → Op → Sent
 took script_line op =
     record {
       script_line = record script_line { journal = taken script_line.journal (Operator op) };
-      text = outcome_line (told_of script_line.journal (Operator op));
+      text = outcome_line (reported_of script_line.journal (Operator op));
     }
 
 -- the devices of the line update the inputs of their slaves, in ascending order of address; the text has the number of recorded Inputs
@@ -128,16 +128,16 @@ stepped script_line =
     record { script_line = record script_line { journal = fed.journal }; text = stepped_text fed.recorded }
 
 -- a query leaves the line unchanged
-abbrev pub told : ScriptLine → List ℕ → Sent
-told script_line text = record { script_line = script_line; text = text }
+abbrev pub reported : ScriptLine → List ℕ → Sent
+reported script_line text = record { script_line = script_line; text = text }
 
 -- the result of a line of the operator
 abbrev pub operated : ScriptLine → OpLine → Sent
 operated script_line (Event op) = took script_line op
-operated script_line (Owned master) = told script_line (owned_line script_line master)
-operated script_line (Show address) = told script_line (show_line script_line address)
+operated script_line (Owned master) = reported script_line (owned_line script_line master)
+operated script_line (Show address) = reported script_line (show_line script_line address)
 operated script_line Step = stepped script_line
-operated script_line Nothing = told script_line []
+operated script_line Nothing = reported script_line []
 
 -- the audit text of the line's journal
 abbrev pub journal_text : ScriptLine → List ℕ

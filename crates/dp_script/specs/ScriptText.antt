@@ -25,8 +25,8 @@ obeyed_by_line script_rack sending =
     record { script_rack = record script_rack { lines = slice_set script_rack.lines script_rack.chosen sending.script_line }; text = sending.text }
 
 -- the text of a query to the chosen line; it leaves the rack unchanged
-abbrev pub told_by_line : ScriptRack → (ScriptLine → List ℕ) → Option Obeyed
-told_by_line script_rack text =
+abbrev pub reported_by_line : ScriptRack → (ScriptLine → List ℕ) → Option Obeyed
+reported_by_line script_rack text =
     option_map (λ line. record { script_rack = script_rack; text = text line }) (slice_get script_rack.lines script_rack.chosen)
 
 -- None if the command can't be obeyed: it names a line that isn't in the rack, or a master that isn't the line's
@@ -35,7 +35,7 @@ obeyed script_rack (choose_line number) =
     option_map (λ index. record { script_rack = record script_rack { chosen = index }; text = [] }) (position (λ line. line.journal.number == number) script_rack.lines)
 obeyed script_rack (send master octets) =
     option_and_then (λ line. option_map (obeyed_by_line script_rack) (sent line master octets)) (slice_get script_rack.lines script_rack.chosen)
-obeyed script_rack write_journal = told_by_line script_rack journal_text
+obeyed script_rack write_journal = reported_by_line script_rack journal_text
 obeyed script_rack (operate op_line) =
     option_map (λ line. obeyed_by_line script_rack (operated line op_line)) (slice_get script_rack.lines script_rack.chosen)
 

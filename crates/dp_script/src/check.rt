@@ -7,7 +7,7 @@ ghost use Rattle.rack_file.specs.RackFile.{rack_in};
 ghost use Rattle.rack_file.specs.Rack.{rack_described};
 ghost use Rattle.dp_audit.specs.Check.{is_accepted_header};
 ghost use Rattle.dp_script.specs.Checks.{checked_on};
-ghost use Rattle.dp_script.specs.Runs.{RunsCheck, Tells};
+ghost use Rattle.dp_script.specs.Runs.{RunsCheck, Reports};
 
 use crate::run_fault::RunFault;
 use dp_audit::{AuditFault, check_text, is_header_of};
@@ -34,7 +34,7 @@ pub fn run_check<W: Write>(
 {
     accepted_lines_can_be_opened();
     match read_rack(alloc, rack) {
-        Ok(rack) => tell_verdict(verdict_on(alloc, &rack, audit), writer),
+        Ok(rack) => report_verdict(verdict_on(alloc, &rack, audit), writer),
         Err(RackFault::OutOfMemory) => Err(RunFault::OutOfMemory),
         Err(fault) => Err(RunFault::Rack(fault)),
     }
@@ -63,11 +63,11 @@ pub fn line_named<'a>(lines: &'a [RackLine], header: &[u8]) -> Option<&'a RackLi
 
 /// Writes the verdict on an audit text, and returns the exit status: 0 if it is legal, else 1. Returns `OutOfMemory` if
 /// that is the verdict, and `WriteFault` if the write fails.
-pub fn tell_verdict<W: Write>(
+pub fn report_verdict<W: Write>(
     verdict: Result<u32, AuditFault>,
     writer: &mut W,
 ) -> Result<u8, RunFault>
-    ensures told { Tells verdict (W.contents writer.old) (W.contents writer.new) result }
+    ensures reported { Reports verdict (W.contents writer.old) (W.contents writer.new) result }
     ensures memory { verdict ≡ Err AuditFault.OutOfMemory → result ≡ Err RunFault.OutOfMemory }
 {
     let mut text = Text::new();

@@ -9,7 +9,7 @@ ghost use Rattle.dp_explain.specs.Explained.{explained};
 ghost use Rattle.dp_script.specs.Checks.{checked_on};
 ghost use Rattle.dp_script.specs.Explanations.{Explains, RunsExplain, explained_on};
 
-use crate::check::{line_named, tell_verdict};
+use crate::check::{line_named, report_verdict};
 use crate::run_fault::RunFault;
 use dp_audit::AuditFault;
 use dp_explain::{Choice, ExplainFault, explain_text};
@@ -56,11 +56,11 @@ fn explain_on<W: Write>(
         (W.contents writer.old) (W.contents writer.new) result }
 {
     let Some(header) = Lines::new(audit.as_bytes()).next() else {
-        return tell_verdict(Err(AuditFault::BadLine(1)), writer);
+        return report_verdict(Err(AuditFault::BadLine(1)), writer);
     };
     match line_named(&rack.lines, header) {
         Some(line) => explain_line(alloc, &line.spec, audit, choice, writer),
-        None => tell_verdict(Err(AuditFault::BadLine(1)), writer),
+        None => report_verdict(Err(AuditFault::BadLine(1)), writer),
     }
 }
 

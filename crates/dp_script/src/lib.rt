@@ -21,7 +21,7 @@ mod script_line;
 mod script_rack;
 pub mod stream_laws;
 
-pub use check::{line_named, run_check, tell_verdict};
+pub use check::{line_named, report_verdict, run_check};
 pub use dp_explain::Choice;
 pub use explain::run_explain;
 pub use input::split_input;

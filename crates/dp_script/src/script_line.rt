@@ -4,7 +4,7 @@ ghost use Rattle.std.specs.Prelude.{◌≡◌, ◌≤◌, ◌<◌, ◌==◌, [],
 ghost use Rattle.std.specs.Io.KnownBytes.{Appends};
 ghost use Rattle.dp_telegram.specs.Stream.{cut_lent};
 ghost use Rattle.dp_line.specs.World.{description_of, opening_fault};
-ghost use Rattle.dp_script.specs.ScriptLines.{line_at_start, empty_stream, piece_answered, passed, sent, told_of, operated, stepped, owned_line, show_line, journal_text};
+ghost use Rattle.dp_script.specs.ScriptLines.{line_at_start, empty_stream, piece_answered, passed, sent, reported_of, operated, stepped, owned_line, show_line, journal_text};
 ghost use Rattle.dp_script.specs.Asking.{IsAsked};
 ghost use Rattle.dp_audit.specs.Journal.{taken};
 ghost use Rattle.dp_text.specs.OpLines.{op_line_of};
@@ -294,7 +294,7 @@ fn asked_anew(line: &[u8], event: &mut Event) -> Option<OpLineKind>
 /// Takes the event of the operator in `room`, and sets the text to the answer.
 fn answer_op(text: &mut Text, book: &mut Book, room: &mut Room)
     ensures journal { book.new ≡ taken book.old room.old.event }
-    ensures text { text.new ≡ outcome_line (told_of book.old room.old.event) }
+    ensures text { text.new ≡ outcome_line (reported_of book.old room.old.event) }
 {
     book.take_into(&room.event, &mut room.step);
     text.set_outcome(&room.step.outcome);

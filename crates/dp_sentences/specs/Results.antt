@@ -36,10 +36,10 @@ abbrev pub shown_at : World → ℕ → Option SlaveView
 shown_at world address = option_map view_of (slave_at world address)
 
 -- the sentence of the slave; empty if the line has no such slave
-abbrev pub told_where_known : AskedView → Option Noted → Bool → Rule → Option SlaveSpec → Option SlaveView → List ℕ
-told_where_known asked noted silent rule None slave = []
-told_where_known asked noted silent rule (Some description) None = []
-told_where_known asked noted silent rule (Some description) (Some slave) =
+abbrev pub reported_where_known : AskedView → Option Noted → Bool → Rule → Option SlaveSpec → Option SlaveView → List ℕ
+reported_where_known asked noted silent rule None slave = []
+reported_where_known asked noted silent rule (Some description) None = []
+reported_where_known asked noted silent rule (Some description) (Some slave) =
     slave_text silent (record {
       master = asked.master;
       octets = asked.octets;
@@ -50,26 +50,26 @@ told_where_known asked noted silent rule (Some description) (Some slave) =
       noted = noted;
     }) rule
 
-abbrev pub told_of_slave : SceneView → AskedView → ℕ → Bool → Rule → List ℕ
-told_of_slave scene asked address silent rule =
-    told_where_known asked (note_of scene.notes address asked.master) silent rule
+abbrev pub reported_of_slave : SceneView → AskedView → ℕ → Bool → Rule → List ℕ
+reported_of_slave scene asked address silent rule =
+    reported_where_known asked (note_of scene.notes address asked.master) silent rule
     (described_at scene.description.slaves address) (shown_at scene.world address)
 
 -- ---- the answer to a request to one slave
 
-abbrev pub told_of_parts : SceneView → ℕ → List ℕ → Bool → Rule → Telegram → Option Parts → List ℕ
-told_of_parts scene master octets silent rule telegram None = []
-told_of_parts scene master octets silent rule telegram (Some parts) =
-    told_of_slave scene (record { master = master; octets = octets; telegram = telegram; parts = parts }) (address_of telegram.da) silent rule
+abbrev pub reported_of_parts : SceneView → ℕ → List ℕ → Bool → Rule → Telegram → Option Parts → List ℕ
+reported_of_parts scene master octets silent rule telegram None = []
+reported_of_parts scene master octets silent rule telegram (Some parts) =
+    reported_of_slave scene (record { master = master; octets = octets; telegram = telegram; parts = parts }) (address_of telegram.da) silent rule
 
-abbrev pub told_of_telegram : SceneView → ℕ → List ℕ → Bool → Rule → Option Telegram → List ℕ
-told_of_telegram scene master octets silent rule None = []
-told_of_telegram scene master octets silent rule (Some telegram) = told_of_parts scene master octets silent rule telegram (parts_of telegram)
+abbrev pub reported_of_telegram : SceneView → ℕ → List ℕ → Bool → Rule → Option Telegram → List ℕ
+reported_of_telegram scene master octets silent rule None = []
+reported_of_telegram scene master octets silent rule (Some telegram) = reported_of_parts scene master octets silent rule telegram (parts_of telegram)
 
 -- by a rule that concerns the line, or by one that concerns a slave
-abbrev pub told_of_one : SceneView → ℕ → List ℕ → Option Frame → Bool → Rule → List ℕ
-told_of_one scene master octets frame silent rule =
-    if concerns_a_slave rule then told_of_telegram scene master octets silent rule (option_and_then telegram_of_frame frame)
+abbrev pub reported_of_one : SceneView → ℕ → List ℕ → Option Frame → Bool → Rule → List ℕ
+reported_of_one scene master octets frame silent rule =
+    if concerns_a_slave rule then reported_of_telegram scene master octets silent rule (option_and_then telegram_of_frame frame)
     else line_text scene.description.masters master frame rule
 
 abbrev pub result_row : List ℕ → List ℕ
@@ -80,7 +80,7 @@ result_row text = codes "       result      " ++ text ++ codes "\n"
 -- each slave has its own row, which begins with its address
 abbrev pub pair_row : SceneView → AskedView → ℕ × Rule → List ℕ
 pair_row scene asked pair =
-    codes "       " ++ at_left 12 (codes "slave " ++ decimal pair.0) ++ told_of_slave scene asked pair.0 true pair.1 ++ codes "\n"
+    codes "       " ++ at_left 12 (codes "slave " ++ decimal pair.0) ++ reported_of_slave scene asked pair.0 true pair.1 ++ codes "\n"
 
 abbrev pub pairs_rows : SceneView → ℕ → List ℕ → List (ℕ × Rule) → Telegram → Option Parts → List ℕ
 pairs_rows scene master octets pairs telegram None = []
@@ -98,9 +98,9 @@ spread_text master (pair ∷ pairs) = codes "spread over the slaves of master " 
 -- ---- a request
 
 abbrev pub request_rows : SceneView → ℕ → List ℕ → Option Frame → Outcome → List ℕ
-request_rows scene master octets frame (Reply reply rule) = result_row (told_of_one scene master octets frame false rule)
-request_rows scene master octets frame (Silence rule) = result_row (told_of_one scene master octets frame true rule)
-request_rows scene master octets frame Done = result_row (told_of_one scene master octets frame true rules.Done)
+request_rows scene master octets frame (Reply reply rule) = result_row (reported_of_one scene master octets frame false rule)
+request_rows scene master octets frame (Silence rule) = result_row (reported_of_one scene master octets frame true rule)
+request_rows scene master octets frame Done = result_row (reported_of_one scene master octets frame true rules.Done)
 request_rows scene master octets frame (Spread pairs) =
     result_row (spread_text master pairs.items) ++ spread_rows scene master octets pairs.items (option_and_then telegram_of_frame frame)
 request_rows scene master octets frame (Released addresses) = []

@@ -27,7 +27,7 @@ user_parameters_text count most =
 
 abbrev pub prm_fault_text : PrmFault → List ℕ
 prm_fault_text (faults.Short count) = count_words count ++ codes ", at least 7"
-prm_fault_text (faults.Ident told own) = codes "ident " ++ ident_words told ++ codes ", the slave has " ++ ident_words own
+prm_fault_text (faults.Ident reported own) = codes "ident " ++ ident_words reported ++ codes ", the slave has " ++ ident_words own
 prm_fault_text faults.WatchdogTime = codes "watchdog time 0"
 prm_fault_text faults.NoSync = codes "Sync_Req, the slave has no Sync"
 prm_fault_text faults.NoFreeze = codes "Freeze_Req, the slave has no Freeze"

@@ -47,10 +47,10 @@ impl fmt::Display for PrmFault {
                 let count = CountWords(*count);
                 write!(f, "{count}, at least 7")
             }
-            PrmFault::Ident(told, own) => {
-                let told = IdentWords(*told);
+            PrmFault::Ident(reported, own) => {
+                let reported = IdentWords(*reported);
                 let own = IdentWords(*own);
-                write!(f, "ident {told}, the slave has {own}")
+                write!(f, "ident {reported}, the slave has {own}")
             }
             PrmFault::WatchdogTime => f.write_str("watchdog time 0"),
             PrmFault::NoSync => f.write_str("Sync_Req, the slave has no Sync"),

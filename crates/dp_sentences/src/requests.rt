@@ -8,7 +8,7 @@ ghost use Rattle.dp_telegram.specs.Access.{parts_of};
 ghost use Rattle.dp_line.specs.Hearing.{telegram_of_frame};
 ghost use Rattle.dp_line.specs.Verdict.{concerns_a_slave};
 ghost use Rattle.dp_line.specs.declared.event.Outcome.{Outcome as Answers};
-ghost use Rattle.dp_sentences.specs.Results.{told_of_slave, told_of_telegram, told_of_one, result_row, pair_row, pairs_rows, spread_rows, spread_text, request_rows};
+ghost use Rattle.dp_sentences.specs.Results.{reported_of_slave, reported_of_telegram, reported_of_one, result_row, pair_row, pairs_rows, spread_rows, spread_text, request_rows};
 
 use crate::meeting::Meeting;
 use crate::scene::{Scene, SlaveRequest};
@@ -35,7 +35,7 @@ struct OfSlave<'a> {
 }
 
 impl<'a> fmt::Display for OfSlave<'a> {
-    ghost output = { λ s. Some (told_of_slave s.scene.now s.asked.now s.address s.silent s.rule) };
+    ghost output = { λ s. Some (reported_of_slave s.scene.now s.asked.now s.address s.silent s.rule) };
 
     fn fmt<W: fmt::Write>(&self, f: &mut fmt::Formatter<W>) -> fmt::Result {
         let scene = self.scene;
@@ -77,7 +77,7 @@ struct OfTelegram<'a> {
 }
 
 impl<'a> fmt::Display for OfTelegram<'a> {
-    ghost output = { λ s. Some (told_of_telegram s.scene.now s.master s.octets.now s.silent s.rule (Some s.telegram.now)) };
+    ghost output = { λ s. Some (reported_of_telegram s.scene.now s.master s.octets.now s.silent s.rule (Some s.telegram.now)) };
 
     fn fmt<W: fmt::Write>(&self, f: &mut fmt::Formatter<W>) -> fmt::Result {
         let Some(parts) = self.telegram.parts() else {
@@ -112,7 +112,7 @@ struct OfOne<'a> {
 }
 
 impl<'a> fmt::Display for OfOne<'a> {
-    ghost output = { λ s. Some (told_of_one s.scene.now s.master s.octets.now s.frame.now s.silent s.rule) };
+    ghost output = { λ s. Some (reported_of_one s.scene.now s.master s.octets.now s.frame.now s.silent s.rule) };
 
     fn fmt<W: fmt::Write>(&self, f: &mut fmt::Formatter<W>) -> fmt::Result {
         if concerns_a_slave(self.rule) {

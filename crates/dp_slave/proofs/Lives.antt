@@ -10,7 +10,7 @@ use Rattle.dp_sap.specs.declared.state.State.TheVariants.{WaitPrm, WaitCfg, Data
 use Rattle.dp_sap.specs.States.{is_in_data_exch, is_in_wait_prm}
 use Rattle.dp_slave.specs.declared.description.SlaveSpec.{SlaveSpec}
 use Rattle.dp_slave.specs.SlaveRecord.{SlaveRecord, configurations, full_time, input_length, inputs_of, is_held_by, output_length, outputs_of, released, starting_slave, zeros}
-use Rattle.dp_slave.specs.Acts.{Act, Control, locks, faults, unlocks, sets_min_tsdr, configures, misconfigures, exchanges, exchanges_none, tells_diagnosis, is_read, is_controlled, is_fed, reports, is_marked, ticks, halts, releases, runs_out}
+use Rattle.dp_slave.specs.Acts.{Act, Control, locks, faults, unlocks, sets_min_tsdr, configures, misconfigures, exchanges, exchanges_none, sends_diagnosis, is_read, is_controlled, is_fed, reports, is_marked, ticks, halts, releases, runs_out}
 use Rattle.dp_slave.specs.Fields.{acted, cleared_by, is_frozen_by, keeps_shape}
 use Rattle.dp_slave.specs.Services.{prm_act}
 use Rattle.dp_slave.proofs.Lengths.{cut_long}
@@ -25,9 +25,9 @@ unfolding acted released
 halt_releases slave = refl
 
 -- Slave_Diag by a master that isn't the holder, and reading
-pub told_stranger : (slave : SlaveRecord) (sender : ℕ) → is_held_by sender slave ≡ false → acted slave (tells_diagnosis sender) ≡ slave
+pub reported_stranger : (slave : SlaveRecord) (sender : ℕ) → is_held_by sender slave ≡ false → acted slave (sends_diagnosis sender) ≡ slave
 unfolding acted
-told_stranger slave sender apart = rw apart refl
+reported_stranger slave sender apart = rw apart refl
 
 pub only_read : (slave : SlaveRecord) → acted slave is_read ≡ slave
 unfolding acted
@@ -65,10 +65,10 @@ times_add slave time more stays =
     ∙ sym (waited slave (time + more) stays)
 
 -- a request for what the slave doesn't support
-pub told_by : (slave : SlaveRecord) (sender place : ℕ) (verdict : PrmVerdict) → verdict ≡ prm.Fault true
+pub reported_by : (slave : SlaveRecord) (sender place : ℕ) (verdict : PrmVerdict) → verdict ≡ prm.Fault true
     → ((acted slave (prm_act sender place verdict)).diag.prm_fault ≡ true) × ((acted slave (prm_act sender place verdict)).diag.not_supported ≡ true)
 unfolding acted
-told_by slave sender place verdict e = rw e (refl, refl)
+reported_by slave sender place verdict e = rw e (refl, refl)
 
 -- a slave stays sound
 pub sound_start : (masters : List ℕ) (description : SlaveSpec) → IsSound (starting_slave masters description)
@@ -347,7 +347,7 @@ sound_act slave exchanges_none s fit =
       outputs_long = chosen_long slave.sync_mode (output_length slave) slave.outputs (zeros (output_length slave)) s.outputs_long (length-replicate _ 0);
       latest_long = length-replicate _ 0;
     }
-sound_act slave (tells_diagnosis sender) s fit = record {
+sound_act slave (sends_diagnosis sender) s fit = record {
   held = s.held;
   parameters = s.parameters;
   watchdog = again_runs (is_held_by sender slave) slave.left (full_time slave) s.watchdog;

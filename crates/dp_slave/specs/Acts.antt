@@ -28,7 +28,7 @@ pub data Act : Type 0 where
   exchanges : (octets : List ℕ) → Act
   exchanges_none : Act
   -- Slave_Diag
-  tells_diagnosis : (sender : ℕ) → Act
+  sends_diagnosis : (sender : ℕ) → Act
   -- RD_Inp, RD_Outp and Get_Cfg
   is_read : Act
   -- a Global_Control that selects the slave
@@ -62,6 +62,6 @@ retriggers slave (sets_min_tsdr sender octet) = is_held_by sender slave
 retriggers slave (configures number) = true
 retriggers slave (exchanges octets) = true
 retriggers slave exchanges_none = true
-retriggers slave (tells_diagnosis sender) = is_held_by sender slave
+retriggers slave (sends_diagnosis sender) = is_held_by sender slave
 retriggers slave (is_controlled control) = true
 retriggers slave act = false

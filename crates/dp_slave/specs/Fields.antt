@@ -9,7 +9,7 @@ use Rattle.dp_prm.specs.declared.prm.Prm.{Prm}
 use Rattle.dp_diag.specs.declared.diag.Diag.{Diag}
 use Rattle.dp_diag.specs.Diagnosis.{reported}
 use Rattle.dp_slave.specs.SlaveRecord.{SlaveRecord, cut_or_filled, full_time, inputs_of, is_held_by, output_length, outputs_of, zeros}
-use Rattle.dp_slave.specs.Acts.{Act, locks, faults, sets_min_tsdr, configures, misconfigures, exchanges, exchanges_none, tells_diagnosis, is_controlled, is_fed, reports, is_marked, ticks, Control, releases, retriggers}
+use Rattle.dp_slave.specs.Acts.{Act, locks, faults, sets_min_tsdr, configures, misconfigures, exchanges, exchanges_none, sends_diagnosis, is_controlled, is_fed, reports, is_marked, ticks, Control, releases, retriggers}
 
 -- a lock waits for the configuration, and a good one begins data exchange (IEC 61158-6-3, slave state machine)
 abbrev pub state_after : SlaveRecord → Act → State
@@ -165,7 +165,7 @@ not_supported_after slave act = slave.diag.not_supported
 -- a report is unread until the holder reads the diagnosis (own)
 abbrev pub unread_after : SlaveRecord → Act → Bool
 unread_after slave (reports ext stat overflow octets) = true
-unread_after slave (tells_diagnosis sender) = not (is_held_by sender slave) && slave.diag.unread
+unread_after slave (sends_diagnosis sender) = not (is_held_by sender slave) && slave.diag.unread
 unread_after slave act = slave.diag.unread
 
 -- what the application reported last (own)

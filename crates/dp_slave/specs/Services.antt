@@ -9,7 +9,7 @@ use Rattle.dp_cfg.specs.Choosing.{chosen}
 use Rattle.dp_diag.specs.Diagnosis.{is_due_high}
 use Rattle.dp_diag.specs.DiagnosisText.{diagnosis_text}
 use Rattle.dp_slave.specs.SlaveRecord.{SlaveRecord, configuration, configurations, diag_facts, limits_of, output_length, shown_inputs}
-use Rattle.dp_slave.specs.Acts.{Act, locks, faults, unlocks, sets_min_tsdr, configures, misconfigures, exchanges, exchanges_none, tells_diagnosis, is_read, is_controlled, Control}
+use Rattle.dp_slave.specs.Acts.{Act, locks, faults, unlocks, sets_min_tsdr, configures, misconfigures, exchanges, exchanges_none, sends_diagnosis, is_read, is_controlled, Control}
 
 -- Set_Prm by the meaning of its octets (IEC 61158-6-3, Set_Prm request)
 abbrev pub prm_act : ℕ → ℕ → PrmVerdict → Act
@@ -52,7 +52,7 @@ abbrev pub service_act : SlaveRecord → ℕ → ℕ → Option ℕ → List ℕ
 service_act slave sender place point octets =
     if same_point point data_exchange then exchange_act slave octets
     else if same_point point global_control then is_controlled (control_of octets)
-    else if same_point point slave_diag then tells_diagnosis sender
+    else if same_point point slave_diag then sends_diagnosis sender
     else if same_point point set_prm then set_prm_act slave sender place octets
     else if same_point point chk_cfg then chk_cfg_act slave octets
     else is_read

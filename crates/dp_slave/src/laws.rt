@@ -4,7 +4,7 @@ ghost use Rattle.std.specs.Prelude.{◌≡◌, ◌≢◌, ◌+◌, ℕ, List, no
 ghost use Rattle.dp_prm.specs.Requests.{AsksUnsupported, IsLocking};
 ghost use Rattle.dp_slave.specs.declared.description.SlaveSpec.{SlaveSpec};
 ghost use Rattle.dp_slave.specs.SlaveRecord.{SlaveRecord, is_held_by, limits_of, output_length, released, starting_slave, zeros};
-ghost use Rattle.dp_slave.specs.Acts.{Act, Control, configures, exchanges, halts, is_controlled, is_read, releases, tells_diagnosis, ticks};
+ghost use Rattle.dp_slave.specs.Acts.{Act, Control, configures, exchanges, halts, is_controlled, is_read, releases, sends_diagnosis, ticks};
 ghost use Rattle.dp_slave.specs.Fields.{acted};
 ghost use Rattle.dp_slave.specs.Services.{set_prm_act};
 ghost use Rattle.dp_slave.specs.Soundness.{acts_after, all_fit, ends_clearing, fits, IsSound};
@@ -34,7 +34,7 @@ pub fn an_unsupported_request_is_reported()
         → IsLocking octets
         → AsksUnsupported octets (limits_of slave)
         → (acted slave (set_prm_act slave sender place octets)).diag.prm_fault ≡ true }
-    ensures told { (slave : SlaveRecord) (sender place : ℕ) (octets : List ℕ)
+    ensures reported { (slave : SlaveRecord) (sender place : ℕ) (octets : List ℕ)
         → IsLocking octets
         → AsksUnsupported octets (limits_of slave)
         → (acted slave (set_prm_act slave sender place octets)).diag.not_supported ≡ true }
@@ -58,7 +58,7 @@ pub fn sync_waits_for_unsync()
 pub fn a_stranger_changes_nothing()
     ensures diagnosis { (slave : SlaveRecord) (sender : ℕ)
         → is_held_by sender slave ≡ false
-        → acted slave (tells_diagnosis sender) ≡ slave }
+        → acted slave (sends_diagnosis sender) ≡ slave }
     ensures read { (slave : SlaveRecord) → acted slave is_read ≡ slave }
 {}
 

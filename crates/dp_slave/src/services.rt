@@ -8,7 +8,7 @@ ghost use Rattle.dp_diag.specs.Diagnosis.{is_due_high};
 ghost use Rattle.dp_diag.specs.DiagnosisText.{diagnosis_text};
 ghost use Rattle.dp_slave.specs.SlaveRecord.{diag_facts, is_held_by as is_held_by_master, limits_of, output_length, released};
 ghost use Rattle.dp_slave.specs.SlaveParts.{with_slave};
-ghost use Rattle.dp_slave.specs.Acts.{configures, exchanges, exchanges_none, faults, locks, misconfigures, sets_min_tsdr, tells_diagnosis, unlocks};
+ghost use Rattle.dp_slave.specs.Acts.{configures, exchanges, exchanges_none, faults, locks, misconfigures, sets_min_tsdr, sends_diagnosis, unlocks};
 ghost use Rattle.dp_slave.specs.Fields.{acted, left_again as left_again_of};
 ghost use Rattle.dp_slave.specs.Services.{chk_cfg_act, exchange_act, set_prm_act};
 ghost use Rattle.dp_slave.specs.Reshaping.{reshaped};
@@ -248,7 +248,7 @@ impl Slave {
     /// sender holds the slave, the diagnosis is read then, and the watchdog gets its full time
     /// again. Another master changes nothing.
     pub fn slave_diag(&mut self, sender: u8) -> ArrayVec<u8, MOST_DATA>
-        ensures slave { self.new ≡ with_slave self.old (acted self.old.slave (tells_diagnosis sender)) }
+        ensures slave { self.new ≡ with_slave self.old (acted self.old.slave (sends_diagnosis sender)) }
         ensures octets { result.items ≡ diagnosis_text (diag_facts self.old.slave) }
     {
         let mut octets = ArrayVec::new();
@@ -259,7 +259,7 @@ impl Slave {
     /// Executes Slave_Diag, and writes its octets to `octets`. See [`Slave::slave_diag`].
     #[tactic(auto, unfolding(crate::specs::Fields::acted))]
     pub fn slave_diag_into(&mut self, sender: u8, octets: &mut ArrayVec<u8, MOST_DATA>)
-        ensures slave { self.new ≡ with_slave self.old (acted self.old.slave (tells_diagnosis sender)) }
+        ensures slave { self.new ≡ with_slave self.old (acted self.old.slave (sends_diagnosis sender)) }
         ensures octets { octets.new.items ≡ diagnosis_text (diag_facts self.old.slave) }
     {
         let facts = DiagFactsLent {

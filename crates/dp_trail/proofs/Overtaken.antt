@@ -43,9 +43,9 @@ long_as zero entries there = refl
 long_as (suc count) [] there = absurd (omega (arith, there))
 long_as (suc count) (entry ∷ entries) there = ap suc (long_as count entries (omega (arith, there)))
 
-abbrev entry_told : Answer → Option Entry
-entry_told (answers.Entry entry) = entry
-entry_told answer = None
+abbrev entry_reported : Answer → Option Entry
+entry_reported (answers.Entry entry) = entry
+entry_reported answer = None
 
 nobody : (none : Option Entry) → None ≡ none → IsSome none → ⊥
 nobody None is never = absurd cc
@@ -66,6 +66,6 @@ never_missed line state rule seat index pass seen accepted at missed = by (rule.
         let behind = missed.behind in
         let long : length (take missed.last.count content.book.entries) ≡ missed.last.count = long_as missed.last.count content.book.entries there in
         let none_lost_here : forgotten content.book.room (length (take missed.last.count content.book.entries)) ≡ 0 = none_lost content.book.room (length (take missed.last.count content.book.entries)) (omega (arith, long, there, all, room)) in
-        let told : answers.Entry None ≡ answer_in content.book.room (world_after content missed.last.count) (first_entries content missed.last.count) (asks.Entry (seen + 1)) =
+        let reported : answers.Entry None ≡ answer_in content.book.room (world_after content missed.last.count) (first_entries content missed.last.count) (asks.Entry (seen + 1)) =
         sym missed.none.1 ∙ fit.value ∙ ap (answer_in content.book.room (world_after content missed.last.count) (first_entries content missed.last.count)) missed.none.0 in
-        nobody None refl (is_there (take missed.last.count content.book.entries) seen None (omega (arith, long, behind)) (ap entry_told told ∙ none_forgotten content.book.room (take missed.last.count content.book.entries) (seen + 1) none_lost_here))
+        nobody None refl (is_there (take missed.last.count content.book.entries) seen None (omega (arith, long, behind)) (ap entry_reported reported ∙ none_forgotten content.book.room (take missed.last.count content.book.entries) (seen + 1) none_lost_here))

@@ -14,9 +14,9 @@ pub(crate) trait Answers {
 pub(crate) fn play<S: Answers>(alloc: Global, subject: &mut S, rows: &str) -> Result<(), Fail> {
     for row in rows.lines() {
         let (command, wanted) = row.split_once(" => ").ok_or("no row")?;
-        let told = subject.answer(alloc, command)?;
-        if told.as_str() != wanted {
-            return Err(told)?;
+        let reported = subject.answer(alloc, command)?;
+        if reported.as_str() != wanted {
+            return Err(reported)?;
         }
     }
     Ok(())

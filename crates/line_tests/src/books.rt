@@ -1,6 +1,6 @@
 //! Books: the answers to events, and the entries that the events leave, packed and unpacked.
 
-use crate::described::{is_told, line};
+use crate::described::{is_reported, line};
 use dp_audit::{Book, Entry, Record};
 use dp_line::{Event, Facts, LineSpec, Outcome, Step};
 use dp_text::{Text, event_in};
@@ -49,7 +49,7 @@ impl Desk {
         };
         let mut answer = Step::blank();
         self.other.take_into(&event, &mut answer);
-        let told = row_of(alloc, answer.place, &event, &answer.facts, &answer.outcome)?;
+        let reported = row_of(alloc, answer.place, &event, &answer.facts, &answer.outcome)?;
         let receipt = self.book.take(event);
         let same = row_of(
             alloc,
@@ -58,29 +58,29 @@ impl Desk {
             &receipt.facts,
             &receipt.outcome,
         )?;
-        if told != same {
+        if reported != same {
             return Err(Fail::new("two answers"));
         }
         let count = self.book.count();
         match answer.halted {
-            None => Ok(format!(in alloc; "{told}, {count}")?),
+            None => Ok(format!(in alloc; "{reported}, {count}")?),
             Some(addresses) => {
                 let let_go = addresses.as_slice();
-                Ok(format!(in alloc; "{told}, halts {let_go:?}, {count}")?)
+                Ok(format!(in alloc; "{reported}, halts {let_go:?}, {count}")?)
             }
         }
     }
 
     /// Gives the books the event of each row that has an arrow. Returns each event with its result.
     fn take_rows(&mut self, alloc: Global, rows: &str) -> Result<String, Fail> {
-        let mut told = String::new(alloc);
+        let mut reported = String::new(alloc);
         for row in rows.lines() {
             if let Some((event, _)) = row.split_once(ARROW) {
                 let answer = self.take(alloc, event)?;
-                told.push_str(&format!(in alloc; "{event}{ARROW}{answer}\n")?)?;
+                reported.push_str(&format!(in alloc; "{event}{ARROW}{answer}\n")?)?;
             }
         }
-        Ok(told)
+        Ok(reported)
     }
 }
 
@@ -142,31 +142,33 @@ pub(crate) fn place_of(alloc: Global, book: &Book, place: u32) -> Result<String,
 fn book_of(alloc: Global, book: &Book) -> Result<String, Fail> {
     let (number, count, capacity) = (book.number(), book.count(), book.capacity());
     let halted = book.state().is_halted();
-    let mut told = format!(in alloc; "line {number}, {count} of {capacity}, halted {halted}\n")?;
+    let mut reported = format!(in alloc;
+        "line {number}, {count} of {capacity}, halted {halted}\n"
+    )?;
     for place in 0..count.saturating_add(2) {
-        told.push_str(&place_of(alloc, book, place)?)?;
+        reported.push_str(&place_of(alloc, book, place)?)?;
     }
-    told.push_str(&place_of(alloc, book, u32::MAX)?)?;
-    Ok(told)
+    reported.push_str(&place_of(alloc, book, u32::MAX)?)?;
+    Ok(reported)
 }
 
 /// Checks the transcript of two new books of a line with masters 1 and 2: the events with their results, and then the
 /// text of the books, which is the same for both.
-fn books_tell(alloc: Global, capacity: u32, slaves: &[u8], transcript: &str) -> Result<(), Fail> {
+fn books_report(alloc: Global, capacity: u32, slaves: &[u8], transcript: &str) -> Result<(), Fail> {
     let mut desk = fresh_desk(alloc, &line(alloc, 1, capacity, &[1, 2], slaves)?)?;
-    let mut told = desk.take_rows(alloc, transcript)?;
+    let mut reported = desk.take_rows(alloc, transcript)?;
     let book = book_of(alloc, &desk.book)?;
     if book != book_of(alloc, &desk.other)? {
         return Err(Fail::new("two books"));
     }
-    told.push_str(&book)?;
-    is_told(told, transcript)
+    reported.push_str(&book)?;
+    is_reported(reported, transcript)
 }
 
 /// A refused event takes no place, and the halt is recorded in place of the second request.
 #[test]
 fn halt_at_last_place(rt: HostRuntime) -> Result<(), Fail> {
-    books_tell(
+    books_report(
         rt.alloc(),
         2,
         &[5],
@@ -189,7 +191,7 @@ at 4294967295: none = none
 
 #[test]
 fn no_entry(rt: HostRuntime) -> Result<(), Fail> {
-    books_tell(
+    books_report(
         rt.alloc(),
         2,
         &[5],
@@ -205,7 +207,7 @@ at 4294967295: none = none
 /// A request for the FDL status on a fresh line, and then a tick of 10 units that releases no slave.
 #[test]
 fn two_entries(rt: HostRuntime) -> Result<(), Fail> {
-    books_tell(
+    books_report(
         rt.alloc(),
         1000,
         &[5],
@@ -226,7 +228,7 @@ at 4294967295: none = none
 /// The record of a busy mark at a slave that exchanges data with master 1.
 #[test]
 fn packed_mark(rt: HostRuntime) -> Result<(), Fail> {
-    books_tell(
+    books_report(
         rt.alloc(),
         1000,
         &[5],
@@ -250,7 +252,7 @@ at 4294967295: none = none
 /// configuration.
 #[test]
 fn packed_spread(rt: HostRuntime) -> Result<(), Fail> {
-    books_tell(
+    books_report(
         rt.alloc(),
         1000,
         &[7, 126],
@@ -278,7 +280,7 @@ at 4294967295: none = none
 fn refused(alloc: Global, capacity: u32, masters: &[u8], expected: &str) -> Result<(), Fail> {
     match Book::open(alloc, &line(alloc, 1, capacity, masters, &[5])?) {
         Ok(_) => Err(Fail::new("opened")),
-        Err(fault) => is_told(format!(in alloc; "{fault:?}")?, expected),
+        Err(fault) => is_reported(format!(in alloc; "{fault:?}")?, expected),
     }
 }
 

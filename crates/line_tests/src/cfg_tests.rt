@@ -42,7 +42,7 @@ fn each_text(alloc: Global, head: u8) -> Result<String, Fail> {
     if head > 15 {
         return Err("four bits")?;
     }
-    let mut told = String::new(alloc);
+    let mut reported = String::new(alloc);
     for low in 0..16u8 {
         let octet = head * 16 + low;
         let separator = if low == 0 { "" } else { " " };
@@ -50,9 +50,9 @@ fn each_text(alloc: Global, head: u8) -> Result<String, Fail> {
             Ok((inputs, outputs)) => format!(in alloc; "{separator}{inputs}/{outputs}")?,
             Err(fault) => format!(in alloc; "{separator}{}", fault.name())?,
         };
-        told.push_str(&one)?;
+        reported.push_str(&one)?;
     }
-    Ok(told)
+    Ok(reported)
 }
 
 impl Answers for CfgIds {

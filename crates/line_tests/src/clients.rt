@@ -231,7 +231,7 @@ pub fn agrees_with_itself(line: &LineState)
         → line.now.world.halted ≡ false
         → Agrees master address line.now.world line.now.world }
 {
-    dp_line::laws::facts_tell_masters();
+    dp_line::laws::facts_name_masters();
     line.holders_are_masters();
 }
 

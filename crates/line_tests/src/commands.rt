@@ -6,7 +6,7 @@ use dp_line::{Event, LineState, Outcome, SlaveView, Step};
 use dp_text::{Text, Words, event_in, is_text, octet_in, octets_in, only_octet_in};
 use std::test::Fail;
 
-/// Appends the answer to a command to `told`:
+/// Appends the answer to a command to `reported`:
 ///
 /// - an event as a journal writes it, or `ask M A FC POINT HEX` for a request of a master to the point
 ///   of a slave, with SSAP 62: `PLACE | FACTS | OUTCOME`, as [`push_step`] writes it
@@ -17,27 +17,35 @@ use std::test::Fail;
 pub(crate) fn answer(
     state: &mut LineState,
     command: &[u8],
-    told: &mut Vec<u8>,
+    reported: &mut Vec<u8>,
 ) -> Result<(), Fail> {
     let mut words = Words::new(command);
     let kind = words.next().ok_or("a command")?;
     if is_text(kind, b"owned") {
-        return push_owned(state, only_octet_in(&mut words).ok_or("a master")?, told);
+        return push_owned(
+            state,
+            only_octet_in(&mut words).ok_or("a master")?,
+            reported,
+        );
     }
     if is_text(kind, b"show") {
-        return push_shown(state, only_octet_in(&mut words).ok_or("an address")?, told);
+        return push_shown(
+            state,
+            only_octet_in(&mut words).ok_or("an address")?,
+            reported,
+        );
     }
     if is_text(kind, b"seen") {
         let address = only_octet_in(&mut words).ok_or("an address")?;
-        return push_seen(&state.view(address).ok_or("a slave")?, told);
+        return push_seen(&state.view(address).ok_or("a slave")?, reported);
     }
     if is_text(kind, b"count") {
-        return push_count(state, told);
+        return push_count(state, reported);
     }
     if is_text(kind, b"walk") {
-        return push_walk(state, told);
+        return push_walk(state, reported);
     }
-    push_step(&state.take(&event_of(command)?), told)
+    push_step(&state.take(&event_of(command)?), reported)
 }
 
 /// Returns the event of a text.
@@ -73,18 +81,18 @@ fn asked(words: &mut Words<'_>) -> Result<Event, Fail> {
 }
 
 /// Appends a text, without the LF that it may end with.
-fn push(told: &mut Vec<u8>, text: &Text) -> Result<(), Fail> {
+fn push(reported: &mut Vec<u8>, text: &Text) -> Result<(), Fail> {
     let octets = match text.as_bytes() {
         [front @ .., b'\n'] => front,
         octets => octets,
     };
-    told.extend_from_slice(octets)?;
+    reported.extend_from_slice(octets)?;
     Ok(())
 }
 
 /// Appends `PLACE | FACTS | OUTCOME`; PLACE is `-` if the event is not recorded. If the halt was recorded instead,
 /// appends ` | released` with ` A` for each slave that had a holder.
-pub(crate) fn push_step(step: &Step, told: &mut Vec<u8>) -> Result<(), Fail> {
+pub(crate) fn push_step(step: &Step, reported: &mut Vec<u8>) -> Result<(), Fail> {
     let mut text = Text::new();
     match step.place {
         Some(place) => text.push_number(place),
@@ -94,33 +102,33 @@ pub(crate) fn push_step(step: &Step, told: &mut Vec<u8>) -> Result<(), Fail> {
     text.push_facts(&step.facts);
     text.push_str(" | ");
     text.push_outcome(&step.outcome);
-    push(told, &text)?;
+    push(reported, &text)?;
     if let Some(addresses) = &step.halted {
         text.clear();
         text.push_str(" | ");
         text.push_outcome(&Outcome::Released(addresses.clone()?));
-        push(told, &text)?;
+        push(reported, &text)?;
     }
     Ok(())
 }
 
 /// Appends `owned` with ` A` for each slave of a master.
-fn push_owned(state: &LineState, master: u8, told: &mut Vec<u8>) -> Result<(), Fail> {
+fn push_owned(state: &LineState, master: u8, reported: &mut Vec<u8>) -> Result<(), Fail> {
     let mut text = Text::new();
     text.set_owned(&state.owned_by(master));
-    push(told, &text)
+    push(reported, &text)
 }
 
 /// Appends `show A STATE HOLDER in HEX out HEX wd N`.
-fn push_shown(state: &LineState, address: u8, told: &mut Vec<u8>) -> Result<(), Fail> {
+fn push_shown(state: &LineState, address: u8, reported: &mut Vec<u8>) -> Result<(), Fail> {
     let mut text = Text::new();
     text.set_show(&state.view(address));
-    push(told, &text)
+    push(reported, &text)
 }
 
 /// Appends `since N`, then ` sync` in sync mode, ` ext` if Ext_Diag is set, ` unread` if the diagnosis is unread, and
 /// the octets of the extended diagnosis in brackets.
-fn push_seen(slave: &SlaveView, told: &mut Vec<u8>) -> Result<(), Fail> {
+fn push_seen(slave: &SlaveView, reported: &mut Vec<u8>) -> Result<(), Fail> {
     let mut text = Text::new();
     text.push_str("since ");
     text.push_number(slave.since);
@@ -130,20 +138,20 @@ fn push_seen(slave: &SlaveView, told: &mut Vec<u8>) -> Result<(), Fail> {
     text.push_str(" [");
     text.push_hex(&slave.diag.octets);
     text.push_str("]");
-    push(told, &text)
+    push(reported, &text)
 }
 
 /// Appends `N`, or `N halted`.
-fn push_count(state: &LineState, told: &mut Vec<u8>) -> Result<(), Fail> {
+fn push_count(state: &LineState, reported: &mut Vec<u8>) -> Result<(), Fail> {
     let mut text = Text::new();
     text.push_number(state.count());
     text.push_str(if state.is_halted() { " halted" } else { "" });
-    push(told, &text)
+    push(reported, &text)
 }
 
 /// Appends `N`.
-fn push_walk(state: &LineState, told: &mut Vec<u8>) -> Result<(), Fail> {
+fn push_walk(state: &LineState, reported: &mut Vec<u8>) -> Result<(), Fail> {
     let mut text = Text::new();
     text.push_number(state.last_walk());
-    push(told, &text)
+    push(reported, &text)
 }

@@ -7,11 +7,11 @@ use std::alloc::Global;
 use std::test::Fail;
 
 /// Checks that a text is the expected one. Fails with the text if it is not.
-pub(crate) fn is_told(told: String, expected: &str) -> Result<(), Fail> {
-    if told.as_str() == expected {
+pub(crate) fn is_reported(reported: String, expected: &str) -> Result<(), Fail> {
+    if reported.as_str() == expected {
         Ok(())
     } else {
-        Err(told)?
+        Err(reported)?
     }
 }
 

@@ -20,7 +20,11 @@ pub(crate) fn is_shown<T: Debug>(alloc: Global, value: &T, expected: &str) -> Re
 }
 
 /// Checks that a value is shown by `Display` as expected.
-pub(crate) fn is_told<T: Display>(alloc: Global, value: &T, expected: &str) -> Result<(), Fail> {
+pub(crate) fn is_reported<T: Display>(
+    alloc: Global,
+    value: &T,
+    expected: &str,
+) -> Result<(), Fail> {
     let found = format!(in alloc; "{value}")?;
     is_same(alloc, &found, expected)
 }

@@ -221,9 +221,9 @@ fn is_headline(
 ) -> Result<(), Fail> {
     let before = events_of(alloc, before)?;
     let after = headline(state, &before, &event_of(event.as_bytes())?, 1, 6);
-    let mut told = Vec::new(alloc);
-    push_step(&after.answer, &mut told)?;
-    same(told, wanted.as_bytes())?;
+    let mut reported = Vec::new(alloc);
+    push_step(&after.answer, &mut reported)?;
+    same(reported, wanted.as_bytes())?;
     if after.owned.is_empty() && after.view == state.view(6) {
         Ok(())
     } else {
@@ -259,9 +259,9 @@ fn is_refused(alloc: Global, description: &str, wanted: &str) -> Result<(), Fail
     text.push_str(fault.name());
     text.push_str(" ");
     text.push_octet(fault.code());
-    let mut told = Vec::new(alloc);
-    told.extend_from_slice(text.as_bytes())?;
-    same(told, wanted.as_bytes())
+    let mut reported = Vec::new(alloc);
+    reported.extend_from_slice(text.as_bytes())?;
+    same(reported, wanted.as_bytes())
 }
 
 /// Checks that each description is refused as its row `DESCRIPTION => FAULT CODE` says.

@@ -6,12 +6,12 @@ use dp_line::LineState;
 use std::alloc::Global;
 use std::test::Fail;
 
-/// Compares two texts. Fails with the text `told` if they differ.
-pub(crate) fn same(told: Vec<u8>, wanted: &[u8]) -> Result<(), Fail> {
-    if told.as_slice() == wanted {
+/// Compares two texts. Fails with the text `reported` if they differ.
+pub(crate) fn same(reported: Vec<u8>, wanted: &[u8]) -> Result<(), Fail> {
+    if reported.as_slice() == wanted {
         Ok(())
     } else {
-        Err(String::from_utf8(told)?)?
+        Err(String::from_utf8(reported)?)?
     }
 }
 
@@ -19,9 +19,9 @@ pub(crate) fn same(told: Vec<u8>, wanted: &[u8]) -> Result<(), Fail> {
 pub(crate) fn play(alloc: Global, state: &mut LineState, rows: &str) -> Result<(), Fail> {
     for row in rows.lines() {
         let (command, wanted) = row.split_once(" => ").ok_or("no row")?;
-        let mut told = Vec::new(alloc);
-        answer(state, command.as_bytes(), &mut told)?;
-        same(told, wanted.as_bytes())?;
+        let mut reported = Vec::new(alloc);
+        answer(state, command.as_bytes(), &mut reported)?;
+        same(reported, wanted.as_bytes())?;
     }
     Ok(())
 }

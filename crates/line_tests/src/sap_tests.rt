@@ -155,13 +155,13 @@ fn found_text(alloc: Global, found: Result<Point, SapFault>) -> Result<String, F
 
 /// Returns the points of the table that are marked as busy.
 fn marks_text(alloc: Global, points: &Points) -> Result<String, Fail> {
-    let mut told = text(alloc, "marks")?;
+    let mut reported = text(alloc, "marks")?;
     for number in TABLE {
         if points.find(number).busy {
-            told.push_str(&format!(in alloc; " {number:?}")?)?;
+            reported.push_str(&format!(in alloc; " {number:?}")?)?;
         }
     }
-    Ok(told)
+    Ok(reported)
 }
 
 /// Returns the numbers of the named points, and the most octets of data.

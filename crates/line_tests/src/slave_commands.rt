@@ -73,14 +73,14 @@ impl Answers for Slave {
     fn answer(&mut self, alloc: Global, command: &str) -> Result<String, Fail> {
         let mut words = Words::new(command);
         let kind = words.word()?;
-        if let Some(told) = shown(alloc, self, kind)? {
-            return Ok(told);
+        if let Some(reported) = shown(alloc, self, kind)? {
+            return Ok(reported);
         }
         if change(self, kind) {
             return text(alloc, "done");
         }
-        if let Some(told) = request(alloc, self, kind, &mut words)? {
-            return Ok(told);
+        if let Some(reported) = request(alloc, self, kind, &mut words)? {
+            return Ok(reported);
         }
         event(alloc, self, kind, &mut words)
     }
@@ -88,7 +88,7 @@ impl Answers for Slave {
 
 /// Returns what a slave shows under this name, or None if the name is no such command.
 fn shown(alloc: Global, slave: &Slave, kind: &str) -> Result<Option<String>, Fail> {
-    let told = match kind {
+    let reported = match kind {
         "address" => format!(in alloc; "{}", slave.address())?,
         "state" => format!(in alloc; "{:?}", slave.points().state())?,
         "hold" => hold_text(alloc, slave)?,
@@ -103,7 +103,7 @@ fn shown(alloc: Global, slave: &Slave, kind: &str) -> Result<Option<String>, Fai
         "links" => format!(in alloc; "{:?}", slave.links())?,
         _ => return Ok(None),
     };
-    Ok(Some(told))
+    Ok(Some(reported))
 }
 
 /// Returns the state, the holder, and the place of the lock.
@@ -144,7 +144,7 @@ fn request(
     kind: &str,
     words: &mut Words<'_>,
 ) -> Result<Option<String>, Fail> {
-    let told = match kind {
+    let reported = match kind {
         "set_prm" => {
             let (sender, place) = (words.number()?, words.number()?);
             slave.set_prm(sender, u32::from(place), &words.array::<244>(alloc)?);
@@ -159,7 +159,7 @@ fn request(
         "control" => control(alloc, slave, &words.octets(alloc)?)?,
         _ => return Ok(None),
     };
-    Ok(Some(told))
+    Ok(Some(reported))
 }
 
 /// Passes data of the holder to the slave, and returns the priority of the reply.

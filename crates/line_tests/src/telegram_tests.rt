@@ -98,9 +98,9 @@ fn telegram_text(alloc: Global, telegram: &Telegram) -> Result<String, Fail> {
 fn decoded(alloc: Global, octets: &[u8]) -> Result<String, Fail> {
     match decode(octets) {
         Ok(frame) => {
-            let told = frame_text(alloc, &frame)?;
+            let reported = frame_text(alloc, &frame)?;
             let written = hex_text(alloc, &encode(&frame))?;
-            Ok(format!(in alloc; "{told} | {written}")?)
+            Ok(format!(in alloc; "{reported} | {written}")?)
         }
         Err(fault) => Ok(format!(in alloc; "{} {}", fault.name(), fault.code())?),
     }
@@ -113,8 +113,8 @@ fn whole_text(alloc: Global, octets: &[u8]) -> Result<String, Fail> {
     };
     let octets = hex_text(alloc, whole.octets())?;
     let frame = whole.frame();
-    let told = lent_text(alloc, &frame)?;
-    Ok(format!(in alloc; "{octets} {:?} {told}", frame.source())?)
+    let reported = lent_text(alloc, &frame)?;
+    Ok(format!(in alloc; "{octets} {:?} {reported}", frame.source())?)
 }
 
 /// Returns the text of a frame that is read in place.

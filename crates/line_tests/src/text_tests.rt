@@ -1,4 +1,4 @@
-use crate::fixtures::{is_same, is_shown, is_told};
+use crate::fixtures::{is_reported, is_same, is_shown};
 use arrayvec::ArrayVec;
 use dp_line::{OpenFault, Outcome, Rule};
 use dp_telegram::{FrameFault, Octets};
@@ -294,13 +294,13 @@ fn reads_requests_of_255_octets(rt: HostRuntime) -> Result<(), Fail> {
 
 #[test]
 fn faults_are_shown_by_their_names(rt: HostRuntime) -> Result<(), Fail> {
-    is_told(rt.alloc(), &OpenFault::TwiceAddress, "TwiceAddress")?;
-    is_told(rt.alloc(), &FrameFault::Short, "Short")?;
-    is_told(rt.alloc(), &RackFault::BadKey, "BadKey")?;
+    is_reported(rt.alloc(), &OpenFault::TwiceAddress, "TwiceAddress")?;
+    is_reported(rt.alloc(), &FrameFault::Short, "Short")?;
+    is_reported(rt.alloc(), &RackFault::BadKey, "BadKey")?;
     is_shown(rt.alloc(), &RackFault::BadKey.code(), "3")?;
     is_shown(rt.alloc(), &RackFault::TwiceLine.code(), "4")?;
     let refused = RackFault::Open(2, OpenFault::Limit);
-    is_told(rt.alloc(), &refused, "line 2 Limit")?;
+    is_reported(rt.alloc(), &refused, "line 2 Limit")?;
     is_same(rt.alloc(), refused.name(), "Open")?;
     is_same(rt.alloc(), Rule::NotSelected.name(), "NotSelected")
 }
@@ -343,6 +343,6 @@ fn refuses_what_is_no_line_of_an_operator(rt: HostRuntime) -> Result<(), Fail> {
             "line 1",
         ],
     )?;
-    is_told(rt.alloc(), &TextFault::NotACommand, "NotACommand")?;
+    is_reported(rt.alloc(), &TextFault::NotACommand, "NotACommand")?;
     is_shown(rt.alloc(), &TextFault::NotACommand.code(), "1")
 }

@@ -3,7 +3,7 @@
 ghost use Rattle.std.specs.Prelude.{◌≡◌, None, IfOk};
 ghost use Rattle.dp_line.specs.World.{description_of, opening_fault};
 
-use crate::described::{is_told, line};
+use crate::described::{is_reported, line};
 use dp_audit::{Book, check_text, is_header_of};
 use dp_line::LineSpec;
 use std::alloc::{AllocError, Global};
@@ -23,11 +23,11 @@ fn opened_line(alloc: Global, capacity: u32) -> Result<LineSpec, Fail>
 /// Checks a text. The result is `legal N` with the number of entries, or the fault and its number.
 fn checks(alloc: Global, capacity: u32, text: &str, expected: &str) -> Result<(), Fail> {
     let line = opened_line(alloc, capacity)?;
-    let told = match check_text(alloc, &line, text) {
+    let reported = match check_text(alloc, &line, text) {
         Ok(count) => format!(in alloc; "legal {count}")?,
         Err(fault) => format!(in alloc; "{fault}, fault {}", fault.code())?,
     };
-    is_told(told, expected)
+    is_reported(reported, expected)
 }
 
 /// Checks each of these texts on a line with 1000 places.
@@ -55,7 +55,7 @@ fn run_is_accepted(rt: HostRuntime) -> Result<(), Fail> {
 }
 
 /// Returns the expected result for the beginning of a text that ends with this octet, after `rows` whole lines.
-fn told_of_beginning(alloc: Global, last: u8, rows: u32) -> Result<String, AllocError> {
+fn reported_of_beginning(alloc: Global, last: u8, rows: u32) -> Result<String, AllocError> {
     if last == b'\n' {
         format!(in alloc; "legal {rows}")
     } else {
@@ -72,7 +72,7 @@ fn beginnings_check(alloc: Global, text: &str) -> Result<(), Fail> {
         let Some(beginning) = octets.get(..=index) else {
             return Err(Fail::new("no beginning"));
         };
-        let expected = told_of_beginning(alloc, *last, rows)?;
+        let expected = reported_of_beginning(alloc, *last, rows)?;
         checks(
             alloc,
             1000,
@@ -215,7 +215,7 @@ rack-audit 2 line 1
 fn heads(alloc: Global, row: &str, expected: &str) -> Result<(), Fail> {
     let own = is_header_of(row.as_bytes(), &line(alloc, 1, 1000, &[1], &[5])?);
     let other = is_header_of(row.as_bytes(), &line(alloc, 2, 1000, &[1], &[5])?);
-    is_told(format!(in alloc; "{own} {other}")?, expected)
+    is_reported(format!(in alloc; "{own} {other}")?, expected)
 }
 
 #[test]

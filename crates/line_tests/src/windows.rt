@@ -1,7 +1,7 @@
 //! Endless books: the entries that they have after each event, and when they have an audit text.
 
 use crate::books::{place_of, record_of};
-use crate::described::{is_told, line};
+use crate::described::{is_reported, line};
 use dp_audit::Book;
 use dp_line::Step;
 use dp_text::event_in;
@@ -88,7 +88,7 @@ impl Books {
     /// Compares the endless book with what it must have.
     fn compare(&self, alloc: Global, count: u32, forgotten: u32) -> Result<(), Fail> {
         let expected = self.expected(alloc, count, forgotten)?;
-        is_told(self.kept(alloc)?, &expected)
+        is_reported(self.kept(alloc)?, &expected)
     }
 }
 
@@ -147,8 +147,8 @@ fn write(alloc: Global, count: usize, endless: &str, ordinary: &str) -> Result<(
     for entry in ENTRIES.iter().take(count) {
         books.take(entry)?;
     }
-    is_told(written(alloc, &books.endless)?, endless)?;
-    is_told(written(alloc, &books.ordinary)?, ordinary)
+    is_reported(written(alloc, &books.endless)?, endless)?;
+    is_reported(written(alloc, &books.ordinary)?, ordinary)
 }
 
 /// The audit text of the first four entries of an endless book.

@@ -1,6 +1,6 @@
 //! The writing of audit texts, whole or not.
 
-use crate::described::{is_told, line};
+use crate::described::{is_reported, line};
 use dp_audit::Book;
 use dp_text::{WriteFault, event_in};
 use std::alloc::Global;
@@ -54,7 +54,7 @@ fn writes(
     let book = book_behind(alloc, number, capacity, events)?;
     let mut written: Vec<u8> = Vec::new(alloc);
     book.write_text(&mut written)?;
-    is_told(String::from_utf8(written)?, expected)
+    is_reported(String::from_utf8(written)?, expected)
 }
 
 /// Checks what a writer with this room took, and then how the writing ended, with the number of the fault.
@@ -73,7 +73,7 @@ fn writes_into(
     };
     let end = book.write_text(&mut narrow);
     drop(book);
-    is_told(ended(alloc, narrow.taken, end)?, expected)
+    is_reported(ended(alloc, narrow.taken, end)?, expected)
 }
 
 /// Returns what was taken, and then how the writing ended.

@@ -4,7 +4,7 @@ use crate::lines::{ClosedDesk, closed_desk, fresh_desk};
 use dp_audit::Receipt;
 use dp_line::Outcome;
 use dp_shared::Closed;
-use fixtures::rows::{ARROW, is_told};
+use fixtures::rows::{ARROW, is_reported};
 use std::alloc::Global;
 use std::sync::Wait;
 use std::test::Fail;
@@ -66,14 +66,14 @@ fn agreements<R: Wait>(rt: &R, alloc: Global, transcript: &str) -> Result<(), Fa
         receipts,
         ..
     } = closed_desk(rt, alloc, desk)?;
-    let mut told = String::new(alloc);
+    let mut reported = String::new(alloc);
     for row in transcript.lines() {
         if let Some((row, _)) = row.split_once(ARROW) {
             let answer = agrees(alloc, &closed, receipts.as_slice(), row)?;
-            told.push_str(&format!(in alloc; "{row}{ARROW}{answer}\n")?)?;
+            reported.push_str(&format!(in alloc; "{row}{ARROW}{answer}\n")?)?;
         }
     }
-    is_told(told, transcript)
+    is_reported(reported, transcript)
 }
 
 #[test]

@@ -6,7 +6,7 @@ ghost use Rattle.dp_shared.specs.Claims.{IsNewSeat};
 use dp_line::Device;
 use dp_shared::{Claims, WorkerSeat};
 use fixtures::line_specs::line_spec;
-use fixtures::rows::{ARROW, is_told};
+use fixtures::rows::{ARROW, is_reported};
 use std::alloc::{AllocError, Global};
 use std::sync::Wait;
 use std::sync::atomic::AtomicU64;
@@ -36,7 +36,7 @@ fn fresh_desk(alloc: Global) -> Result<Desk, Fail> {
 }
 
 /// Carries out `claim A`, `look A` or `release` of a seat, and returns the result.
-fn tells(
+fn reports(
     alloc: Global,
     claims: &Claims,
     seat: &mut WorkerSeat,
@@ -72,8 +72,8 @@ fn claim(alloc: Global, claims: &Claims, seat: &mut WorkerSeat, address: u8) -> 
         Ok(()) => holding(alloc, "ok, ", seat),
         Err(fault) => {
             let code = fault.code();
-            let told = format!(in alloc; "{fault} {code}, ")?;
-            holding(alloc, &told, seat)
+            let reported = format!(in alloc; "{fault} {code}, ")?;
+            holding(alloc, &reported, seat)
         }
     }
 }
@@ -105,22 +105,22 @@ impl Desk {
     /// Carries out a row: `1` or `2` for the seat, and its action. Returns the result.
     fn play(&mut self, alloc: Global, row: &str) -> Result<String, Fail> {
         match row.split_once(' ') {
-            Some(("1", action)) => tells(alloc, &self.claims, &mut self.first, action),
-            Some(("2", action)) => tells(alloc, &self.claims, &mut self.second, action),
+            Some(("1", action)) => reports(alloc, &self.claims, &mut self.first, action),
+            Some(("2", action)) => reports(alloc, &self.claims, &mut self.second, action),
             _ => Err(Fail::new("no seat")),
         }
     }
 
     /// Carries out each row that has an arrow. Returns each row with its result.
     fn play_rows(&mut self, alloc: Global, rows: &str) -> Result<String, Fail> {
-        let mut told = String::new(alloc);
+        let mut reported = String::new(alloc);
         for row in rows.lines() {
             if let Some((row, _)) = row.split_once(ARROW) {
                 let answer = self.play(alloc, row)?;
-                told.push_str(&format!(in alloc; "{row}{ARROW}{answer}\n")?)?;
+                reported.push_str(&format!(in alloc; "{row}{ARROW}{answer}\n")?)?;
             }
         }
-        Ok(told)
+        Ok(reported)
     }
 }
 
@@ -141,23 +141,23 @@ fn listed(
 }
 
 /// Checks the transcript of two seats, and how many held an address when the claims were closed.
-fn claims_tell(alloc: Global, transcript: &str) -> Result<(), Fail> {
+fn claims_report(alloc: Global, transcript: &str) -> Result<(), Fail> {
     let mut desk = fresh_desk(alloc)?;
-    let mut told = desk.play_rows(alloc, transcript)?;
+    let mut reported = desk.play_rows(alloc, transcript)?;
     let Desk {
         claims,
         first,
         second,
     } = desk;
     let held = claims.close(listed(alloc, first, second)?);
-    told.push_str(&format!(in alloc; "closed, {held} held\n")?)?;
-    is_told(told, transcript)
+    reported.push_str(&format!(in alloc; "closed, {held} held\n")?)?;
+    is_reported(reported, transcript)
 }
 
 /// Tests also that each seat can claim an address that the other released.
 #[test]
 fn an_address_is_claimed_once(rt: HostRuntime) -> Result<(), Fail> {
-    claims_tell(
+    claims_report(
         rt.alloc(),
         "\
 1 claim 1 -> ok, holds 1
@@ -261,7 +261,7 @@ fn contended<R: Threads + Wait + Sync>(rt: &R, alloc: Global) -> Result<String, 
 
 #[test]
 fn eight_threads_hold_one_at_a_time(rt: HostRuntime) -> Result<(), Fail> {
-    is_told(
+    is_reported(
         contended(&rt, rt.alloc())?,
         "0 clashes, claimed true, 0 holders, false, ok, holds 1",
     )

@@ -3,7 +3,7 @@
 use arrayvec::ArrayVec;
 use dp_devices::{driven_slaves, next_inputs};
 use dp_line::{Device, LineSpec, Lists, SlaveSpec};
-use fixtures::rows::{hex_of, is_told, octets_of};
+use fixtures::rows::{hex_of, is_reported, octets_of};
 use std::alloc::{AllocError, Global};
 use std::test::Fail;
 
@@ -18,7 +18,7 @@ fn feeds(
     let inputs = octets_of(inputs)?;
     let outputs = octets_of(outputs)?;
     let next = next_inputs(device, inputs.as_slice(), outputs.as_slice());
-    is_told(hex_of(alloc, next.as_slice())?, expected)
+    is_reported(hex_of(alloc, next.as_slice())?, expected)
 }
 
 #[test]
@@ -36,7 +36,7 @@ fn the_first_244_inputs_count(rt: HostRuntime) -> Result<(), Fail> {
     let inputs = [0xAA; 245];
     let next = next_inputs(Device::Counter, &inputs, &[]);
     let alloc = rt.alloc();
-    is_told(
+    is_reported(
         format!(in alloc;
             "{} {}",
             next.len(),
@@ -101,17 +101,17 @@ fn line_of(alloc: Global) -> Result<LineSpec, AllocError> {
 
 /// Returns the slaves of a line that devices drive, `ADDRESS DEVICE` each.
 fn driven_of(alloc: Global, line: &LineSpec) -> Result<String, AllocError> {
-    let mut told = String::new(alloc);
+    let mut reported = String::new(alloc);
     for slave in driven_slaves(line).as_slice() {
         let address = slave.address;
         let device = slave.device;
-        told.push_str(&format!(in alloc; "{address} {device:?}\n")?)?;
+        reported.push_str(&format!(in alloc; "{address} {device:?}\n")?)?;
     }
-    Ok(told)
+    Ok(reported)
 }
 
 #[test]
 fn driven_in_ascending_order(rt: HostRuntime) -> Result<(), Fail> {
     let line = line_of(rt.alloc())?;
-    is_told(driven_of(rt.alloc(), &line)?, "3 Counter\n9 Mirror\n")
+    is_reported(driven_of(rt.alloc(), &line)?, "3 Counter\n9 Mirror\n")
 }

@@ -1,7 +1,7 @@
 //! An endless line, which keeps taking events after an ordinary line would be full.
 
 use crate::lines::{ClosedDesk, closed_desk, endless_desk};
-use fixtures::rows::is_told;
+use fixtures::rows::is_reported;
 use std::alloc::Global;
 use std::sync::Wait;
 use std::test::Fail;
@@ -14,7 +14,7 @@ fn check_line<R: Wait>(rt: &R, alloc: Global, transcript: &str) -> Result<(), Fa
     let ClosedDesk { closed, .. } = closed_desk(rt, alloc, desk)?;
     let (count, agrees) = (closed.book().count(), closed.agrees(2, &[]));
     played.push_str(&format!(in alloc; "closed, {count} entries, agrees {agrees}\n")?)?;
-    is_told(played, transcript)
+    is_reported(played, transcript)
 }
 
 /// Master 1 locks the slave, whose watchdog is off. After 70,000 ticks the line is not halted, and master 1 still holds

@@ -1,13 +1,13 @@
 //! Faults that no other test meets.
 
 use dp_shared::ClaimsFault;
-use fixtures::rows::is_told;
+use fixtures::rows::is_reported;
 use std::test::Fail;
 
 #[test]
 fn faults_of_claims(rt: HostRuntime) -> Result<(), Fail> {
     let fault = ClaimsFault::NoTable;
-    is_told(
+    is_reported(
         format!(in rt.alloc(); "{fault} {}", fault.code())?,
         "NoTable 1",
     )

@@ -8,7 +8,7 @@ use dp_line::{Device, LineSpec};
 use dp_shared::laws::the_passes_have_all_entries;
 use dp_shared::{Closed, Line, Pass};
 use fixtures::line_specs::ample_line;
-use fixtures::rows::{is_told, octets_of};
+use fixtures::rows::{is_reported, octets_of};
 use std::alloc::Global;
 use std::sync::Wait;
 use std::test::Fail;
@@ -94,7 +94,7 @@ fn a_hand_back_adds_no_entry(rt: HostRuntime) -> Result<(), Fail> {
     let alloc = rt.alloc();
     let spec = ample_line(alloc, 1, Device::Still)?;
     let counted = hand_back_adds_no_entry(&rt, alloc, &spec, 2, 127)?;
-    is_told(
+    is_reported(
         counted_text(alloc, &counted)?,
         "0 before, 0 after, 0 at the end",
     )
@@ -110,7 +110,7 @@ fn a_hand_back_leaves_two_entries(rt: HostRuntime) -> Result<(), Fail> {
     line.exchange(&rt, &mut pass, &octets_of("100501495016")?);
     line.exchange(&rt, &mut other, &octets_of("100502495016")?);
     let counted = count_around_hand_back(&rt, alloc, line, pass, other)?;
-    is_told(
+    is_reported(
         counted_text(alloc, &counted)?,
         "2 before, 2 after, 2 at the end",
     )

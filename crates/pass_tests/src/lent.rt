@@ -12,7 +12,7 @@ use dp_sessions::{
 };
 use dp_shared::{Line, Pass};
 use fixtures::line_specs::ample_line;
-use fixtures::rows::{closed_with, hex_of, is_told, octets_of};
+use fixtures::rows::{closed_with, hex_of, is_reported, octets_of};
 use std::alloc::Global;
 use std::sync::Wait;
 use std::test::Fail;
@@ -67,7 +67,7 @@ fn check_master<T: Wait>(
     line.hand_back(rt, pass);
     let (made, written) = (reader.made, hex_of(alloc, &writer)?);
     let journal = closed_with(alloc, line, Vec::new(alloc))?;
-    is_told(
+    is_reported(
         format!(in alloc; "{end:?}, {made} reads, {written}\n{journal}")?,
         expected,
     )
@@ -126,7 +126,7 @@ fn check_operator<T: Wait>(
     line.hand_back(rt, pass);
     let (made, written) = (reader.made, String::from_utf8(writer)?);
     let journal = closed_with(alloc, line, Vec::new(alloc))?;
-    is_told(
+    is_reported(
         format!(in alloc; "{end:?}, {made} reads\n{written}{journal}")?,
         expected,
     )
@@ -158,7 +158,7 @@ fn check_port<T: Wait>(
         turns,
     );
     let (made, written) = (reader.made, hex_of(alloc, &writer)?);
-    is_told(
+    is_reported(
         format!(in alloc; "{end:?}, {made} reads, {written}")?,
         expected,
     )

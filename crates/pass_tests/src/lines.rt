@@ -8,7 +8,7 @@ use dp_line::{Device, Event, Op};
 use dp_shared::{Closed, Line, Pass, Seen};
 use dp_text::{Text, event_in};
 use fixtures::line_specs::line_spec;
-use fixtures::rows::{ARROW, audit_of, is_told};
+use fixtures::rows::{ARROW, audit_of, is_reported};
 use std::alloc::{AllocError, Global};
 use std::sync::Wait;
 use std::test::Fail;
@@ -87,9 +87,9 @@ impl Desk {
             return Err(Fail::new("no event"));
         };
         let receipt = self.send(rt, event)?;
-        let told = receipt_of(alloc, &receipt)?;
+        let reported = receipt_of(alloc, &receipt)?;
         self.receipts.push(receipt)?;
-        Ok(told)
+        Ok(reported)
     }
 
     /// Looks at a slave as the operator. Returns the number of entries and what is shown.
@@ -167,14 +167,14 @@ impl Desk {
         alloc: Global,
         rows: &str,
     ) -> Result<String, Fail> {
-        let mut told = String::new(alloc);
+        let mut reported = String::new(alloc);
         for row in rows.lines() {
             if let Some((row, _)) = row.split_once(ARROW) {
                 let answer = self.play(rt, alloc, row)?;
-                told.push_str(&format!(in alloc; "{row}{ARROW}{answer}\n")?)?;
+                reported.push_str(&format!(in alloc; "{row}{ARROW}{answer}\n")?)?;
             }
         }
-        Ok(told)
+        Ok(reported)
     }
 }
 
@@ -197,8 +197,8 @@ fn receipt_of(alloc: Global, receipt: &Receipt) -> Result<String, Fail> {
     text.push_facts(&receipt.facts);
     text.push_str(" | ");
     text.push_outcome(&receipt.outcome);
-    let told = std::str::from_utf8(text.as_bytes())?;
-    Ok(format!(in alloc; "{told}")?)
+    let reported = std::str::from_utf8(text.as_bytes())?;
+    Ok(format!(in alloc; "{reported}")?)
 }
 
 /// A line that is closed, its receipts, and the numbers of its entries before and after the masters' passes were
@@ -238,25 +238,25 @@ pub(crate) fn closed_desk<R: Wait>(rt: &R, alloc: Global, desk: Desk) -> Result<
 /// Checks the transcript of a new line with this many places: events and looks, the numbers of receipts with a place
 /// of masters 1 and 2 and the operator, the numbers of entries before and after the masters' passes are handed back,
 /// and the journal.
-fn lines_tell<R: Wait>(rt: &R, alloc: Global, places: u16, transcript: &str) -> Result<(), Fail> {
+fn lines_report<R: Wait>(rt: &R, alloc: Global, places: u16, transcript: &str) -> Result<(), Fail> {
     let mut desk = fresh_desk(rt, alloc, places)?;
-    let mut told = desk.play_rows(rt, alloc, transcript)?;
+    let mut reported = desk.play_rows(rt, alloc, transcript)?;
     let made = made_by(alloc, &desk.first, &desk.second, &desk.operator)?;
-    told.push_str(&format!(in alloc; "{made}\n")?)?;
+    reported.push_str(&format!(in alloc; "{made}\n")?)?;
     let ClosedDesk {
         closed,
         before,
         after,
         ..
     } = closed_desk(rt, alloc, desk)?;
-    told.push_str(&format!(in alloc; "handed back: {before}, then {after} entries\n")?)?;
-    told.push_str(&audit_of(alloc, closed.book())?)?;
-    is_told(told, transcript)
+    reported.push_str(&format!(in alloc; "handed back: {before}, then {after} entries\n")?)?;
+    reported.push_str(&audit_of(alloc, closed.book())?)?;
+    is_reported(reported, transcript)
 }
 
 #[test]
 fn places_and_looks(rt: HostRuntime) -> Result<(), Fail> {
-    lines_tell(
+    lines_report(
         &rt,
         rt.alloc(),
         1000,
@@ -281,7 +281,7 @@ rack-audit 2 line 1
 
 #[test]
 fn halt_at_the_last_place(rt: HostRuntime) -> Result<(), Fail> {
-    lines_tell(
+    lines_report(
         &rt,
         rt.alloc(),
         2,

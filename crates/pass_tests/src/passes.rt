@@ -6,7 +6,7 @@ ghost use Rattle.dp_shared.specs.Passes.{table_of};
 use dp_line::Device;
 use dp_shared::{CloseFault, Line, Pass};
 use fixtures::line_specs::line_spec;
-use fixtures::rows::{ARROW, close, closed_with, is_told, many_passes};
+use fixtures::rows::{ARROW, close, closed_with, is_reported, many_passes};
 use std::alloc::Global;
 use std::sync::Wait;
 use std::test::Fail;
@@ -32,9 +32,9 @@ impl Desk {
     fn open<R: Wait>(&mut self, rt: &R, alloc: Global, address: u8) -> Result<String, Fail> {
         match self.line.open_pass(rt, address) {
             Ok(pass) => {
-                let told = format!(in alloc; "pass {}", pass.address())?;
+                let reported = format!(in alloc; "pass {}", pass.address())?;
                 self.passes.push(pass)?;
-                Ok(told)
+                Ok(reported)
             }
             Err(fault) => Ok(format!(in alloc; "{fault} {}", fault.code())?),
         }
@@ -60,14 +60,14 @@ impl Desk {
 
     /// Carries out each row that has an arrow. Returns each row with its result.
     fn play_rows<R: Wait>(&mut self, rt: &R, alloc: Global, rows: &str) -> Result<String, Fail> {
-        let mut told = String::new(alloc);
+        let mut reported = String::new(alloc);
         for row in rows.lines() {
             if let Some((row, _)) = row.split_once(ARROW) {
                 let answer = self.play(rt, alloc, row)?;
-                told.push_str(&format!(in alloc; "{row}{ARROW}{answer}\n")?)?;
+                reported.push_str(&format!(in alloc; "{row}{ARROW}{answer}\n")?)?;
             }
         }
-        Ok(told)
+        Ok(reported)
     }
 }
 
@@ -75,10 +75,10 @@ impl Desk {
 /// journal of the line, closed with all passes.
 fn opens<R: Wait>(rt: &R, alloc: Global, count: usize, transcript: &str) -> Result<(), Fail> {
     let mut desk = fresh_desk(rt, alloc, count)?;
-    let mut told = desk.play_rows(rt, alloc, transcript)?;
+    let mut reported = desk.play_rows(rt, alloc, transcript)?;
     let Desk { line, passes } = desk;
-    told.push_str(&closed_with(alloc, line, passes)?)?;
-    is_told(told, transcript)
+    reported.push_str(&closed_with(alloc, line, passes)?)?;
+    is_reported(reported, transcript)
 }
 
 #[test]
@@ -127,7 +127,7 @@ fn closed_late<R: Wait>(rt: &R, alloc: Global) -> Result<String, Fail> {
 
 #[test]
 fn passes_out(rt: HostRuntime) -> Result<(), Fail> {
-    is_told(
+    is_reported(
         closed_late(&rt, rt.alloc())?,
         "fault 1, 1 back\nrack-audit 2 line 1\n",
     )

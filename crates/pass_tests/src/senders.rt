@@ -8,7 +8,7 @@ use dp_line::{Device, Op, Outcome};
 use dp_shared::{Closed, Line, Pass};
 use dp_telegram::Octets;
 use fixtures::line_specs::{line_spec, wide_line};
-use fixtures::rows::{close, is_told};
+use fixtures::rows::{close, is_reported};
 use std::alloc::Global;
 use std::sync::{Barrier, Mutex, Wait};
 use std::test::Fail;
@@ -204,7 +204,7 @@ fn replies_in(receipts: &[Receipt]) -> u32 {
 
 /// Returns how many entries the journal of a closed line has, how many receipts with a place the senders have in all,
 /// how many receipts have a reply, and how many senders have receipts that agree with the journal.
-fn told_of(alloc: Global, closed: &Closed, sent: &[Sent]) -> Result<String, Fail> {
+fn reported_of(alloc: Global, closed: &Closed, sent: &[Sent]) -> Result<String, Fail> {
     let (mut made, mut replies, mut agreeing): (u32, u32, u32) = (0, 0, 0);
     for one in sent {
         made = made.saturating_add(one.made);
@@ -218,8 +218,8 @@ fn told_of(alloc: Global, closed: &Closed, sent: &[Sent]) -> Result<String, Fail
 }
 
 /// Runs these senders in threads, which hand all passes back, and closes the line with no passes. Returns the counts of
-/// [`told_of`].
-fn senders_tell<R: Threads + Wait + Sync>(
+/// [`reported_of`].
+fn senders_report<R: Threads + Wait + Sync>(
     rt: &R,
     alloc: Global,
     line: Line,
@@ -233,14 +233,14 @@ fn senders_tell<R: Threads + Wait + Sync>(
     }
     let sent = sent.into_inner();
     match close(line, Vec::new(alloc)) {
-        Ok(closed) => told_of(alloc, &closed, &sent),
+        Ok(closed) => reported_of(alloc, &closed, &sent),
         Err(_) => Err(Fail::new("a pass is out")),
     }
 }
 
-/// Returns the counts of [`told_of`] after masters 1 and 2 sent `times` requests each to slave 5, and the operator one
+/// Returns the counts of [`reported_of`] after masters 1 and 2 sent `times` requests each to slave 5, and the operator one
 /// tick.
-fn two_and_a_tick_tell<R: Threads + Wait + Sync>(
+fn two_and_a_tick_report<R: Threads + Wait + Sync>(
     rt: &R,
     alloc: Global,
     times: u32,
@@ -248,13 +248,13 @@ fn two_and_a_tick_tell<R: Threads + Wait + Sync>(
     let line = Line::open(alloc, &line_spec(alloc, 1, 20_002, Device::Still)?)?;
     let mut senders = two_senders(rt, alloc, &line, times)?;
     senders.push(sender_of(rt, alloc, &line, 127, Octets::new(), 1)?)?;
-    senders_tell(rt, alloc, line, senders)
+    senders_report(rt, alloc, line, senders)
 }
 
 #[test]
 fn two_masters(rt: HostRuntime) -> Result<(), Fail> {
-    is_told(
-        two_and_a_tick_tell(&rt, rt.alloc(), 10)?,
+    is_reported(
+        two_and_a_tick_report(&rt, rt.alloc(), 10)?,
         "21 entries, made 21, 20 replies, 3 agree",
     )
 }
@@ -262,39 +262,39 @@ fn two_masters(rt: HostRuntime) -> Result<(), Fail> {
 /// Each master sends so many requests that some attempt to take the lock fails and is repeated.
 #[test]
 fn contended_lock(rt: HostRuntime) -> Result<(), Fail> {
-    is_told(
-        two_and_a_tick_tell(&rt, rt.alloc(), 10_000)?,
+    is_reported(
+        two_and_a_tick_report(&rt, rt.alloc(), 10_000)?,
         "20001 entries, made 20001, 20000 replies, 3 agree",
     )
 }
 
-/// Returns the counts of [`told_of`] after masters 1 and 2 sent slave 5 ten requests each on a line with two places.
-fn two_at_the_end_tell<R: Threads + Wait + Sync>(rt: &R, alloc: Global) -> Result<String, Fail> {
+/// Returns the counts of [`reported_of`] after masters 1 and 2 sent slave 5 ten requests each on a line with two places.
+fn two_at_the_end_report<R: Threads + Wait + Sync>(rt: &R, alloc: Global) -> Result<String, Fail> {
     let line = Line::open(alloc, &line_spec(alloc, 1, 2, Device::Still)?)?;
     let senders = two_senders(rt, alloc, &line, 10)?;
-    senders_tell(rt, alloc, line, senders)
+    senders_report(rt, alloc, line, senders)
 }
 
 /// One request is recorded, of either master, and then the halt.
 #[test]
 fn full_race(rt: HostRuntime) -> Result<(), Fail> {
-    is_told(
-        two_at_the_end_tell(&rt, rt.alloc())?,
+    is_reported(
+        two_at_the_end_report(&rt, rt.alloc())?,
         "2 entries, made 1, 1 replies, 2 agree",
     )
 }
 
-/// Returns the counts of [`told_of`] after masters 0 to 15 sent their requests at the same time.
-fn sixteen_tell<R: Threads + Wait + Sync>(rt: &R, alloc: Global) -> Result<String, Fail> {
+/// Returns the counts of [`reported_of`] after masters 0 to 15 sent their requests at the same time.
+fn sixteen_report<R: Threads + Wait + Sync>(rt: &R, alloc: Global) -> Result<String, Fail> {
     let line = Line::open(alloc, &wide_line(alloc)?)?;
     let senders = sixteen_senders(rt, alloc, &line)?;
-    senders_tell(rt, alloc, line, senders)
+    senders_report(rt, alloc, line, senders)
 }
 
 #[test]
 fn sixteen(rt: HostRuntime) -> Result<(), Fail> {
-    is_told(
-        sixteen_tell(&rt, rt.alloc())?,
+    is_reported(
+        sixteen_report(&rt, rt.alloc())?,
         "1600 entries, made 1600, 1600 replies, 16 agree",
     )
 }

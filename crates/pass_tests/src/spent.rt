@@ -10,7 +10,7 @@ use dp_line::{Device, LineSpec};
 use dp_sessions::{OpenGate, Port, Session, serve_operator_session, serve_session};
 use dp_shared::{Line, Spent, WorkerSeat};
 use fixtures::line_specs::ample_line;
-use fixtures::rows::{audit_of, is_told, octets_of};
+use fixtures::rows::{audit_of, is_reported, octets_of};
 use std::alloc::{AllocError, Global};
 use std::sync::Wait;
 use std::test::Fail;
@@ -92,7 +92,7 @@ fn check_both<T: Wait>(
     let (by_master, by_operator) = (master_reader.made, operator_reader.made);
     let (opened, left) = (closed.opened(), spent.len());
     let journal = audit_of(alloc, closed.book())?;
-    is_told(
+    is_reported(
         format!(in alloc;
             "reads {by_master} and {by_operator}, {opened} passes, {left} left\n{journal}"
         )?,

@@ -20,7 +20,7 @@ use dp_sessions::{Gate, OpenGate, Port, Session, SessionEnd, Uncounted, serve_se
 use dp_shared::laws::the_passes_have_all_entries;
 use dp_shared::{Claims, Closed, Line, Spent, WorkerSeat};
 use fixtures::line_specs::ample_line;
-use fixtures::rows::{hex_of, is_told, octets_of};
+use fixtures::rows::{hex_of, is_reported, octets_of};
 use std::alloc::{AllocError, Global};
 use std::io::{Read, Write};
 use std::snapshot::Snapshot;
@@ -338,21 +338,23 @@ fn clients_of<'a>(
 }
 
 /// Returns a line for each session: how it ended, what it wrote, and what the journal's entries of its address reply.
-fn told_of(
+fn reported_of(
     alloc: Global,
     book: &Book,
     streams: &[&[u8]],
     ended: &[Ended<&[u8], Vec<u8>>],
 ) -> Result<String, Fail> {
-    let mut told = String::new(alloc);
+    let mut reported = String::new(alloc);
     for (octets, one) in streams.iter().zip(ended) {
         let end = one.end;
         let written = hex_of(alloc, &one.client.writer)?;
         let address = octets.first().copied().unwrap_or(0);
         let replies = replies_to(alloc, book, address)?;
-        told.push_str(&format!(in alloc; "{end:?}, wrote {written}, entries reply {replies}\n")?)?;
+        reported.push_str(&format!(in alloc;
+            "{end:?}, wrote {written}, entries reply {replies}\n"
+        )?)?;
     }
-    Ok(told)
+    Ok(reported)
 }
 
 /// Serves these streams on a fresh line, each in a thread of its own. Checks the sessions, how many passes were opened,
@@ -366,10 +368,10 @@ fn check_threads<H: Threads + Wait + Sync>(
     let spec = ample_line(alloc, 1, Device::Still)?;
     let clients = clients_of(alloc, streams)?;
     let (closed, ended) = open_and_serve_all(rt, alloc, &spec, clients, &OpenGate, 9)?;
-    let told = told_of(alloc, closed.book(), streams, &ended)?;
+    let reported = reported_of(alloc, closed.book(), streams, &ended)?;
     let (opened, count) = (closed.opened(), closed.book().count());
-    is_told(
-        format!(in alloc; "{told}{opened} passes, {count} entries")?,
+    is_reported(
+        format!(in alloc; "{reported}{opened} passes, {count} entries")?,
         expected,
     )
 }

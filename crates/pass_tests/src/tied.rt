@@ -16,7 +16,7 @@ use dp_sessions::{Gate, OpenGate, Reads, serve_pass_by};
 use dp_shared::{Closed, Line, Pass};
 use dp_telegram::GLOBAL_ADDRESS;
 use fixtures::line_specs::ample_line;
-use fixtures::rows::{audit_of, hex_of, is_told, octets_of};
+use fixtures::rows::{audit_of, hex_of, is_reported, octets_of};
 use std::alloc::{AllocError, Global};
 use std::io::{Read, Write};
 use std::sync::Wait;
@@ -132,7 +132,7 @@ fn check_client<T: Wait>(
     let (made, written) = (reader.made, hex_of(alloc, &writer)?);
     let replies = replies_in(alloc, closed.book())?;
     let journal = audit_of(alloc, closed.book())?;
-    is_told(
+    is_reported(
         format!(in alloc; "{made} reads, wrote {written}, entries reply {replies}\n{journal}")?,
         expected,
     )

@@ -64,10 +64,10 @@ number_within least most place key (Ok (pos m)) n e =
 number_within least most place key (Ok (negsuc m)) n e = absurd cc
 number_within least most place key (Err cause) n e = absurd cc
 
-workers_told : (key : List ℕ) (value : Option Data) (workers : ℕ) → option_map_or (λ value. at_key Rack key (number_from 1 32 value)) value (Ok 4) ≡ Ok workers → IsFrom 1 32 workers
+workers_reported : (key : List ℕ) (value : Option Data) (workers : ℕ) → option_map_or (λ value. at_key Rack key (number_from 1 32 value)) value (Ok 4) ≡ Ok workers → IsFrom 1 32 workers
 unfolding number_from
-workers_told key None workers e = subst (IsFrom 1 32) (ok_parts Misread 4 workers e) (omega arith, omega arith)
-workers_told key (Some value) workers e = number_within 1 32 Rack key (ok_or (as_integer value) (NoNumber 1 32)) workers e
+workers_reported key None workers e = subst (IsFrom 1 32) (ok_parts Misread 4 workers e) (omega arith, omega arith)
+workers_reported key (Some value) workers e = number_within 1 32 Rack key (ok_or (as_integer value) (NoNumber 1 32)) workers e
 
 opened_none : (position : ℕ) (fault : Option OpenFault) → opened position fault ≡ Ok tt → fault ≡ None
 opened_none position None e = refl
@@ -80,10 +80,10 @@ all_opened position (line ∷ lines) e =
     let (one, here, more) = done_parts (opened position (opening_fault line.line)) (λ _. all_open (position + 1) lines) tt e in
     (opened_none position (opening_fault line.line) here, all_opened (position + 1) lines more)
 
-abbrev told_twice : Bool → Result (Unit {0}) Misread
-told_twice twice = cond twice (Err TwiceLine) (Ok tt)
+abbrev reported_twice : Bool → Result (Unit {0}) Misread
+reported_twice twice = cond twice (Err TwiceLine) (Ok tt)
 
-differing : (twice : Bool) (unit : Unit {0}) → told_twice twice ≡ Ok unit → twice ≡ false
+differing : (twice : Bool) (unit : Unit {0}) → reported_twice twice ≡ Ok unit → twice ≡ false
 differing true unit e = absurd cc
 differing false unit e = refl
 
@@ -92,12 +92,12 @@ unfolding rack_of optional
 of_file file rack e =
     let last : ℕ → List LineDescription → Unit {0} → Result RackDescription Misread = λ workers lines _. Ok (record { workers = workers; lines = lines }) in
     let (one, keys, after_keys) = done_parts (only Rack rack_keys file) (λ _. optional 4 (number_from 1 32) Rack (codes "workers") file >>= λ workers. lines_of file >>= λ lines. numbers_differ lines >>= λ _. all_open 1 lines >>= last workers lines) rack e in
-    let (workers, told_workers, after_workers) = done_parts (optional 4 (number_from 1 32) Rack (codes "workers") file) (λ workers. lines_of file >>= λ lines. numbers_differ lines >>= λ _. all_open 1 lines >>= last workers lines) rack after_keys in
+    let (workers, reported_workers, after_workers) = done_parts (optional 4 (number_from 1 32) Rack (codes "workers") file) (λ workers. lines_of file >>= λ lines. numbers_differ lines >>= λ _. all_open 1 lines >>= last workers lines) rack after_keys in
     let (lines, read, after_read) = done_parts (lines_of file) (λ lines. numbers_differ lines >>= λ _. all_open 1 lines >>= last workers lines) rack after_workers in
     let (two, differ, after_differ) = done_parts (numbers_differ lines) (λ _. all_open 1 lines >>= last workers lines) rack after_read in
     let (three, open_all, after_open) = done_parts (all_open 1 lines) (last workers lines) rack after_differ in
     subst IsAccepted {x = record { workers = workers; lines = lines }} (ok_parts Misread (record { workers = workers; lines = lines }) rack after_open) (record {
-      workers = workers_told (codes "workers") (get_member (codes "workers") file) workers told_workers;
+      workers = workers_reported (codes "workers") (get_member (codes "workers") file) workers reported_workers;
       lines = few file lines read;
       differ = differing (has_twice (numbers lines)) two differ;
       open_all = all_opened 1 lines open_all;

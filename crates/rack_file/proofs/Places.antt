@@ -162,13 +162,13 @@ pub stands_within : (file : Members) (bad : KeyFault) → rack_of file ≡ Err (
 stands_within file bad is = subst (λ (r : Result RackDescription Misread). Stands (IsWithin 8) r) is (rack_stands file)
 
 -- the fault `BadKey` comes from a key
-told_by : (read : Result RackDescription Misread) → with_fault read ≡ Err faults.BadKey → (bad : KeyFault) × (read ≡ Err (misreads.BadKey bad))
-told_by (Ok rack) e = absurd cc
-told_by (Err misreads.OutOfMemory) e = absurd cc
-told_by (Err (misreads.BadKey bad)) e = (bad, refl)
-told_by (Err misreads.TwiceLine) e = absurd cc
-told_by (Err (misreads.Open position fault)) e = absurd cc
+reported_by : (read : Result RackDescription Misread) → with_fault read ≡ Err faults.BadKey → (bad : KeyFault) × (read ≡ Err (misreads.BadKey bad))
+reported_by (Ok rack) e = absurd cc
+reported_by (Err misreads.OutOfMemory) e = absurd cc
+reported_by (Err (misreads.BadKey bad)) e = (bad, refl)
+reported_by (Err misreads.TwiceLine) e = absurd cc
+reported_by (Err (misreads.Open position fault)) e = absurd cc
 
-pub told_in : (document : Option Members) → rack_of_document document ≡ Err faults.BadKey → (file : Members) × (bad : KeyFault) × (document ≡ Some file) × (rack_of file ≡ Err (misreads.BadKey bad))
-told_in None e = absurd cc
-told_in (Some file) e = let (bad, is) = told_by (rack_of file) e in (file, bad, refl, is)
+pub reported_in : (document : Option Members) → rack_of_document document ≡ Err faults.BadKey → (file : Members) × (bad : KeyFault) × (document ≡ Some file) × (rack_of file ≡ Err (misreads.BadKey bad))
+reported_in None e = absurd cc
+reported_in (Some file) e = let (bad, is) = reported_by (rack_of file) e in (file, bad, refl, is)

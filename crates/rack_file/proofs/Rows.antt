@@ -11,7 +11,7 @@ use Rattle.rack_file.specs.declared.misread.Misread.TheVariants as misreads
 use Rattle.rack_file.specs.Rack.{RackDescription}
 use Rattle.rack_file.specs.Misreads.{stands_for_itself, shown_octet, shown}
 use Rattle.rack_file.specs.RackFile.{rack_of, with_fault, rack_of_document}
-use Rattle.rack_file.specs.Causes.{cause_of, TellsCause}
+use Rattle.rack_file.specs.Causes.{cause_of, ReportsCause}
 
 -- ---- the texts for which a cause is shown
 
@@ -28,9 +28,9 @@ refused_file (Err (misreads.BadKey bad)) cause e = inl refl
 refused_file (Err misreads.TwiceLine) cause e = absurd cc
 refused_file (Err (misreads.Open position fault)) cause e = absurd cc
 
-pub refused : (text : List ℕ) (document : Option Members) (cause : List ℕ) → TellsCause text document (Some cause) → Refused (rack_of_document document)
-refused text None cause tells = inr refl
-refused text (Some file) cause tells = refused_file (rack_of file) cause tells
+pub refused : (text : List ℕ) (document : Option Members) (cause : List ℕ) → ReportsCause text document (Some cause) → Refused (rack_of_document document)
+refused text None cause reports = inr refl
+refused text (Some file) cause reports = refused_file (rack_of file) cause reports
 
 not_refused_file : (read : Result RackDescription Misread) → cause_of read ≡ None → NotRefused (with_fault read)
 not_refused_file (Ok rack) e = (λ h. cc, λ h. cc)
@@ -39,9 +39,9 @@ not_refused_file (Err (misreads.BadKey bad)) e = absurd cc
 not_refused_file (Err misreads.TwiceLine) e = (λ h. cc, λ h. cc)
 not_refused_file (Err (misreads.Open position fault)) e = (λ h. cc, λ h. cc)
 
-pub not_refused : (text : List ℕ) (document : Option Members) → TellsCause text document None → NotRefused (rack_of_document document)
-not_refused text None tells = absurd tells
-not_refused text (Some file) tells = not_refused_file (rack_of file) (sym tells)
+pub not_refused : (text : List ℕ) (document : Option Members) → ReportsCause text document None → NotRefused (rack_of_document document)
+not_refused text None reports = absurd reports
+not_refused text (Some file) reports = not_refused_file (rack_of file) (sym reports)
 
 -- ---- how octets are shown
 

@@ -9,9 +9,9 @@ use Rattle.rack_file.specs.declared.misread.Unread.{Unread}
 use Rattle.rack_file.specs.declared.misread.Unread.TheVariants as unreads
 
 -- the fault of what was read; None if memory ran out
-abbrev pub told : Misread → Option Misread
-told misreads.OutOfMemory = None
-told misread = Some misread
+abbrev pub reported : Misread → Option Misread
+reported misreads.OutOfMemory = None
+reported misread = Some misread
 
 abbrev pub wrong : Unread → Option Cause
 wrong unreads.OutOfMemory = None
@@ -22,10 +22,10 @@ abbrev pub Refuses : {A E : Type 0} → Option E → Result A E → Type 0
 Refuses None read = Unit {0}
 Refuses (Some fault) read = read ≡ Err fault
 
--- what a function returned is what was to be read, seen by `view`; `tells` gives the fault of what was read
+-- what a function returned is what was to be read, seen by `view`; `reports` gives the fault of what was read
 abbrev pub Gives : {A B E F : Type 0} → (F → Option E) → (A → B) → Result A F → Result B E → Type 0
-Gives tells view (Ok x) read = read ≡ Ok (view x)
-Gives tells view (Err fault) read = Refuses (tells fault) read
+Gives reports view (Ok x) read = read ≡ Ok (view x)
+Gives reports view (Err fault) read = Refuses (reports fault) read
 
 -- a function that returned this fault was to read this: the text has this fault, or memory ran out
 abbrev pub Fails : {A : Type 0} → RackFault → Result A RackFault → Type 0

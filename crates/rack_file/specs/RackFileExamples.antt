@@ -252,8 +252,8 @@ one_text = refl
 -- ---- each cause, its place and its text
 
 -- a document is refused for this key in this place with this cause, and this is the text
-abbrev Tells : Members → Place → List ℕ → Cause → List ℕ → Type 0
-Tells file place key cause text =
+abbrev Reports : Members → Place → List ℕ → Cause → List ℕ → Type 0
+Reports file place key cause text =
     (rack_of file ≡ Err (bad_key place key cause)) × (key_fault_text (record { place = place; key = key; cause = cause }) ≡ text)
 
 -- a file of one line with number 1, capacity 1 and no masters, and these slaves
@@ -279,41 +279,41 @@ misspelt_line =
     (member (codes "slave") (array (item (slave_5 1) (item (slave_5 2) (item misspelt_slave no_items)))) no_members))))
 
 pub misspelt_key :
-    Tells (file (item (line_with 1 2 (slave_5 1)) (item misspelt_line no_items)))
+    Reports (file (item (line_with 1 2 (slave_5 1)) (item misspelt_line no_items)))
     (Slave 2 3) (codes "cgf") NoSuchKey (codes "line 2, slave 3, key \"cgf\": no such key")
 unfolding rack_on_literals
 misspelt_key = (refl, refl)
 
-pub missing_key : Tells no_members Rack (codes "line") Missing (codes "key \"line\": missing")
+pub missing_key : Reports no_members Rack (codes "line") Missing (codes "key \"line\": missing")
 unfolding rack_on_literals
 missing_key = (refl, refl)
 
 pub wide_number :
-    Tells (file_with_slaves (item (slave_5 65536) no_items))
+    Reports (file_with_slaves (item (slave_5 65536) no_items))
     (Slave 1 1) (codes "ident") (NoNumber 0 65535) (codes "line 1, slave 1, key \"ident\": no number from 0 to 65535")
 unfolding rack_on_literals
 wide_number = (refl, refl)
 
 pub negative_number :
-    Tells (member (codes "workers") (integer (negsuc 0)) no_members)
+    Reports (member (codes "workers") (integer (negsuc 0)) no_members)
     Rack (codes "workers") (NoNumber 1 32) (codes "key \"workers\": no number from 1 to 32")
 unfolding rack_on_literals
 negative_number = (refl, refl)
 
 pub number_for_a_text :
-    Tells (file_with_slaves (item (slave_with_cfg (array (item (integer (pos 21)) no_items))) no_items))
+    Reports (file_with_slaves (item (slave_with_cfg (array (item (integer (pos 21)) no_items))) no_items))
     (Slave 1 1) (codes "cfg") NoText (codes "line 1, slave 1, key \"cfg\": no text")
 unfolding rack_on_literals
 number_for_a_text = (refl, refl)
 
 pub number_for_a_configuration :
-    Tells (file_with_slaves (item (slave_with_cfg (integer (pos 21))) no_items))
+    Reports (file_with_slaves (item (slave_with_cfg (integer (pos 21))) no_items))
     (Slave 1 1) (codes "cfg") NoTextOrArray (codes "line 1, slave 1, key \"cfg\": neither a text nor an array")
 unfolding rack_on_literals
 number_for_a_configuration = (refl, refl)
 
 pub cut_pair :
-    Tells (file_with_slaves (item (slave_with_cfg (string (codes "211"))) no_items))
+    Reports (file_with_slaves (item (slave_with_cfg (string (codes "211"))) no_items))
     (Slave 1 1) (codes "cfg") NoHex (codes "line 1, slave 1, key \"cfg\": no pairs of hex digits")
 unfolding rack_on_literals
 cut_pair = (refl, refl)
@@ -324,13 +324,13 @@ zeros zero = []
 zeros (suc n) = codes "00" ++ zeros n
 
 pub long_configuration :
-    Tells (file_with_slaves (item (slave_with_cfg (string (zeros 245))) no_items))
+    Reports (file_with_slaves (item (slave_with_cfg (string (zeros 245))) no_items))
     (Slave 1 1) (codes "cfg") ManyOctets (codes "line 1, slave 1, key \"cfg\": more than 244 octets")
 unfolding rack_on_literals
 long_configuration = (refl, refl)
 
 pub number_for_a_flag :
-    Tells (file_with_slaves (item (table (member (codes "address") (integer (pos 5))
+    Reports (file_with_slaves (item (table (member (codes "address") (integer (pos 5))
     (member (codes "cfg") (string [])
     (member (codes "ident") (integer (pos 1))
     (member (codes "sync") (integer (pos 1)) no_members))))) no_items))
@@ -339,25 +339,25 @@ unfolding rack_on_literals
 number_for_a_flag = (refl, refl)
 
 pub number_for_masters :
-    Tells (file (item (table (member (codes "capacity") (integer (pos 1))
+    Reports (file (item (table (member (codes "capacity") (integer (pos 1))
     (member (codes "masters") (integer (pos 1))
     (member (codes "number") (integer (pos 1)) no_members)))) no_items))
     (Line 1) (codes "masters") NoArray (codes "line 1, key \"masters\": no array")
 unfolding rack_on_literals
 number_for_masters = (refl, refl)
 
-pub no_line : Tells (file no_items) Rack (codes "line") (Count 1 8) (codes "key \"line\": not 1 to 8 elements")
+pub no_line : Reports (file no_items) Rack (codes "line") (Count 1 8) (codes "key \"line\": not 1 to 8 elements")
 unfolding rack_on_literals
 no_line = (refl, refl)
 
 pub number_for_a_slave :
-    Tells (file_with_slaves (item (slave_5 1) (item (integer (pos 5)) no_items)))
+    Reports (file_with_slaves (item (slave_5 1) (item (integer (pos 5)) no_items)))
     (Line 1) (codes "slave") NoTable (codes "line 1, key \"slave\": an element is no table")
 unfolding rack_on_literals
 number_for_a_slave = (refl, refl)
 
 pub device_in_capitals :
-    Tells (whole_file 32 (string (codes "Mirror")))
+    Reports (whole_file 32 (string (codes "Mirror")))
     (Slave 1 1) (codes "device") NoDevice (codes "line 1, slave 1, key \"device\": none of \"still\", \"counter\" and \"mirror\"")
 unfolding rack_on_literals
 device_in_capitals = (refl, refl)

@@ -44,5 +44,5 @@ with_suggestion text None = text
 with_suggestion text (Some name) = text ++ codes ", perhaps \"" ++ name ++ codes "\""
 
 -- the text for a key that isn't accepted
-abbrev pub told_key : KeyFault → List ℕ
-told_key bad = with_suggestion (key_fault_text bad) (suggested_key bad.place bad.key bad.cause)
+abbrev pub reported_key : KeyFault → List ℕ
+reported_key bad = with_suggestion (key_fault_text bad) (suggested_key bad.place bad.key bad.cause)

@@ -10,7 +10,7 @@ ghost use Rattle.rack_file.specs.declared.misread.Misread.TheVariants as misread
 ghost use Rattle.rack_file.specs.KeyFault.{KeyFault, IsWithin};
 ghost use Rattle.rack_file.specs.Misreads.{shown, stands_for_itself};
 ghost use Rattle.rack_file.specs.RackFile.{numbers, rack_of, rack_in};
-ghost use Rattle.rack_file.specs.Causes.{TellsCause};
+ghost use Rattle.rack_file.specs.Causes.{ReportsCause};
 
 /// An accepted rack has 1 to 8 lines.
 pub fn accepted_racks_have_1_to_8_lines()
@@ -36,8 +36,8 @@ pub fn accepted_lines_can_be_opened()
 {}
 
 /// A text is refused as `BadKey` if and only if it is a document with a key that isn't accepted.
-pub fn bad_keys_are_told()
-    ensures told { (text : List ℕ) → rack_in text ≡ Err faults.BadKey
+pub fn bad_keys_are_reported()
+    ensures reported { (text : List ℕ) → rack_in text ≡ Err faults.BadKey
         → (file : Members) × (bad : KeyFault) × (parse_document text ≡ Some file) × (rack_of file ≡ Err (misreads.BadKey bad)) }
     ensures refused { (text : List ℕ) (file : Members) (bad : KeyFault) → parse_document text ≡ Some file
         → rack_of file ≡ Err (misreads.BadKey bad) → rack_in text ≡ Err faults.BadKey }
@@ -49,10 +49,10 @@ pub fn bad_keys_stand_in_lines_1_to_8()
 {}
 
 /// A cause is given exactly for the texts that are refused as `BadKey` or `NotToml`.
-pub fn causes_are_told_of_bad_keys_and_of_no_toml()
-    ensures told { (text cause : List ℕ) → TellsCause text (parse_document text) (Some cause)
+pub fn causes_are_reported_of_bad_keys_and_of_no_toml()
+    ensures reported { (text cause : List ℕ) → ReportsCause text (parse_document text) (Some cause)
         → (rack_in text ≡ Err faults.BadKey) ⊎ (rack_in text ≡ Err faults.NotToml) }
-    ensures untold { (text : List ℕ) → TellsCause text (parse_document text) None
+    ensures unreported { (text : List ℕ) → ReportsCause text (parse_document text) None
         → (rack_in text ≢ Err faults.BadKey) × (rack_in text ≢ Err faults.NotToml) }
 {}
 

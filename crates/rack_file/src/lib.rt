@@ -12,11 +12,11 @@ pub mod laws;
 mod misread;
 mod rack;
 mod reading;
+mod reporting;
 mod slaves;
-mod telling;
 mod toml_keys;
 
 pub use fault::{RackFault, RefusedRack};
 pub use rack::{Rack, RackLine};
 pub use reading::{MOST_LINES, MOST_WORKERS, read_lines, read_rack};
-pub use telling::cause_in;
+pub use reporting::cause_in;

@@ -5,7 +5,7 @@ ghost use Rattle.std.specs.List.{list_any};
 ghost use Rattle.toml.specs.View.{view, table_view};
 ghost use Rattle.dp_line.specs.World.{description_of, opening_fault, has_twice};
 ghost use Rattle.rack_file.specs.Rack.{line_described, rack_described};
-ghost use Rattle.rack_file.specs.Gives.{Gives, Fails, told};
+ghost use Rattle.rack_file.specs.Gives.{Gives, Fails, reported};
 ghost use Rattle.rack_file.specs.TomlKeys.{seen, required, optional, number_from, each_from};
 ghost use Rattle.rack_file.specs.Lines.{lines_in};
 ghost use Rattle.rack_file.specs.RackFile.{masters_of, port_of, line_of, line_at, lines_of, numbers, opened, all_open, rack_of, with_fault, rack_in};
@@ -73,7 +73,7 @@ fn optional_port<'a>(
 /// Reads the line that the table describes, at this position of the file.
 #[tactic(auto, unfolding(crate::specs::RackFile::line_of))]
 fn line_in<'a>(alloc: Global, position: u8, line: &'a Table) -> Result<RackLine, Misread<'a>>
-    ensures { Gives told line_described result (line_of position (table_view line.now)) }
+    ensures { Gives reported line_described result (line_of position (table_view line.now)) }
 {
     let place = Place::Line(position);
     only_keys(place, line, line_keys())?;
@@ -93,7 +93,7 @@ fn line_in<'a>(alloc: Global, position: u8, line: &'a Table) -> Result<RackLine,
 /// Reads the line that an element of `line` describes, at this position of the file.
 #[tactic(auto, unfolding(crate::specs::RackFile::line_at))]
 fn line_at<'a>(alloc: Global, position: u8, value: &'a Value) -> Result<RackLine, Misread<'a>>
-    ensures { Gives told line_described result (line_at position (view value.now)) }
+    ensures { Gives reported line_described result (line_at position (view value.now)) }
 {
     let line = at_key(Place::Rack, "line", table_in(value))?;
     line_in(alloc, position, line)
@@ -102,7 +102,7 @@ fn line_at<'a>(alloc: Global, position: u8, value: &'a Value) -> Result<RackLine
 /// Reads the lines of a rack.
 fn lines_in<'a>(alloc: Global, values: &'a [Value]) -> Result<Vec<RackLine>, Misread<'a>>
     requires { length values.now ≤ 8 }
-    ensures lines { Gives told (λ lines. map line_described lines.items) result (each_from line_at 1 (map view values.now)) }
+    ensures lines { Gives reported (λ lines. map line_described lines.items) result (each_from line_at 1 (map view values.now)) }
     ensures count { IfOk result (λ lines. vec_len lines ≡ length values.now) }
 {
     let mut lines = Vec::new(alloc);
@@ -116,7 +116,7 @@ fn lines_in<'a>(alloc: Global, values: &'a [Value]) -> Result<Vec<RackLine>, Mis
 /// Reads the lines of a rack, 1 to 8.
 #[tactic(auto, unfolding(crate::specs::RackFile::lines_of))]
 fn required_lines<'a>(alloc: Global, file: &'a Table) -> Result<Vec<RackLine>, Misread<'a>>
-    ensures lines { Gives told (λ lines. map line_described lines.items) result (lines_of (table_view file.now)) }
+    ensures lines { Gives reported (λ lines. map line_described lines.items) result (lines_of (table_view file.now)) }
     ensures few { IfOk result (λ lines. vec_len lines ≤ 8) }
 {
     let all = required_array(Place::Rack, file, "line")?;
@@ -183,7 +183,7 @@ fn check_openings<'a>(position: u8, lines: &[RackLine]) -> Result<(), Misread<'a
 /// Reads the rack that a document describes; if it describes none, returns where and why.
 #[tactic(auto, unfolding(crate::specs::RackFile::rack_of))]
 pub(crate) fn rack_in_document<'a>(alloc: Global, file: &'a Table) -> Result<Rack, Misread<'a>>
-    ensures { Gives told rack_described result (rack_of (table_view file.now)) }
+    ensures { Gives reported rack_described result (rack_of (table_view file.now)) }
 {
     only_keys(Place::Rack, file, rack_keys())?;
     let workers = optional_workers(file)?;

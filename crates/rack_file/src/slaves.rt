@@ -3,7 +3,7 @@
 ghost use Rattle.std.specs.Prelude.{◌≡◌, ◌≤◌, map, length, codes, None};
 ghost use Rattle.toml.specs.View.{view, table_view};
 ghost use Rattle.dp_slave.specs.declared.description.Device.TheVariants.{Still};
-ghost use Rattle.rack_file.specs.Gives.{Gives, told, wrong};
+ghost use Rattle.rack_file.specs.Gives.{Gives, reported, wrong};
 ghost use Rattle.rack_file.specs.TomlKeys.{seen, required, optional, number_from, each_of, each_from};
 ghost use Rattle.rack_file.specs.RackFile.{masters_of, configuration_of, configurations_of, device_named, device_of, list_of, slave_of, slave_at, slaves_of};
 
@@ -78,7 +78,7 @@ fn required_configurations<'a>(
     place: Place,
     slave: &'a Table,
 ) -> Result<ArrayVec<Configuration, MOST_CONFIGURATIONS>, Misread<'a>>
-    ensures { Gives told (λ cfgs. cfgs.items) result (required configurations_of place (codes "cfg") (table_view slave.now)) }
+    ensures { Gives reported (λ cfgs. cfgs.items) result (required configurations_of place (codes "cfg") (table_view slave.now)) }
 {
     match configurations_in(alloc, required_value(place, slave, "cfg")?) {
         Ok(cfgs) => Ok(cfgs),
@@ -158,7 +158,7 @@ fn optional_list<'a>(
 /// Reads the slave that the table in this place describes.
 #[tactic(auto, unfolding(crate::specs::RackFile::slave_of))]
 fn slave_in<'a>(alloc: Global, place: Place, slave: &'a Table) -> Result<SlaveSpec, Misread<'a>>
-    ensures { Gives told (λ slave. slave) result (slave_of place (table_view slave.now)) }
+    ensures { Gives reported (λ slave. slave) result (slave_of place (table_view slave.now)) }
 {
     only_keys(place, slave, slave_keys())?;
     Ok(SlaveSpec {
@@ -185,7 +185,7 @@ fn slave_at<'a>(
     position: usize,
     value: &'a Value,
 ) -> Result<SlaveSpec, Misread<'a>>
-    ensures { Gives told (λ slave. slave) result (slave_at line position (view value.now)) }
+    ensures { Gives reported (λ slave. slave) result (slave_at line position (view value.now)) }
 {
     let slave = at_key(Place::Line(line), "slave", table_in(value))?;
     slave_in(alloc, Place::Slave(line, position), slave)
@@ -197,7 +197,7 @@ fn slaves_in<'a>(
     line: u8,
     values: &'a [Value],
 ) -> Result<Vec<SlaveSpec>, Misread<'a>>
-    ensures { Gives told (λ slaves. slaves.items) result (each_from (slave_at line) 1 (map view values.now)) }
+    ensures { Gives reported (λ slaves. slaves.items) result (each_from (slave_at line) 1 (map view values.now)) }
 {
     let mut slaves = Vec::new(alloc);
     for (index, value) in values.iter().enumerate() {
@@ -214,7 +214,7 @@ pub(crate) fn required_slaves<'a>(
     position: u8,
     line: &'a Table,
 ) -> Result<Vec<SlaveSpec>, Misread<'a>>
-    ensures { Gives told (λ slaves. slaves.items) result (slaves_of position (table_view line.now)) }
+    ensures { Gives reported (λ slaves. slaves.items) result (slaves_of position (table_view line.now)) }
 {
     let values = required_array(Place::Line(position), line, "slave")?;
     slaves_in(alloc, position, values)

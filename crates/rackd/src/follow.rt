@@ -10,7 +10,7 @@ use crate::texts::{choice_of, note_header};
 use dp_audit::AuditFault;
 use dp_explain::{Choice, ExplainFault, FollowFault, Follower};
 use dp_line::LineSpec;
-use dp_script::{RunFault, line_named, tell_verdict};
+use dp_script::{RunFault, line_named, report_verdict};
 use rack_file::read_rack;
 use rackd_words::Entries;
 use std::fs::Files;
@@ -107,7 +107,7 @@ fn end_at_header<'a, W: Write>(
 
 /// Writes the row of a check that found this fault, and returns its exit status.
 fn end_at<'a, W: Write>(fault: AuditFault, output: &mut W) -> Result<ExitCode, Fault<'a>> {
-    let status = tell_verdict(Err(fault), output)?;
+    let status = report_verdict(Err(fault), output)?;
     if reaches_reader(output)? {
         Ok(ExitCode::from(status))
     } else {

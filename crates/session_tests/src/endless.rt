@@ -7,7 +7,7 @@ use dp_line::{Device, Op};
 use dp_shared::{Line, Pass};
 use dp_trail::Tail;
 use fixtures::line_specs::line_spec;
-use fixtures::rows::{ARROW, is_told};
+use fixtures::rows::{ARROW, is_reported};
 use std::alloc::Global;
 use std::sync::Wait;
 use std::test::Fail;
@@ -68,7 +68,7 @@ fn check_trail<R: Wait>(rt: &R, alloc: Global, transcript: &str) -> Result<(), F
     let Desk { tail, .. } = desk;
     let (text, _) = tail.close(rt);
     played.push_str(&String::from_utf8(text)?)?;
-    is_told(played, transcript)
+    is_reported(played, transcript)
 }
 
 /// After three ticks the entry of the trail's next place is forgotten. A broken trail stays broken, and writes nothing.

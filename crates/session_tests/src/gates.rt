@@ -10,7 +10,7 @@ use dp_telegram::WholeFrame;
 use dp_text::LineFault;
 use fixtures::line_specs::ample_line;
 use fixtures::place::{Place, fresh_place};
-use fixtures::rows::{is_told, many_passes};
+use fixtures::rows::{is_reported, many_passes};
 use std::alloc::Global;
 use std::io::Write;
 use std::sync::atomic::AtomicU64;
@@ -157,7 +157,7 @@ fn master_calls<T: Wait>(rt: &T, alloc: Global, octets: &[u8], expected: &str) -
     let mut asks = octets;
     let mut writer = CountedWrites { calls: &calls };
     serve(rt, &mut asks, &mut writer, &port, &mut seat, &gate, 9);
-    is_told(
+    is_reported(
         format!(in alloc; "{}", calls.digits.load(SeqCst))?,
         expected,
     )
@@ -180,7 +180,7 @@ fn operator_calls<T: Wait>(rt: &T, alloc: Global, lines: &str, expected: &str) -
     let mut asks = lines.as_bytes();
     let mut writer = CountedWrites { calls: &calls };
     serve_operator_at(rt, &mut asks, &mut writer, &port, &spec, &gate, 9);
-    is_told(
+    is_reported(
         format!(in alloc; "{}", calls.digits.load(SeqCst))?,
         expected,
     )

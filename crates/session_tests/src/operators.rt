@@ -5,7 +5,7 @@ use dp_line::Device;
 use dp_sessions::serve_operator;
 use fixtures::line_specs::ample_line;
 use fixtures::place::{Place, fresh_place};
-use fixtures::rows::{closed_with, is_told, many_passes};
+use fixtures::rows::{closed_with, is_reported, many_passes};
 use std::alloc::{AllocError, Global};
 use std::sync::Wait;
 use std::test::Fail;
@@ -31,7 +31,7 @@ fn operates_with<T: Wait>(
     let end = end_of(alloc, end, &reader)?;
     let written = String::from_utf8(writer.taken)?;
     let journal = closed_with(alloc, port.line, passes)?;
-    is_told(format!(in alloc; "{end}\n{written}|\n{journal}")?, expected)
+    is_reported(format!(in alloc; "{end}\n{written}|\n{journal}")?, expected)
 }
 
 /// Runs an operator's session while no other pass is out. See [`operates_with`].

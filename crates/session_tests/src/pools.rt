@@ -10,7 +10,7 @@ use dp_shared::WorkerSeat;
 use dp_telegram::Octets;
 use fixtures::line_specs::ample_line;
 use fixtures::place::fresh_place;
-use fixtures::rows::{hex_of, is_told, octets_of};
+use fixtures::rows::{hex_of, is_reported, octets_of};
 use std::alloc::{AllocError, Global};
 use std::io::{ErrorKind, Read, Write};
 use std::net::{Net, Shutdown, TcpListener, TcpStream};
@@ -131,7 +131,7 @@ impl Seen {
     }
 
     /// Returns the counts as a text.
-    fn told(&self, alloc: Global) -> Result<String, AllocError> {
+    fn reported(&self, alloc: Global) -> Result<String, AllocError> {
         let (held, went_on) = (self.held.load(SeqCst), self.went_on.load(SeqCst));
         let (other, stranger) = (self.other.load(SeqCst), self.stranger.load(SeqCst));
         format!(in alloc; "held {held}, went on {went_on}, other {other}, strangers {stranger}")
@@ -225,7 +225,7 @@ fn overlapped<H: Threads + Wait + Sync>(
     )?;
     let pool = served(rt, alloc, jobs, &gate)?;
     let (held, other) = (held.load(SeqCst), other.load(SeqCst));
-    let came = seen.told(alloc)?;
+    let came = seen.reported(alloc)?;
     Ok(format!(in alloc; "{pool}, octets {held} and {other}, {came}")?)
 }
 
@@ -239,7 +239,7 @@ fn overlaps<H: Threads + Wait + Sync>(
     asks: &str,
     answers: &str,
 ) -> Result<(), Fail> {
-    is_told(
+    is_reported(
         overlapped(rt, alloc, line, master, asks, answers)?,
         "2 served, free true, octets 18 and 18, held 1, went on 1, other 1, strangers 0",
     )
@@ -269,7 +269,7 @@ fn served_at<H: Threads + Wait + Sync>(
 
 #[test]
 fn jobs_of_no_port_are_dropped(rt: HostRuntime) -> Result<(), Fail> {
-    is_told(
+    is_reported(
         served_at(&rt, rt.alloc(), &[2, 0, 33, 255, 1])?,
         "2 served, free true, octets 36",
     )
@@ -353,7 +353,7 @@ fn serve_one<H: Threads + Wait + Sync>(
 
 #[test]
 fn tcp_session(rt: HostRuntime) -> Result<(), Fail> {
-    is_told(
+    is_reported(
         served_over_tcp(&rt, rt.alloc(), "6805056885816d3c3eed16")?,
         "1 served, free true, e5, 680b0b688185083e3c020500ff80a1af16, 680b0b688185083e3c020500ff80a1af16, 0 behind",
     )

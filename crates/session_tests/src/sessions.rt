@@ -9,7 +9,7 @@ use dp_shared::WorkerSeat;
 use dp_telegram::Octets;
 use fixtures::line_specs::ample_line;
 use fixtures::place::{Place, fresh_place};
-use fixtures::rows::{ARROW, closed_with, hex_of, is_told, many_passes, octets_of};
+use fixtures::rows::{ARROW, closed_with, hex_of, is_reported, many_passes, octets_of};
 use std::alloc::{AllocError, Global};
 use std::sync::{Mutex, Wait};
 use std::test::Fail;
@@ -22,7 +22,7 @@ const MEANWHILE: &str = " => ";
 struct Worker<'a> {
     port: &'a Port,
     seat: WorkerSeat,
-    told: String,
+    reported: String,
     arrow: &'static str,
     ghost ours: { seat.table ≡ port.now.claims.table },
     ghost free: { seat.view.held ≡ None },
@@ -80,7 +80,7 @@ impl Worker<'_> {
             None => format!(in alloc; "{text}{arrow}{end} {written}\n")?,
             Some(address) => format!(in alloc; "{text}{arrow}{end} holds {address}\n")?,
         };
-        self.told.push_str(&row)
+        self.reported.push_str(&row)
     }
 
     /// Serves these sessions, one after another.
@@ -107,7 +107,7 @@ impl Worker<'_> {
         sessions: &[Session<'_>],
     ) -> Result<(), AllocError> {
         let row = format!(in alloc; "gate {line} {master}\n")?;
-        self.told.push_str(&row)?;
+        self.reported.push_str(&row)?;
         self.serve_all(rt, alloc, &OpenGate, sessions)
     }
 }
@@ -123,16 +123,16 @@ struct Beside<'a> {
 impl Gate for Beside<'_> {
     fn enter<W: Wait>(&self, rt: &W, line: u8, master: u8) {
         let mut visitor = self.visitor.lock(rt);
-        let told = visitor.visit(rt, self.alloc, line, master, self.sessions.as_slice());
-        if told.is_err() {
-            visitor.told.clear();
+        let reported = visitor.visit(rt, self.alloc, line, master, self.sessions.as_slice());
+        if reported.is_err() {
+            visitor.reported.clear();
         }
     }
 }
 
 /// Serves sessions by two workers: the first serves its own, and the second serves others while these are at the
 /// gate. Returns the results of the first, and then those of the second.
-fn told_at<T: Wait>(
+fn reported_at<T: Wait>(
     rt: &T,
     alloc: Global,
     port: &Port,
@@ -149,7 +149,7 @@ fn told_at<T: Wait>(
         visitor: Mutex::new(Worker {
             port,
             seat: other,
-            told: String::new(alloc),
+            reported: String::new(alloc),
             arrow: MEANWHILE,
         }),
         alloc,
@@ -158,16 +158,16 @@ fn told_at<T: Wait>(
     let mut worker = Worker {
         port,
         seat,
-        told: String::new(alloc),
+        reported: String::new(alloc),
         arrow: ARROW,
     };
     let sessions = sessions_in(alloc, rows, ARROW)?;
     worker.serve_all(rt, alloc, &gate, sessions.as_slice())?;
     let Beside { visitor, .. } = gate;
     let visitor = visitor.into_inner();
-    let mut told = worker.told;
-    told.push_str(&visitor.told)?;
-    Ok(told)
+    let mut reported = worker.reported;
+    reported.push_str(&visitor.reported)?;
+    Ok(reported)
 }
 
 /// Checks the transcript of a new port, while `out` passes of master 2 are out: sessions one after another, with
@@ -181,9 +181,9 @@ fn serves_with<T: Wait>(rt: &T, alloc: Global, out: usize, transcript: &str) -> 
         ..
     } = fresh_place(alloc, &ample_line(alloc, 1, Device::Still)?)?;
     let passes = many_passes(rt, alloc, &port.line, 2, out)?;
-    let mut told = told_at(rt, alloc, &port, first, second, transcript)?;
-    told.push_str(&closed_with(alloc, port.line, passes)?)?;
-    is_told(told, transcript)
+    let mut reported = reported_at(rt, alloc, &port, first, second, transcript)?;
+    reported.push_str(&closed_with(alloc, port.line, passes)?)?;
+    is_reported(reported, transcript)
 }
 
 /// Checks the transcript of a new port while no other pass is out. See [`serves_with`].

@@ -12,7 +12,7 @@ use dp_telegram::Octets;
 use dp_trail::{CatchUp, NoTrail, Tail, Trail, Trailed};
 use fixtures::line_specs::ample_line;
 use fixtures::place::{Place, fresh_place};
-use fixtures::rows::{closed_with, hex_of, is_told, many_passes, octets_of};
+use fixtures::rows::{closed_with, hex_of, is_reported, many_passes, octets_of};
 use std::alloc::Global;
 use std::io::{ErrorKind, Read, Result as IoResult, Write};
 use std::sync::{Mutex, Wait};
@@ -162,9 +162,9 @@ fn log_of<T: Wait>(
     } else {
         serve_between(rt, &NoTrail, &port, &mut seat, &log, reads.as_slice())
     };
-    let mut told = log.into_inner().text;
-    told.push_str(&format!(in alloc; "{end:?}\n")?)?;
-    Ok(told)
+    let mut reported = log.into_inner().text;
+    reported.push_str(&format!(in alloc; "{end:?}\n")?)?;
+    Ok(reported)
 }
 
 /// Returns an empty log.
@@ -179,14 +179,14 @@ fn empty_log(alloc: Global, room: usize) -> Mutex<Log> {
 /// The entry of a reply is written before the reply, and the entry of a silence before the next read.
 #[test]
 fn rows_come_first(rt: HostRuntime) -> Result<(), Fail> {
-    let told = log_of(
+    let reported = log_of(
         &rt,
         rt.alloc(),
         Some(1000),
         "01 6805056885816d3c3eed16 100901495316",
     )?;
-    is_told(
-        told,
+    is_reported(
+        reported,
         "\
 rack-audit 2 line 1
 > 01
@@ -206,14 +206,14 @@ EndOfInput
 /// If an entry cannot be written whole, neither its reply nor any later entry is written, even if there is room again.
 #[test]
 fn no_reply_behind_a_cut_row(rt: HostRuntime) -> Result<(), Fail> {
-    let told = log_of(
+    let reported = log_of(
         &rt,
         rt.alloc(),
         Some(29),
         "01 6805056885816d3c3eed16 100901495316",
     )?;
-    is_told(
-        told,
+    is_reported(
+        reported,
         "\
 rack-audit 2 line 1
 > 01
@@ -227,9 +227,9 @@ rack-audit 2 line 1
 /// Without a trail the same session is served, and no entry is written.
 #[test]
 fn no_trail(rt: HostRuntime) -> Result<(), Fail> {
-    let told = log_of(&rt, rt.alloc(), None, "01 6805056885816d3c3eed16")?;
-    is_told(
-        told,
+    let reported = log_of(&rt, rt.alloc(), None, "01 6805056885816d3c3eed16")?;
+    is_reported(
+        reported,
         "\
 > 01
 < e5
@@ -250,17 +250,17 @@ fn refused_with<T: Wait>(rt: &T, alloc: Global, room: usize, out: usize) -> Resu
     let Err(fault) = Tail::open(rt, &port.line, Rows { rt, log: &log }) else {
         return Err(Fail::new("a trail"));
     };
-    let mut told = log.into_inner().text;
-    told.push_str(&format!(in alloc; " {fault} {}\n", fault.code())?)?;
-    told.push_str(&closed_with(alloc, port.line, passes)?)?;
-    Ok(told)
+    let mut reported = log.into_inner().text;
+    reported.push_str(&format!(in alloc; " {fault} {}\n", fault.code())?)?;
+    reported.push_str(&closed_with(alloc, port.line, passes)?)?;
+    Ok(reported)
 }
 
 /// A trail that gets no pass, and a trail whose header is cut and whose pass is handed back.
 #[test]
 fn no_header(rt: HostRuntime) -> Result<(), Fail> {
-    let told = refused_with(&rt, rt.alloc(), 1000, 64)?;
-    is_told(told, " no pass 1\nrack-audit 2 line 1\n")?;
-    let told = refused_with(&rt, rt.alloc(), 5, 0)?;
-    is_told(told, "rack- no header 2\nrack-audit 2 line 1\n")
+    let reported = refused_with(&rt, rt.alloc(), 1000, 64)?;
+    is_reported(reported, " no pass 1\nrack-audit 2 line 1\n")?;
+    let reported = refused_with(&rt, rt.alloc(), 5, 0)?;
+    is_reported(reported, "rack- no header 2\nrack-audit 2 line 1\n")
 }

@@ -10,7 +10,7 @@ pub returns-in-Ok-follow_text : goal.returns-in-Ok-follow_text
 returns-in-Ok-follow_text g c =
     explains c.args.choice.now (description_of c.args.line.now) c.args.text.now c.in-Ok-follow_text.verdict c.follow_text.new.ended c.stored-ended.result c.follow_text.new.follower
     (g.W.Write.contents c.args.writer.now) (g.W.Write.contents c.follow_text.new.writer) (g.W.Write.contents c.write_end.new.writer) c.write_end.result
-    c.in-Ok-follow_text.ensures.verdict c.in-Ok-follow_text.ensures.known c.in-Ok-follow_text.ensures.stored c.stored-ended.ensures c.in-Ok-follow_text.ensures.told c.write_end.ensures
+    c.in-Ok-follow_text.ensures.verdict c.in-Ok-follow_text.ensures.known c.in-Ok-follow_text.ensures.stored c.stored-ended.ensures c.in-Ok-follow_text.ensures.reported c.write_end.ensures
 
 pub returns : goal.returns
 returns g c =

@@ -37,7 +37,7 @@ pub returns-clause-cut : goal.returns-clause-cut
 returns-clause-cut g c =
     let line = description_of c.args.line.now in
     let lines : lines_of c.args.text.now ≡ c.in-Some.header.now ∷ c.next.new.self = ap lines_of (sym c.as_bytes.ensures.value) ∙ sym c.new-rows.ensures ∙ c.in-Some.ensures in
-    subst (λ (f : Followed). OnErr c.follow_rows.result (WritesPrefix (g.W.Write.contents c.args.writer.now) (g.W.Write.contents c.follow_rows.new.writer) f.told))
+    subst (λ (f : Followed). OnErr c.follow_rows.result (WritesPrefix (g.W.Write.contents c.args.writer.now) (g.W.Write.contents c.follow_rows.new.writer) f.reported))
     (rows_followed c.args.choice.now line c.args.text.now c.in-Some.header.now c.in-Some-next.first.now c.next.new.self c.next-2.new.self c.args.follower.now
     c.requires lines c.in-Some-next.ensures (sym c.if-not-is_header_of.ensures))
     c.follow_rows.ensures.cut

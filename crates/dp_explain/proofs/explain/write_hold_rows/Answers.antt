@@ -7,16 +7,16 @@ use Rattle.dp_explain.specs.Explained.{Leaves}
 use Rattle.dp_explain.proofs.Writing.{then_leaves, front_cut}
 use Rattle.dp_explain.proofs.explain.write_hold_rows.Goals as goal
 
-pub returns-in-Ok-clause-told : goal.returns-in-Ok-clause-told
-returns-in-Ok-clause-told g c =
+pub returns-in-Ok-clause-reported : goal.returns-in-Ok-clause-reported
+returns-in-Ok-clause-reported g c =
     let world = c.args.follower.now.known.scene.world in
     then_leaves (g.W.Write.contents c.args.writer.now) (g.W.Write.contents c.write_whole.new.writer) (g.W.Write.contents c.write_lasting_holds.new.writer)
     (unwrap_or c.args.ended.now []) (holds_lasting world c.args.line.now.slaves.items) c.write_lasting_holds.result
     (subst (Appends (g.W.Write.contents c.args.writer.now) (g.W.Write.contents c.write_whole.new.writer)) c.rows.ensures c.in-Ok.ensures.ok)
     (subst (λ (slaves : List SlaveSpec). Leaves (holds_lasting world slaves) (g.W.Write.contents c.write_whole.new.writer) (g.W.Write.contents c.write_lasting_holds.new.writer) c.write_lasting_holds.result)
-    c.as_slice.ensures.value c.write_lasting_holds.ensures.told)
+    c.as_slice.ensures.value c.write_lasting_holds.ensures.reported)
 
-pub returns-in-Err-clause-told : goal.returns-in-Err-clause-told
-returns-in-Err-clause-told g c =
+pub returns-in-Err-clause-reported : goal.returns-in-Err-clause-reported
+returns-in-Err-clause-reported g c =
     front_cut (g.W.Write.contents c.args.writer.now) (g.W.Write.contents c.write_whole.new.writer) (unwrap_or c.args.ended.now []) (holds_lasting c.args.follower.now.known.scene.world c.args.line.now.slaves.items)
     (subst (WritesPrefix (g.W.Write.contents c.args.writer.now) (g.W.Write.contents c.write_whole.new.writer)) c.rows.ensures c.in-Err.ensures.err)

@@ -3,12 +3,12 @@ use Rattle.dp_explain.specs.Holds.{holds_lasting}
 use Rattle.dp_explain.proofs.Writing.{then_leaves, front_cut}
 use Rattle.dp_explain.proofs.explain.write_holds.Goals as goal
 
-pub returns-in-Ok-clause-told : goal.returns-in-Ok-clause-told
-returns-in-Ok-clause-told g c =
+pub returns-in-Ok-clause-reported : goal.returns-in-Ok-clause-reported
+returns-in-Ok-clause-reported g c =
     then_leaves (g.W.Write.contents c.args.writer.now) (g.W.Write.contents c.write_whole.new.writer) (g.W.Write.contents c.write_hold_rows.new.writer) (codes "holds\n")
-    (unwrap_or c.args.ended.now [] ++ holds_lasting c.args.follower.now.known.scene.world c.args.line.now.slaves.items) c.write_hold_rows.result c.in-Ok.ensures.ok c.write_hold_rows.ensures.told
+    (unwrap_or c.args.ended.now [] ++ holds_lasting c.args.follower.now.known.scene.world c.args.line.now.slaves.items) c.write_hold_rows.result c.in-Ok.ensures.ok c.write_hold_rows.ensures.reported
 
-pub returns-in-Err-clause-told : goal.returns-in-Err-clause-told
-returns-in-Err-clause-told g c =
+pub returns-in-Err-clause-reported : goal.returns-in-Err-clause-reported
+returns-in-Err-clause-reported g c =
     front_cut (g.W.Write.contents c.args.writer.now) (g.W.Write.contents c.write_whole.new.writer) (codes "holds\n")
     (unwrap_or c.args.ended.now [] ++ holds_lasting c.args.follower.now.known.scene.world c.args.line.now.slaves.items) c.in-Err.ensures.err

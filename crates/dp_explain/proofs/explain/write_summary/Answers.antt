@@ -9,11 +9,11 @@ pub returns-in-Ok : goal.returns-in-Ok
 returns-in-Ok g c =
     let known = c.args.follower.now.known in
     then_leaves (g.W.Write.contents c.args.writer.now) (g.W.Write.contents c.write_holds.new.writer) (g.W.Write.contents c.write_counts.new.writer)
-    (codes "holds\n" ++ (unwrap_or c.args.ended.now [] ++ holds_lasting known.scene.world c.args.line.now.slaves.items)) (counts_text known) c.write_counts.result c.in-Ok.ensures.told
+    (codes "holds\n" ++ (unwrap_or c.args.ended.now [] ++ holds_lasting known.scene.world c.args.line.now.slaves.items)) (counts_text known) c.write_counts.result c.in-Ok.ensures.reported
     (subst (λ (f : FollowerView). Leaves (counts_text f.known) (g.W.Write.contents c.write_holds.new.writer) (g.W.Write.contents c.write_counts.new.writer) c.write_counts.result) c.write_holds.ensures.same c.write_counts.ensures)
 
 pub returns-in-Err : goal.returns-in-Err
 returns-in-Err g c =
     let known = c.args.follower.now.known in
     front_cut (g.W.Write.contents c.args.writer.now) (g.W.Write.contents c.write_holds.new.writer)
-    (codes "holds\n" ++ (unwrap_or c.args.ended.now [] ++ holds_lasting known.scene.world c.args.line.now.slaves.items)) (counts_text known) c.in-Err.ensures.told
+    (codes "holds\n" ++ (unwrap_or c.args.ended.now [] ++ holds_lasting known.scene.world c.args.line.now.slaves.items)) (counts_text known) c.in-Err.ensures.reported

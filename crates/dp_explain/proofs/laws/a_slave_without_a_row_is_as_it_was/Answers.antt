@@ -1,4 +1,4 @@
-use Rattle.dp_explain.proofs.ChangesTold.{all_rows}
+use Rattle.dp_explain.proofs.ChangesReported.{all_rows}
 use Rattle.dp_explain.proofs.Standings.{no_row, untouched}
 use Rattle.dp_explain.proofs.laws.a_slave_without_a_row_is_as_it_was.Goals as goal
 

@@ -1,4 +1,4 @@
-use Rattle.dp_explain.proofs.ChangesTold.{all_ended}
+use Rattle.dp_explain.proofs.ChangesReported.{all_ended}
 use Rattle.dp_explain.proofs.laws.every_hold_that_ended_is_written.Goals as goal
 
 pub returns : goal.returns

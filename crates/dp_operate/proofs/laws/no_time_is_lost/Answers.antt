@@ -1,4 +1,4 @@
-use Rattle.dp_operate.proofs.Telling.{none_lost}
+use Rattle.dp_operate.proofs.Reporting.{none_lost}
 use Rattle.dp_operate.proofs.laws.no_time_is_lost.Goals as goal
 
 pub returns : goal.returns

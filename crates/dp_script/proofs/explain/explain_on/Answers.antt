@@ -1,6 +1,6 @@
 use Rattle.std.proofs.Common.{None, Some, rules}
 use Rattle.dp_script.proofs.Checked.{explained_of_named, found_opens, verdict_of_named}
-use Rattle.dp_script.proofs.Tellings.{bad_line_told}
+use Rattle.dp_script.proofs.Reportings.{bad_line_reported}
 use Rattle.dp_script.proofs.explain.explain_on.Goals as goal
 
 pub explain_line-requires : goal.explain_line-requires
@@ -19,4 +19,4 @@ returns-in-None g c =
     let rack = c.args.rack.now in
     let verdict = verdict_of_named rack.workers rack.lines.items c.args.audit.now c.in-Some.header.now c.next.new.self None (search rules) (search rules) in
     let text = explained_of_named rack.workers rack.lines.items c.args.audit.now c.in-Some.header.now c.next.new.self None c.args.choice.now (search rules) (search rules) in
-    rw (verdict, text) (bad_line_told (g.W.Write.contents c.args.writer.now) _ c.tell_verdict-in-None.result c.tell_verdict-in-None.ensures.told)
+    rw (verdict, text) (bad_line_reported (g.W.Write.contents c.args.writer.now) _ c.report_verdict-in-None.result c.report_verdict-in-None.ensures.reported)

@@ -1,7 +1,7 @@
 use Rattle.rack_file.specs.RackFile.{rack_in}
 use Rattle.rack_file.specs.Rack.{rack_described}
 use Rattle.dp_script.proofs.ScriptRacks.{lines_open, some_lines}
-use Rattle.dp_script.proofs.Played.{memory_told}
+use Rattle.dp_script.proofs.Played.{memory_reported}
 use Rattle.dp_script.proofs.run.run_text.Goals as goal
 
 pub run_script-requires : goal.run_script-requires
@@ -13,4 +13,4 @@ run_script-requires g c =
     }
 
 pub returns-in-Err-OutOfMemory : goal.returns-in-Err-OutOfMemory
-returns-in-Err-OutOfMemory g c = memory_told (rack_in c.args.rack.now) c.args.script.now (g.W.Write.contents c.args.writer.now)
+returns-in-Err-OutOfMemory g c = memory_reported (rack_in c.args.rack.now) c.args.script.now (g.W.Write.contents c.args.writer.now)

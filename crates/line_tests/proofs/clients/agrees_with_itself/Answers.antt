@@ -7,7 +7,7 @@ use Rattle.line_tests.proofs.clients.agrees_with_itself.Goals as goal
 pub returns : goal.returns
 unfolding facts_of
 returns c = λ master address slave here held goes.
-    let known = c.facts_tell_masters.ensures c.args.line.now.world (Operator (Busy address None false)) slave.state master c.holders_are_masters.ensures (rw (here, held) refl) in
+    let known = c.facts_name_masters.ensures c.args.line.now.world (Operator (Busy address None false)) slave.state master c.holders_are_masters.ensures (rw (here, held) refl) in
     record {
       slave = slave;
       twin = slave;

@@ -1,6 +1,6 @@
 use Rattle.std.proofs.Common.{◌+◌, ap, ◌∙◌}
 use Rattle.dp_explain.specs.Following.{known_at}
-use Rattle.dp_explain.proofs.FollowedRow.{IsEntry, entry_is, known_is, told_is, stored_is}
+use Rattle.dp_explain.proofs.FollowedRow.{IsEntry, entry_is, known_is, reported_is, stored_is}
 use Rattle.dp_explain.proofs.follower.Follower.follow_row.Goals as goal
 
 pub returns-clause-known : goal.returns-clause-known
@@ -12,13 +12,13 @@ returns-clause-known g c =
     known_is c.args.self.now c.args.row.now c.in-Ok.event s.history c.take_event.new.self s.before.world c.take_row.new.state.world c.take_into.new.self.world s.fault (c.from.result + 1) c.set_halt.new.answer.outcome
     entry c.in_default.is c.take_event.ensures c.take_into.ensures.world
 
-pub returns-clause-told : goal.returns-clause-told
-returns-clause-told g c =
+pub returns-clause-reported : goal.returns-clause-reported
+returns-clause-reported g c =
     let s = c.self.inside in
     let entry : IsEntry c.args.self.now c.args.row.now c.in-Ok.event (known_at s.history s.before.world) c.take_row.new.state.world (c.from.result + 1) c.set_halt.new.answer.outcome =
     entry_is c.args.self.now c.args.row.now c.in-Ok.event s.history s.before.world s.after.world c.take_row.new.state.world s.fault c.take_row.new.answer c.set_halt.new.answer (c.from.result + 1)
     c.self.view_is c.in_default.is c.self.invariant c.in-Ok.ensures c.set_halt.ensures (ap (λ n. n + 1) (c.from.ensures ∙ c.count.ensures)) in
-    told_is c.args.choice.now c.args.self.now c.args.row.now c.in-Ok.event (known_at s.history s.before.world) c.take_row.new.state.world (c.from.result + 1) c.set_halt.new.answer.outcome
+    reported_is c.args.choice.now c.args.self.now c.args.row.now c.in-Ok.event (known_at s.history s.before.world) c.take_row.new.state.world (c.from.result + 1) c.set_halt.new.answer.outcome
     (g.W.Write.contents c.args.writer.now) (g.W.Write.contents c.write_entry-written.new.writer) c.write_entry-written.result c.push-stored.result c.first_fault.result
     entry c.write_entry-written.ensures c.first_fault.ensures
 

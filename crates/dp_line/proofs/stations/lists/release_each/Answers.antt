@@ -20,8 +20,8 @@ each_halts halt (slave ∷ slaves) = ap (λ (s : SlaveRecord). s ∷ map (operat
 
 -- the facts of a slave say whether a master held it
 held_by : (b : Bool) (facts : State × Option ℕ) (found : Option SlaveRecord) → Some facts ≡ option_map state_and_holder found → b ≡ is_some facts.1 → Some b ≡ option_map is_held found
-held_by b facts None told is = absurd cc
-held_by b facts (Some slave) told is =
+held_by b facts None reported is = absurd cc
+held_by b facts (Some slave) reported is =
     let same : facts ≡ state_and_holder slave = cc in
     ap Some (is ∙ ap (λ (f : State × Option ℕ). is_some f.1) same)
 

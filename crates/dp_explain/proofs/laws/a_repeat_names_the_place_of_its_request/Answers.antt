@@ -1,0 +1,14 @@
+use Rattle.dp_explain.proofs.Repeated.{repeats, replied_telegram, retry_reported, other_reported}
+use Rattle.dp_explain.proofs.laws.a_repeat_names_the_place_of_its_request.Goals as goal
+
+pub returns-clause-telegram : goal.returns-clause-telegram
+returns-clause-telegram c = replied_telegram
+
+pub returns-clause-request : goal.returns-clause-request
+returns-clause-request c = repeats
+
+pub returns-clause-retry : goal.returns-clause-retry
+returns-clause-retry c = retry_reported
+
+pub returns-clause-other : goal.returns-clause-other
+returns-clause-other c = other_reported
