@@ -7,6 +7,7 @@ mod controls;
 mod data_octets;
 mod description;
 mod fault;
+mod fields;
 pub mod laws;
 mod linked;
 mod services;
