@@ -3,3 +3,4 @@ pub mod Splitting
 pub mod Slots
 pub mod Cutting
 pub mod Bits
+pub mod DataUnits

@@ -1,5 +1,5 @@
 -- Words of private functions. No public contract cites this module.
-use Rattle.std.specs.Prelude.{codes, ℕ, ◌-◌, ◌*◌, nat_lt, Bool, if◌then◌else◌, List, [], ◌∷◌, ◌++◌, drop, filter, length, map, Option, Some, None, unwrap_or}
+use Rattle.std.specs.Prelude.{codes, ℕ, ◌-◌, ◌*◌, nat_lt, Bool, if◌then◌else◌, List, [], ◌∷◌, ◌++◌, drop, filter, length, map, take, Option, Some, None, unwrap_or}
 use Rattle.std.specs.Fmt.{decimal}
 use Rattle.std.specs.List.{range_with_len}
 use Rattle.dp_decode.specs.Blocks.{blocks_of, block_text, is_set_in}
@@ -19,6 +19,10 @@ each_behind separator (text ∷ texts) = separator ++ text ++ each_behind (codes
 -- the octets after the first `count`; None if there are fewer
 abbrev pub rest_behind : ℕ → List ℕ → Option (List ℕ)
 rest_behind count octets = if nat_lt (length octets) count then None else Some (drop count octets)
+
+-- the octets after the first `count` and before the last two
+abbrev pub octets_between : ℕ → List ℕ → List ℕ
+octets_between count octets = take (length octets - 2 - count) (drop count octets)
 
 -- the texts of the blocks that octets are
 abbrev pub block_texts : List ℕ → List (List ℕ)

@@ -1,18 +1,24 @@
 //! The data of a request, in words.
 
-ghost use Rattle.std.specs.Prelude.{◌≡◌, ◌≤◌, Some, length};
+ghost use Rattle.std.specs.Prelude.{◌≡◌, ◌≤◌, Some};
 ghost use Rattle.dp_telegram.specs.Access.{parts_of};
-ghost use Rattle.dp_decode.specs.Contents.{control_row, frame_row, row_where_any, subject_at, subject_of as subject_by, telegram_row};
+ghost use Rattle.dp_telegram.specs.FrameText.{frame_of, head_length};
+ghost use Rattle.dp_telegram.specs.declared.frame.Frame.TheVariants as frames;
+ghost use Rattle.dp_telegram.specs.declared.frame.Telegram.{Telegram};
+ghost use Rattle.dp_decode.specs.PrivateWords.{octets_between};
+ghost use Rattle.dp_decode.specs.Contents.{control_row, row_where_any, subject_at, subject_of as subject_by, telegram_row};
 
 use crate::commands::CommandWords;
 use crate::configurations::Configuration;
+use crate::faults::SD2;
 use crate::kinds::is_of_point;
 use crate::parameters::Parameters;
+use crate::read_octets::ReadOctets;
 use crate::words::Hex;
-use arrayvec::ArrayVec;
 use dp_globalctl::Command;
 use dp_sap::{CHK_CFG, GLOBAL_CONTROL, SET_PRM};
-use dp_telegram::{Frame, Parts, Telegram, decode};
+use dp_telegram::laws::relation_and_computation_agree;
+use dp_telegram::{FrameLent, PartsLent, TelegramLent};
 use std::fmt;
 use std::marker::Model;
 
@@ -48,90 +54,111 @@ fn subject_for(point: Option<u8>) -> Subject
 ///
 /// Contracts see the text that its `Display` writes, such as `outputs     01 02`; its label has 12 columns.
 #[derive(Drop)]
-pub struct Contents {
+pub struct Contents<'a> {
     subject: Subject,
-    octets: ArrayVec<u8, 246>,
+    octets: &'a [u8],
 }
 
-impl Model for Contents {
+impl<'a> Model for Contents<'a> {
     ghost use Rattle.std.specs.Prelude.{ℕ, List};
     ghost use Rattle.dp_decode.specs.Contents.{row_text};
 
     ghost Value = { List ℕ };
 
-    ghost view = { λ contents. row_text contents.subject contents.octets.items };
+    ghost view = { λ contents. row_text contents.subject contents.octets.now };
 }
 
-impl Contents {
+impl<'a> Contents<'a> {
     ghost use Rattle.dp_decode.specs.Contents.{contents_text};
 
     /// Returns the data of any octets; None if they are not a telegram with data.
     #[tactic(auto, unfolding(crate::specs::Contents::contents_text))]
-    pub fn from_octets(octets: &[u8]) -> Option<Contents>
-        ensures { result ≡ contents_text octets.now }
+    pub fn from_octets(read: &ReadOctets<'a>) -> Option<Contents<'a>>
+        ensures { result ≡ contents_text read.now }
     {
-        match decode(octets) {
-            Ok(frame) => Contents::of_frame(&frame),
-            Err(_) => None,
+        match read.frame() {
+            Some(FrameLent::Telegram(telegram)) => {
+                Contents::of_telegram(read.octets(), &telegram)
+            }
+            Some(FrameLent::Token { .. }) => None,
+            Some(FrameLent::Ack) => None,
+            None => None,
         }
     }
 
-    /// Returns the data of a frame; None if it is not a telegram with data.
-    fn of_frame(frame: &Frame) -> Option<Contents>
-        ensures { result ≡ frame_row frame.now }
-    {
-        match frame {
-            Frame::Token { .. } => None,
-            Frame::Ack => None,
-            Frame::Telegram(telegram) => Contents::of_telegram(telegram),
-        }
-    }
-
-    /// Returns the data of a telegram: the octets after its access points, or its whole data unit if the access points
-    /// cannot be read. None if there are no octets.
-    fn of_telegram(telegram: &Telegram) -> Option<Contents>
+    /// Returns the data of the telegram that these octets are: the octets after its access points, or its whole data unit
+    /// if the access points cannot be read. None if there are no octets.
+    fn of_telegram(octets: &'a [u8], telegram: &TelegramLent<'a>) -> Option<Contents<'a>>
+        requires { frame_of octets.now ≡ Some (frames.Telegram telegram.now) }
         ensures { result ≡ telegram_row telegram.now (parts_of telegram.now) }
     {
         match telegram.parts() {
             Some(parts) => {
                 let subject = subject_of(telegram, &parts);
-                Contents::where_any(subject, &parts.payload)
+                Contents::where_any(subject, parts.payload())
             }
-            None => Contents::where_any(Subject::Octets, &telegram.du),
+            None => Contents::where_any(Subject::Octets, data_unit(octets)),
         }
     }
 
     /// Returns these octets as a row; None if there are none.
-    fn where_any(subject: Subject, octets: &[u8]) -> Option<Contents>
-        requires { length octets.now ≤ 246 }
+    fn where_any(subject: Subject, octets: &'a [u8]) -> Option<Contents<'a>>
         ensures { result ≡ row_where_any subject octets.now }
     {
         if octets.is_empty() {
             return None;
         }
-        Some(Contents {
-            subject,
-            octets: ArrayVec::try_from(octets).unwrap(),
-        })
+        Some(Contents { subject, octets })
+    }
+}
+
+/// Returns the data unit of octets that are a telegram: what stands between FC and the check sequence.
+fn data_unit(octets: &[u8]) -> &[u8]
+    ensures { (telegram : Telegram) → frame_of octets.now ≡ Some (frames.Telegram telegram) → result.now ≡ telegram.du.items }
+{
+    relation_and_computation_agree();
+    between(octets, head_size(octets) + 3)
+}
+
+/// Returns the number of octets before DA.
+fn head_size(octets: &[u8]) -> usize
+    ensures size { result ≡ head_length octets.now }
+    ensures few { result ≤ 4 }
+{
+    match octets {
+        [SD2, ..] => 4,
+        _ => 1,
+    }
+}
+
+/// Returns the octets between the first ones, of this number, and the last two; none if there are fewer.
+fn between(octets: &[u8], count: usize) -> &[u8]
+    ensures { result.now ≡ octets_between count octets.now }
+{
+    let end = octets.len().saturating_sub(2);
+    if count < end {
+        &octets[count..end]
+    } else {
+        &[]
     }
 }
 
 /// Returns the meaning of the octets after the access points of a telegram.
-fn subject_of(telegram: &Telegram, parts: &Parts) -> Subject
+fn subject_of(telegram: &TelegramLent<'_>, parts: &PartsLent<'_>) -> Subject
     ensures { result ≡ subject_by telegram.now.fc parts.now }
 {
     if telegram.is_request() && is_of_point(telegram.function()) {
-        subject_for(parts.dsap)
+        subject_for(parts.dsap())
     } else {
         Subject::Octets
     }
 }
 
-impl fmt::Display for Contents {
+impl<'a> fmt::Display for Contents<'a> {
     ghost output = { λ text. Some text };
 
     fn fmt<W: fmt::Write>(&self, f: &mut fmt::Formatter<W>) -> fmt::Result {
-        let octets = self.octets.as_slice();
+        let octets = self.octets;
         match self.subject {
             Subject::Parameters => {
                 let parameters = Parameters(octets);

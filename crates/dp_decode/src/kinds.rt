@@ -1,13 +1,18 @@
 //! The kind of a telegram, in words.
 
-ghost use Rattle.std.specs.Prelude.{◌≡◌, Some, option_map};
-ghost use Rattle.dp_telegram.specs.FrameText.{delimiter};
+ghost use Rattle.std.specs.Prelude.{◌≡◌, Some, None, option_map};
+ghost use Rattle.std.specs.Fmt.{WritesOnOk};
+ghost use Rattle.dp_telegram.specs.FrameText.{delimiter, frame_of, reading_of};
 ghost use Rattle.dp_telegram.specs.FunctionCode.{function_of};
-ghost use Rattle.dp_decode.specs.Kinds.{asked_text, bit_text, count_text, format_text, frame_text, function_name, function_text, is_of_point as is_of_point_by, ring_text, service_text, telegram_text};
+ghost use Rattle.dp_telegram.specs.Lent.{frame_lent};
+ghost use Rattle.dp_decode.specs.Kinds.{asked_text, bit_text, count_text, format_text, frame_text, function_name, function_text, is_of_point as is_of_point_by, reading_text, ring_text, service_text, telegram_text};
 
 use crate::faults::{SD2, write_fault};
 use crate::points::AccessPoints;
-use dp_telegram::{ADDRESS_BITS, Frame, Function, Parts, Telegram, decode, function_code};
+use crate::read_octets::ReadOctets;
+use dp_telegram::{
+    ADDRESS_BITS, FrameLent, Function, PartsLent, TelegramLent, decode, function_code,
+};
 use std::fmt;
 use std::marker::Model;
 
@@ -22,25 +27,34 @@ const SD1: u8 = 0x10;
 #[derive(Drop)]
 pub struct Kind<'a> {
     octets: &'a [u8],
+    /// The frame that the octets are the text of, if they are.
+    frame: Option<FrameLent<'a>>,
 }
 
 impl<'a> Model for Kind<'a> {
-    ghost use Rattle.std.specs.Prelude.{ℕ, List};
+    ghost use Rattle.std.specs.Prelude.{◌≡◌, ℕ, List, option_map};
+    ghost use Rattle.dp_telegram.specs.FrameText.{frame_of};
+    ghost use Rattle.dp_telegram.specs.Lent.{frame_lent};
     ghost use Rattle.dp_decode.specs.Kinds.{kind_text};
 
     ghost Value = { List ℕ };
 
     ghost view = { λ kind. kind_text kind.octets.now };
+
+    ghost invariant = { λ kind. option_map frame_lent kind.frame ≡ frame_of kind.octets.now };
 }
 
 impl<'a> Kind<'a> {
     ghost use Rattle.dp_decode.specs.Kinds.{kind_text};
 
     /// Returns the kind of any octets.
-    pub fn from_octets(octets: &'a [u8]) -> Kind<'a>
-        ensures { result ≡ kind_text octets.now }
+    pub fn from_octets(read: &ReadOctets<'a>) -> Kind<'a>
+        ensures { result ≡ kind_text read.now }
     {
-        Kind { octets }
+        Kind {
+            octets: read.octets(),
+            frame: read.frame(),
+        }
     }
 }
 
@@ -49,16 +63,27 @@ impl<'a> fmt::Display for Kind<'a> {
 
     #[tactic(auto, unfolding(crate::specs::Kinds::kind_text))]
     fn fmt<W: fmt::Write>(&self, f: &mut fmt::Formatter<W>) -> fmt::Result {
-        match decode(self.octets) {
-            Ok(frame) => {
+        match &self.frame {
+            Some(frame) => {
                 let frame = Framed {
                     octets: self.octets,
-                    frame: &frame,
+                    frame,
                 };
                 write!(f, "{frame}")
             }
-            Err(fault) => write_fault(f, self.octets, fault),
+            None => write_unread(f, self.octets),
         }
+    }
+}
+
+/// Writes octets that are no frame.
+fn write_unread<W: fmt::Write>(f: &mut fmt::Formatter<W>, octets: &[u8]) -> fmt::Result
+    requires { frame_of octets.now ≡ None }
+    ensures { WritesOnOk W.Write.write_str_gives f.old result (reading_text (reading_of octets.now) octets.now) f.new }
+{
+    match decode(octets) {
+        Ok(_) => Ok(()),
+        Err(fault) => write_fault(f, octets, fault),
     }
 }
 
@@ -66,22 +91,22 @@ impl<'a> fmt::Display for Kind<'a> {
 #[derive(Drop)]
 struct Framed<'a> {
     octets: &'a [u8],
-    frame: &'a Frame,
+    frame: &'a FrameLent<'a>,
 }
 
 impl<'a> fmt::Display for Framed<'a> {
-    ghost output = { λ framed. Some (frame_text (delimiter framed.octets.now) framed.frame.now) };
+    ghost output = { λ framed. Some (frame_text (delimiter framed.octets.now) (frame_lent framed.frame.now)) };
 
     fn fmt<W: fmt::Write>(&self, f: &mut fmt::Formatter<W>) -> fmt::Result {
         match self.frame {
-            Frame::Token { da, sa } => {
+            FrameLent::Token { da, sa } => {
                 let to = *da & ADDRESS_BITS;
                 let from = *sa & ADDRESS_BITS;
                 let ring = ring(to, from);
                 write!(f, "SD4 token to {to} from {from}{ring}")
             }
-            Frame::Ack => f.write_str("SC short acknowledgement"),
-            Frame::Telegram(telegram) => {
+            FrameLent::Ack => f.write_str("SC short acknowledgement"),
+            FrameLent::Telegram(telegram) => {
                 let format = format(self.octets);
                 let said = Said(telegram);
                 write!(f, "{format} {said}")
@@ -115,7 +140,7 @@ fn format(octets: &[u8]) -> &'static str
 
 /// A telegram without its data, in words.
 #[derive(Drop)]
-struct Said<'a>(&'a Telegram);
+struct Said<'a>(&'a TelegramLent<'a>);
 
 impl<'a> fmt::Display for Said<'a> {
     ghost output = { λ said. Some (telegram_text said.0.now) };
@@ -126,7 +151,7 @@ impl<'a> fmt::Display for Said<'a> {
         if !telegram.is_request() {
             return f.write_str("response");
         }
-        let asked = FunctionWords(telegram.fc);
+        let asked = FunctionWords(telegram.fc());
         let service = Service {
             of_point: is_of_point(telegram.function()),
             parts: &telegram.parts(),
@@ -139,7 +164,7 @@ impl<'a> fmt::Display for Said<'a> {
 #[derive(Drop)]
 struct Service<'a> {
     of_point: bool,
-    parts: &'a Option<Parts>,
+    parts: &'a Option<PartsLent<'a>>,
 }
 
 impl<'a> fmt::Display for Service<'a> {
@@ -153,8 +178,8 @@ impl<'a> fmt::Display for Service<'a> {
             return Ok(());
         }
         let points = AccessPoints {
-            dsap: parts.dsap,
-            ssap: parts.ssap,
+            dsap: parts.dsap(),
+            ssap: parts.ssap(),
         };
         write!(f, "  {points}")
     }

@@ -1,8 +1,8 @@
 //! PROFIBUS DP telegrams in words, read only from their octets (IEC 61158-4-3 and IEC 61158-6-3).
 //!
-//! For the octets of a request, [`Kind`] shows the frame and its function, and [`Contents`] the data. [`Reply`] shows the
-//! data of a reply. The parts of these texts, such as [`Hex`], are public for other texts about telegrams. Contracts see the
-//! text that each of them displays. Nothing here allocates memory.
+//! [`ReadOctets`] judges octets once. For those of a request, [`Kind`] shows the frame and its function, and [`Contents`]
+//! the data. [`Reply`] shows the data of a reply. The parts of these texts, such as [`Hex`], are public for other texts
+//! about telegrams. Contracts see the text that each of them displays. Nothing here allocates memory or copies a frame.
 //!
 //! It is a crate of its own, so that these words can be used without a line, and so that the gate proves it beside
 //! dp_line.
@@ -18,6 +18,7 @@ mod faults;
 mod kinds;
 mod parameters;
 mod points;
+mod read_octets;
 mod replies;
 mod words;
 
@@ -26,5 +27,6 @@ pub use contents::Contents;
 pub use faults::WrongEndWords;
 pub use kinds::Kind;
 pub use points::{Dsap, service, unsimulated};
+pub use read_octets::ReadOctets;
 pub use replies::Reply;
 pub use words::{CapitalPair, Flag, Groups, Hex, HexPair, Names};

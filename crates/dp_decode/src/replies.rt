@@ -2,15 +2,17 @@
 
 ghost use Rattle.std.specs.Prelude.{◌≡◌, Some, option_map};
 ghost use Rattle.dp_telegram.specs.Access.{parts_of};
-ghost use Rattle.dp_decode.specs.Replies.{acknowledged_text, data_front, data_text, earlier_text, frame_parts, frame_reply, is_earlier as is_earlier_by, label_from, parts_in, plain_text, response_text, sent_text};
+ghost use Rattle.dp_telegram.specs.Lent.{frame_lent};
+ghost use Rattle.dp_decode.specs.Replies.{acknowledged_text, data_front, data_text, earlier_text, frame_reply, is_earlier as is_earlier_by, label_from, parts_in, plain_text, response_text, sent_text};
 
 use crate::configurations::Configuration;
 use crate::diagnoses::Diagnosis;
 use crate::points::Point;
+use crate::read_octets::ReadOctets;
 use crate::words::{Hex, HexPair};
 use dp_sap::{GET_CFG, RD_INP, RD_OUTP, SLAVE_DIAG};
 use dp_telegram::function_code::{DH, DL, OK, RR, RS, UE};
-use dp_telegram::{Frame, Parts, Telegram, decode};
+use dp_telegram::{FrameLent, PartsLent, TelegramLent};
 use std::fmt;
 use std::marker::Model;
 
@@ -18,14 +20,14 @@ use std::marker::Model;
 ///
 /// Contracts see the text that its `Display` writes, such as `reply       inputs 01 02`; its label has 12 columns.
 #[derive(Drop)]
-pub struct Reply {
+pub struct Reply<'a> {
     is_judged_afterwards: bool,
     is_earlier: bool,
     /// None is a short acknowledgement.
-    telegram: Option<Telegram>,
+    telegram: Option<TelegramLent<'a>>,
 }
 
-impl Model for Reply {
+impl<'a> Model for Reply<'a> {
     ghost use Rattle.std.specs.Prelude.{ℕ, List};
     ghost use Rattle.dp_decode.specs.Replies.{reply_row};
 
@@ -34,7 +36,7 @@ impl Model for Reply {
     ghost view = { λ reply. reply_row reply.is_judged_afterwards reply.is_earlier reply.telegram };
 }
 
-impl Reply {
+impl<'a> Reply<'a> {
     ghost use Rattle.dp_decode.specs.Replies.{reply_text};
 
     /// Returns the reply that these octets hold; `request` are the octets of the request. None if they are neither a
@@ -43,27 +45,35 @@ impl Reply {
     /// If `is_judged_afterwards`, the slave judges the octets of the request only after its reply, and the text of a short
     /// acknowledgement says so.
     #[tactic(auto, unfolding(crate::specs::Replies::reply_text))]
-    pub fn from_octets(request: &[u8], reply: &[u8], is_judged_afterwards: bool) -> Option<Reply>
+    pub fn from_octets(
+        request: &ReadOctets<'_>,
+        reply: &ReadOctets<'a>,
+        is_judged_afterwards: bool,
+    ) -> Option<Reply<'a>>
         ensures { result ≡ reply_text is_judged_afterwards request.now reply.now }
     {
-        match decode(reply) {
-            Ok(frame) => Reply::of_frame(&parts_of_octets(request), frame, is_judged_afterwards),
-            Err(_) => None,
+        match reply.frame() {
+            Some(frame) => Reply::of_frame(&parts_asked(request), frame, is_judged_afterwards),
+            None => None,
         }
     }
 
     /// Returns the reply that a frame holds; None if it is a token.
-    fn of_frame(asked: &Option<Parts>, frame: Frame, is_judged_afterwards: bool) -> Option<Reply>
-        ensures { result ≡ frame_reply is_judged_afterwards asked.now frame }
+    fn of_frame(
+        asked: &Option<PartsLent<'_>>,
+        frame: FrameLent<'a>,
+        is_judged_afterwards: bool,
+    ) -> Option<Reply<'a>>
+        ensures { result ≡ frame_reply is_judged_afterwards asked.now (frame_lent frame.entry) }
     {
         match frame {
-            Frame::Token { .. } => None,
-            Frame::Ack => Some(Reply {
+            FrameLent::Token { .. } => None,
+            FrameLent::Ack => Some(Reply {
                 is_judged_afterwards,
                 is_earlier: false,
                 telegram: None,
             }),
-            Frame::Telegram(telegram) => {
+            FrameLent::Telegram(telegram) => {
                 let is_earlier = is_from_another(asked, &telegram.parts());
                 Some(Reply {
                     is_judged_afterwards,
@@ -77,37 +87,29 @@ impl Reply {
 
 /// Returns the access points and data of octets; None if they are no telegram, or the access points cannot be read.
 #[tactic(auto, unfolding(crate::specs::Replies::parts_in))]
-fn parts_of_octets(octets: &[u8]) -> Option<Parts>
-    ensures { result ≡ parts_in octets.now }
+fn parts_asked<'a>(request: &ReadOctets<'a>) -> Option<PartsLent<'a>>
+    ensures { result ≡ parts_in request.now }
 {
-    match decode(octets) {
-        Ok(frame) => parts_of_frame(&frame),
-        Err(_) => None,
-    }
-}
-
-/// Returns the access points and data of a frame; None if it is no telegram, or the access points cannot be read.
-fn parts_of_frame(frame: &Frame) -> Option<Parts>
-    ensures { result ≡ frame_parts frame.now }
-{
-    match frame {
-        Frame::Token { .. } => None,
-        Frame::Ack => None,
-        Frame::Telegram(telegram) => telegram.parts(),
+    match request.frame() {
+        Some(FrameLent::Telegram(telegram)) => telegram.parts(),
+        Some(FrameLent::Token { .. }) => None,
+        Some(FrameLent::Ack) => None,
+        None => None,
     }
 }
 
 /// Returns whether a reply comes from another point than the request asked.
-fn is_from_another(asked: &Option<Parts>, sent: &Option<Parts>) -> bool
+fn is_from_another(asked: &Option<PartsLent<'_>>, sent: &Option<PartsLent<'_>>) -> bool
     ensures { result ≡ is_earlier_by asked.now sent.now }
 {
     match (asked, sent) {
-        (Some(asked), Some(sent)) => asked.dsap != sent.ssap,
-        _ => false,
+        (Some(asked), Some(sent)) => asked.dsap() != sent.ssap(),
+        (Some(_), None) => false,
+        (None, _) => false,
     }
 }
 
-impl fmt::Display for Reply {
+impl<'a> fmt::Display for Reply<'a> {
     ghost output = { λ text. Some text };
 
     fn fmt<W: fmt::Write>(&self, f: &mut fmt::Formatter<W>) -> fmt::Result {
@@ -142,7 +144,7 @@ fn acknowledged(is_judged_afterwards: bool) -> &'static str
 #[derive(Drop)]
 struct Response<'a> {
     is_earlier: bool,
-    telegram: &'a Telegram,
+    telegram: &'a TelegramLent<'a>,
 }
 
 impl<'a> fmt::Display for Response<'a> {
@@ -150,11 +152,11 @@ impl<'a> fmt::Display for Response<'a> {
 
     #[tactic(auto, unfolding(crate::specs::Replies::response_text))]
     fn fmt<W: fmt::Write>(&self, f: &mut fmt::Formatter<W>) -> fmt::Result {
-        if let Some(said) = plain(self.telegram.fc) {
+        if let Some(said) = plain(self.telegram.fc()) {
             return f.write_str(said);
         }
-        let Some(front) = front(self.telegram.fc) else {
-            let code = HexPair(self.telegram.fc);
+        let Some(front) = front(self.telegram.fc()) else {
+            let code = HexPair(self.telegram.fc());
             return write!(f, "FC {code}");
         };
         let sent = Sent {
@@ -193,7 +195,7 @@ fn front(fc: u8) -> Option<&'static str>
 #[derive(Drop)]
 struct Sent<'a> {
     is_earlier: bool,
-    telegram: &'a Telegram,
+    telegram: &'a TelegramLent<'a>,
 }
 
 impl<'a> fmt::Display for Sent<'a> {
@@ -206,11 +208,11 @@ impl<'a> fmt::Display for Sent<'a> {
         };
         let earlier = Earlier {
             is_earlier: self.is_earlier,
-            point: parts.ssap,
+            point: parts.ssap(),
         };
         let data = Data {
-            point: parts.ssap,
-            octets: &parts.payload,
+            point: parts.ssap(),
+            octets: parts.payload(),
         };
         write!(f, "{earlier}{data}")
     }
