@@ -1,12 +1,35 @@
--- A request whose parts are known.
+-- A request whose parts are known, and the slave that it has reached.
 use Rattle.std.proofs.Common.{◌≡◌, ℕ, Bool, List, Some, refl}
 use Rattle.dp_telegram.specs.declared.frame.Telegram.{Telegram}
 use Rattle.dp_telegram.specs.declared.access.Parts.{Parts}
 use Rattle.dp_telegram.specs.Access.{address_of, parts_of}
 use Rattle.dp_responder.specs.declared.rule.Rule.{Rule}
-use Rattle.dp_sentences.specs.Scenes.{SceneView}
-use Rattle.dp_sentences.specs.Results.{reported_of_parts, reported_of_slave}
+use Rattle.dp_slave.specs.declared.description.SlaveSpec.{SlaveSpec}
+use Rattle.dp_slave.specs.declared.view.SlaveView.{SlaveView}
+use Rattle.dp_line.specs.World.{described_at}
+use Rattle.dp_sentences.specs.Meetings.{MeetingView}
+use Rattle.dp_sentences.specs.Notes.{note_of}
+use Rattle.dp_sentences.specs.Scenes.{AskedView, SceneView}
+use Rattle.dp_sentences.specs.Sentences.{slave_text}
+use Rattle.dp_sentences.specs.Results.{reported_of_parts, reported_of_slave, shown_at}
 
 pub parts_reported : (scene : SceneView) (master : ℕ) (octets : List ℕ) (silent : Bool) (rule : Rule) (telegram : Telegram) (parts : Parts) (address : ℕ) → address ≡ address_of telegram.da → Some parts ≡ parts_of telegram
     → reported_of_slave scene (record { master = master; octets = octets; telegram = telegram; parts = parts }) address silent rule ≡ reported_of_parts scene master octets silent rule telegram (parts_of telegram)
 parts_reported scene master octets silent rule telegram parts address is found = rw (is, ← found) refl
+
+-- what the slave at an address meets
+abbrev pub met_at : SceneView → AskedView → ℕ → SlaveSpec → SlaveView → MeetingView
+met_at scene asked address description slave = record {
+  master = asked.master;
+  octets = asked.octets;
+  telegram = asked.telegram;
+  parts = asked.parts;
+  description = description;
+  slave = slave;
+  noted = note_of scene.notes address asked.master;
+}
+
+pub slave_reported : (scene : SceneView) (asked : AskedView) (address : ℕ) (silent : Bool) (rule : Rule) (description : SlaveSpec) (slave : SlaveView)
+    → Some description ≡ described_at scene.description.slaves address → Some slave ≡ shown_at scene.world address
+    → slave_text silent (met_at scene asked address description slave) rule ≡ reported_of_slave scene asked address silent rule
+slave_reported scene asked address silent rule description slave found here = rw (← found, ← here) refl

@@ -8,7 +8,8 @@ use Rattle.std.proofs.lemmas.List.Folds.{flat_map-map}
 use Rattle.dp_cfg.specs.Choosing.{same_octets}
 use Rattle.dp_cfg.specs.Identifiers.{Identifier, IsSplit}
 use Rattle.dp_cfg.specs.Reading.{split_of}
-use Rattle.dp_sentences.specs.Slots.{is_whole, octets_of_each, other_slot, slot_differences, slots_in}
+use Rattle.dp_decode.specs.Configurations.{octets_of_each}
+use Rattle.dp_sentences.specs.Slots.{is_whole, other_slot, slot_differences, slots_in}
 
 -- ---- slots without a difference
 

@@ -9,6 +9,8 @@ pub mod Slots
 pub mod Services
 pub mod Sentences
 pub mod Scenes
+pub mod Shown
+pub mod ReadEvents
 pub mod Ways
 pub mod Results
 pub mod Changes

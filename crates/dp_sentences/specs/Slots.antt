@@ -1,22 +1,12 @@
 -- Two configurations, compared slot by slot (own). A slot is the place of an identifier in a configuration, from 1.
-use Rattle.std.specs.Prelude.{codes, ℕ, ◌+◌, if◌then◌else◌, Bool, List, [], ◌∷◌, ◌++◌, map, Option, is_some, unwrap_or}
+use Rattle.std.specs.Prelude.{codes, ℕ, ◌+◌, if◌then◌else◌, Bool, List, [], ◌∷◌, ◌++◌, is_some, unwrap_or}
 use Rattle.std.specs.Fmt.{decimal}
 use Rattle.std.specs.List.{join_by}
-use Rattle.std.specs.Option.{option_map}
 use Rattle.dp_cfg.specs.Choosing.{same_octets}
-use Rattle.dp_cfg.specs.Identifiers.{Identifier}
-use Rattle.dp_cfg.specs.Reading.{split_of}
 use Rattle.dp_decode.specs.Words.{hex_text}
+use Rattle.dp_decode.specs.Configurations.{slots_of}
 
 -- ---- the slots of a configuration
-
--- the octets of each of these identifiers
-abbrev pub octets_of_each : List Identifier → List (List ℕ)
-octets_of_each identifiers = map (λ identifier. identifier.octets) identifiers
-
--- the octets of each identifier; None if the last one is cut (IEC 61158-6-3, configuration identifiers)
-abbrev pub slots_of : List ℕ → Option (List (List ℕ))
-slots_of octets = option_map octets_of_each (split_of octets)
 
 -- the octets don't end within an identifier
 abbrev pub is_whole : List ℕ → Bool

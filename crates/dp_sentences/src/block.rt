@@ -5,9 +5,9 @@ ghost use Rattle.dp_sentences.specs.Results.{result_rows};
 ghost use Rattle.dp_sentences.specs.Blocks.{contents_row, reply_row, block_text};
 
 use crate::changes::ChangeRows;
-use crate::frames::frame_in;
 use crate::head::Head;
 use crate::operations::OpWords;
+use crate::read_event::ReadEvent;
 use crate::requests::RequestRows;
 use crate::scene::Scene;
 use crate::telegram_rows::{ReplyRow, SentRow};
@@ -17,15 +17,15 @@ use std::fmt;
 
 /// The row that shows the data of a request; writes nothing for an event of the operator.
 #[derive(Clone, Copy)]
-struct Contents<'a>(&'a Event);
+struct Contents<'a>(&'a ReadEvent<'a>);
 
 impl<'a> fmt::Display for Contents<'a> {
     ghost output = { λ s. Some (contents_row s.0.now) };
 
     fn fmt<W: fmt::Write>(&self, f: &mut fmt::Formatter<W>) -> fmt::Result {
-        match self.0 {
-            Event::Request { octets, .. } => {
-                let row = SentRow(octets.as_slice());
+        match self.0.event() {
+            Event::Request { .. } => {
+                let row = SentRow(self.0.request());
                 write!(f, "{row}")
             }
             Event::Operator(_) => Ok(()),
@@ -37,7 +37,7 @@ impl<'a> fmt::Display for Contents<'a> {
 #[derive(Clone, Copy)]
 struct ResultRows<'a> {
     scene: &'a Scene<'a>,
-    event: &'a Event,
+    event: &'a ReadEvent<'a>,
     outcome: &'a Outcome,
 }
 
@@ -45,15 +45,12 @@ impl<'a> fmt::Display for ResultRows<'a> {
     ghost output = { λ s. Some (result_rows s.scene.now s.event.now s.outcome.now) };
 
     fn fmt<W: fmt::Write>(&self, f: &mut fmt::Formatter<W>) -> fmt::Result {
-        match self.event {
-            Event::Request { master, octets } => {
-                let octets = octets.as_slice();
-                let frame = frame_in(octets);
+        match self.event.event() {
+            Event::Request { master, .. } => {
                 let rows = RequestRows {
                     scene: self.scene,
                     master: *master,
-                    octets,
-                    frame: &frame,
+                    request: self.event.request(),
                     outcome: self.outcome,
                 };
                 write!(f, "{rows}")
@@ -75,7 +72,7 @@ impl<'a> fmt::Display for ResultRows<'a> {
 #[derive(Clone, Copy)]
 struct ReplyRows<'a> {
     scene: &'a Scene<'a>,
-    event: &'a Event,
+    event: &'a ReadEvent<'a>,
     outcome: &'a Outcome,
 }
 
@@ -83,13 +80,13 @@ impl<'a> fmt::Display for ReplyRows<'a> {
     ghost output = { λ s. Some (reply_row s.scene.now s.event.now s.outcome.now) };
 
     fn fmt<W: fmt::Write>(&self, f: &mut fmt::Formatter<W>) -> fmt::Result {
-        match self.event {
-            Event::Request { master, octets } => match self.outcome {
+        match self.event.event() {
+            Event::Request { master, .. } => match self.outcome {
                 Outcome::Reply {
                     octets: reply,
                     rule,
                 } => {
-                    let request = octets.as_slice();
+                    let request = self.event.request();
                     let way = answered(self.scene, *master, request, *rule);
                     let row = ReplyRow {
                         request,
@@ -127,26 +124,27 @@ impl<'a> fmt::Display for Block<'a> {
 
     fn fmt<W: fmt::Write>(&self, f: &mut fmt::Formatter<W>) -> fmt::Result {
         let scene = self.scene;
+        let event = ReadEvent::new(self.event);
         let head = Head {
             time: scene.time,
             place: self.place,
-            event: self.event,
+            event: &event,
         };
-        let contents = Contents(self.event);
+        let contents = Contents(&event);
         let results = ResultRows {
             scene,
-            event: self.event,
+            event: &event,
             outcome: self.outcome,
         };
         let reply = ReplyRows {
             scene,
-            event: self.event,
+            event: &event,
             outcome: self.outcome,
         };
         let changes = ChangeRows {
             before: scene.before,
             after: self.after,
-            event: self.event,
+            event: &event,
             outcome: self.outcome,
         };
         write!(f, "{head}{contents}{results}{reply}{changes}")

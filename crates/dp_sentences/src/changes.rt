@@ -2,25 +2,29 @@
 
 ghost use Rattle.std.specs.Prelude.{◌≡◌, Some};
 ghost use Rattle.std.specs.List.{flat_map};
+ghost use Rattle.dp_sentences.specs.Shown.{shown};
 ghost use Rattle.dp_sentences.specs.Changes.{same_state, same_holder, standing_words, changed_words, changed_row, change_of, asked_addresses, touched, change_rows};
 
+use crate::read_event::ReadEvent;
+use crate::shown::slave_at;
 use crate::who::Whom;
 use crate::words::{HolderWords, state_name};
-use dp_line::{Event, LineState, Outcome, SlaveView};
+use dp_line::{Event, LineState, Outcome};
 use dp_sap::State;
+use dp_slave::Slave;
 use std::fmt;
 
 /// The state and the holder of a slave.
 #[derive(Clone, Copy)]
-struct StandingWords<'a>(&'a SlaveView);
+struct StandingWords<'a>(&'a Slave);
 
 impl<'a> fmt::Display for StandingWords<'a> {
-    ghost output = { λ s. Some (standing_words s.0.now) };
+    ghost output = { λ s. Some (standing_words (shown s.0.now)) };
 
     fn fmt<W: fmt::Write>(&self, f: &mut fmt::Formatter<W>) -> fmt::Result {
         let slave = self.0;
-        let state = state_name(slave.state);
-        let holder = HolderWords(slave.holder);
+        let state = state_name(slave.state());
+        let holder = HolderWords(slave.holder());
         write!(f, "{state}, {holder}")
     }
 }
@@ -57,12 +61,12 @@ pub fn same_holder(before: Option<u8>, after: Option<u8>) -> bool
 #[derive(Clone, Copy)]
 struct ChangedWords<'a> {
     address: u8,
-    before: &'a SlaveView,
-    after: &'a SlaveView,
+    before: &'a Slave,
+    after: &'a Slave,
 }
 
 impl<'a> fmt::Display for ChangedWords<'a> {
-    ghost output = { λ s. Some (changed_words s.address s.before.now s.after.now) };
+    ghost output = { λ s. Some (changed_words s.address (shown s.before.now) (shown s.after.now)) };
 
     fn fmt<W: fmt::Write>(&self, f: &mut fmt::Formatter<W>) -> fmt::Result {
         let address = self.address;
@@ -77,7 +81,7 @@ impl<'a> fmt::Display for ChangedWords<'a> {
 struct ChangedRow<'a>(ChangedWords<'a>);
 
 impl<'a> fmt::Display for ChangedRow<'a> {
-    ghost output = { λ s. Some (changed_row s.0.address s.0.before.now s.0.after.now) };
+    ghost output = { λ s. Some (changed_row s.0.address (shown s.0.before.now) (shown s.0.after.now)) };
 
     fn fmt<W: fmt::Write>(&self, f: &mut fmt::Formatter<W>) -> fmt::Result {
         let words = self.0;
@@ -98,19 +102,21 @@ impl<'a> fmt::Display for ChangeRow<'a> {
 
     fn fmt<W: fmt::Write>(&self, f: &mut fmt::Formatter<W>) -> fmt::Result {
         let address = self.address;
-        let Some(before) = self.before.view(address) else {
+        let Some(before) = slave_at(self.before, address) else {
             return Ok(());
         };
-        let Some(after) = self.after.view(address) else {
+        let Some(after) = slave_at(self.after, address) else {
             return Ok(());
         };
-        if same_state(before.state, after.state) && same_holder(before.holder, after.holder) {
+        if same_state(before.state(), after.state())
+            && same_holder(before.holder(), after.holder())
+        {
             return Ok(());
         }
         let row = ChangedRow(ChangedWords {
             address,
-            before: &before,
-            after: &after,
+            before,
+            after,
         });
         write!(f, "{row}")
     }
@@ -173,7 +179,7 @@ impl<'a> fmt::Display for AskedChange<'a> {
 pub(crate) struct ChangeRows<'a> {
     pub(crate) before: &'a LineState,
     pub(crate) after: &'a LineState,
-    pub(crate) event: &'a Event,
+    pub(crate) event: &'a ReadEvent<'a>,
     pub(crate) outcome: &'a Outcome,
 }
 
@@ -181,12 +187,12 @@ impl<'a> fmt::Display for ChangeRows<'a> {
     ghost output = { λ s. Some (change_rows s.before.now.world s.after.now.world s.event.now s.outcome.now) };
 
     fn fmt<W: fmt::Write>(&self, f: &mut fmt::Formatter<W>) -> fmt::Result {
-        match self.event {
-            Event::Request { octets, .. } => {
+        match self.event.event() {
+            Event::Request { .. } => {
                 let change = AskedChange {
                     before: self.before,
                     after: self.after,
-                    whom: Whom::from_octets(octets.as_slice()),
+                    whom: Whom::of_request(self.event.request()),
                 };
                 write!(f, "{change}")
             }

@@ -82,7 +82,7 @@ impl<'a> fmt::Display for ChkCfg<'a> {
             Some(number) => {
                 let good = GoodCfg {
                     number,
-                    shape: meeting.slave.shape,
+                    shape: meeting.slave.shape(),
                 };
                 write!(f, "{good}")
             }
@@ -91,7 +91,7 @@ impl<'a> fmt::Display for ChkCfg<'a> {
                     octets: self.octets,
                     own,
                 };
-                let released = released_name(meeting.slave.holder);
+                let released = released_name(meeting.slave.holder());
                 write!(f, "wrong configuration: {difference}{released}")
             }
         }

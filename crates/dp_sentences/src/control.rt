@@ -1,15 +1,17 @@
 //! The result of a Global_Control at a slave.
 
 ghost use Rattle.std.specs.Prelude.{◌≡◌, ◌&&◌, not, Some};
+ghost use Rattle.std.specs.Option.{option_copied};
 ghost use Rattle.dp_slave.specs.Services.{control_of};
 ghost use Rattle.dp_globalctl.specs.Command.{control_in};
+ghost use Rattle.dp_sentences.specs.Shown.{shown};
 ghost use Rattle.dp_sentences.specs.Services.{sync_is_asked, freeze_is_asked, acts_words, idle_sync_text, idle_freeze_text, controlled_text, control_text};
 
 use crate::words::octet_at;
 use dp_decode::{Flag, Names};
 use dp_globalctl::Command;
 use dp_prm::Prm;
-use dp_slave::SlaveView;
+use dp_slave::Slave;
 use std::fmt;
 
 /// Returns the command that the octets hold. Group_Select is not read, because it has already selected the slave.
@@ -91,17 +93,17 @@ fn idle_freeze(freeze: bool, unfreeze: bool, asked: bool) -> &'static str
 /// The result of a command at a slave.
 #[derive(Clone, Copy)]
 struct Done<'a> {
-    slave: &'a SlaveView,
+    slave: &'a Slave,
     command: &'a Command,
 }
 
 impl<'a> fmt::Display for Done<'a> {
-    ghost output = { λ s. Some (controlled_text s.slave.now (control_in s.command.now)) };
+    ghost output = { λ s. Some (controlled_text (shown s.slave.now) (control_in s.command.now)) };
 
     fn fmt<W: fmt::Write>(&self, f: &mut fmt::Formatter<W>) -> fmt::Result {
         let command = self.command;
-        let asks_sync = asks_sync(&self.slave.prm);
-        let asks_freeze = asks_freeze(&self.slave.prm);
+        let asks_sync = asks_sync(self.slave.parameters());
+        let asks_freeze = asks_freeze(self.slave.parameters());
         let acts = Acts {
             clears: command.clear_data,
             unsyncs: command.unsync,
@@ -118,12 +120,12 @@ impl<'a> fmt::Display for Done<'a> {
 /// The result of a Global_Control, from its octets.
 #[derive(Clone, Copy)]
 pub(crate) struct Controlled<'a> {
-    pub(crate) slave: &'a SlaveView,
+    pub(crate) slave: &'a Slave,
     pub(crate) octets: &'a [u8],
 }
 
 impl<'a> fmt::Display for Controlled<'a> {
-    ghost output = { λ s. Some (control_text s.slave.now s.octets.now) };
+    ghost output = { λ s. Some (control_text (shown s.slave.now) s.octets.now) };
 
     fn fmt<W: fmt::Write>(&self, f: &mut fmt::Formatter<W>) -> fmt::Result {
         let command = command_in(self.octets);
@@ -135,8 +137,8 @@ impl<'a> fmt::Display for Controlled<'a> {
     }
 }
 
-fn asks_sync(prm: &Option<Prm>) -> bool
-    ensures { result ≡ sync_is_asked prm.now }
+fn asks_sync(prm: Option<&Prm>) -> bool
+    ensures { result ≡ sync_is_asked (option_copied prm.entry) }
 {
     match prm {
         Some(prm) => prm.sync_req,
@@ -144,8 +146,8 @@ fn asks_sync(prm: &Option<Prm>) -> bool
     }
 }
 
-fn asks_freeze(prm: &Option<Prm>) -> bool
-    ensures { result ≡ freeze_is_asked prm.now }
+fn asks_freeze(prm: Option<&Prm>) -> bool
+    ensures { result ≡ freeze_is_asked (option_copied prm.entry) }
 {
     match prm {
         Some(prm) => prm.freeze_req,

@@ -5,12 +5,14 @@ ghost use Rattle.dp_prm.specs.Meaning.{is_short, unlock_req};
 ghost use Rattle.dp_line.specs.Hearing.{telegram_spelt};
 ghost use Rattle.dp_sentences.specs.Endings.{ending_by_parts, ending_by_telegram, ending_by, ending_text};
 
+use crate::frames::telegram_in;
 use crate::operations::is_halt;
 use crate::prm_fault::is_set;
+use dp_decode::ReadOctets;
 use dp_line::Event;
 use dp_prm::UNLOCK_REQ;
 use dp_sap::CHK_CFG;
-use dp_telegram::{Frame, Parts, Telegram, decode};
+use dp_telegram::{PartsLent, TelegramLent};
 
 /// The way in which a hold of a slave ended.
 #[derive(Clone, Copy)]
@@ -49,15 +51,13 @@ impl Ending {
     fn by_octets(octets: &[u8]) -> Ending
         ensures { result ≡ ending_by_telegram (telegram_spelt octets.now) }
     {
-        match decode(octets) {
-            Ok(Frame::Telegram(telegram)) => Ending::by_telegram(&telegram),
-            Ok(Frame::Token { .. }) => Ending::WrongParameters,
-            Ok(Frame::Ack) => Ending::WrongParameters,
-            Err(_) => Ending::WrongParameters,
+        match telegram_in(&ReadOctets::new(octets)) {
+            Some(telegram) => Ending::by_telegram(&telegram),
+            None => Ending::WrongParameters,
         }
     }
 
-    fn by_telegram(telegram: &Telegram) -> Ending
+    fn by_telegram(telegram: &TelegramLent<'_>) -> Ending
         ensures { result ≡ ending_by_telegram (Some telegram.now) }
     {
         match telegram.parts() {
@@ -66,13 +66,13 @@ impl Ending {
         }
     }
 
-    fn by_parts(parts: &Parts) -> Ending
+    fn by_parts(parts: &PartsLent<'_>) -> Ending
         ensures { result ≡ ending_by_parts (Some parts.now) }
     {
-        match parts.dsap {
+        match parts.dsap() {
             Some(CHK_CFG) => Ending::WrongConfiguration,
-            Some(_) => Ending::by_parameters(parts.payload.as_slice()),
-            None => Ending::by_parameters(parts.payload.as_slice()),
+            Some(_) => Ending::by_parameters(parts.payload()),
+            None => Ending::by_parameters(parts.payload()),
         }
     }
 

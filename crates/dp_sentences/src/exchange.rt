@@ -2,17 +2,18 @@
 
 ghost use Rattle.std.specs.Prelude.{◌≡◌};
 ghost use Rattle.dp_sentences.specs.Services.{exchange_text, slave_diag_text};
+ghost use Rattle.dp_sentences.specs.Shown.{shown};
 
 use crate::set_prm::holds;
-use dp_slave::SlaveView;
+use dp_slave::Slave;
 
 /// Returns the result of a Data_Exchange that was done.
-pub(crate) fn exchanged(slave: &SlaveView, octets: &[u8]) -> &'static str
-    ensures { result.now ≡ exchange_text slave.now octets.now }
+pub(crate) fn exchanged(slave: &Slave, octets: &[u8]) -> &'static str
+    ensures { result.now ≡ exchange_text (shown slave.now) octets.now }
 {
-    if octets.len() != slave.outputs.len() {
+    if octets.len() != slave.rd_outp().len() {
         "done: no data, for zeros; the slave stays cleared."
-    } else if slave.sync_mode {
+    } else if slave.is_in_sync_mode() {
         "done: the data wait for Sync."
     } else {
         "done."

@@ -1,36 +1,26 @@
-//! The frame that octets spell, and its telegram.
+//! The telegram that octets are.
 
 ghost use Rattle.std.specs.Prelude.{◌≡◌};
-ghost use Rattle.dp_telegram.specs.FrameText.{frame_of};
 ghost use Rattle.dp_line.specs.Hearing.{telegram_spelt};
 ghost use Rattle.dp_line.specs.Verdict.{is_fdl_status};
 
-use dp_telegram::{Frame, Function, Telegram, decode};
-
-/// Returns the frame that the octets spell; None if they are no single frame.
-pub(crate) fn frame_in(octets: &[u8]) -> Option<Frame>
-    ensures { result ≡ frame_of octets.now }
-{
-    match decode(octets) {
-        Ok(frame) => Some(frame),
-        Err(_) => None,
-    }
-}
+use dp_decode::ReadOctets;
+use dp_telegram::{FrameLent, Function, TelegramLent};
 
 /// Returns the telegram that the octets spell; None if they are a token, a short acknowledgement or no single frame.
-pub(crate) fn telegram_in(octets: &[u8]) -> Option<Telegram>
-    ensures { result ≡ telegram_spelt octets.now }
+pub(crate) fn telegram_in<'a>(request: &ReadOctets<'a>) -> Option<TelegramLent<'a>>
+    ensures { result ≡ telegram_spelt request.now }
 {
-    match decode(octets) {
-        Ok(Frame::Telegram(telegram)) => Some(telegram),
-        Ok(Frame::Token { .. }) => None,
-        Ok(Frame::Ack) => None,
-        Err(_) => None,
+    match request.frame() {
+        Some(FrameLent::Telegram(telegram)) => Some(telegram),
+        Some(FrameLent::Token { .. }) => None,
+        Some(FrameLent::Ack) => None,
+        None => None,
     }
 }
 
 /// Returns whether the telegram asks for the FDL status.
-pub(crate) fn is_fdl_status(telegram: &Telegram) -> bool
+pub(crate) fn is_fdl_status(telegram: &TelegramLent<'_>) -> bool
     ensures { result ≡ is_fdl_status telegram.now }
 {
     match telegram.function() {

@@ -3,9 +3,10 @@
 ghost use Rattle.std.specs.Prelude.{◌≡◌, Some};
 ghost use Rattle.dp_sentences.specs.Heads.{bit_text, flags_words, busy_words, op_kind_text, event_kind_text, moment_words, front_text, head_text};
 
-use crate::telegram_rows::KindWords;
+use crate::read_event::ReadEvent;
 use crate::who::Who;
 use crate::words::{OctetsWords, PointWords, Spaces, TimeWords, digits_of_long, word_for};
+use dp_decode::Kind;
 use dp_line::{Event, Op};
 use std::fmt;
 
@@ -117,15 +118,15 @@ impl<'a> fmt::Display for OpKind<'a> {
 
 /// The kind of an event.
 #[derive(Clone, Copy)]
-struct EventKind<'a>(&'a Event);
+struct EventKind<'a>(&'a ReadEvent<'a>);
 
 impl<'a> fmt::Display for EventKind<'a> {
     ghost output = { λ kind. Some (event_kind_text kind.0.now) };
 
     fn fmt<W: fmt::Write>(&self, f: &mut fmt::Formatter<W>) -> fmt::Result {
-        match self.0 {
-            Event::Request { octets, .. } => {
-                let kind = KindWords(octets.as_slice());
+        match self.0.event() {
+            Event::Request { .. } => {
+                let kind = Kind::from_octets(self.0.request());
                 write!(f, "{kind}")
             }
             Event::Operator(op) => {
@@ -158,7 +159,7 @@ impl fmt::Display for Moment {
 #[derive(Clone, Copy)]
 struct Front<'a> {
     place: u64,
-    event: &'a Event,
+    event: &'a ReadEvent<'a>,
 }
 
 impl<'a> fmt::Display for Front<'a> {
@@ -167,7 +168,7 @@ impl<'a> fmt::Display for Front<'a> {
     fn fmt<W: fmt::Write>(&self, f: &mut fmt::Formatter<W>) -> fmt::Result {
         let place = self.place;
         let before = Spaces(PLACE_COLUMNS.saturating_sub(digits_of_long(place)));
-        let who = Who::from_event(self.event);
+        let who = Who::of_read(self.event);
         let behind = Spaces(WHO_COLUMNS.saturating_sub(who.width()));
         write!(f, "{before}{place}  {who}{behind}")
     }
@@ -180,7 +181,7 @@ pub(crate) struct Head<'a> {
     pub(crate) time: Option<u64>,
     /// The place of the event, from 1.
     pub(crate) place: u64,
-    pub(crate) event: &'a Event,
+    pub(crate) event: &'a ReadEvent<'a>,
 }
 
 impl<'a> fmt::Display for Head<'a> {

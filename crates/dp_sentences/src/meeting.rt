@@ -1,8 +1,8 @@
 //! A request that has reached a slave.
 
 use crate::notes::Noted;
-use dp_slave::{SlaveSpec, SlaveView};
-use dp_telegram::{Parts, Telegram};
+use dp_slave::{Slave, SlaveSpec};
+use dp_telegram::{PartsLent, TelegramLent};
 use std::marker::Model;
 
 /// A request that has reached a slave. Contracts see what it holds.
@@ -12,11 +12,11 @@ pub(crate) struct Meeting<'a> {
     pub(crate) master: u8,
     /// The octets of the whole frame.
     pub(crate) octets: &'a [u8],
-    pub(crate) telegram: &'a Telegram,
-    pub(crate) parts: &'a Parts,
+    pub(crate) telegram: &'a TelegramLent<'a>,
+    pub(crate) parts: &'a PartsLent<'a>,
     pub(crate) description: &'a SlaveSpec,
     /// The slave before the request.
-    pub(crate) slave: SlaveView,
+    pub(crate) slave: &'a Slave,
     /// The address of the slave, by which its note is found.
     pub(crate) address: u8,
     /// The requests whose replies the slaves remember.
@@ -26,6 +26,7 @@ pub(crate) struct Meeting<'a> {
 impl<'a> Model for Meeting<'a> {
     ghost use Rattle.dp_sentences.specs.Meetings.{MeetingView};
     ghost use Rattle.dp_sentences.specs.Notes.{note_of};
+    ghost use Rattle.dp_sentences.specs.Shown.{shown};
 
     ghost Value = { MeetingView };
 
@@ -35,7 +36,7 @@ impl<'a> Model for Meeting<'a> {
       telegram = m.telegram.now;
       parts = m.parts.now;
       description = m.description.now;
-      slave = m.slave;
+      slave = shown m.slave.now;
       noted = note_of m.notes.now m.address m.master;
     } };
 }

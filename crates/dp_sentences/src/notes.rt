@@ -3,15 +3,15 @@
 ghost use Rattle.std.specs.Prelude.{◌≡◌, ◌++◌, map, position, OnOk, IfOk, Some};
 ghost use Rattle.std.specs.Option.{option_copied};
 ghost use Rattle.dp_cfg.specs.Choosing.{same_octets};
-ghost use Rattle.dp_line.specs.Hearing.{telegram_spelt};
 ghost use Rattle.dp_sentences.specs.Notes.{unnoted, first_notes, is_note_of, note_of, noted_at, is_judged_anew, noted_telegram, notes_after};
 
 use crate::frames::telegram_in;
+use crate::read_event::ReadEvent;
 use crate::words::same_octets;
 use arrayvec::ArrayVec;
 use dp_line::{Event, LineSpec, Outcome};
 use dp_responder::Rule;
-use dp_telegram::{Octets, Telegram};
+use dp_telegram::{Octets, TelegramLent};
 use std::alloc::{AllocError, Global};
 
 /// The last request of a master that a slave judged and replied to, other than by a repeat.
@@ -78,19 +78,28 @@ fn index_of(notes: &[Noted], slave: u8, master: u8) -> Option<usize>
 }
 
 /// Notes an event at a place, by its outcome. Only requests that a slave judged and replied to change the notes.
-pub fn note_event(notes: &mut Vec<Noted>, place: u64, event: &Event, outcome: &Outcome)
+pub fn note_event(notes: &mut Vec<Noted>, place: u64, event: &ReadEvent<'_>, outcome: &Outcome)
     ensures { notes.new.items ≡ notes_after notes.old.items place event.now outcome.now }
 {
     note_in(notes.as_mut_slice(), place, event, outcome);
 }
 
 /// Notes an event in this slice of notes. See [`note_event`].
-fn note_in(notes: &mut [Noted], place: u64, event: &Event, outcome: &Outcome)
+fn note_in(notes: &mut [Noted], place: u64, event: &ReadEvent<'_>, outcome: &Outcome)
     ensures { notes.new ≡ notes_after notes.old place event.now outcome.now }
 {
-    match event {
+    match event.event() {
         Event::Request { master, octets } => match outcome {
-            Outcome::Reply { rule, .. } => note_request(notes, place, *master, octets, *rule),
+            Outcome::Reply { rule, .. } => {
+                note_request(
+                    notes,
+                    place,
+                    *master,
+                    octets,
+                    *rule,
+                    telegram_in(event.request()),
+                )
+            }
             Outcome::Silence(_) => {}
             Outcome::Spread(_) => {}
             Outcome::Released(_) => {}
@@ -101,27 +110,20 @@ fn note_in(notes: &mut [Noted], place: u64, event: &Event, outcome: &Outcome)
     }
 }
 
-/// Notes a request that was replied to, if it is an SRD and no repeat.
-fn note_request(notes: &mut [Noted], place: u64, master: u8, octets: &Octets, rule: Rule)
-    ensures { notes.new ≡ noted_telegram notes.old place master octets.now rule (telegram_spelt octets.now.items) }
-{
-    match telegram_in(octets.as_slice()) {
-        Some(telegram) => note_telegram(notes, place, master, octets, rule, &telegram),
-        None => {}
-    }
-}
-
-/// Notes a telegram that was replied to, if it is an SRD and no repeat.
-fn note_telegram(
+/// Notes a request that was replied to, if it is an SRD and no repeat; `telegram` is what its octets spell.
+fn note_request(
     notes: &mut [Noted],
     place: u64,
     master: u8,
     octets: &Octets,
     rule: Rule,
-    telegram: &Telegram,
+    telegram: Option<TelegramLent<'_>>,
 )
-    ensures { notes.new ≡ noted_telegram notes.old place master octets.now rule (Some telegram.now) }
+    ensures { notes.new ≡ noted_telegram notes.old place master octets.now rule telegram.entry }
 {
+    let Some(telegram) = telegram else {
+        return;
+    };
     if is_judged_anew(rule) && telegram.function().is_srd() {
         note(notes, telegram.destination(), master, place, octets);
     }

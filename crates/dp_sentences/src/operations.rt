@@ -2,13 +2,17 @@
 
 ghost use Rattle.std.specs.Prelude.{◌≡◌, Some};
 ghost use Rattle.std.specs.List.{flat_map};
+ghost use Rattle.std.specs.Option.{option_copied};
 ghost use Rattle.dp_line.specs.declared.event.Event.TheVariants.{Operator};
 ghost use Rattle.dp_line.specs.Events.{is_halt};
+ghost use Rattle.dp_sentences.specs.Shown.{shown_if_any};
 ghost use Rattle.dp_sentences.specs.Results.{watchdog_words, full_time_of, shown_at, expired_words, expired_behind, tick_text, halted_words, halt_text, released_text, op_text};
 
+use crate::shown::slave_at;
 use crate::ways::is_at_last_place;
 use crate::words::{NumbersWords, TimeWords};
-use dp_line::{LineState, Op, Outcome, SlaveView};
+use dp_line::{LineState, Op, Outcome};
+use dp_slave::Slave;
 use std::fmt;
 
 /// The full time of a watchdog that ran out, in units of 10 ms; writes nothing if there is none.
@@ -31,11 +35,11 @@ impl fmt::Display for WatchdogWords {
 
 /// Returns the full time of a slave's watchdog in units of 10 ms, by the parameters of its holder; None if it is off,
 /// or if there are no parameters.
-fn full_time_of(slave: &Option<SlaveView>) -> Option<u32>
-    ensures { result ≡ full_time_of slave.now }
+fn full_time_of(slave: Option<&Slave>) -> Option<u32>
+    ensures { result ≡ full_time_of (shown_if_any (option_copied slave.entry)) }
 {
     match slave {
-        Some(slave) => match &slave.prm {
+        Some(slave) => match slave.parameters() {
             Some(prm) => prm.watchdog,
             None => None,
         },
@@ -55,7 +59,7 @@ impl<'a> fmt::Display for Expired<'a> {
 
     fn fmt<W: fmt::Write>(&self, f: &mut fmt::Formatter<W>) -> fmt::Result {
         let address = self.address;
-        let watchdog = WatchdogWords(full_time_of(&self.before.view(address)));
+        let watchdog = WatchdogWords(full_time_of(slave_at(self.before, address)));
         write!(f, "{address}{watchdog}")
     }
 }

@@ -1,37 +1,33 @@
 //! The result of a request.
 
-ghost use Rattle.std.specs.Prelude.{◌≡◌, ◌++◌, codes, Some, true, false};
-ghost use Rattle.std.specs.List.{flat_map};
-ghost use Rattle.std.specs.Option.{option_and_then};
+ghost use Rattle.std.specs.Prelude.{◌≡◌, Some};
 ghost use Rattle.dp_telegram.specs.FrameText.{frame_of};
-ghost use Rattle.dp_telegram.specs.Access.{parts_of};
-ghost use Rattle.dp_line.specs.Hearing.{telegram_of_frame};
 ghost use Rattle.dp_line.specs.Verdict.{concerns_a_slave};
-ghost use Rattle.dp_line.specs.declared.event.Outcome.{Outcome as Answers};
-ghost use Rattle.dp_sentences.specs.Results.{reported_of_slave, reported_of_telegram, reported_of_one, result_row, pair_row, pairs_rows, spread_rows, spread_text, request_rows};
+ghost use Rattle.dp_sentences.specs.Results.{reported_of_slave, reported_of_telegram, reported_of_one, request_rows};
 
+use crate::frames::telegram_in;
+use crate::line_words::LineWords;
 use crate::meeting::Meeting;
 use crate::scene::{Scene, SlaveRequest};
-use crate::sentences::{LineWords, SlaveWords};
-use crate::words::{Spaces, digits_of};
+use crate::sentences::SlaveWords;
+use crate::shown::slave_at;
+use crate::spread::{SpreadRows, SpreadWords};
+use dp_decode::ReadOctets;
 use dp_line::{Outcome, described};
 use dp_responder::Rule;
-use dp_telegram::{Frame, Telegram};
+use dp_telegram::TelegramLent;
 use std::fmt;
-
-/// The width of the column of labels.
-const LABEL_COLUMNS: usize = 12;
 
 /// The answer of a slave to a request, in one sentence.
 #[derive(Clone, Copy)]
-struct OfSlave<'a> {
-    scene: &'a Scene<'a>,
-    asked: &'a SlaveRequest<'a>,
+pub(crate) struct OfSlave<'a> {
+    pub(crate) scene: &'a Scene<'a>,
+    pub(crate) asked: &'a SlaveRequest<'a>,
     /// The address of the slave.
-    address: u8,
+    pub(crate) address: u8,
     /// Whether nobody replies.
-    silent: bool,
-    rule: Rule,
+    pub(crate) silent: bool,
+    pub(crate) rule: Rule,
 }
 
 impl<'a> fmt::Display for OfSlave<'a> {
@@ -43,7 +39,7 @@ impl<'a> fmt::Display for OfSlave<'a> {
         let Some(description) = described(scene.line.slaves.as_slice(), self.address) else {
             return Ok(());
         };
-        let Some(slave) = scene.before.view(self.address) else {
+        let Some(slave) = slave_at(scene.before, self.address) else {
             return Ok(());
         };
         let meeting = Meeting {
@@ -73,7 +69,7 @@ struct OfTelegram<'a> {
     octets: &'a [u8],
     silent: bool,
     rule: Rule,
-    telegram: &'a Telegram,
+    telegram: &'a TelegramLent<'a>,
 }
 
 impl<'a> fmt::Display for OfTelegram<'a> {
@@ -105,27 +101,26 @@ impl<'a> fmt::Display for OfTelegram<'a> {
 struct OfOne<'a> {
     scene: &'a Scene<'a>,
     master: u8,
-    octets: &'a [u8],
-    frame: &'a Option<Frame>,
+    request: &'a ReadOctets<'a>,
     silent: bool,
     rule: Rule,
 }
 
 impl<'a> fmt::Display for OfOne<'a> {
-    ghost output = { λ s. Some (reported_of_one s.scene.now s.master s.octets.now s.frame.now s.silent s.rule) };
+    ghost output = { λ s. Some (reported_of_one s.scene.now s.master s.request.now (frame_of s.request.now) s.silent s.rule) };
 
     fn fmt<W: fmt::Write>(&self, f: &mut fmt::Formatter<W>) -> fmt::Result {
         if concerns_a_slave(self.rule) {
-            let Some(Frame::Telegram(telegram)) = self.frame else {
+            let Some(telegram) = telegram_in(self.request) else {
                 return Ok(());
             };
             let words = OfTelegram {
                 scene: self.scene,
                 master: self.master,
-                octets: self.octets,
+                octets: self.request.octets(),
                 silent: self.silent,
                 rule: self.rule,
-                telegram,
+                telegram: &telegram,
             };
             write!(f, "{words}")
         } else {
@@ -133,7 +128,7 @@ impl<'a> fmt::Display for OfOne<'a> {
             let words = LineWords {
                 masters: scene.line.masters.as_slice(),
                 master: self.master,
-                frame: self.frame,
+                frame: &self.request.frame(),
                 rule: self.rule,
             };
             write!(f, "{words}")
@@ -169,124 +164,18 @@ fn concerns_a_slave(rule: Rule) -> bool
     }
 }
 
-/// The answer of one slave to a request to all slaves, as a row.
-#[derive(Clone, Copy)]
-struct PairRow<'a> {
-    scene: &'a Scene<'a>,
-    asked: &'a SlaveRequest<'a>,
-    pair: (u8, Rule),
-}
-
-impl<'a> fmt::Display for PairRow<'a> {
-    ghost output = { λ s. Some (pair_row s.scene.now s.asked.now s.pair) };
-
-    fn fmt<W: fmt::Write>(&self, f: &mut fmt::Formatter<W>) -> fmt::Result {
-        let (address, rule) = self.pair;
-        let behind = Spaces(LABEL_COLUMNS.saturating_sub(6 + digits_of(address)));
-        let words = OfSlave {
-            scene: self.scene,
-            asked: self.asked,
-            address,
-            silent: true,
-            rule,
-        };
-        write!(f, "       slave {address}{behind}{words}\n")
-    }
-}
-
-/// The answers of these slaves to a request to all slaves, each as a row.
-#[derive(Clone, Copy)]
-struct PairRows<'a> {
-    scene: &'a Scene<'a>,
-    asked: &'a SlaveRequest<'a>,
-    pairs: &'a [(u8, Rule)],
-}
-
-impl<'a> fmt::Display for PairRows<'a> {
-    ghost output = { λ s. Some (flat_map (pair_row s.scene.now s.asked.now) s.pairs.now) };
-
-    fn fmt<W: fmt::Write>(&self, f: &mut fmt::Formatter<W>) -> fmt::Result {
-        for pair in self.pairs {
-            let row = PairRow {
-                scene: self.scene,
-                asked: self.asked,
-                pair: *pair,
-            };
-            write!(f, "{row}")?;
-        }
-        Ok(())
-    }
-}
-
-/// The answers of these slaves to a frame that goes to all slaves; writes nothing if it is no telegram with readable
-/// access points.
-#[derive(Clone, Copy)]
-struct SpreadRows<'a> {
-    scene: &'a Scene<'a>,
-    master: u8,
-    octets: &'a [u8],
-    pairs: &'a [(u8, Rule)],
-    frame: &'a Option<Frame>,
-}
-
-impl<'a> fmt::Display for SpreadRows<'a> {
-    ghost output = { λ s. Some (spread_rows s.scene.now s.master s.octets.now s.pairs.now (option_and_then telegram_of_frame s.frame.now)) };
-
-    fn fmt<W: fmt::Write>(&self, f: &mut fmt::Formatter<W>) -> fmt::Result {
-        let Some(Frame::Telegram(telegram)) = self.frame else {
-            return Ok(());
-        };
-        let Some(parts) = telegram.parts() else {
-            return Ok(());
-        };
-        let asked = SlaveRequest {
-            master: self.master,
-            octets: self.octets,
-            telegram,
-            parts,
-        };
-        let rows = PairRows {
-            scene: self.scene,
-            asked: &asked,
-            pairs: self.pairs,
-        };
-        write!(f, "{rows}")
-    }
-}
-
-/// The result of a request to all slaves, before the answers of the slaves.
-#[derive(Clone, Copy)]
-struct SpreadWords<'a> {
-    master: u8,
-    pairs: &'a [(u8, Rule)],
-}
-
-impl<'a> fmt::Display for SpreadWords<'a> {
-    ghost output = { λ s. Some (spread_text s.master s.pairs.now) };
-
-    fn fmt<W: fmt::Write>(&self, f: &mut fmt::Formatter<W>) -> fmt::Result {
-        let master = self.master;
-        match self.pairs {
-            [] => write!(f, "spread: master {master} holds no slave."),
-            [_, ..] => write!(f, "spread over the slaves of master {master}:"),
-        }
-    }
-}
-
 /// The rows that show the result of a request.
 #[derive(Clone, Copy)]
 pub(crate) struct RequestRows<'a> {
     pub(crate) scene: &'a Scene<'a>,
     /// The address of the sender.
     pub(crate) master: u8,
-    /// The octets of the request, and the frame that they spell; None if they are no single frame.
-    pub(crate) octets: &'a [u8],
-    pub(crate) frame: &'a Option<Frame>,
+    pub(crate) request: &'a ReadOctets<'a>,
     pub(crate) outcome: &'a Outcome,
 }
 
 impl<'a> fmt::Display for RequestRows<'a> {
-    ghost output = { λ s. Some (request_rows s.scene.now s.master s.octets.now s.frame.now s.outcome.now) };
+    ghost output = { λ s. Some (request_rows s.scene.now s.master s.request.now (frame_of s.request.now) s.outcome.now) };
 
     fn fmt<W: fmt::Write>(&self, f: &mut fmt::Formatter<W>) -> fmt::Result {
         match self.outcome {
@@ -310,9 +199,8 @@ impl<'a> fmt::Display for RequestRows<'a> {
                 let rows = SpreadRows {
                     scene: self.scene,
                     master: self.master,
-                    octets: self.octets,
+                    request: self.request,
                     pairs: pairs.as_slice(),
-                    frame: self.frame,
                 };
                 write!(f, "       result      {words}\n{rows}")
             }
@@ -325,13 +213,12 @@ impl<'a> fmt::Display for RequestRows<'a> {
 impl<'a> RequestRows<'a> {
     /// Returns the result of this request at one slave, or by a rule of the line.
     fn of_one(&self, silent: bool, rule: Rule) -> OfOne<'a>
-        ensures { result ≡ record { scene = self.now.scene; master = self.now.master; octets = self.now.octets; frame = self.now.frame; silent = silent; rule = rule } }
+        ensures { result ≡ record { scene = self.now.scene; master = self.now.master; request = self.now.request; silent = silent; rule = rule } }
     {
         OfOne {
             scene: self.scene,
             master: self.master,
-            octets: self.octets,
-            frame: self.frame,
+            request: self.request,
             silent,
             rule,
         }

@@ -2,7 +2,7 @@
 
 use crate::notes::Noted;
 use dp_line::{LineSpec, LineState};
-use dp_telegram::{Parts, Telegram};
+use dp_telegram::{PartsLent, TelegramLent};
 use std::marker::Model;
 
 /// What is known before an event. Contracts see the description, the world, the notes and the time.
@@ -38,8 +38,8 @@ pub(crate) struct SlaveRequest<'a> {
     pub(crate) master: u8,
     /// The octets of the whole frame.
     pub(crate) octets: &'a [u8],
-    pub(crate) telegram: &'a Telegram,
-    pub(crate) parts: Parts,
+    pub(crate) telegram: &'a TelegramLent<'a>,
+    pub(crate) parts: PartsLent<'a>,
 }
 
 impl<'a> Model for SlaveRequest<'a> {

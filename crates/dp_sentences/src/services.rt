@@ -20,15 +20,15 @@ impl<'a> fmt::Display for DoneService<'a> {
 
     fn fmt<W: fmt::Write>(&self, f: &mut fmt::Formatter<W>) -> fmt::Result {
         let meeting = self.0;
-        let slave = &meeting.slave;
-        let octets = meeting.parts.payload.as_slice();
-        match meeting.parts.dsap {
+        let slave = meeting.slave;
+        let octets = meeting.parts.payload();
+        match meeting.parts.dsap() {
             None => f.write_str(exchanged(slave, octets)),
             Some(GLOBAL_CONTROL) => {
                 let controlled = Controlled { slave, octets };
                 write!(f, "{controlled}")
             }
-            Some(SLAVE_DIAG) => f.write_str(diagnosed(meeting.master, slave.holder)),
+            Some(SLAVE_DIAG) => f.write_str(diagnosed(meeting.master, slave.holder())),
             Some(SET_PRM) => {
                 let set = SetPrm { meeting, octets };
                 write!(f, "{set}")

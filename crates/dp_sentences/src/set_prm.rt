@@ -2,13 +2,14 @@
 
 ghost use Rattle.std.specs.Prelude.{◌≡◌, ◌==◌, Some, false};
 ghost use Rattle.std.specs.Option.{option_map_or};
+ghost use Rattle.dp_sentences.specs.Shown.{shown};
 ghost use Rattle.dp_sentences.specs.Services.{released_words, wrong_prm_text, held_words, locked_text, unlocked_text, min_tsdr_text, right_prm_text, judged_prm_text, set_prm_text};
 
 use crate::meeting::Meeting;
 use crate::prm_fault::{PrmFault, PrmFaults, is_set, prm_faults};
 use crate::words::{SinceWords, octet_at};
 use dp_prm::{LOCK_REQ, UNLOCK_REQ};
-use dp_slave::SlaveView;
+use dp_slave::Slave;
 use std::fmt;
 
 /// Returns the end of the sentence about wrong octets, which says that the slave is released if somebody held it.
@@ -69,19 +70,19 @@ impl fmt::Display for HeldWords {
 #[derive(Clone, Copy)]
 struct Locked<'a> {
     master: u8,
-    slave: &'a SlaveView,
+    slave: &'a Slave,
 }
 
 impl<'a> fmt::Display for Locked<'a> {
-    ghost output = { λ s. Some (locked_text s.master s.slave.now) };
+    ghost output = { λ s. Some (locked_text s.master (shown s.slave.now)) };
 
     fn fmt<W: fmt::Write>(&self, f: &mut fmt::Formatter<W>) -> fmt::Result {
         let held = HeldWords {
             master: self.master,
-            address: self.slave.address,
+            address: self.slave.address(),
         };
-        if holds(self.slave.holder, self.master) {
-            let since = SinceWords(self.slave.since);
+        if holds(self.slave.holder(), self.master) {
+            let since = SinceWords(self.slave.since());
             write!(f, "locked again: {held}{since}")
         } else {
             write!(f, "locked: {held}.")
@@ -141,12 +142,12 @@ impl<'a> fmt::Display for RightPrm<'a> {
 
     fn fmt<W: fmt::Write>(&self, f: &mut fmt::Formatter<W>) -> fmt::Result {
         let meeting = self.meeting;
-        let slave = &meeting.slave;
+        let slave = meeting.slave;
         let status = octet_at(self.octets, 0);
         if is_set(UNLOCK_REQ, status) {
             let unlocked = Unlocked {
-                address: slave.address,
-                holder: slave.holder,
+                address: slave.address(),
+                holder: slave.holder(),
             };
             write!(f, "{unlocked}")
         } else if is_set(LOCK_REQ, status) {
@@ -158,7 +159,7 @@ impl<'a> fmt::Display for RightPrm<'a> {
         } else {
             let set = MinTsdr {
                 octet: octet_at(self.octets, 3),
-                own: slave.min_tsdr,
+                own: slave.min_tsdr(),
             };
             write!(f, "{set}")
         }
@@ -210,7 +211,7 @@ impl<'a> fmt::Display for JudgedPrm<'a> {
             [_, ..] => {
                 let meeting = self.meeting;
                 let wrong = WrongPrm {
-                    holder: meeting.slave.holder,
+                    holder: meeting.slave.holder(),
                     faults: self.faults,
                 };
                 write!(f, "{wrong}")

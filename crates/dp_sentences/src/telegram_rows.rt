@@ -1,30 +1,15 @@
 //! The contents of a telegram, in rows.
 
-ghost use Rattle.std.specs.Prelude.{◌≡◌, Some};
-ghost use Rattle.dp_decode.specs.Kinds.{kind_text};
+ghost use Rattle.std.specs.Prelude.{Some};
 ghost use Rattle.dp_decode.specs.Replies.{reply_text};
 ghost use Rattle.dp_sentences.specs.TelegramRows.{row_where, sent_row, unread_row};
 
-use dp_decode::{Contents, Hex, Kind, Reply};
-use dp_telegram::decode;
+use dp_decode::{Contents, Hex, ReadOctets, Reply};
 use std::fmt;
-
-/// The kind of a request.
-#[derive(Clone, Copy)]
-pub(crate) struct KindWords<'a>(pub(crate) &'a [u8]);
-
-impl<'a> fmt::Display for KindWords<'a> {
-    ghost output = { λ words. Some (kind_text words.0.now) };
-
-    fn fmt<W: fmt::Write>(&self, f: &mut fmt::Formatter<W>) -> fmt::Result {
-        let kind = Kind::from_octets(self.0);
-        write!(f, "{kind}")
-    }
-}
 
 /// The row that shows the data of a request; writes nothing if there are none.
 #[derive(Clone, Copy)]
-struct ContentsRow<'a>(&'a [u8]);
+struct ContentsRow<'a>(&'a ReadOctets<'a>);
 
 impl<'a> fmt::Display for ContentsRow<'a> {
     ghost use Rattle.dp_decode.specs.Contents.{contents_text};
@@ -59,19 +44,19 @@ impl<'a> fmt::Display for UnreadRow<'a> {
 
 /// The row that shows the octets of a request: the data of a frame, or all octets if they are no frame.
 #[derive(Clone, Copy)]
-pub(crate) struct SentRow<'a>(pub(crate) &'a [u8]);
+pub(crate) struct SentRow<'a>(pub(crate) &'a ReadOctets<'a>);
 
 impl<'a> fmt::Display for SentRow<'a> {
     ghost output = { λ row. Some (sent_row row.0.now) };
 
     fn fmt<W: fmt::Write>(&self, f: &mut fmt::Formatter<W>) -> fmt::Result {
-        match decode(self.0) {
-            Ok(_) => {
+        match self.0.frame() {
+            Some(_) => {
                 let row = ContentsRow(self.0);
                 write!(f, "{row}")
             }
-            Err(_) => {
-                let row = UnreadRow(self.0);
+            None => {
+                let row = UnreadRow(self.0.octets());
                 write!(f, "{row}")
             }
         }
@@ -81,7 +66,7 @@ impl<'a> fmt::Display for SentRow<'a> {
 /// The row that shows the reply to a request; writes nothing if the octets are no reply.
 #[derive(Clone, Copy)]
 pub(crate) struct ReplyRow<'a> {
-    pub(crate) request: &'a [u8],
+    pub(crate) request: &'a ReadOctets<'a>,
     pub(crate) reply: &'a [u8],
     /// Whether the slave judges the request only after its reply.
     pub(crate) is_judged_afterwards: bool,
@@ -91,7 +76,8 @@ impl<'a> fmt::Display for ReplyRow<'a> {
     ghost output = { λ row. Some (row_where (reply_text row.is_judged_afterwards row.request.now row.reply.now)) };
 
     fn fmt<W: fmt::Write>(&self, f: &mut fmt::Formatter<W>) -> fmt::Result {
-        match Reply::from_octets(self.request, self.reply, self.is_judged_afterwards) {
+        let reply = ReadOctets::new(self.reply);
+        match Reply::from_octets(self.request, &reply, self.is_judged_afterwards) {
             Some(reply) => write!(f, "       {reply}\n"),
             None => Ok(()),
         }

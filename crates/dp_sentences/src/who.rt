@@ -1,12 +1,15 @@
 //! The sender and the receiver of an event.
 
-ghost use Rattle.std.specs.Prelude.{◌≡◌, ◌≤◌, ◌==◌, Some, length};
+ghost use Rattle.std.specs.Prelude.{◌≡◌, ◌≤◌, ◌==◌, if◌then◌else◌, Some, length};
 ghost use Rattle.dp_telegram.specs.FrameText.{frame_of};
+ghost use Rattle.dp_telegram.specs.Access.{global_address};
 ghost use Rattle.dp_sentences.specs.Heads.{whom_of_frame, who_of, whom_text, who_text};
 
+use crate::read_event::ReadEvent;
 use crate::words::digits_of;
+use dp_decode::ReadOctets;
 use dp_line::{Event, Op};
-use dp_telegram::{Frame, GLOBAL_ADDRESS, Telegram, decode};
+use dp_telegram::{ADDRESS_BITS, FrameLent, GLOBAL_ADDRESS};
 use std::fmt;
 
 /// The receiver of octets that a master sends.
@@ -36,26 +39,25 @@ impl Whom {
     pub fn from_octets(octets: &[u8]) -> Whom
         ensures { result ≡ whom_of_frame (frame_of octets.now) }
     {
-        match decode(octets) {
-            Ok(frame) => Whom::of_frame(&frame),
-            Err(_) => Whom::Nobody,
+        Whom::of_request(&ReadOctets::new(octets))
+    }
+
+    /// Returns the receiver of the octets of a request, which are judged already.
+    pub fn of_request(request: &ReadOctets<'_>) -> Whom
+        ensures { result ≡ whom_of_frame (frame_of request.now) }
+    {
+        match request.frame() {
+            Some(FrameLent::Telegram(telegram)) => Whom::at(telegram.destination()),
+            Some(FrameLent::Token { da, .. }) => Whom::Station(da & ADDRESS_BITS),
+            Some(FrameLent::Ack) => Whom::Nobody,
+            None => Whom::Nobody,
         }
     }
 
-    fn of_frame(frame: &Frame) -> Whom
-        ensures { result ≡ whom_of_frame (Some frame.now) }
+    /// Returns the receiver of a telegram with this destination address, 0 to 127.
+    fn at(address: u8) -> Whom
+        ensures { result ≡ (if address == global_address then Whom.AllSlaves else Whom.Slave address) }
     {
-        match frame {
-            Frame::Token { da, .. } => Whom::Station(*da & 0x7F),
-            Frame::Ack => Whom::Nobody,
-            Frame::Telegram(telegram) => Whom::of_telegram(telegram),
-        }
-    }
-
-    fn of_telegram(telegram: &Telegram) -> Whom
-        ensures { result ≡ whom_of_frame (Some (Frame.Telegram telegram.now)) }
-    {
-        let address = telegram.destination();
         if address == GLOBAL_ADDRESS {
             Whom::AllSlaves
         } else {
@@ -95,11 +97,17 @@ impl Who {
     pub fn from_event(event: &Event) -> Who
         ensures { result ≡ who_of event.now }
     {
-        match event {
-            Event::Request { master, octets } => Who::Master(
-                *master,
-                Whom::from_octets(octets.as_slice()),
-            ),
+        Who::of_read(&ReadEvent::new(event))
+    }
+
+    /// Returns the sender and the receiver of an event whose octets are judged already.
+    pub(crate) fn of_read(read: &ReadEvent<'_>) -> Who
+        ensures { result ≡ who_of read.now }
+    {
+        match read.event() {
+            Event::Request { master, .. } => {
+                Who::Master(*master, Whom::of_request(read.request()))
+            }
             Event::Operator(Op::Input { address, .. }) => Who::Operator(Some(*address)),
             Event::Operator(Op::Diag { address, .. }) => Who::Operator(Some(*address)),
             Event::Operator(Op::Busy { address, .. }) => Who::Operator(Some(*address)),

@@ -2,7 +2,7 @@ use Rattle.std.proofs.Common.{take}
 use Rattle.std.specs.List.{flat_map}
 use Rattle.std.specs.Fmt.{HasWritten, IsPlainFormatter}
 use Rattle.dp_sentences.specs.Results.{pair_row}
-use Rattle.dp_sentences.proofs.requests.PairRowsDisplay.fmt.Given as goal
+use Rattle.dp_sentences.proofs.spread.PairRowsDisplay.fmt.Given as goal
 
 abbrev pub invariant-loop-pair : goal.invariant-loop-pair
 invariant-loop-pair g l =

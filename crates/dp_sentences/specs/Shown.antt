@@ -1,0 +1,13 @@
+-- A slave that is read where it lies, as it is shown (own).
+use Rattle.std.specs.Prelude.{Option, option_map}
+use Rattle.dp_slave.specs.declared.view.SlaveView.{SlaveView}
+use Rattle.dp_slave.specs.SlaveParts.{SlaveParts}
+use Rattle.dp_slave.specs.View.{view_of}
+
+-- what is shown of a slave in the line's lists
+abbrev pub shown : SlaveParts → SlaveView
+shown parts = view_of parts.slave
+
+-- of a slave that there may be
+abbrev pub shown_if_any : Option SlaveParts → Option SlaveView
+shown_if_any parts = option_map shown parts
