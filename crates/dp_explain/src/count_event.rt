@@ -6,15 +6,15 @@ ghost use Rattle.dp_explain.specs.Statistics.{statistics_after};
 use crate::count_holds::{Passed, count_holds, moment};
 use crate::count_requests::count_event_in;
 use crate::statistics::AddressCounts;
-use dp_line::{Event, LineState, Outcome};
-use dp_sentences::{Scene, time_after};
+use dp_line::{LineState, Outcome};
+use dp_sentences::{ReadEvent, Scene, time_after};
 
 /// Counts an event, by the scene before it, the line after it and its outcome.
 pub(crate) fn count_statistics(
     statistics: &mut Vec<AddressCounts>,
     scene: &Scene<'_>,
     after: &LineState,
-    event: &Event,
+    event: &ReadEvent<'_>,
     outcome: &Outcome,
 )
     ensures { statistics.new.items ≡ statistics_after statistics.old.items scene.now after.now.world event.now outcome.now }
@@ -27,7 +27,7 @@ fn count_statistics_in(
     statistics: &mut [AddressCounts],
     scene: &Scene<'_>,
     after: &LineState,
-    event: &Event,
+    event: &ReadEvent<'_>,
     outcome: &Outcome,
 )
     ensures { statistics.new ≡ statistics_after statistics.old scene.now after.now.world event.now outcome.now }
@@ -37,7 +37,7 @@ fn count_statistics_in(
         event,
         before: scene.before,
         after,
-        time: moment(time_after(scene.time, event)),
+        time: moment(time_after(scene.time, event.event())),
     };
     count_holds(statistics, &passed, outcome);
 }

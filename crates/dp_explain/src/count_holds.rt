@@ -7,12 +7,12 @@ ghost use Rattle.dp_explain.specs.Statistics.{moment, began_at, hold_counted, ho
 
 use crate::statistics::{AddressCounts, Count, Item, count_at, count_at_both};
 use dp_line::{Event, LineState, Outcome, SlaveSpec};
-use dp_sentences::{Ending, Whom, same_holder};
+use dp_sentences::{Ending, ReadEvent, Whom, same_holder, slave_at};
 
 /// An event that the line took: the line before and after it, and the time after it.
 #[derive(Clone, Copy)]
 pub(crate) struct Passed<'a> {
-    pub(crate) event: &'a Event,
+    pub(crate) event: &'a ReadEvent<'a>,
     pub(crate) before: &'a LineState,
     pub(crate) after: &'a LineState,
     /// The sum of the ticks, in units of 10 ms.
@@ -67,18 +67,18 @@ fn begin_hold(statistics: &mut [AddressCounts], time: u64, slave: u8, holder: Op
 fn count_change(statistics: &mut [AddressCounts], passed: &Passed<'_>, slave: u8)
     ensures { statistics.new ≡ change_counted passed.now.time passed.now.event.now slave (shown_at passed.now.before.now.world slave) (shown_at passed.now.after.now.world slave) statistics.old }
 {
-    let Some(before) = passed.before.view(slave) else {
+    let Some(before) = slave_at(passed.before, slave) else {
         return;
     };
-    let Some(after) = passed.after.view(slave) else {
+    let Some(after) = slave_at(passed.after, slave) else {
         return;
     };
-    if same_holder(before.holder, after.holder) {
+    if same_holder(before.holder(), after.holder()) {
         return;
     }
-    let ending = Ending::by(passed.event);
-    count_hold(statistics, passed.time, ending, slave, before.holder);
-    begin_hold(statistics, passed.time, slave, after.holder);
+    let ending = Ending::by(passed.event.event());
+    count_hold(statistics, passed.time, ending, slave, before.holder());
+    begin_hold(statistics, passed.time, slave, after.holder());
 }
 
 /// Counts the holds of these slaves that an event ended or began.
@@ -123,9 +123,9 @@ fn count_released(statistics: &mut [AddressCounts], passed: &Passed<'_>, outcome
 pub(crate) fn count_holds(statistics: &mut [AddressCounts], passed: &Passed<'_>, outcome: &Outcome)
     ensures { statistics.new ≡ changes_counted passed.now.before.now.world passed.now.after.now.world passed.now.time passed.now.event.now (touched passed.now.event.now outcome.now) statistics.old }
 {
-    match passed.event {
-        Event::Request { octets, .. } => {
-            let whom = Whom::from_octets(octets.as_slice());
+    match passed.event.event() {
+        Event::Request { .. } => {
+            let whom = Whom::of_request(passed.event.request());
             count_asked(statistics, passed, whom)
         }
         Event::Operator(_) => count_released(statistics, passed, outcome),
@@ -136,8 +136,8 @@ pub(crate) fn count_holds(statistics: &mut [AddressCounts], passed: &Passed<'_>,
 fn count_lasting(statistics: &mut [AddressCounts], line: &LineState, time: u64, slave: u8)
     ensures { statistics.new ≡ lasting_counted time slave (shown_at line.now.world slave) statistics.old }
 {
-    match line.view(slave) {
-        Some(shown) => count_hold(statistics, time, Ending::Lasts, slave, shown.holder),
+    match slave_at(line, slave) {
+        Some(shown) => count_hold(statistics, time, Ending::Lasts, slave, shown.holder()),
         None => {}
     }
 }

@@ -1,14 +1,14 @@
 //! What a request counts in the statistics.
 
-ghost use Rattle.std.specs.Prelude.{◌≡◌, None, Some};
+ghost use Rattle.std.specs.Prelude.{◌≡◌, None, Some, option_and_then};
 ghost use Rattle.dp_explain.specs.Statistics.{done_item, rule_item, way_item, item_counted, telegram_counted, answer_counted, broadcast_item, spread_counted, request_counted, event_counted};
 
 use crate::statistics::{AddressCounts, Count, Item, count_at, count_at_both};
 use dp_line::{Event, Outcome};
 use dp_responder::Rule;
 use dp_sap::SLAVE_DIAG;
-use dp_sentences::{Answered, Scene, answered};
-use dp_telegram::{Frame, Parts, Telegram, decode};
+use dp_sentences::{Answered, ReadEvent, ReadOctets, Scene, answered};
+use dp_telegram::{FrameLent, PartsLent, TelegramLent};
 
 /// Returns the item of a request to this access point that was answered by Done.
 fn done_item(point: Option<u8>) -> Option<Item>
@@ -22,36 +22,33 @@ fn done_item(point: Option<u8>) -> Option<Item>
 }
 
 /// Returns the item of a request with these parts that was answered by this rule.
-fn rule_item(parts: &Option<Parts>, rule: Rule) -> Option<Item>
+fn rule_item(parts: &Option<PartsLent<'_>>, rule: Rule) -> Option<Item>
     ensures { result ≡ rule_item parts.now rule }
 {
-    match rule {
-        Rule::Done => match parts {
-            Some(parts) => done_item(parts.dsap),
-            None => None,
-        },
-        Rule::Status => Some(Item::Poll),
-        Rule::Token | Rule::NotRequest | Rule::Repeat => None,
-        Rule::Halted
-        | Rule::NoFrame
-        | Rule::NoMaster
-        | Rule::ForeignSender
-        | Rule::BadFunction
-        | Rule::BadExtension
-        | Rule::BadBroadcast
-        | Rule::NoStation
-        | Rule::NoService
-        | Rule::NotActive
-        | Rule::NotHolder
-        | Rule::NotListed
-        | Rule::Busy
-        | Rule::Length
-        | Rule::NotSelected => Some(Item::Refused(rule)),
+    if rule.is_refusal() {
+        return Some(Item::Refused(rule));
+    }
+    if let Rule::Status = rule {
+        return Some(Item::Poll);
+    }
+    if let Rule::Done = rule {
+        return parts_item(parts);
+    }
+    None
+}
+
+/// Returns the item of a request with these parts that was answered by Done.
+fn parts_item(parts: &Option<PartsLent<'_>>) -> Option<Item>
+    ensures { result ≡ option_and_then (λ parts. done_item parts.dsap) parts.now }
+{
+    match parts {
+        Some(parts) => done_item(parts.dsap()),
+        None => None,
     }
 }
 
 /// Returns the item of a request with these parts that was answered in this way; None if it has none.
-fn way_item(parts: &Option<Parts>, way: Answered) -> Option<Item>
+fn way_item(parts: &Option<PartsLent<'_>>, way: Answered) -> Option<Item>
     ensures { result ≡ way_item parts.now way }
 {
     match way {
@@ -83,7 +80,12 @@ fn count_item(
 }
 
 /// Counts a telegram that was answered in this way.
-fn count_telegram(statistics: &mut [AddressCounts], master: u8, telegram: &Telegram, way: Answered)
+fn count_telegram(
+    statistics: &mut [AddressCounts],
+    master: u8,
+    telegram: &TelegramLent<'_>,
+    way: Answered,
+)
     ensures { statistics.new ≡ telegram_counted master (Some telegram.now) way statistics.old }
 {
     let parts = telegram.parts();
@@ -104,17 +106,17 @@ fn count_answered(
     statistics: &mut [AddressCounts],
     scene: &Scene<'_>,
     master: u8,
-    octets: &[u8],
+    request: &ReadOctets<'_>,
     rule: Rule,
 )
-    ensures { statistics.new ≡ answer_counted scene.now master octets.now rule statistics.old }
+    ensures { statistics.new ≡ answer_counted scene.now master request.now rule statistics.old }
 {
-    let way = answered(scene, master, octets, rule);
-    match decode(octets) {
-        Ok(Frame::Telegram(telegram)) => count_telegram(statistics, master, &telegram, way),
-        Ok(Frame::Token { .. }) => count_other(statistics, master, way),
-        Ok(Frame::Ack) => count_other(statistics, master, way),
-        Err(_) => count_other(statistics, master, way),
+    let way = answered(scene, master, request, rule);
+    match request.frame() {
+        Some(FrameLent::Telegram(telegram)) => count_telegram(statistics, master, &telegram, way),
+        Some(FrameLent::Token { .. }) => count_other(statistics, master, way),
+        Some(FrameLent::Ack) => count_other(statistics, master, way),
+        None => count_other(statistics, master, way),
     }
 }
 
@@ -146,15 +148,15 @@ fn count_request(
     statistics: &mut [AddressCounts],
     scene: &Scene<'_>,
     master: u8,
-    octets: &[u8],
+    request: &ReadOctets<'_>,
     outcome: &Outcome,
 )
-    ensures { statistics.new ≡ request_counted scene.now master octets.now outcome.now statistics.old }
+    ensures { statistics.new ≡ request_counted scene.now master request.now outcome.now statistics.old }
 {
     match outcome {
-        Outcome::Reply { rule, .. } => count_answered(statistics, scene, master, octets, *rule),
-        Outcome::Silence(rule) => count_answered(statistics, scene, master, octets, *rule),
-        Outcome::Done => count_answered(statistics, scene, master, octets, Rule::Done),
+        Outcome::Reply { rule, .. } => count_answered(statistics, scene, master, request, *rule),
+        Outcome::Silence(rule) => count_answered(statistics, scene, master, request, *rule),
+        Outcome::Done => count_answered(statistics, scene, master, request, Rule::Done),
         Outcome::Spread(pairs) => count_spread(statistics, master, pairs.as_slice()),
         Outcome::Released(_) => {}
         Outcome::Refused(_) => {}
@@ -165,14 +167,14 @@ fn count_request(
 pub(crate) fn count_event_in(
     statistics: &mut [AddressCounts],
     scene: &Scene<'_>,
-    event: &Event,
+    event: &ReadEvent<'_>,
     outcome: &Outcome,
 )
     ensures { statistics.new ≡ event_counted scene.now event.now outcome.now statistics.old }
 {
-    match event {
-        Event::Request { master, octets } => {
-            count_request(statistics, scene, *master, octets.as_slice(), outcome)
+    match event.event() {
+        Event::Request { master, .. } => {
+            count_request(statistics, scene, *master, event.request(), outcome)
         }
         Event::Operator(_) => {}
     }

@@ -16,7 +16,7 @@ use crate::output::write_rows;
 use crate::statistics::{AddressCounts, first_statistics};
 use crate::tally::{SenderCounts, count_event, first_tally};
 use dp_line::{LineSpec, LineState, Outcome};
-use dp_sentences::{Block, Noted, Scene, first_notes, note_event, time_after};
+use dp_sentences::{Block, Noted, ReadEvent, Scene, first_notes, note_event, time_after};
 use std::alloc::{AllocError, Global};
 use std::io::Write;
 
@@ -90,15 +90,10 @@ impl<'a> History<'a> {
             notes: self.notes.as_slice(),
             time: self.time,
         };
-        count_event(&mut self.tally, &scene, taken.event, outcome);
-        count_statistics(
-            &mut self.statistics,
-            &scene,
-            taken.after,
-            taken.event,
-            outcome,
-        );
-        note_event(&mut self.notes, taken.place, taken.event, outcome);
+        let event = ReadEvent::new(taken.event);
+        count_event(&mut self.tally, &scene, &event, outcome);
+        count_statistics(&mut self.statistics, &scene, taken.after, &event, outcome);
+        note_event(&mut self.notes, taken.place, &event, outcome);
         self.time = time_after(self.time, taken.event);
     }
 

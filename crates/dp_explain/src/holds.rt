@@ -7,7 +7,7 @@ ghost use Rattle.dp_explain.specs.Holds.{entries_words, hold_row, ended_at, hold
 
 use crate::columns::StationColumn;
 use dp_line::{Event, LineState, Outcome, SlaveSpec};
-use dp_sentences::{Ending, Spaces, Whom, digits_of_long, same_holder};
+use dp_sentences::{Ending, Spaces, Whom, digits_of_long, same_holder, slave_at};
 use std::fmt;
 
 /// The width of the column of entries.
@@ -97,22 +97,22 @@ impl<'a> fmt::Display for HoldEnded<'a> {
 
     fn fmt<W: fmt::Write>(&self, f: &mut fmt::Formatter<W>) -> fmt::Result {
         let taken = self.taken;
-        let Some(before) = taken.before.view(self.address) else {
+        let Some(before) = slave_at(taken.before, self.address) else {
             return Ok(());
         };
-        let Some(after) = taken.after.view(self.address) else {
+        let Some(after) = slave_at(taken.after, self.address) else {
             return Ok(());
         };
-        if same_holder(before.holder, after.holder) {
+        if same_holder(before.holder(), after.holder()) {
             return Ok(());
         }
-        match before.holder {
+        match before.holder() {
             Some(master) => {
                 let row = HoldRow {
                     address: self.address,
                     master,
                     entries: Entries {
-                        since: before.since,
+                        since: before.since(),
                         place: Some(taken.place),
                     },
                     ending: Ending::by(taken.event),
@@ -242,16 +242,16 @@ impl<'a> fmt::Display for HoldLasts<'a> {
 
     fn fmt<W: fmt::Write>(&self, f: &mut fmt::Formatter<W>) -> fmt::Result {
         let address = self.slave.address;
-        let Some(slave) = self.line.view(address) else {
+        let Some(slave) = slave_at(self.line, address) else {
             return Ok(());
         };
-        match slave.holder {
+        match slave.holder() {
             Some(master) => {
                 let row = HoldRow {
                     address,
                     master,
                     entries: Entries {
-                        since: slave.since,
+                        since: slave.since(),
                         place: None,
                     },
                     ending: Ending::Lasts,

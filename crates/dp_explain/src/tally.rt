@@ -6,7 +6,7 @@ ghost use Rattle.dp_explain.specs.Tallies.{way_number, uncounted, count_of, one_
 
 use dp_line::{Event, Outcome};
 use dp_responder::Rule;
-use dp_sentences::{Answered, Scene, answered};
+use dp_sentences::{Answered, ReadEvent, ReadOctets, Scene, answered};
 use std::alloc::{AllocError, Global};
 
 /// The number of counts of a sender.
@@ -114,12 +114,12 @@ fn count_answered(
     tally: &mut [SenderCounts],
     scene: &Scene<'_>,
     master: u8,
-    octets: &[u8],
+    request: &ReadOctets<'_>,
     rule: Rule,
 )
-    ensures { tally.new ≡ counted master (Some (answered_as scene.now master octets.now rule)) tally.old }
+    ensures { tally.new ≡ counted master (Some (answered_as scene.now master request.now rule)) tally.old }
 {
-    let way = answered(scene, master, octets, rule);
+    let way = answered(scene, master, request, rule);
     count(tally, master, Some(way));
 }
 
@@ -127,7 +127,7 @@ fn count_answered(
 pub(crate) fn count_event(
     tally: &mut Vec<SenderCounts>,
     scene: &Scene<'_>,
-    event: &Event,
+    event: &ReadEvent<'_>,
     outcome: &Outcome,
 )
     ensures { tally.new.items ≡ tally_after tally.old.items scene.now event.now outcome.now }
@@ -136,12 +136,12 @@ pub(crate) fn count_event(
 }
 
 /// Counts an event in this slice of counts. See [`count_event`].
-fn count_in(tally: &mut [SenderCounts], scene: &Scene<'_>, event: &Event, outcome: &Outcome)
+fn count_in(tally: &mut [SenderCounts], scene: &Scene<'_>, event: &ReadEvent<'_>, outcome: &Outcome)
     ensures { tally.new ≡ tally_after tally.old scene.now event.now outcome.now }
 {
-    match event {
-        Event::Request { master, octets } => {
-            count_answer(tally, scene, *master, octets.as_slice(), outcome)
+    match event.event() {
+        Event::Request { master, .. } => {
+            count_answer(tally, scene, *master, event.request(), outcome)
         }
         Event::Operator(_) => {}
     }
@@ -152,15 +152,15 @@ fn count_answer(
     tally: &mut [SenderCounts],
     scene: &Scene<'_>,
     master: u8,
-    octets: &[u8],
+    request: &ReadOctets<'_>,
     outcome: &Outcome,
 )
-    ensures { tally.new ≡ counted_answer scene.now master octets.now outcome.now tally.old }
+    ensures { tally.new ≡ counted_answer scene.now master request.now outcome.now tally.old }
 {
     match outcome {
-        Outcome::Reply { rule, .. } => count_answered(tally, scene, master, octets, *rule),
-        Outcome::Silence(rule) => count_answered(tally, scene, master, octets, *rule),
-        Outcome::Done => count_answered(tally, scene, master, octets, Rule::Done),
+        Outcome::Reply { rule, .. } => count_answered(tally, scene, master, request, *rule),
+        Outcome::Silence(rule) => count_answered(tally, scene, master, request, *rule),
+        Outcome::Done => count_answered(tally, scene, master, request, Rule::Done),
         Outcome::Spread(pairs) => count_spread(tally, master, pairs.as_slice()),
         Outcome::Released(_) => {}
         Outcome::Refused(_) => {}
