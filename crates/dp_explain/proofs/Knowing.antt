@@ -4,6 +4,7 @@ use Rattle.dp_line.specs.declared.event.Event.{Event}
 use Rattle.dp_line.specs.declared.event.Outcome.{Outcome}
 use Rattle.dp_line.specs.World.{Description, World}
 use Rattle.dp_sentences.specs.declared.notes.Noted.{Noted}
+use Rattle.dp_sentences.specs.declared.releases.Release.{Release}
 use Rattle.dp_sentences.specs.Blocks.{block_text}
 use Rattle.dp_sentences.specs.Scenes.{SceneView}
 use Rattle.dp_explain.specs.declared.choice.Choice.{Choice}
@@ -12,13 +13,14 @@ use Rattle.dp_explain.specs.Choices.{is_chosen}
 use Rattle.dp_explain.specs.Explained.{Leaves, chosen_text}
 use Rattle.dp_explain.proofs.Writing.{leaves_where}
 
-abbrev scene_of : Description → World → List Noted → Option ℕ → SceneView
-scene_of description world notes time = record { description = description; world = world; notes = notes; time = time }
+abbrev scene_of : Description → World → List Noted → List (Option Release) → Option ℕ → SceneView
+scene_of description world notes releases time =
+    record { description = description; world = world; notes = notes; releases = releases; time = time }
 
-pub chosen_is : (choice : Choice) (description : Description) (world : World) (notes others : List Noted) (time : Option ℕ) (after : World) (place : ℕ) (event : Event) (outcome : Outcome)
-    (old new : Option (List ℕ)) (result : Result (Unit {0}) ExplainFault) → notes ≡ others → is_chosen choice (scene_of description world notes time) place event outcome ≡ true
-    → Leaves (block_text (scene_of description world notes time) after place event outcome) old new result
-    → Leaves (chosen_text choice (scene_of description world others time) after place event outcome) old new result
-chosen_is choice description world notes others time after place event outcome old new result same chosen leaves =
-    subst (λ (n : List Noted). Leaves (chosen_text choice (scene_of description world n time) after place event outcome) old new result) same
+pub chosen_is : (choice : Choice) (description : Description) (world : World) (notes others : List Noted) (releases : List (Option Release)) (time : Option ℕ) (after : World) (place : ℕ) (event : Event) (outcome : Outcome)
+    (old new : Option (List ℕ)) (result : Result (Unit {0}) ExplainFault) → notes ≡ others → is_chosen choice (scene_of description world notes releases time) place event outcome ≡ true
+    → Leaves (block_text (scene_of description world notes releases time) after place event outcome) old new result
+    → Leaves (chosen_text choice (scene_of description world others releases time) after place event outcome) old new result
+chosen_is choice description world notes others releases time after place event outcome old new result same chosen leaves =
+    subst (λ (n : List Noted). Leaves (chosen_text choice (scene_of description world n releases time) after place event outcome) old new result) same
     (leaves_where _ _ _ _ _ chosen leaves)

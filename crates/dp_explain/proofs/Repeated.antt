@@ -33,6 +33,7 @@ use Rattle.dp_audit.specs.declared.entry.Entry.{Entry}
 use Rattle.dp_audit.specs.Legal.{Follows, IsLegal, after_entries}
 use Rattle.dp_sentences.specs.declared.notes.Noted.{Noted}
 use Rattle.dp_sentences.specs.Notes.{has_octets, note_of, notes_after}
+use Rattle.dp_sentences.specs.Releases.{release_of}
 use Rattle.dp_sentences.specs.Refusals.{repeat_text}
 use Rattle.dp_sentences.specs.Results.{result_row, result_rows, shown_at, reported_of_parts, reported_of_telegram, reported_where_known}
 use Rattle.dp_sentences.specs.Scenes.{AskedView, SceneView}
@@ -386,9 +387,9 @@ row_by scene master octets reply telegram parts noted description slave spelt re
     let address = address_of telegram.da in
     ap (λ (t : Option Telegram). result_row (reported_of_telegram scene master octets.items false rules.Repeat t)) spelt
     ∙ ap (λ (p : Option Parts). result_row (reported_of_parts scene master octets.items false rules.Repeat telegram p)) read
-    ∙ ap (λ (n : Option Noted). result_row (reported_where_known asked n false rules.Repeat (described_at scene.description.slaves address) (shown_at scene.world address))) found
-    ∙ ap (λ (d : Option SlaveSpec). result_row (reported_where_known asked (Some noted) false rules.Repeat d (shown_at scene.world address))) described
-    ∙ ap (λ (s : Option SlaveView). result_row (reported_where_known asked (Some noted) false rules.Repeat (Some description) s)) shown
+    ∙ ap (λ (n : Option Noted). result_row (reported_where_known asked n (release_of scene.releases address) false rules.Repeat (described_at scene.description.slaves address) (shown_at scene.world address))) found
+    ∙ ap (λ (d : Option SlaveSpec). result_row (reported_where_known asked (Some noted) (release_of scene.releases address) false rules.Repeat d (shown_at scene.world address))) described
+    ∙ ap (λ (s : Option SlaveView). result_row (reported_where_known asked (Some noted) (release_of scene.releases address) false rules.Repeat (Some description) s)) shown
 
 -- equal octets are found equal, and others are not
 abbrev are_same : List ℕ → List ℕ → Bool

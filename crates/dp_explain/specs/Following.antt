@@ -10,7 +10,7 @@ use Rattle.dp_explain.specs.Known.{KnownView}
 -- what is known from the entries so far, after which the line is this one
 abbrev pub known_at : History → World → KnownView
 known_at history world = record {
-  scene = record { description = description_of history.line.now; world = world; notes = history.notes.items; time = history.time };
+  scene = record { description = description_of history.line.now; world = world; notes = history.notes.items; releases = history.releases.items; time = history.time };
   tally = history.tally.items;
   statistics = history.statistics.items;
 }

@@ -7,6 +7,8 @@ use Rattle.dp_line.specs.declared.event.Outcome.TheVariants.{Released}
 use Rattle.dp_line.specs.World.{Description, World, start_of}
 use Rattle.dp_line.specs.Steps.{step}
 use Rattle.dp_sentences.specs.Notes.{first_notes, notes_after}
+use Rattle.dp_sentences.specs.ReleaseChanges.{releases_after}
+use Rattle.dp_sentences.specs.Releases.{first_releases}
 use Rattle.dp_sentences.specs.Scenes.{SceneView}
 use Rattle.dp_sentences.specs.Times.{time_after}
 use Rattle.dp_explain.specs.declared.statistics.AddressCounts.{AddressCounts}
@@ -34,6 +36,7 @@ first_known line places = record {
     description = line;
     world = first_world line places;
     notes = first_notes (slave_addresses line) line.masters;
+    releases = first_releases;
     time = None;
   };
   tally = first_tally line.masters;
@@ -47,6 +50,7 @@ known_with known after place event outcome = record {
     description = known.scene.description;
     world = after;
     notes = notes_after known.scene.notes place event outcome;
+    releases = releases_after known.scene.releases known.scene.world after place event outcome;
     time = time_after known.scene.time event;
   };
   tally = tally_after known.tally known.scene event outcome;

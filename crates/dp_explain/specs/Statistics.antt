@@ -53,6 +53,8 @@ way_item parts ways.Retry = Some items.Retry
 way_item parts ways.OtherRepeat = None
 way_item parts ways.WrongSetPrm = None
 way_item parts ways.WrongChkCfg = None
+way_item parts ways.NotAskedFor = None
+way_item parts ways.NoneSelected = Some (items.Refused rules.NotSelected)
 
 -- an item of a request, if it has one, at the receiver of its telegram, if it has one, and at its sender
 abbrev pub item_counted : Option ℕ → ℕ → Option Item → List AddressCounts → List AddressCounts

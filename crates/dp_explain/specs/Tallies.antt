@@ -14,7 +14,7 @@ use Rattle.dp_sentences.specs.declared.way.Answered.{Answered}
 use Rattle.dp_sentences.specs.declared.way.Answered.TheVariants as ways
 use Rattle.dp_explain.specs.declared.tally.SenderCounts.{SenderCounts}
 use Rattle.dp_sentences.specs.Scenes.{SceneView}
-use Rattle.dp_sentences.specs.Ways.{answered_as, is_fault_way, way_name}
+use Rattle.dp_sentences.specs.Ways.{answered_as, is_fault_way, some_selected, way_name, way_of_pair}
 use Rattle.dp_sentences.specs.Words.{at_left, at_right}
 
 -- ---- the counts of a sender
@@ -27,7 +27,8 @@ all_ways =
     ∷ Some (ways.ByRule rules.BadBroadcast) ∷ Some (ways.ByRule rules.NoStation) ∷ Some ways.LiveListPoll ∷ Some (ways.ByRule rules.Status)
     ∷ Some (ways.ByRule rules.NoService) ∷ Some ways.Retry ∷ Some ways.OtherRepeat ∷ Some (ways.ByRule rules.NotActive)
     ∷ Some (ways.ByRule rules.NotHolder) ∷ Some (ways.ByRule rules.NotListed) ∷ Some (ways.ByRule rules.Busy) ∷ Some (ways.ByRule rules.Length)
-    ∷ Some (ways.ByRule rules.NotSelected) ∷ Some (ways.ByRule rules.Done) ∷ Some ways.WrongSetPrm ∷ Some ways.WrongChkCfg ∷ None ∷ []
+    ∷ Some (ways.ByRule rules.NotSelected) ∷ Some ways.NoneSelected ∷ Some (ways.ByRule rules.Done) ∷ Some ways.NotAskedFor ∷ Some ways.WrongSetPrm
+    ∷ Some ways.WrongChkCfg ∷ None ∷ []
 
 -- the number of a way among the counts of a sender: that of its rule, 1 to 20, or a later one. No way has the number of Repeat, because a repeat
 -- is a retry or another telegram
@@ -39,10 +40,12 @@ way_number (Some ways.Retry) = 22
 way_number (Some ways.OtherRepeat) = 23
 way_number (Some ways.WrongSetPrm) = 24
 way_number (Some ways.WrongChkCfg) = 25
+way_number (Some ways.NotAskedFor) = 26
+way_number (Some ways.NoneSelected) = 27
 
 -- before the first event
 abbrev pub uncounted : Option ℕ → SenderCounts
-uncounted sender = record { sender = sender; by_way = replicate 26 0 }
+uncounted sender = record { sender = sender; by_way = replicate 28 0 }
 
 abbrev pub count_of : SenderCounts → Option Answered → ℕ
 count_of counts way = slice_index counts.by_way (way_number way)
@@ -73,21 +76,22 @@ counted master way [] = []
 counted master way (counts ∷ others) =
     if is_for_sender master counts then one_more way counts ∷ others else counts ∷ counted master way others
 
--- a request to all slaves counts once for each slave that it reached, by that slave's rule, or once if it reached none
-abbrev pub counted_each : ℕ → List (ℕ × Rule) → List SenderCounts → List SenderCounts
-counted_each master [] tally = tally
-counted_each master (pair ∷ pairs) tally = counted_each master pairs (counted master (Some (ways.ByRule pair.1)) tally)
+-- a request to all slaves counts once for each slave that it reached, by the way in which that slave answered it, or once if it reached none
+abbrev pub counted_each : SceneView → ℕ → List ℕ → Bool → List (ℕ × Rule) → List SenderCounts → List SenderCounts
+counted_each scene master octets some [] tally = tally
+counted_each scene master octets some (pair ∷ pairs) tally =
+    counted_each scene master octets some pairs (counted master (Some (way_of_pair scene octets some pair)) tally)
 
-abbrev pub counted_spread : ℕ → List (ℕ × Rule) → List SenderCounts → List SenderCounts
-counted_spread master [] tally = counted master None tally
-counted_spread master (pair ∷ pairs) tally = counted_each master (pair ∷ pairs) tally
+abbrev pub counted_spread : SceneView → ℕ → List ℕ → List (ℕ × Rule) → List SenderCounts → List SenderCounts
+counted_spread scene master octets [] tally = counted master None tally
+counted_spread scene master octets (pair ∷ pairs) tally = counted_each scene master octets (some_selected (pair ∷ pairs)) (pair ∷ pairs) tally
 
 -- another request counts once, by the way in which it was answered
 abbrev pub counted_answer : SceneView → ℕ → List ℕ → Outcome → List SenderCounts → List SenderCounts
 counted_answer scene master octets (Reply reply rule) tally = counted master (Some (answered_as scene master octets rule)) tally
 counted_answer scene master octets (Silence rule) tally = counted master (Some (answered_as scene master octets rule)) tally
 counted_answer scene master octets Done tally = counted master (Some (answered_as scene master octets rules.Done)) tally
-counted_answer scene master octets (Spread pairs) tally = counted_spread master pairs.items tally
+counted_answer scene master octets (Spread pairs) tally = counted_spread scene master octets pairs.items tally
 counted_answer scene master octets outcome tally = tally
 
 -- after an event, by the scene before it and its outcome

@@ -58,6 +58,8 @@ fn way_item(parts: &Option<PartsLent<'_>>, way: Answered) -> Option<Item>
         Answered::OtherRepeat => None,
         Answered::WrongSetPrm => None,
         Answered::WrongChkCfg => None,
+        Answered::NotAskedFor => None,
+        Answered::NoneSelected => Some(Item::Refused(Rule::NotSelected)),
     }
 }
 

@@ -11,20 +11,25 @@ use crate::count_event::count_statistics;
 use crate::count_holds::{count_all_lasting, moment};
 use crate::counts_tables::CountsTables;
 use crate::explain_fault::ExplainFault;
-use crate::holds::Taken;
 use crate::output::write_rows;
 use crate::statistics::{AddressCounts, first_statistics};
 use crate::tally::{SenderCounts, count_event, first_tally};
 use dp_line::{LineSpec, LineState, Outcome};
-use dp_sentences::{Block, Noted, ReadEvent, Scene, first_notes, note_event, time_after};
+use dp_sentences::{
+    Block, Noted, ReadEvent, Release, Scene, Taken, first_notes, first_releases, note_event,
+    note_releases, time_after,
+};
 use std::alloc::{AllocError, Global};
 use std::io::Write;
 
-/// What is known from the entries so far, besides the state of the line: the notes, the time and the counts.
+/// What is known from the entries so far, besides the state of the line: the notes, the last releases, the time and the
+/// counts.
 #[derive(Drop)]
 pub(crate) struct History<'a> {
     line: &'a LineSpec,
     notes: Vec<Noted>,
+    /// The last release of each address, at its index.
+    releases: Vec<Option<Release>>,
     time: Option<u64>,
     tally: Vec<SenderCounts>,
     /// The counts of each address, at its index.
@@ -37,11 +42,13 @@ impl<'a> History<'a> {
         ensures { IfOk result (λ history. (places : ℕ) → known_at history (first_world (description_of line.now) places) ≡ first_known (description_of line.now) places) }
     {
         let notes = first_notes(alloc, line)?;
+        let releases = first_releases(alloc)?;
         let tally = first_tally(alloc, line.masters.as_slice())?;
         let statistics = first_statistics(alloc)?;
         Ok(History {
             line,
             notes,
+            releases,
             time: None,
             tally,
             statistics,
@@ -64,6 +71,7 @@ impl<'a> History<'a> {
             line: self.line,
             before: taken.before,
             notes: self.notes.as_slice(),
+            releases: self.releases.as_slice(),
             time: self.time,
         };
         if !is_chosen(choice, &scene, taken.place, taken.event, outcome) {
@@ -88,12 +96,14 @@ impl<'a> History<'a> {
             line: self.line,
             before: taken.before,
             notes: self.notes.as_slice(),
+            releases: self.releases.as_slice(),
             time: self.time,
         };
         let event = ReadEvent::new(taken.event);
         count_event(&mut self.tally, &scene, &event, outcome);
         count_statistics(&mut self.statistics, &scene, taken.after, &event, outcome);
         note_event(&mut self.notes, taken.place, &event, outcome);
+        note_releases(&mut self.releases, taken, &event, outcome);
         self.time = time_after(self.time, taken.event);
     }
 

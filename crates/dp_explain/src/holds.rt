@@ -7,7 +7,7 @@ ghost use Rattle.dp_explain.specs.Holds.{entries_words, hold_row, ended_at, hold
 
 use crate::columns::StationColumn;
 use dp_line::{Event, LineState, Outcome, SlaveSpec};
-use dp_sentences::{Ending, Spaces, Whom, digits_of_long, same_holder, slave_at};
+use dp_sentences::{Ending, Spaces, Taken, Whom, digits_of_long, same_holder, slave_at};
 use std::fmt;
 
 /// The width of the column of entries.
@@ -73,15 +73,6 @@ impl fmt::Display for HoldRow {
         let ending = self.ending.name();
         write!(f, "  {slave}{master}{entries}{behind}{ending}\n")
     }
-}
-
-/// An event at its place, and the line before and after it.
-#[derive(Clone, Copy)]
-pub(crate) struct Taken<'a> {
-    pub(crate) place: u64,
-    pub(crate) event: &'a Event,
-    pub(crate) before: &'a LineState,
-    pub(crate) after: &'a LineState,
 }
 
 /// The hold of a slave that an event ended, as a row; writes nothing if the event ended no hold of the slave.

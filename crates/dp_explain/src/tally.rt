@@ -6,11 +6,11 @@ ghost use Rattle.dp_explain.specs.Tallies.{way_number, uncounted, count_of, one_
 
 use dp_line::{Event, Outcome};
 use dp_responder::Rule;
-use dp_sentences::{Answered, ReadEvent, ReadOctets, Scene, answered};
+use dp_sentences::{Answered, ReadEvent, ReadOctets, Scene, answered, some_selected, way_of_pair};
 use std::alloc::{AllocError, Global};
 
 /// The number of counts of a sender.
-const WAYS: usize = 26;
+const WAYS: usize = 28;
 
 /// The number of requests of one sender that were answered in each way.
 ///
@@ -63,7 +63,7 @@ impl SenderCounts {
 /// Returns the number of a way among the counts of a sender.
 fn way_number(way: Option<Answered>) -> usize
     ensures number { result ≡ way_number way }
-    ensures few { result < 26 }
+    ensures few { result < 28 }
 {
     match way {
         None => 0,
@@ -73,6 +73,8 @@ fn way_number(way: Option<Answered>) -> usize
         Some(Answered::OtherRepeat) => 23,
         Some(Answered::WrongSetPrm) => 24,
         Some(Answered::WrongChkCfg) => 25,
+        Some(Answered::NotAskedFor) => 26,
+        Some(Answered::NoneSelected) => 27,
     }
 }
 
@@ -88,24 +90,45 @@ fn count(tally: &mut [SenderCounts], master: u8, way: Option<Answered>)
     }
 }
 
-/// Counts a request to all slaves once for each slave that it reached.
-fn count_each(tally: &mut [SenderCounts], master: u8, pairs: &[(u8, Rule)])
-    ensures { tally.new ≡ counted_each master pairs.now tally.old }
+/// Counts a request to all slaves once for each of these slaves, of those that it reached. `some` is whether it selects
+/// any of those.
+fn count_each(
+    tally: &mut [SenderCounts],
+    scene: &Scene<'_>,
+    master: u8,
+    request: &ReadOctets<'_>,
+    some: bool,
+    pairs: &[(u8, Rule)],
+)
+    ensures { tally.new ≡ counted_each scene.now master request.now some pairs.now tally.old }
 {
     let mut left = pairs;
     while let [pair, others @ ..] = left {
-        count(tally, master, Some(Answered::ByRule(pair.1)));
+        count(
+            tally,
+            master,
+            Some(way_of_pair(scene, request, some, *pair)),
+        );
         left = others;
     }
 }
 
 /// Counts a request to all slaves, also one that reached no slave.
-fn count_spread(tally: &mut [SenderCounts], master: u8, pairs: &[(u8, Rule)])
-    ensures { tally.new ≡ counted_spread master pairs.now tally.old }
+fn count_spread(
+    tally: &mut [SenderCounts],
+    scene: &Scene<'_>,
+    master: u8,
+    request: &ReadOctets<'_>,
+    pairs: &[(u8, Rule)],
+)
+    ensures { tally.new ≡ counted_spread scene.now master request.now pairs.now tally.old }
 {
     match pairs {
         [] => count(tally, master, None),
-        [_, ..] => count_each(tally, master, pairs),
+        [_, ..] => {
+            let some = some_selected(pairs);
+            count_each(tally, scene, master, request, some, pairs);
+        }
     }
 }
 
@@ -161,7 +184,7 @@ fn count_answer(
         Outcome::Reply { rule, .. } => count_answered(tally, scene, master, request, *rule),
         Outcome::Silence(rule) => count_answered(tally, scene, master, request, *rule),
         Outcome::Done => count_answered(tally, scene, master, request, Rule::Done),
-        Outcome::Spread(pairs) => count_spread(tally, master, pairs.as_slice()),
+        Outcome::Spread(pairs) => count_spread(tally, scene, master, request, pairs.as_slice()),
         Outcome::Released(_) => {}
         Outcome::Refused(_) => {}
     }

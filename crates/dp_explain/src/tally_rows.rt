@@ -14,7 +14,7 @@ use std::fmt;
 const WAY_COLUMNS: usize = 14;
 
 /// All ways in the order of their rows. None is the way of a request to all slaves that reached no slave.
-const ALL_WAYS: [Option<Answered>; 25] = [
+const ALL_WAYS: [Option<Answered>; 27] = [
     Some(Answered::ByRule(Rule::Halted)),
     Some(Answered::ByRule(Rule::NoFrame)),
     Some(Answered::ByRule(Rule::NoMaster)),
@@ -36,7 +36,9 @@ const ALL_WAYS: [Option<Answered>; 25] = [
     Some(Answered::ByRule(Rule::Busy)),
     Some(Answered::ByRule(Rule::Length)),
     Some(Answered::ByRule(Rule::NotSelected)),
+    Some(Answered::NoneSelected),
     Some(Answered::ByRule(Rule::Done)),
+    Some(Answered::NotAskedFor),
     Some(Answered::WrongSetPrm),
     Some(Answered::WrongChkCfg),
     None,

@@ -9,6 +9,7 @@ use Rattle.dp_slave.specs.declared.view.SlaveView.{SlaveView}
 use Rattle.dp_line.specs.World.{described_at}
 use Rattle.dp_sentences.specs.Meetings.{MeetingView}
 use Rattle.dp_sentences.specs.Notes.{note_of}
+use Rattle.dp_sentences.specs.Releases.{release_of}
 use Rattle.dp_sentences.specs.Scenes.{AskedView, SceneView}
 use Rattle.dp_sentences.specs.Sentences.{slave_text}
 use Rattle.dp_sentences.specs.Results.{reported_of_parts, reported_of_slave, shown_at}
@@ -27,6 +28,7 @@ met_at scene asked address description slave = record {
   description = description;
   slave = slave;
   noted = note_of scene.notes address asked.master;
+  release = release_of scene.releases address;
 }
 
 pub slave_reported : (scene : SceneView) (asked : AskedView) (address : ℕ) (silent : Bool) (rule : Rule) (description : SlaveSpec) (slave : SlaveView)

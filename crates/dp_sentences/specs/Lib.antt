@@ -3,6 +3,7 @@ pub mod TelegramRows
 pub mod Heads
 pub mod Times
 pub mod Notes
+pub mod Releases
 pub mod Meetings
 pub mod Refusals
 pub mod Slots
@@ -15,6 +16,7 @@ pub mod Ways
 pub mod Results
 pub mod Changes
 pub mod Endings
+pub mod ReleaseChanges
 pub mod Blocks
 pub mod PrivateWords
 pub mod SentenceExamples

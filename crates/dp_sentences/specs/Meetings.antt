@@ -5,6 +5,7 @@ use Rattle.dp_telegram.specs.declared.access.Parts.{Parts}
 use Rattle.dp_slave.specs.declared.description.SlaveSpec.{SlaveSpec}
 use Rattle.dp_slave.specs.declared.view.SlaveView.{SlaveView}
 use Rattle.dp_sentences.specs.declared.notes.Noted.{Noted}
+use Rattle.dp_sentences.specs.declared.releases.Release.{Release}
 
 -- a request of a master, the slave that it has reached, as it was before the request, and its description
 pub record MeetingView : Type 0 where
@@ -17,3 +18,5 @@ pub record MeetingView : Type 0 where
   pub slave : SlaveView
   -- the request whose reply the slave remembers for this master
   pub noted : Option Noted
+  -- the last release of the slave
+  pub release : Option Release

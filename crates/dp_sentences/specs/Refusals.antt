@@ -1,20 +1,29 @@
 -- The reasons why a slave refuses a request: one sentence for each rule, about the slave's own state (own).
-use Rattle.std.specs.Prelude.{codes, ℕ, ◌==◌, if◌then◌else◌, Bool, List, ◌∷◌, ◌++◌, Option, Some, None}
+use Rattle.std.specs.Prelude.{codes, ℕ, ◌==◌, if◌then◌else◌, Bool, List, [], ◌∷◌, ◌++◌, Option, Some, None}
 use Rattle.std.specs.Fmt.{decimal}
 use Rattle.arrayvec.specs.ArrayVec.{ArrayVec}
 use Rattle.dp_telegram.specs.declared.function_code.Function.{Function}
 use Rattle.dp_telegram.specs.FunctionCode.{function_of, asks_sdn, asks_unserved}
 use Rattle.dp_sap.specs.AccessTable.{is_in_table, same_point, data_exchange, global_control, set_prm, chk_cfg}
 use Rattle.dp_sap.specs.declared.state.State.{State}
+use Rattle.dp_sap.specs.declared.state.State.TheVariants.{WaitPrm}
 use Rattle.dp_sap.specs.declared.lists.Lists.{Lists}
 use Rattle.dp_decode.specs.Words.{groups_text, hex_pair, hex_text}
+use Rattle.dp_sentences.specs.declared.releases.Release.{Release}
+use Rattle.dp_sentences.specs.Endings.{ending_text}
 use Rattle.dp_sentences.specs.Words.{count_words, numbers_words, point_words, since_words, state_words}
 
+-- since when a slave is in Wait_Prm: its last release, and how that came. It may not have been held before
+abbrev pub released_words : State → Option Release → List ℕ
+released_words WaitPrm (Some release) = codes " since entry " ++ decimal release.place ++ codes " (" ++ ending_text release.ending ++ codes ")"
+released_words state release = []
+
 -- NotActive: the point is off in this state, or the slave has no such point
-abbrev pub not_active_text : ℕ → State → Option ℕ → List ℕ
-not_active_text address state point =
+abbrev pub not_active_text : ℕ → State → Option Release → Option ℕ → List ℕ
+not_active_text address state release point =
     if is_in_table point
-    then codes "Slave " ++ decimal address ++ codes " is in " ++ state_words state ++ codes ", where " ++ point_words point ++ codes " is off."
+    then codes "Slave " ++ decimal address ++ codes " is in " ++ state_words state ++ released_words state release ++ codes ", where "
+    ++ point_words point ++ codes " is off."
     else codes "Slave " ++ decimal address ++ codes " has no " ++ point_words point ++ codes "."
 
 abbrev pub holds_words : ℕ → ℕ → List ℕ

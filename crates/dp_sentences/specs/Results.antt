@@ -24,8 +24,10 @@ use Rattle.dp_line.specs.Events.{is_halt}
 use Rattle.dp_line.specs.Hearing.{telegram_of_frame}
 use Rattle.dp_line.specs.Verdict.{concerns_a_slave}
 use Rattle.dp_sentences.specs.declared.notes.Noted.{Noted}
+use Rattle.dp_sentences.specs.declared.releases.Release.{Release}
 use Rattle.dp_sentences.specs.Words.{at_left, numbers_words, time_words}
 use Rattle.dp_sentences.specs.Notes.{note_of}
+use Rattle.dp_sentences.specs.Releases.{release_of}
 use Rattle.dp_sentences.specs.Scenes.{SceneView, AskedView}
 use Rattle.dp_sentences.specs.Sentences.{line_text, slave_text}
 
@@ -36,10 +38,10 @@ abbrev pub shown_at : World → ℕ → Option SlaveView
 shown_at world address = option_map view_of (slave_at world address)
 
 -- the sentence of the slave; empty if the line has no such slave
-abbrev pub reported_where_known : AskedView → Option Noted → Bool → Rule → Option SlaveSpec → Option SlaveView → List ℕ
-reported_where_known asked noted silent rule None slave = []
-reported_where_known asked noted silent rule (Some description) None = []
-reported_where_known asked noted silent rule (Some description) (Some slave) =
+abbrev pub reported_where_known : AskedView → Option Noted → Option Release → Bool → Rule → Option SlaveSpec → Option SlaveView → List ℕ
+reported_where_known asked noted release silent rule None slave = []
+reported_where_known asked noted release silent rule (Some description) None = []
+reported_where_known asked noted release silent rule (Some description) (Some slave) =
     slave_text silent (record {
       master = asked.master;
       octets = asked.octets;
@@ -48,11 +50,12 @@ reported_where_known asked noted silent rule (Some description) (Some slave) =
       description = description;
       slave = slave;
       noted = noted;
+      release = release;
     }) rule
 
 abbrev pub reported_of_slave : SceneView → AskedView → ℕ → Bool → Rule → List ℕ
 reported_of_slave scene asked address silent rule =
-    reported_where_known asked (note_of scene.notes address asked.master) silent rule
+    reported_where_known asked (note_of scene.notes address asked.master) (release_of scene.releases address) silent rule
     (described_at scene.description.slaves address) (shown_at scene.world address)
 
 -- ---- the answer to a request to one slave

@@ -1,14 +1,17 @@
--- The data that an explanation of an event reads: the line's description, the line before the event, the notes, and the time (own).
+-- The data that an explanation of an event reads: the line's description, the line before the event, the notes, the last releases, and the time (own).
 use Rattle.std.specs.Prelude.{ℕ, List, Option}
 use Rattle.dp_telegram.specs.declared.frame.Telegram.{Telegram}
 use Rattle.dp_telegram.specs.declared.access.Parts.{Parts}
 use Rattle.dp_line.specs.World.{Description, World}
 use Rattle.dp_sentences.specs.declared.notes.Noted.{Noted}
+use Rattle.dp_sentences.specs.declared.releases.Release.{Release}
 
 pub record SceneView : Type 0 where
   pub description : Description
   pub world : World
   pub notes : List Noted
+  -- the last release of each address, at its index
+  pub releases : List (Option Release)
   -- the sum of the ticks before the event, in units of 10 ms; None before the first tick
   pub time : Option ℕ
 

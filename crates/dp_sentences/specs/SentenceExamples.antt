@@ -5,13 +5,14 @@ use Rattle.dp_telegram.specs.declared.frame.Frame.{Frame}
 use Rattle.dp_telegram.specs.declared.frame.Frame.TheVariants as frames
 use Rattle.dp_telegram.specs.Access.{request_of, request_parts}
 use Rattle.dp_sap.specs.AccessTable.{set_prm, data_exchange}
-use Rattle.dp_sap.specs.declared.state.State.TheVariants.{WaitPrm, DataExch}
+use Rattle.dp_sap.specs.declared.state.State.TheVariants.{WaitPrm, WaitCfg, DataExch}
 use Rattle.dp_responder.specs.declared.rule.Rule.TheVariants as rules
 use Rattle.dp_slave.specs.declared.description.SlaveSpec.{SlaveSpec}
 use Rattle.dp_slave.specs.SlaveRecord.{starting_slave}
 use Rattle.dp_slave.specs.View.{view_of}
 use Rattle.dp_slave.specs.declared.view.SlaveView.{SlaveView}
 use Rattle.dp_line.specs.LineExamples.{ask, slave_5}
+use Rattle.dp_sentences.specs.declared.ending.Ending.TheVariants as endings
 use Rattle.dp_sentences.specs.Meetings.{MeetingView}
 use Rattle.dp_line.specs.declared.event.Event.TheVariants.{Operator}
 use Rattle.dp_line.specs.declared.event.Op.TheVariants.{Busy, Tick}
@@ -45,6 +46,7 @@ asks_at description slave point octets = record {
   description = description;
   slave = slave;
   noted = None;
+  release = None;
 }
 
 abbrev asks : SlaveSpec → SlaveView → ℕ → List ℕ → MeetingView
@@ -65,15 +67,27 @@ pub by_an_sdn : slave_text true (asks slave_5 held 61 []) rules.NotHolder ≡ co
 unfolding sentence_on_literals
 by_an_sdn = refl
 
-pub a_point_that_is_off : not_active_text 5 WaitPrm data_exchange ≡ codes "Slave 5 is in Wait_Prm, where Data_Exchange is off."
+pub a_point_that_is_off : not_active_text 5 WaitPrm None data_exchange ≡ codes "Slave 5 is in Wait_Prm, where Data_Exchange is off."
 unfolding sentence_on_literals
 a_point_that_is_off = refl
 
-pub a_point_outside_the_table : not_active_text 5 WaitPrm (Some 12) ≡ codes "Slave 5 has no DSAP 12."
+pub a_point_that_is_off_after_a_release :
+    not_active_text 5 WaitPrm (Some (record { place = 6; ending = endings.Unlocked })) data_exchange
+    ≡ codes "Slave 5 is in Wait_Prm since entry 6 (unlocked), where Data_Exchange is off."
+unfolding sentence_on_literals
+a_point_that_is_off_after_a_release = refl
+
+pub a_point_that_is_off_under_a_holder :
+    not_active_text 5 WaitCfg (Some (record { place = 6; ending = endings.Unlocked })) data_exchange
+    ≡ codes "Slave 5 is in Wait_Cfg, where Data_Exchange is off."
+unfolding sentence_on_literals
+a_point_that_is_off_under_a_holder = refl
+
+pub a_point_outside_the_table : not_active_text 5 WaitPrm None (Some 12) ≡ codes "Slave 5 has no DSAP 12."
 unfolding sentence_on_literals
 a_point_outside_the_table = refl
 
-pub a_point_of_dp_v1 : not_active_text 5 WaitPrm (Some 51) ≡ codes "Slave 5 has no DSAP 51 (MSAC_C1, DP-V1: not simulated)."
+pub a_point_of_dp_v1 : not_active_text 5 WaitPrm None (Some 51) ≡ codes "Slave 5 has no DSAP 51 (MSAC_C1, DP-V1: not simulated)."
 unfolding sentence_on_literals
 a_point_of_dp_v1 = refl
 

@@ -74,7 +74,7 @@ slave_text silent meeting rules.NoService =
 slave_text silent meeting rules.Repeat =
     repeat_text (has_octets meeting.noted meeting.octets) (place_of_note meeting.noted) meeting.parts.dsap meeting.parts.payload.items
 slave_text silent meeting rules.NotActive =
-    refused_words silent ++ codes ": NotActive. " ++ not_active_text meeting.slave.address meeting.slave.state meeting.parts.dsap
+    refused_words silent ++ codes ": NotActive. " ++ not_active_text meeting.slave.address meeting.slave.state meeting.release meeting.parts.dsap
 slave_text silent meeting rules.NotHolder =
     refused_words silent ++ codes ": NotHolder. " ++ not_holder_text meeting.slave.address meeting.slave.holder meeting.slave.since
 slave_text silent meeting rules.NotListed =

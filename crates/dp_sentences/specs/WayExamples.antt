@@ -1,5 +1,6 @@
 -- Examples of notes, of times, of ways in which requests were answered, and of faults.
 use Rattle.std.specs.Prelude.{◌≡◌, ℕ, ◌-◌, ◌^◌, List, [], ◌∷◌, true, false, codes, Some, None, refl}
+use Rattle.dp_sap.specs.declared.state.State.TheVariants.{DataExch}
 use Rattle.dp_responder.specs.declared.rule.Rule.{Rule}
 use Rattle.dp_responder.specs.declared.rule.Rule.TheVariants as rules
 use Rattle.dp_line.specs.declared.event.Event.TheVariants.{Operator}
@@ -8,14 +9,20 @@ use Rattle.dp_line.specs.declared.event.Outcome.{Outcome}
 use Rattle.dp_line.specs.declared.event.Outcome.TheVariants.{Silence, Spread, Released, Done, Refused}
 use Rattle.dp_line.specs.declared.fault.OperatorFault.TheVariants as faults
 use Rattle.dp_line.specs.LineExamples.{acknowledged, ask, check, exchange, fresh, inputs, lock, no_inputs, read_diagnosis, reply, slave_5}
+use Rattle.dp_slave.specs.SlaveRecord.{starting_slave}
+use Rattle.dp_slave.specs.View.{view_of}
+use Rattle.dp_slave.specs.declared.view.SlaveView.{SlaveView}
+use Rattle.dp_sentences.specs.declared.ending.Ending.TheVariants as endings
 use Rattle.dp_sentences.specs.declared.notes.Noted.{Noted}
 use Rattle.dp_sentences.specs.declared.way.Answered.TheVariants as ways
 use Rattle.dp_decode.specs.Replies.{reply_text}
 use Rattle.dp_sentences.specs.Blocks.{reply_row}
+use Rattle.dp_sentences.specs.Releases.{first_releases, release_of}
+use Rattle.dp_sentences.specs.ReleaseChanges.{change_noted}
 use Rattle.dp_sentences.specs.Notes.{first_notes, has_octets, note_of, notes_after, place_noted}
 use Rattle.dp_sentences.specs.Scenes.{SceneView}
 use Rattle.dp_sentences.specs.Times.{time_after}
-use Rattle.dp_sentences.specs.Ways.{answered_as, is_fault, way_name}
+use Rattle.dp_sentences.specs.Ways.{answered_as, is_fault, way_name, way_of_pair}
 
 -- ---- notes
 
@@ -47,6 +54,24 @@ a_repeat_is_not_noted = refl
 pub silence_is_not_noted : notes_after used 14 (ask 1 exchange) (Silence rules.NotHolder) ≡ used
 silence_is_not_noted = refl
 
+-- ---- releases
+
+-- slave 5 while master 1 held it, and when nobody does; entry 6 released it
+abbrev held : SlaveView
+held = record (view_of (starting_slave (1 ∷ 2 ∷ []) slave_5)) { state = DataExch; holder = Some 1; since = 2 }
+
+abbrev freed : SlaveView
+freed = view_of (starting_slave (1 ∷ 2 ∷ []) slave_5)
+
+pub a_release_is_noted : release_of (change_noted 6 (Operator (Tick 1)) 5 (Some held) (Some freed) first_releases) 5 ≡ Some (record { place = 6; ending = endings.Watchdog })
+a_release_is_noted = refl
+
+pub a_lock_is_no_release : change_noted 6 (ask 1 lock) 5 (Some freed) (Some held) first_releases ≡ first_releases
+a_lock_is_no_release = refl
+
+pub no_change_is_no_release : change_noted 6 (ask 1 exchange) 5 (Some held) (Some held) first_releases ≡ first_releases
+no_change_is_no_release = refl
+
 -- ---- times
 
 pub the_first_tick : time_after None (Operator (Tick 18)) ≡ Some 18
@@ -68,6 +93,7 @@ scene = record {
   description = record { number = 1; capacity = 1000; masters = 1 ∷ 2 ∷ []; slaves = slave_5 ∷ [] };
   world = fresh;
   notes = used;
+  releases = first_releases;
   time = None;
 }
 
@@ -111,6 +137,19 @@ a_right_configuration = refl
 
 pub a_diagnosis : answered_as scene 1 read_diagnosis rules.Done ≡ ways.ByRule rules.Done
 a_diagnosis = refl
+
+-- Sync for every slave, to all slaves. Slave 5 has no parameters, which could ask for Sync
+abbrev sync : List ℕ
+sync = 0x68 ∷ 0x07 ∷ 0x07 ∷ 0x68 ∷ 0xFF ∷ 0x81 ∷ 0x46 ∷ 0x3A ∷ 0x3E ∷ 0x20 ∷ 0x00 ∷ 0x5E ∷ 0x16 ∷ []
+
+pub a_sync_not_asked_for : way_of_pair scene sync true (5, rules.Done) ≡ ways.NotAskedFor
+a_sync_not_asked_for = refl
+
+pub a_command_for_another_group : way_of_pair scene sync true (5, rules.NotSelected) ≡ ways.ByRule rules.NotSelected
+a_command_for_another_group = refl
+
+pub a_command_for_no_slave : way_of_pair scene sync false (5, rules.NotSelected) ≡ ways.NoneSelected
+a_command_for_no_slave = refl
 
 pub a_refusal : answered_as scene 1 wrong_lock rules.NotListed ≡ ways.ByRule rules.NotListed
 a_refusal = refl
@@ -157,6 +196,9 @@ another_group_is_no_fault = refl
 
 pub one_of_all_slaves_is_a_fault : is_fault scene (ask 1 stray) (spread ((5, rules.NotSelected) ∷ (7, rules.Busy) ∷ [])) ≡ true
 one_of_all_slaves_is_a_fault = refl
+
+pub a_group_of_no_slave_is_a_fault : is_fault scene (ask 1 stray) (spread ((5, rules.NotSelected) ∷ (7, rules.NotSelected) ∷ [])) ≡ true
+a_group_of_no_slave_is_a_fault = refl
 
 pub no_slave_is_no_fault : is_fault scene (ask 1 stray) (spread []) ≡ false
 no_slave_is_no_fault = refl

@@ -1,14 +1,18 @@
 -- The way in which a request was answered: its rule, or what is known beyond the rule. And the ways and events that are faults of the bus (own).
-use Rattle.std.specs.Prelude.{codes, ℕ, ◌==◌, ◌||◌, not, if◌then◌else◌, Bool, true, false, List, length, Option, Some, None}
+use Rattle.std.specs.Prelude.{codes, ℕ, ◌==◌, ◌&&◌, ◌||◌, not, if◌then◌else◌, Bool, true, false, List, length, Option, Some, None}
 use Rattle.std.specs.List.{list_any}
 use Rattle.dp_telegram.specs.declared.access.Parts.{Parts}
 use Rattle.dp_telegram.specs.declared.frame.Telegram.{Telegram}
 use Rattle.dp_telegram.specs.Access.{address_of, parts_of}
-use Rattle.dp_sap.specs.AccessTable.{same_point, chk_cfg, set_prm}
+use Rattle.dp_prm.specs.declared.prm.Prm.{Prm}
+use Rattle.dp_sap.specs.AccessTable.{same_point, chk_cfg, global_control, set_prm}
 use Rattle.dp_responder.specs.declared.rule.Rule.{Rule}
 use Rattle.dp_responder.specs.declared.rule.Rule.TheVariants as rules
 use Rattle.dp_responder.specs.Rules.{rule_name}
 use Rattle.dp_slave.specs.declared.description.SlaveSpec.{SlaveSpec}
+use Rattle.dp_slave.specs.declared.view.SlaveView.{SlaveView}
+use Rattle.dp_slave.specs.Acts.{Control}
+use Rattle.dp_slave.specs.Services.{control_of}
 use Rattle.dp_line.specs.declared.event.Event.{Event}
 use Rattle.dp_line.specs.declared.event.Event.TheVariants.{Request, Operator}
 use Rattle.dp_line.specs.declared.event.Op.{Op}
@@ -23,7 +27,8 @@ use Rattle.dp_sentences.specs.declared.way.Answered.{Answered}
 use Rattle.dp_sentences.specs.declared.way.Answered.TheVariants as ways
 use Rattle.dp_sentences.specs.Notes.{has_octets, note_of}
 use Rattle.dp_sentences.specs.Scenes.{SceneView}
-use Rattle.dp_sentences.specs.Services.{has_wrong_configuration, has_wrong_parameters}
+use Rattle.dp_sentences.specs.Results.{shown_at}
+use Rattle.dp_sentences.specs.Services.{freeze_is_asked, has_wrong_configuration, has_wrong_parameters, sync_is_asked}
 
 -- ---- the way
 
@@ -44,21 +49,56 @@ way_of_service slave point octets =
     else if same_point point chk_cfg then (if has_wrong_configuration octets slave then ways.WrongChkCfg else ways.ByRule rules.Done)
     else ways.ByRule rules.Done
 
-abbrev pub way_of_parts : Option SlaveSpec → Option Parts → Answered
-way_of_parts None parts = ways.ByRule rules.Done
-way_of_parts (Some slave) None = ways.ByRule rules.Done
-way_of_parts (Some slave) (Some parts) = way_of_service slave parts.dsap parts.payload.items
+-- Global_Control: a Sync or Freeze for which the parameters did not ask does nothing (IEC 61158-6-3, Global_Control)
+abbrev pub is_not_asked_for : Option Prm → Control → Bool
+is_not_asked_for prm control =
+    not control.unsync && (control.sync && not (sync_is_asked prm)) || not control.unfreeze && (control.freeze && not (freeze_is_asked prm))
 
-abbrev pub way_of_done : List SlaveSpec → Option Telegram → Answered
-way_of_done slaves None = ways.ByRule rules.Done
-way_of_done slaves (Some telegram) = way_of_parts (described_at slaves (address_of telegram.da)) (parts_of telegram)
+abbrev pub way_of_control : Option SlaveView → List ℕ → Answered
+way_of_control None octets = ways.ByRule rules.Done
+way_of_control (Some slave) octets = if is_not_asked_for slave.prm (control_of octets) then ways.NotAskedFor else ways.ByRule rules.Done
+
+abbrev pub way_of_parts : Option SlaveSpec → Option SlaveView → Option Parts → Answered
+way_of_parts None slave parts = ways.ByRule rules.Done
+way_of_parts (Some description) slave None = ways.ByRule rules.Done
+way_of_parts (Some description) slave (Some parts) =
+    if same_point parts.dsap global_control then way_of_control slave parts.payload.items
+    else way_of_service description parts.dsap parts.payload.items
+
+-- a telegram that the slave at this address did
+abbrev pub way_of_done : SceneView → ℕ → Option Telegram → Answered
+way_of_done scene address None = ways.ByRule rules.Done
+way_of_done scene address (Some telegram) =
+    way_of_parts (described_at scene.description.slaves address) (shown_at scene.world address) (parts_of telegram)
+
+abbrev pub way_where_asked : SceneView → Option Telegram → Answered
+way_where_asked scene None = ways.ByRule rules.Done
+way_where_asked scene (Some telegram) = way_of_done scene (address_of telegram.da) (Some telegram)
 
 -- the way in which a request of a master with these octets was answered by this rule
 abbrev pub answered_as : SceneView → ℕ → List ℕ → Rule → Answered
 answered_as scene master octets rules.NoStation = way_without_station octets
 answered_as scene master octets rules.Repeat = way_of_repeat scene.notes master octets (telegram_spelt octets)
-answered_as scene master octets rules.Done = way_of_done scene.description.slaves (telegram_spelt octets)
+answered_as scene master octets rules.Done = way_where_asked scene (telegram_spelt octets)
+answered_as scene master octets rules.NotSelected = ways.NoneSelected
 answered_as scene master octets other = ways.ByRule other
+
+-- NotSelected in a request to all slaves: the command may be for other slaves, but it selects at least one, unless its group is wrong
+abbrev pub is_selected : Rule → Bool
+is_selected rules.NotSelected = false
+is_selected other = true
+
+abbrev pub way_in_spread : SceneView → Option Telegram → Bool → ℕ → Rule → Answered
+way_in_spread scene telegram some address rules.NotSelected = if some then ways.ByRule rules.NotSelected else ways.NoneSelected
+way_in_spread scene telegram some address rules.Done = way_of_done scene address telegram
+way_in_spread scene telegram some address other = ways.ByRule other
+
+abbrev pub some_selected : List (ℕ × Rule) → Bool
+some_selected pairs = list_any (λ pair. is_selected pair.1) pairs
+
+-- the way in which one of the slaves that a request to all slaves reached answered it
+abbrev pub way_of_pair : SceneView → List ℕ → Bool → ℕ × Rule → Answered
+way_of_pair scene octets some pair = way_in_spread scene (telegram_spelt octets) some pair.0 pair.1
 
 -- the name of a way in a table
 abbrev pub way_name : Answered → List ℕ
@@ -68,6 +108,8 @@ way_name ways.Retry = codes "Repeat (retry)"
 way_name ways.OtherRepeat = codes "Repeat (other)"
 way_name ways.WrongSetPrm = codes "wrong Set_Prm"
 way_name ways.WrongChkCfg = codes "wrong Chk_Cfg"
+way_name ways.NotAskedFor = codes "not asked for"
+way_name ways.NoneSelected = codes "none selected"
 
 -- the slave sends its reply before it finds the request wrong
 abbrev pub is_judged_afterwards : Answered → Bool
@@ -107,13 +149,15 @@ is_fault_way ways.Retry = false
 is_fault_way ways.OtherRepeat = true
 is_fault_way ways.WrongSetPrm = true
 is_fault_way ways.WrongChkCfg = true
+is_fault_way ways.NotAskedFor = true
+is_fault_way ways.NoneSelected = true
 
--- a request: its way; to all slaves, at least one of the rules. If it reached the last place, the halt was recorded instead
+-- a request: its way; to all slaves, at least one of the ways. If it reached the last place, the halt was recorded instead
 abbrev pub is_fault_of_request : SceneView → ℕ → List ℕ → Outcome → Bool
 is_fault_of_request scene master octets (Reply reply rule) = is_fault_way (answered_as scene master octets rule)
 is_fault_of_request scene master octets (Silence rule) = is_fault_way (answered_as scene master octets rule)
 is_fault_of_request scene master octets Done = is_fault_way (answered_as scene master octets rules.Done)
-is_fault_of_request scene master octets (Spread pairs) = list_any (λ pair. is_fault_rule pair.1) pairs.items
+is_fault_of_request scene master octets (Spread pairs) = list_any (λ pair. is_fault_way (way_of_pair scene octets (some_selected pairs.items) pair)) pairs.items
 is_fault_of_request scene master octets (Released addresses) = true
 is_fault_of_request scene master octets (Refused fault) = false
 

@@ -5,6 +5,7 @@ ghost use Rattle.std.specs.Option.{option_copied};
 ghost use Rattle.dp_slave.specs.Services.{control_of};
 ghost use Rattle.dp_globalctl.specs.Command.{control_in};
 ghost use Rattle.dp_sentences.specs.Shown.{shown};
+ghost use Rattle.dp_sentences.specs.Ways.{is_not_asked_for};
 ghost use Rattle.dp_sentences.specs.Services.{sync_is_asked, freeze_is_asked, acts_words, idle_sync_text, idle_freeze_text, controlled_text, control_text};
 
 use crate::words::octet_at;
@@ -90,6 +91,18 @@ fn idle_freeze(freeze: bool, unfreeze: bool, asked: bool) -> &'static str
     }
 }
 
+/// Returns whether a command asks for a Sync or a Freeze that the slave does not do, because its parameters do not ask for
+/// it; `octets` are the data of the Global_Control.
+pub(crate) fn is_not_asked_for(slave: &Slave, octets: &[u8]) -> bool
+    ensures { result ≡ is_not_asked_for slave.now.slave.prm (control_of octets.now) }
+{
+    let command = command_in(octets);
+    let prm = slave.parameters();
+    let sync = command.sync && !asks_sync(prm);
+    let freeze = command.freeze && !asks_freeze(prm);
+    !command.unsync && sync || !command.unfreeze && freeze
+}
+
 /// The result of a command at a slave.
 #[derive(Clone, Copy)]
 struct Done<'a> {
@@ -137,6 +150,7 @@ impl<'a> fmt::Display for Controlled<'a> {
     }
 }
 
+/// Returns whether the parameters of a slave ask for Sync.
 fn asks_sync(prm: Option<&Prm>) -> bool
     ensures { result ≡ sync_is_asked (option_copied prm.entry) }
 {
@@ -146,6 +160,7 @@ fn asks_sync(prm: Option<&Prm>) -> bool
     }
 }
 
+/// Returns whether the parameters of a slave ask for Freeze.
 fn asks_freeze(prm: Option<&Prm>) -> bool
     ensures { result ≡ freeze_is_asked (option_copied prm.entry) }
 {

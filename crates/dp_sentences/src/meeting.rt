@@ -1,6 +1,7 @@
 //! A request that has reached a slave.
 
 use crate::notes::Noted;
+use crate::releases::Release;
 use dp_slave::{Slave, SlaveSpec};
 use dp_telegram::{PartsLent, TelegramLent};
 use std::marker::Model;
@@ -21,6 +22,8 @@ pub(crate) struct Meeting<'a> {
     pub(crate) address: u8,
     /// The requests whose replies the slaves remember.
     pub(crate) notes: &'a [Noted],
+    /// The last release of the slave.
+    pub(crate) release: Option<Release>,
 }
 
 impl<'a> Model for Meeting<'a> {
@@ -38,5 +41,6 @@ impl<'a> Model for Meeting<'a> {
       description = m.description.now;
       slave = shown m.slave.now;
       noted = note_of m.notes.now m.address m.master;
+      release = m.release;
     } };
 }

@@ -2,8 +2,9 @@
 
 ghost use Rattle.std.specs.Prelude.{◌≡◌, option_map, Some};
 ghost use Rattle.dp_sap.specs.AccessTable.{same_point, set_prm};
-ghost use Rattle.dp_sentences.specs.Refusals.{not_active_text, holds_words, not_holder_text, listed_words, not_named_text, not_listed_text, other_service, no_service_text, busy_text, taken_data_words, taken_words, length_text, selecting_words, grouped_words, not_selected_text, status_text};
+ghost use Rattle.dp_sentences.specs.Refusals.{not_active_text, released_words, holds_words, not_holder_text, listed_words, not_named_text, not_listed_text, other_service, no_service_text, busy_text, taken_data_words, taken_words, length_text, selecting_words, grouped_words, not_selected_text, status_text};
 
+use crate::releases::Release;
 use crate::words::{CountWords, NumbersWords, PointWords, SinceWords, state_name};
 use arrayvec::ArrayVec;
 use dp_decode::{Groups, HexPair};
@@ -16,20 +17,53 @@ use std::fmt;
 pub(crate) struct NotActive {
     pub(crate) address: u8,
     pub(crate) state: State,
+    /// The last release of the slave.
+    pub(crate) release: Option<Release>,
     pub(crate) point: Option<u8>,
 }
 
 impl fmt::Display for NotActive {
-    ghost output = { λ s. Some (not_active_text s.address s.state s.point) };
+    ghost output = { λ s. Some (not_active_text s.address s.state s.release s.point) };
 
     fn fmt<W: fmt::Write>(&self, f: &mut fmt::Formatter<W>) -> fmt::Result {
         let address = self.address;
         let point = PointWords(self.point);
         if is_point(self.point) {
             let state = state_name(self.state);
-            write!(f, "Slave {address} is in {state}, where {point} is off.")
+            let since = Since {
+                state: self.state,
+                release: self.release,
+            };
+            write!(
+                f,
+                "Slave {address} is in {state}{since}, where {point} is off."
+            )
         } else {
             write!(f, "Slave {address} has no {point}.")
+        }
+    }
+}
+
+/// Since when a slave is in Wait_Prm: its last release; writes nothing in another state, or if it was not released.
+#[derive(Clone, Copy)]
+struct Since {
+    state: State,
+    release: Option<Release>,
+}
+
+impl fmt::Display for Since {
+    ghost output = { λ s. Some (released_words s.state s.release) };
+
+    fn fmt<W: fmt::Write>(&self, f: &mut fmt::Formatter<W>) -> fmt::Result {
+        match (self.state, self.release) {
+            (State::WaitPrm, Some(release)) => {
+                let place = release.place;
+                let ending = release.ending.name();
+                write!(f, " since entry {place} ({ending})")
+            }
+            (State::WaitPrm, None) => Ok(()),
+            (State::WaitCfg, _) => Ok(()),
+            (State::DataExch, _) => Ok(()),
         }
     }
 }

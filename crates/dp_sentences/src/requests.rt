@@ -8,6 +8,7 @@ ghost use Rattle.dp_sentences.specs.Results.{reported_of_slave, reported_of_tele
 use crate::frames::telegram_in;
 use crate::line_words::LineWords;
 use crate::meeting::Meeting;
+use crate::releases::release_of;
 use crate::scene::{Scene, SlaveRequest};
 use crate::sentences::SlaveWords;
 use crate::shown::slave_at;
@@ -51,6 +52,7 @@ impl<'a> fmt::Display for OfSlave<'a> {
             slave,
             address: self.address,
             notes: scene.notes,
+            release: release_of(scene.releases, self.address),
         };
         let words = SlaveWords {
             meeting: &meeting,

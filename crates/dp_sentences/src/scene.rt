@@ -1,11 +1,12 @@
 //! The data that an explanation of an event reads.
 
 use crate::notes::Noted;
+use crate::releases::Release;
 use dp_line::{LineSpec, LineState};
 use dp_telegram::{PartsLent, TelegramLent};
 use std::marker::Model;
 
-/// What is known before an event. Contracts see the description, the world, the notes and the time.
+/// What is known before an event. Contracts see the description, the world, the notes, the last releases and the time.
 #[derive(Drop)]
 pub struct Scene<'a> {
     pub line: &'a LineSpec,
@@ -13,6 +14,8 @@ pub struct Scene<'a> {
     pub before: &'a LineState,
     /// The requests whose replies the slaves remember.
     pub notes: &'a [Noted],
+    /// The last release of each address, at its index.
+    pub releases: &'a [Option<Release>],
     /// The sum of the ticks before the event, in units of 10 ms; None before the first tick.
     pub time: Option<u64>,
 }
@@ -27,6 +30,7 @@ impl<'a> Model for Scene<'a> {
       description = description_of s.line.now;
       world = s.before.now.world;
       notes = s.notes.now;
+      releases = s.releases.now;
       time = s.time;
     } };
 }

@@ -112,11 +112,12 @@ impl<'a> Meeting<'a> {
     }
 
     fn not_active(&self) -> NotActive
-        ensures { result ≡ record { address = self.now.slave.address; state = self.now.slave.state; point = self.now.parts.dsap } }
+        ensures { result ≡ record { address = self.now.slave.address; state = self.now.slave.state; release = self.now.release; point = self.now.parts.dsap } }
     {
         NotActive {
             address: self.slave.address(),
             state: self.slave.state(),
+            release: self.release,
             point: self.parts.dsap(),
         }
     }

@@ -20,6 +20,10 @@ pub enum Answered {
     WrongSetPrm,
     /// By Done: a Chk_Cfg with a wrong configuration.
     WrongChkCfg,
+    /// By Done: a Global_Control with a Sync or a Freeze for which the parameters of the slave did not ask.
+    NotAskedFor,
+    /// By NotSelected: a Global_Control whose group selects no slave that it reached.
+    NoneSelected,
 }
 
 impl Answered {
@@ -34,6 +38,8 @@ impl Answered {
             Answered::OtherRepeat => true,
             Answered::WrongSetPrm => true,
             Answered::WrongChkCfg => true,
+            Answered::NotAskedFor => true,
+            Answered::NoneSelected => true,
         }
     }
 
@@ -48,6 +54,8 @@ impl Answered {
             Answered::LiveListPoll => false,
             Answered::Retry => false,
             Answered::OtherRepeat => false,
+            Answered::NotAskedFor => false,
+            Answered::NoneSelected => false,
         }
     }
 
@@ -62,6 +70,8 @@ impl Answered {
             Answered::OtherRepeat => "Repeat (other)",
             Answered::WrongSetPrm => "wrong Set_Prm",
             Answered::WrongChkCfg => "wrong Chk_Cfg",
+            Answered::NotAskedFor => "not asked for",
+            Answered::NoneSelected => "none selected",
         }
     }
 }

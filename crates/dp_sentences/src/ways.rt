@@ -2,21 +2,24 @@
 
 ghost use Rattle.std.specs.Prelude.{◌≡◌, ◌||◌, Some};
 ghost use Rattle.std.specs.List.{list_any};
-ghost use Rattle.dp_sap.specs.AccessTable.{same_point, chk_cfg, set_prm};
+ghost use Rattle.dp_sap.specs.AccessTable.{same_point, chk_cfg, global_control, set_prm};
 ghost use Rattle.dp_line.specs.Hearing.{telegram_spelt};
 ghost use Rattle.dp_line.specs.World.{described_at, is_last_place};
-ghost use Rattle.dp_sentences.specs.Ways.{answered_as, is_fault, is_fault_of_op, is_fault_of_release, is_fault_of_request, is_fault_rule, way_of_done, way_of_parts, way_of_repeat, way_of_service, way_without_station};
+ghost use Rattle.dp_sentences.specs.Results.{shown_at};
+ghost use Rattle.dp_sentences.specs.Ways.{answered_as, is_fault, is_fault_of_op, is_fault_of_release, is_fault_of_request, is_fault_way, is_selected, some_selected, way_of_control, way_of_done, way_of_pair, way_of_parts, way_of_repeat, way_of_service, way_where_asked, way_without_station};
 
 use crate::chk_cfg::has_wrong_configuration;
+use crate::control::is_not_asked_for;
 use crate::frames::{is_fdl_status, telegram_in};
 use crate::notes::{Noted, note_of};
 use crate::prm_fault::has_wrong_parameters;
 use crate::scene::Scene;
-use crate::way::{Answered, is_fault_rule};
+use crate::shown::slave_at;
+use crate::way::Answered;
 use dp_decode::ReadOctets;
 use dp_line::{Event, LineState, Op, Outcome, described};
 use dp_responder::Rule;
-use dp_sap::{CHK_CFG, SET_PRM};
+use dp_sap::{CHK_CFG, GLOBAL_CONTROL, SET_PRM};
 use dp_slave::SlaveSpec;
 use dp_telegram::{PartsLent, TelegramLent};
 
@@ -28,7 +31,8 @@ pub fn answered(scene: &Scene<'_>, master: u8, request: &ReadOctets<'_>, rule: R
     match rule {
         Rule::NoStation => way_without_station(request),
         Rule::Repeat => way_of_repeat(scene.notes, master, request),
-        Rule::Done => way_of_done(scene.line.slaves.as_slice(), request),
+        Rule::Done => way_where_asked(scene, request),
+        Rule::NotSelected => Answered::NoneSelected,
         Rule::Halted
         | Rule::NoFrame
         | Rule::NoMaster
@@ -44,8 +48,7 @@ pub fn answered(scene: &Scene<'_>, master: u8, request: &ReadOctets<'_>, rule: R
         | Rule::NotHolder
         | Rule::NotListed
         | Rule::Busy
-        | Rule::Length
-        | Rule::NotSelected => Answered::ByRule(rule),
+        | Rule::Length => Answered::ByRule(rule),
     }
 }
 
@@ -84,49 +87,128 @@ fn way_of_repeat(notes: &[Noted], master: u8, request: &ReadOctets<'_>) -> Answe
     }
 }
 
-/// Returns the way in which a request was answered by Done.
-fn way_of_done(slaves: &[SlaveSpec], request: &ReadOctets<'_>) -> Answered
-    ensures { result ≡ way_of_done slaves.now (telegram_spelt request.now) }
+/// Returns the way in which a request to one slave was answered by Done.
+fn way_where_asked(scene: &Scene<'_>, request: &ReadOctets<'_>) -> Answered
+    ensures { result ≡ way_where_asked scene.now (telegram_spelt request.now) }
 {
     match telegram_in(request) {
-        Some(telegram) => way_of_telegram(slaves, &telegram),
+        Some(telegram) => way_of_done(scene, telegram.destination(), &telegram),
         None => Answered::ByRule(Rule::Done),
     }
 }
 
-/// Returns the way in which a telegram was answered by Done.
-fn way_of_telegram(slaves: &[SlaveSpec], telegram: &TelegramLent<'_>) -> Answered
-    ensures { result ≡ way_of_done slaves.now (Some telegram.now) }
+/// Returns the way in which the slave at this address answered a telegram by Done.
+fn way_of_done(scene: &Scene<'_>, address: u8, telegram: &TelegramLent<'_>) -> Answered
+    ensures { result ≡ way_of_done scene.now address (Some telegram.now) }
 {
     match telegram.parts() {
-        Some(parts) => way_of_parts(slaves, telegram.destination(), &parts),
+        Some(parts) => way_of_parts(scene, address, &parts),
         None => Answered::ByRule(Rule::Done),
     }
 }
 
-/// Returns the way in which a telegram with these parts to this address was answered by Done. Looks for the description of
-/// the slave only if the slave judges the data after its reply.
-fn way_of_parts(slaves: &[SlaveSpec], address: u8, parts: &PartsLent<'_>) -> Answered
-    ensures { result ≡ way_of_parts (described_at slaves.now address) (Some parts.now) }
+/// Returns the way in which the slave at this address answered a telegram with these parts by Done. Looks for the slave
+/// only if more than the rule may be known.
+fn way_of_parts(scene: &Scene<'_>, address: u8, parts: &PartsLent<'_>) -> Answered
+    ensures { result ≡ way_of_parts (described_at scene.now.description.slaves address) (shown_at scene.now.world address) (Some parts.now) }
 {
     if !is_judged_by(parts.dsap()) {
         return Answered::ByRule(Rule::Done);
     }
-    match described(slaves, address) {
-        Some(slave) => way_of_service(slave, parts.dsap(), parts.payload()),
-        None => Answered::ByRule(Rule::Done),
+    let Some(description) = described(scene.line.slaves.as_slice(), address) else {
+        return Answered::ByRule(Rule::Done);
+    };
+    if parts.dsap() == Some(GLOBAL_CONTROL) {
+        way_of_control(scene.before, address, parts.payload())
+    } else {
+        way_of_service(description, parts.dsap(), parts.payload())
     }
 }
 
-/// Returns whether a slave judges the data of this point after its reply.
+/// Returns whether more than the rule may be known of a service of this point that was done.
 fn is_judged_by(point: Option<u8>) -> bool
-    ensures { result ≡ (same_point point set_prm || same_point point chk_cfg) }
+    ensures { result ≡ (same_point point set_prm || (same_point point chk_cfg || same_point point global_control)) }
 {
     match point {
         Some(SET_PRM) => true,
         Some(CHK_CFG) => true,
+        Some(GLOBAL_CONTROL) => true,
         Some(_) => false,
         None => false,
+    }
+}
+
+/// Returns the way in which the slave at this address answered a Global_Control by Done; `octets` are its data.
+fn way_of_control(before: &LineState, address: u8, octets: &[u8]) -> Answered
+    ensures { result ≡ way_of_control (shown_at before.now.world address) octets.now }
+{
+    match slave_at(before, address) {
+        Some(slave) => {
+            if is_not_asked_for(slave, octets) {
+                Answered::NotAskedFor
+            } else {
+                Answered::ByRule(Rule::Done)
+            }
+        }
+        None => Answered::ByRule(Rule::Done),
+    }
+}
+
+/// Returns whether a request to all slaves selects one of these, which it reached.
+pub fn some_selected(pairs: &[(u8, Rule)]) -> bool
+    ensures { result ≡ some_selected pairs.now }
+{
+    pairs.iter().any(|pair| is_selected(pair.1))
+}
+
+/// Returns whether the rule is not that of a slave of another group.
+fn is_selected(rule: Rule) -> bool
+    ensures { result ≡ is_selected rule }
+{
+    rule.code() != Rule::NotSelected.code()
+}
+
+/// Returns the way in which a slave answered a request to all slaves, by its address and its rule. `some` is whether the
+/// request selects any slave that it reached; the scene is that before the request.
+pub fn way_of_pair(
+    scene: &Scene<'_>,
+    request: &ReadOctets<'_>,
+    some: bool,
+    pair: (u8, Rule),
+) -> Answered
+    ensures { result ≡ way_of_pair scene.now request.now some pair }
+{
+    let (address, rule) = pair;
+    match rule {
+        Rule::NotSelected => {
+            if some {
+                Answered::ByRule(rule)
+            } else {
+                Answered::NoneSelected
+            }
+        }
+        Rule::Done => match telegram_in(request) {
+            Some(telegram) => way_of_done(scene, address, &telegram),
+            None => Answered::ByRule(rule),
+        },
+        Rule::Halted
+        | Rule::NoFrame
+        | Rule::NoMaster
+        | Rule::ForeignSender
+        | Rule::Token
+        | Rule::NotRequest
+        | Rule::BadFunction
+        | Rule::BadExtension
+        | Rule::BadBroadcast
+        | Rule::NoStation
+        | Rule::Status
+        | Rule::NoService
+        | Rule::Repeat
+        | Rule::NotActive
+        | Rule::NotHolder
+        | Rule::NotListed
+        | Rule::Busy
+        | Rule::Length => Answered::ByRule(rule),
     }
 }
 
@@ -154,8 +236,8 @@ fn way_of_service(slave: &SlaveSpec, point: Option<u8>, octets: &[u8]) -> Answer
     }
 }
 
-/// Returns whether an event shows a fault of the bus: a request that was answered in such a way, or to all slaves by
-/// such a rule at one of them; a refused event of the operator; a tick that releases a slave; the halt, also one that
+/// Returns whether an event shows a fault of the bus: a request that was answered in such a way, by one slave at least if
+/// it was sent to all; a refused event of the operator; a tick that releases a slave; the halt, also one that
 /// was recorded instead of the event. The scene is that before the event (own).
 pub fn is_fault(scene: &Scene<'_>, event: &Event, outcome: &Outcome) -> bool
     ensures { result ≡ is_fault scene.now event.now outcome.now }
@@ -182,17 +264,20 @@ fn is_fault_of_request(
         Outcome::Reply { rule, .. } => answered(scene, master, request, *rule).is_fault(),
         Outcome::Silence(rule) => answered(scene, master, request, *rule).is_fault(),
         Outcome::Done => answered(scene, master, request, Rule::Done).is_fault(),
-        Outcome::Spread(pairs) => has_fault(pairs.as_slice()),
+        Outcome::Spread(pairs) => has_fault(scene, request, pairs.as_slice()),
         Outcome::Released(_) => true,
         Outcome::Refused(_) => false,
     }
 }
 
-/// Returns whether the rule of one of these slaves shows a fault of the bus.
-fn has_fault(pairs: &[(u8, Rule)]) -> bool
-    ensures { result ≡ list_any (λ pair. is_fault_rule pair.1) pairs.now }
+/// Returns whether the way in which one of these slaves answered a request to all slaves shows a fault of the bus.
+fn has_fault(scene: &Scene<'_>, request: &ReadOctets<'_>, pairs: &[(u8, Rule)]) -> bool
+    ensures { result ≡ list_any (λ pair. is_fault_way (way_of_pair scene.now request.now (some_selected pairs.now) pair)) pairs.now }
 {
-    pairs.iter().any(|pair| is_fault_rule(pair.1))
+    let some = some_selected(pairs);
+    pairs
+        .iter()
+        .any(|pair| way_of_pair(scene, request, some, *pair).is_fault())
 }
 
 /// Returns whether an event of the operator is a fault, or shows one.

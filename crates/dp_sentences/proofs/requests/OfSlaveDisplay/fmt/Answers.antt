@@ -12,11 +12,11 @@ returns-clause-writes g c = λ plain ok.
     let s = c.args.self.now in
     let known = c.scene.inside in
     let request = c.asked.inside in
-    let scene : SceneView = record { description = description_of known.line.now; world = known.before.now.world; notes = known.notes.now; time = known.time } in
+    let scene : SceneView = record { description = description_of known.line.now; world = known.before.now.world; notes = known.notes.now; releases = known.releases.now; time = known.time } in
     let asked : AskedView = record { master = request.master; octets = request.octets.now; telegram = request.telegram.now; parts = request.parts } in
     let found : Some c.in-Some.description.now ≡ described_at scene.description.slaves s.address = rw (← c.as_slice.ensures.value) c.in-Some.ensures in
     let here : Some (shown c.in-Some-slave_at.slave.now) ≡ shown_at scene.world s.address = c.in-Some-slave_at.ensures in
     has_written_of_eq _ _ _ _ _
-    (rw (← c.scene.view_is, ← c.asked.view_is)
+    (rw (← c.scene.view_is, ← c.asked.view_is, c.release_of.ensures)
     (slave_reported scene asked s.address s.silent s.rule c.in-Some.description.now (shown c.in-Some-slave_at.slave.now) found here))
     (c.write.ensures.writes plain ok)
