@@ -807,6 +807,7 @@ class Slave:
         self.busy: set = set()
         self.memory: Dict[int, Noted] = {}
         self.released_by: Optional[str] = None        # why the last hold ended
+        self.released_at: Optional[int] = None        # the entry that ended it
 
     @property
     def configuration(self) -> bytes:
@@ -835,6 +836,12 @@ class Slave:
     def condition(self) -> str:
         """Returns state and holder as the row `change` has them."""
         return f'{STATE_WORDS[self.state]}, {held_in_words(self.holder)}'
+
+    def state_in_words(self) -> str:
+        """Returns the state, and in Wait_Prm how the last hold ended, if there was one."""
+        if self.state != WAIT_PRM or self.released_at is None:
+            return STATE_WORDS[self.state]
+        return f'{STATE_WORDS[self.state]} since entry {self.released_at} ({self.released_by})'
 
     def access(self, point: Optional[int]) -> str:
         """Returns who may use a point in this state."""
@@ -1048,7 +1055,7 @@ def refuse_by_access(slave: Slave, sender: int, point: Optional[int]) -> Optiona
     if access == OFF and point not in ACCESS:
         return Refusal('NotActive', f'Slave {slave.address} has no {name}.')
     if access == OFF:
-        return Refusal('NotActive', f'Slave {slave.address} is in {STATE_WORDS[slave.state]}, where {name} is off.')
+        return Refusal('NotActive', f'Slave {slave.address} is in {slave.state_in_words()}, where {name} is off.')
     if access == HOLDER and sender != slave.holder:
         return Refusal('NotHolder', f'Master {slave.holder} holds slave {slave.address} since entry {slave.since}.')
     return refuse_by_lists(slave, sender, point)
@@ -1098,20 +1105,37 @@ def refuse(slave: Slave, sender: int, function: int, parts: Parts) -> Optional[R
 LIVE_LIST_POLL, TO_NO_SLAVE = 'live-list poll', 'to no slave'
 RETRY, OTHER_TELEGRAM = 'Repeat (retry)', 'Repeat (other)'
 WRONG_SET_PRM, WRONG_CHK_CFG = 'wrong Set_Prm', 'wrong Chk_Cfg'
+NOT_SELECTED, NONE_SELECTED, NOT_ASKED_FOR = 'NotSelected', 'none selected', 'not asked for'
 WRONG_WAYS = {'wrong parameters': WRONG_SET_PRM, 'wrong configuration': WRONG_CHK_CFG}     # by the words of a result
 
 WAYS = ('Halted', 'NoFrame', 'NoMaster', 'ForeignSender', 'Token', 'NotRequest', 'BadFunction', 'BadExtension',
         'BadBroadcast', 'NoStation', LIVE_LIST_POLL, 'Status', 'NoService', RETRY, OTHER_TELEGRAM, 'NotActive',
-        'NotHolder', 'NotListed', 'Busy', 'Length', 'NotSelected', 'Done', WRONG_SET_PRM, WRONG_CHK_CFG, TO_NO_SLAVE)
-NO_FAULTS = ('Token', LIVE_LIST_POLL, 'Status', RETRY, 'NotSelected', 'Done', TO_NO_SLAVE)
+        'NotHolder', 'NotListed', 'Busy', 'Length', NOT_SELECTED, NONE_SELECTED, 'Done', NOT_ASKED_FOR, WRONG_SET_PRM,
+        WRONG_CHK_CFG, TO_NO_SLAVE)
+NO_FAULTS = ('Token', LIVE_LIST_POLL, 'Status', RETRY, NOT_SELECTED, 'Done', TO_NO_SLAVE)
 FAULTS = tuple(way for way in WAYS if way not in NO_FAULTS)
-NOT_REFUSED = ('Token', 'NotRequest', LIVE_LIST_POLL, 'Status', RETRY, OTHER_TELEGRAM, 'Done', WRONG_SET_PRM,
-               WRONG_CHK_CFG, TO_NO_SLAVE)
+NOT_REFUSED = ('Token', 'NotRequest', LIVE_LIST_POLL, 'Status', RETRY, OTHER_TELEGRAM, 'Done', NOT_ASKED_FOR,
+               WRONG_SET_PRM, WRONG_CHK_CFG, TO_NO_SLAVE)
 
 
 def way_of_done(result: str) -> str:
     """Returns the way of a request of rule Done, by its result."""
     return WRONG_WAYS.get(result.partition(':')[0], 'Done')
+
+
+def way_of_control(slave: Slave, rule: str, payload: bytes) -> str:
+    """Returns the way of a Global_Control at one slave, by its rule."""
+    if rule != 'Done':
+        return rule
+    _, unfreeze, freeze, unsync, sync = (bit(payload[0], number) for number, _ in COMMAND_BITS)
+    asks_in_vain = (sync and not unsync and not slave.parameters.sync
+                    or freeze and not unfreeze and not slave.parameters.freeze)
+    return NOT_ASKED_FOR if asks_in_vain else rule
+
+
+def ways_of_control(ways: List[str]) -> List[str]:
+    """Returns the ways of a Global_Control at all slaves that it reached, by the way at each of them."""
+    return [NONE_SELECTED] * len(ways) if set(ways) == {NOT_SELECTED} else ways
 
 
 # ---------------------------------------------------------------------------------------------------------------------
@@ -1238,7 +1262,7 @@ class Entry:
 
     def refuses(self, way: str) -> bool:
         """Returns whether a way refuses the request; a slave of a broadcast that is not selected refuses nothing."""
-        return way not in NOT_REFUSED + (('NotSelected',) if self.named else ())
+        return way not in NOT_REFUSED + ((NOT_SELECTED, NONE_SELECTED) if self.named else ())
 
     @property
     def is_refused(self) -> bool:
@@ -1327,6 +1351,7 @@ class Line:
                 self.holds.append(Hold(address, slave.holder, self.count, self.passed))
 
     def end_hold(self, slave: Slave) -> None:
+        slave.released_at = self.count
         for hold in self.holds:
             if hold.slave == slave.address and hold.last is None:
                 hold.last, hold.ended, hold.cause = self.count, self.passed, slave.released_by
@@ -1443,9 +1468,10 @@ class Line:
         for slave in slaves:
             rule, words = control(slave, master, frame, parts)
             entry.outcome += f' {slave.address}:{rule}'
-            entry.ways.append(rule)
+            entry.ways.append(way_of_control(slave, rule, parts.payload))
             entry.named.append(slave.address)
             entry.rows.append((f'slave {slave.address}', words))
+        entry.ways = ways_of_control(entry.ways)
 
     def ask(self, entry: Entry, event: Request, frame: Telegram, slave: Slave) -> None:
         """Answers a request to one slave."""
@@ -1462,7 +1488,8 @@ class Line:
             reply_with(entry, 'Repeat', words, noted.reply, parts.dsap, noted.point, way)
         elif function in SDN:
             rule, words = control(slave, event.master, frame, parts)
-            entry.ways, entry.outcome = [rule], 'done' if rule == 'Done' else f'silence {rule}'
+            entry.ways = ways_of_control([way_of_control(slave, rule, parts.payload)])
+            entry.outcome = 'done' if rule == 'Done' else f'silence {rule}'
             entry.rows.append(('result', words))
         else:
             reply = self.answer(entry, event, frame, slave)
@@ -1702,7 +1729,7 @@ def released_by(cause: str) -> str:
     return f'released: {cause}'
 
 
-REFUSALS = tuple(refused_by(way) for way in WAYS if way not in NOT_REFUSED)
+REFUSALS = tuple(refused_by(way) for way in WAYS if way not in NOT_REFUSED + (NONE_SELECTED,))
 RELEASES = tuple(released_by(cause) for cause in CAUSES)
 ITEMS = (EXCHANGES, DIAGNOSES, RETRIES) + REFUSALS + RELEASES + (HELD,)      # what is counted of a station
 
@@ -1713,7 +1740,7 @@ def item_of(entry: Entry, way: str) -> Optional[str]:
         return COUNTED_SERVICES.get(entry.telegram.parts().dsap)
     if way == RETRY:
         return RETRIES
-    return refused_by(way) if entry.refuses(way) else None
+    return refused_by(NOT_SELECTED if way == NONE_SELECTED else way) if entry.refuses(way) else None
 
 
 def receivers_of(entry: Entry) -> List[Optional[int]]:
