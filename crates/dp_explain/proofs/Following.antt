@@ -10,7 +10,7 @@ use Rattle.dp_audit.specs.Check.{Judged, bad, not_the_policy, right, checked, ch
 use Rattle.dp_explain.specs.declared.choice.Choice.{Choice}
 use Rattle.dp_explain.specs.Holds.{holds_lasting}
 use Rattle.dp_explain.specs.Known.{KnownView, first_known, first_world, known_after}
-use Rattle.dp_explain.specs.Explained.{counts_text, ended_by, ended_by_row, ended_by_rows, event_of_row, known_behind, last_known, last_world, right_entries, reported_event, reported_row, reported_rows, verdict_text, world_behind}
+use Rattle.dp_explain.specs.Explained.{counts_text, ended_by, ended_by_row, ended_by_rows, event_of_row, known_behind, last_known, last_world, right_entries, reported_event, reported_row, reported_rows, summary_written, verdict_written, world_behind}
 use Rattle.dp_explain.specs.Followed.{Followed, FollowerView, HasTheVerdictOfItsRows, IsExplainedByItsRows, first_follower, followed, followed_lines, followed_summary, followed_text, followed_verdict, following, judged_fault, last_line, right_event, verdict_at, whole_rows}
 use Rattle.dp_explain.proofs.Rows.{row_is_read}
 use Rattle.dp_explain.proofs.RightRows.{checked_on, checked_stops, fails, right_is_step, step_counts}
@@ -189,14 +189,15 @@ unfolding checked
 text_followed choice line text = lines_followed choice line (lines_of text)
 
 -- the explanation, from equal parts
-same_explanation : (line : Description) (a b c d verdict : List ℕ) (x y : KnownView) (world : World) → a ≡ b → c ≡ d → x ≡ y → world ≡ y.scene.world
-    → (a ++ ((codes "holds\n" ++ (c ++ holds_lasting world line.slaves)) ++ counts_text x)) ++ verdict ≡ (b ++ followed_summary line d y) ++ verdict
-same_explanation line a b c d verdict x y world reported ended known left = rw (reported, ended, known, left) refl
+same_explanation : (choice : Choice) (line : Description) (a b c d verdict : List ℕ) (x y : KnownView) (world : World) → a ≡ b → c ≡ d → x ≡ y → world ≡ y.scene.world
+    → (a ++ summary_written choice ((codes "holds\n" ++ (c ++ holds_lasting world line.slaves)) ++ counts_text x)) ++ verdict
+    ≡ (b ++ summary_written choice (followed_summary line d y)) ++ verdict
+same_explanation choice line a b c d verdict x y world reported ended known left = rw (reported, ended, known, left) refl
 
 pub reported_by_rows : IsExplainedByItsRows
 reported_by_rows choice line text =
     let f = text_followed choice line text in
-    same_explanation line _ _ _ _ (verdict_text (checked line text)) _ _ _ f.reported f.ended f.known_last f.world_last
+    same_explanation choice line _ _ _ _ (verdict_written choice (checked line text)) _ _ _ f.reported f.ended f.known_last f.world_last
 
 lines_verdict : (choice : Choice) (line : Description) (lines : List (List ℕ)) → checked_from_header line lines ≡ followed_verdict choice line lines
 lines_verdict choice line [] = refl

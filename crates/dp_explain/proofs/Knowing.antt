@@ -5,22 +5,22 @@ use Rattle.dp_line.specs.declared.event.Outcome.{Outcome}
 use Rattle.dp_line.specs.World.{Description, World}
 use Rattle.dp_sentences.specs.declared.notes.Noted.{Noted}
 use Rattle.dp_sentences.specs.declared.releases.Release.{Release}
-use Rattle.dp_sentences.specs.Blocks.{block_text}
 use Rattle.dp_sentences.specs.Scenes.{SceneView}
 use Rattle.dp_explain.specs.declared.choice.Choice.{Choice}
 use Rattle.dp_explain.specs.declared.explain_fault.ExplainFault.{ExplainFault}
 use Rattle.dp_explain.specs.Choices.{is_chosen}
-use Rattle.dp_explain.specs.Explained.{Leaves, chosen_text}
+use Rattle.dp_explain.specs.Explained.{Leaves, chosen_text, entry_written}
 use Rattle.dp_explain.proofs.Writing.{leaves_where}
 
 abbrev scene_of : Description → World → List Noted → List (Option Release) → Option ℕ → SceneView
 scene_of description world notes releases time =
     record { description = description; world = world; notes = notes; releases = releases; time = time }
 
-pub chosen_is : (choice : Choice) (description : Description) (world : World) (notes others : List Noted) (releases : List (Option Release)) (time : Option ℕ) (after : World) (place : ℕ) (event : Event) (outcome : Outcome)
-    (old new : Option (List ℕ)) (result : Result (Unit {0}) ExplainFault) → notes ≡ others → is_chosen choice (scene_of description world notes releases time) place event outcome ≡ true
-    → Leaves (block_text (scene_of description world notes releases time) after place event outcome) old new result
-    → Leaves (chosen_text choice (scene_of description world others releases time) after place event outcome) old new result
-chosen_is choice description world notes others releases time after place event outcome old new result same chosen leaves =
-    subst (λ (n : List Noted). Leaves (chosen_text choice (scene_of description world n releases time) after place event outcome) old new result) same
-    (leaves_where _ _ _ _ _ chosen leaves)
+pub chosen_is : (choice : Choice) (description : Description) (world : World) (notes others : List Noted) (releases left : List (Option Release)) (time : Option ℕ) (after : World) (place : ℕ) (event : Event) (outcome : Outcome)
+    (old new : Option (List ℕ)) (result : Result (Unit {0}) ExplainFault) → notes ≡ others → releases ≡ left → is_chosen choice (scene_of description world notes releases time) place event outcome ≡ true
+    → Leaves (entry_written choice (scene_of description world notes releases time) after place event outcome) old new result
+    → Leaves (chosen_text choice (scene_of description world others left time) after place event outcome) old new result
+chosen_is choice description world notes others releases left time after place event outcome old new result same same_releases chosen leaves =
+    subst (λ (r : List (Option Release)). Leaves (chosen_text choice (scene_of description world others r time) after place event outcome) old new result) same_releases
+    (subst (λ (n : List Noted). Leaves (chosen_text choice (scene_of description world n releases time) after place event outcome) old new result) same
+    (leaves_where _ _ _ _ _ chosen leaves))

@@ -4,6 +4,8 @@ pub mod Counting
 pub mod AtAddress
 pub mod TenTimes
 pub mod Writing
+pub mod Places
+pub mod JsonFields
 pub mod Reported
 pub mod Knowing
 pub mod Rows

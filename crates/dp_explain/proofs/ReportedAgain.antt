@@ -24,7 +24,7 @@ use Rattle.dp_sentences.specs.Scenes.{SceneView}
 use Rattle.dp_explain.specs.declared.choice.Choice.{Choice}
 use Rattle.dp_explain.specs.Holds.{holds_ended, holds_lasting}
 use Rattle.dp_explain.specs.Known.{KnownView, first_known, first_world, known_after, known_with, outcome_reported, outcome_with}
-use Rattle.dp_explain.specs.Explained.{chosen_text, counts_text, ended_by, ended_by_row, ended_by_rows, event_of_row, explained_by, known_behind, last_known, last_world, right_rows, reported_event, reported_row, reported_rows, reported_text, verdict_text, world_behind}
+use Rattle.dp_explain.specs.Explained.{chosen_text, counts_text, ended_by, ended_by_row, ended_by_rows, event_of_row, explained_by, known_behind, last_known, last_world, right_rows, reported_event, reported_row, reported_rows, reported_text, summary_written, verdict_written, world_behind}
 use Rattle.dp_explain.specs.JournalReported.{IsExplainedByItsEntries, ended_by_entries, known_behind_entries, known_behind_entry, reported_entries}
 use Rattle.dp_explain.proofs.Rows.{places_are, row_is_read, rows_are}
 
@@ -145,8 +145,9 @@ entries_left ways numbers events world (entry ∷ entries) legal limits room =
 
 -- ---- the explanation
 
-whole_same : (a b c d e x y z v w : List ℕ) → a ≡ x → b ≡ y → c ≡ z → d ≡ v → e ≡ w → (a ++ ((codes "holds\n" ++ (b ++ c)) ++ d)) ++ e ≡ (x ++ ((codes "holds\n" ++ (y ++ z)) ++ v)) ++ w
-whole_same a b c d e x y z v w first second third fourth fifth = rw (first, second, third, fourth, fifth) refl
+whole_same : (choice : Choice) (a b c d e x y z v w : List ℕ) → a ≡ x → b ≡ y → c ≡ z → d ≡ v → e ≡ w
+    → (a ++ summary_written choice ((codes "holds\n" ++ (b ++ c)) ++ d)) ++ e ≡ (x ++ summary_written choice ((codes "holds\n" ++ (y ++ z)) ++ v)) ++ w
+whole_same choice a b c d e x y z v w first second third fourth fifth = rw (first, second, third, fourth, fifth) refl
 
 pub reported_by_entries : Ways → NumbersAreRead → EventsAreRead → ((line : Description) (text : List ℕ) (count : ℕ) → opening_fault line ≡ None → IsAuditOf line text count → checked line text ≡ Ok count) → IsExplainedByItsEntries
 reported_by_entries ways numbers events accepted line text count choice opens audit =
@@ -156,11 +157,11 @@ reported_by_entries ways numbers events accepted line text count choice opens au
     let entries = audit.entries in
     let room = room_at_header line audit.header opens in
     ap (λ (verdict : Result ℕ AuditFault). explained_by verdict line text choice) (accepted line text count opens audit)
-    ∙ ap (λ (n : ℕ). reported_text line n (right_rows (Ok count) text) choice ++ verdict_text (Ok count)) (places_are line text count audit)
-    ∙ ap (λ (lines : List (List ℕ)). reported_text line places lines choice ++ verdict_text (Ok count)) (rows_are line text count audit)
-    ∙ whole_same _ _ _ _ _ _ _ _ _ _
+    ∙ ap (λ (n : ℕ). reported_text line n (right_rows (Ok count) text) choice ++ verdict_written choice (Ok count)) (places_are line text count audit)
+    ∙ ap (λ (lines : List (List ℕ)). reported_text line places lines choice ++ verdict_written choice (Ok count)) (rows_are line text count audit)
+    ∙ whole_same choice _ _ _ _ _ _ _ _ _ _
     (entries_reported ways numbers events choice start entries audit.legal audit.limits room)
     (entries_ended ways numbers events world entries audit.legal audit.limits room)
     (ap (λ (w : World). holds_lasting w line.slaves) (entries_left ways numbers events world entries audit.legal audit.limits room))
     (ap counts_text (entries_known ways numbers events start entries audit.legal audit.limits room))
-    (ap (λ (n : ℕ). verdict_text (Ok n)) (sym audit.counted))
+    (ap (λ (n : ℕ). verdict_written choice (Ok n)) (sym audit.counted))

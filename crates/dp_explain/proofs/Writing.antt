@@ -2,12 +2,13 @@
 use Rattle.std.proofs.Common.{◌≡◌, ℕ, Bool, true, false, cond, List, [], ◌++◌, Option, Result, Ok, Err, ap, ◌∙◌, append_assoc}
 use Rattle.std.specs.Io.KnownBytes.{Appends}
 use Rattle.std.proofs.lemmas.List.{append-nil}
-use Rattle.std.proofs.lemmas.Bool.{false≢true}
+use Rattle.std.proofs.lemmas.Bool.{false≢true, cond-true, cond-false}
 use Rattle.dp_text.specs.Writes.{WritesPrefix}
 use Rattle.dp_audit.specs.declared.fault.AuditFault.{AuditFault}
 use Rattle.dp_audit.proofs.Written.{appends_more, more_prefix}
+use Rattle.dp_explain.specs.declared.choice.Choice.{Choice}
 use Rattle.dp_explain.specs.declared.explain_fault.ExplainFault.{ExplainFault}
-use Rattle.dp_explain.specs.Explained.{Leaves, Explains}
+use Rattle.dp_explain.specs.Explained.{Leaves, Explains, summary_written}
 
 -- a prefix of the first of two texts
 pub front_cut : (old new : Option (List ℕ)) (text more : List ℕ) → WritesPrefix old new text → WritesPrefix old new (text ++ more)
@@ -31,3 +32,11 @@ pub leaves_where : (text : List ℕ) (holds : Bool) (old new : Option (List ℕ)
     → Leaves (cond holds text []) old new result
 leaves_where text true old new result is leaves = leaves
 leaves_where text false old new result is leaves = absurd (false≢true is)
+
+-- ---- a summary
+
+pub no_summary : (choice : Choice) (summary : List ℕ) → choice.json ≡ true → summary_written choice summary ≡ []
+no_summary choice summary json = cond-true choice.json [] summary json
+
+pub with_summary : (choice : Choice) (summary : List ℕ) → choice.json ≡ false → summary_written choice summary ≡ summary
+with_summary choice summary text = cond-false choice.json [] summary text

@@ -18,6 +18,7 @@ use Rattle.dp_sentences.specs.Blocks.{block_text}
 use Rattle.dp_explain.specs.Choices.{is_chosen}
 use Rattle.dp_explain.specs.StatisticsRows.{counts_tables}
 use Rattle.dp_explain.specs.Holds.{holds_ended, holds_lasting}
+use Rattle.dp_explain.specs.Json.{entry_json, verdict_json}
 use Rattle.dp_explain.specs.Known.{KnownView, first_known, first_world, known_after, last_statistics, outcome_reported}
 
 -- the event of a text line, which stands between the place and the first bar
@@ -26,10 +27,15 @@ event_of_row row = option_and_then (λ parts. option_map (λ placed. placed.even
 
 -- ---- the entries
 
--- the rows of an event with this outcome, if it is chosen
+-- the rows of an event with this outcome, or its line of JSON
+abbrev pub entry_written : Choice → SceneView → World → ℕ → Event → Outcome → List ℕ
+entry_written choice scene after place event outcome =
+    if choice.json then entry_json scene after place event outcome else block_text scene after place event outcome
+
+-- the same, if the event is chosen
 abbrev pub chosen_text : Choice → SceneView → World → ℕ → Event → Outcome → List ℕ
 chosen_text choice scene after place event outcome =
-    if is_chosen choice scene place event outcome then block_text scene after place event outcome else []
+    if is_chosen choice scene place event outcome then entry_written choice scene after place event outcome else []
 
 -- the event takes the next place of the line
 abbrev pub reported_event : Choice → SceneView → Event → List ℕ
@@ -99,6 +105,10 @@ verdict_text (Err faults.OutOfMemory) = []
 verdict_text (Err (faults.BadLine row)) = codes "bad line " ++ decimal row ++ codes "\n"
 verdict_text (Err (faults.NotThePolicy row)) = codes "not the policy " ++ decimal row ++ codes "\n"
 
+-- the verdict as a row, or as a line of JSON
+abbrev pub verdict_written : Choice → Result ℕ AuditFault → List ℕ
+verdict_written choice verdict = if choice.json then verdict_json verdict else verdict_text verdict
+
 -- 0 if the text is legal
 abbrev pub verdict_status : Result ℕ AuditFault → ℕ
 verdict_status (Ok count) = 0
@@ -116,13 +126,19 @@ counts_text known = counts_tables known.scene.description known.tally (last_stat
 abbrev pub summary_text : Description → ℕ → List (List ℕ) → List ℕ
 summary_text line places rows = holds_text line places rows ++ counts_text (last_known (first_known line places) rows)
 
+-- a summary, which JSON has none of
+abbrev pub summary_written : Choice → List ℕ → List ℕ
+summary_written choice summary = if choice.json then [] else summary
+
 -- the rows of the entries, and the summary
 abbrev pub reported_text : Description → ℕ → List (List ℕ) → Choice → List ℕ
-reported_text line places rows choice = reported_rows choice (first_known line places) rows ++ summary_text line places rows
+reported_text line places rows choice =
+    reported_rows choice (first_known line places) rows ++ summary_written choice (summary_text line places rows)
 
 -- the rows, the summary and the verdict
 abbrev pub explained_by : Result ℕ AuditFault → Description → List ℕ → Choice → List ℕ
-explained_by verdict line text choice = reported_text line (places_of_lines line (lines_of text)) (right_rows verdict text) choice ++ verdict_text verdict
+explained_by verdict line text choice =
+    reported_text line (places_of_lines line (lines_of text)) (right_rows verdict text) choice ++ verdict_written choice verdict
 
 -- the explanation of an audit text of a line
 abbrev pub explained : Description → List ℕ → Choice → List ℕ

@@ -13,7 +13,7 @@ use Rattle.dp_explain.specs.declared.follow_fault.FollowFault.{FollowFault}
 use Rattle.dp_explain.specs.declared.follow_fault.FollowFault.TheVariants as faults
 use Rattle.dp_explain.specs.Holds.{holds_lasting}
 use Rattle.dp_explain.specs.Known.{KnownView, first_known}
-use Rattle.dp_explain.specs.Explained.{reported_row, known_behind, ended_by_row, counts_text, explained, verdict_text}
+use Rattle.dp_explain.specs.Explained.{reported_row, known_behind, ended_by_row, counts_text, explained, summary_written, verdict_written}
 
 -- ---- one row
 
@@ -155,8 +155,9 @@ abbrev pub IsExplainedByItsRows : Type 0
 IsExplainedByItsRows =
     (choice : Choice) (line : Description) (text : List ℕ)
     → explained line text choice
-    ≡ ((followed_text choice line text).reported ++ followed_summary line (followed_text choice line text).ended (followed_text choice line text).last.known)
-    ++ verdict_text (checked line text)
+    ≡ ((followed_text choice line text).reported
+    ++ summary_written choice (followed_summary line (followed_text choice line text).ended (followed_text choice line text).last.known))
+    ++ verdict_written choice (checked line text)
 
 -- the verdict on a text is that of its rows
 abbrev pub HasTheVerdictOfItsRows : Type 0

@@ -7,7 +7,7 @@ use Rattle.dp_audit.specs.Check.{IsAuditOf, places_of_header}
 use Rattle.dp_explain.specs.declared.choice.Choice.{Choice}
 use Rattle.dp_explain.specs.Holds.{holds_ended, holds_lasting}
 use Rattle.dp_explain.specs.Known.{KnownView, first_known, first_world, known_with}
-use Rattle.dp_explain.specs.Explained.{chosen_text, counts_text, explained, verdict_text}
+use Rattle.dp_explain.specs.Explained.{chosen_text, counts_text, explained, summary_written, verdict_written}
 
 -- what is known after an entry
 abbrev pub known_behind_entry : KnownView → Entry → KnownView
@@ -41,8 +41,8 @@ summary_of_entries line places entries =
 -- for a line with this number of places: the chosen entries, the summary, and that the text is legal
 abbrev pub journal_reported : Description → ℕ → List Entry → Choice → List ℕ
 journal_reported line places entries choice =
-    (reported_entries choice (first_known line places) entries ++ summary_of_entries line places entries)
-    ++ verdict_text (Ok (length entries))
+    (reported_entries choice (first_known line places) entries ++ summary_written choice (summary_of_entries line places entries))
+    ++ verdict_written choice (Ok (length entries))
 
 -- the explanation of a legal text of a line that can be opened is the explanation of its entries
 abbrev pub IsExplainedByItsEntries : Type 0

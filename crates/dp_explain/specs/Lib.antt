@@ -6,6 +6,11 @@ pub mod StationCounts
 pub mod Statistics
 pub mod StatisticsRows
 pub mod Known
+pub mod JsonValues
+pub mod JsonRows
+pub mod Json
+pub mod JsonWriting
+pub mod JsonExamples
 pub mod Explained
 pub mod Followed
 pub mod Following

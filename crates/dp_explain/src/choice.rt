@@ -11,7 +11,7 @@ use dp_line::{Event, Outcome, is_refused};
 use dp_responder::Rule;
 use dp_sentences::{Scene, Who, Whom, is_fault};
 
-/// A choice of entries: those that pass every field.
+/// A choice of entries, those that pass every field, and the form in which they are written.
 #[derive(Clone, Copy)]
 pub struct Choice {
     /// The first place, from 1; None starts at the first entry of the text.
@@ -30,6 +30,8 @@ pub struct Choice {
     pub faults: bool,
     /// Chooses no entry at all: only the summary is written.
     pub summary: bool,
+    /// Writes each entry as a line of JSON, and no summary.
+    pub json: bool,
 }
 
 /// Returns whether the choice includes the entry. The scene is that before its event.

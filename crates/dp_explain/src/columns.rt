@@ -82,7 +82,7 @@ impl fmt::Display for TimeColumn {
 }
 
 /// Returns how many digits a time in units of 10 ms has in milliseconds, 1 to 21.
-fn digits_of_time(units: u64) -> usize
+pub(crate) fn digits_of_time(units: u64) -> usize
     ensures digits { result ≡ length (decimal (10 * units)) }
     ensures few { result ≤ 21 }
 {

@@ -14,7 +14,7 @@ ghost use Rattle.dp_text.specs.Writes.{WritesPrefix};
 ghost use Rattle.dp_line.specs.World.{description_of, opening_fault};
 ghost use Rattle.dp_audit.specs.Check.{checked, checked_lines};
 ghost use Rattle.dp_explain.specs.Holds.{holds_lasting};
-ghost use Rattle.dp_explain.specs.Explained.{verdict_text, verdict_status, explained, Leaves, Explains};
+ghost use Rattle.dp_explain.specs.Explained.{verdict_text, verdict_status, verdict_written, summary_written, explained, Leaves, Explains};
 ghost use Rattle.dp_explain.specs.Followed.{first_follower, followed, followed_summary, followed_text, whole_rows};
 ghost use Rattle.dp_explain.specs.Following.{stored_with};
 
@@ -23,6 +23,7 @@ use crate::ended_holds::EndedHolds;
 use crate::explain_fault::ExplainFault;
 use crate::follow_fault::FollowFault;
 use crate::follower::Follower;
+use crate::json_verdict::set_verdict_by;
 use dp_audit::{AuditFault, is_header_of};
 use dp_line::LineSpec;
 use dp_text::{Lines, Text, write_whole};
@@ -34,10 +35,11 @@ type Verdict = Result<u32, AuditFault>;
 
 /// Explains an audit text of a line that can be opened. Writes the rows of each chosen entry, up to the first line of
 /// the text that differs from what the line would have written, then a summary, and then the verdict, as a check writes
-/// it: `legal N`, `bad line N` or `not the policy N`. Returns the exit status: 0 if the text is legal, else 1.
+/// it: `legal N`, `bad line N` or `not the policy N`. If the choice is JSON, writes lines of JSON and no summary. Returns
+/// the exit status: 0 if the text is legal, else 1.
 ///
-/// It takes memory for two lines, for the counts of 128 addresses, for the rows of one entry or of the summary, and for
-/// one row for each hold that ended. Returns `OutOfMemory` if memory runs out, `WriteFault` if a write fails; either
+/// It takes memory for two lines, for the counts of 128 addresses, for the rows of one entry or of the summary, for the
+/// line of JSON of one entry, and for one row for each hold that ended. Returns `OutOfMemory` if memory runs out, `WriteFault` if a write fails; either
 /// leaves a prefix of the output.
 pub fn explain_text<W: Write>(
     alloc: Global,
@@ -56,7 +58,7 @@ pub fn explain_text<W: Write>(
     };
     let mut ended = EndedHolds::stored(alloc);
     match follow_text(&mut follower, line, text, choice, &mut ended, writer) {
-        Ok(verdict) => write_end(&mut follower, line, &ended, verdict, writer),
+        Ok(verdict) => write_end(&mut follower, line, &ended, verdict, choice, writer),
         Err(fault) => Err(fault),
     }
 }
@@ -125,19 +127,25 @@ fn follow_rows<W: Write>(
     }
 }
 
-/// Writes what follows the last entry: the summary, and then the verdict. Returns the exit status.
+/// Writes what follows the last entry: the summary, unless the choice is JSON, and then the verdict. Returns the exit
+/// status.
 fn write_end<W: Write>(
     follower: &mut Follower<'_>,
     line: &LineSpec,
     ended: &EndedHolds,
     verdict: Verdict,
+    choice: &Choice,
     writer: &mut W,
 ) -> Result<u8, ExplainFault>
-    ensures { Explains verdict (followed_summary (description_of line.now) (unwrap_or ended.now []) follower.old.known ++ verdict_text verdict)
+    ensures { Explains verdict
+        (summary_written choice.now (followed_summary (description_of line.now) (unwrap_or ended.now []) follower.old.known) ++ verdict_written choice.now verdict)
         (W.contents writer.old) (W.contents writer.new) result }
 {
+    if choice.json {
+        return write_verdict(verdict, choice, writer);
+    }
     match write_summary(follower, line, ended, writer) {
-        Ok(()) => write_verdict(verdict, writer),
+        Ok(()) => write_verdict(verdict, choice, writer),
         Err(fault) => Err(fault),
     }
 }
@@ -194,12 +202,13 @@ fn write_hold_rows<W: Write>(
 /// Writes the verdict on an audit text, and returns the exit status: 0 if it is legal, else 1.
 fn write_verdict<W: Write>(
     verdict: Result<u32, AuditFault>,
+    choice: &Choice,
     writer: &mut W,
 ) -> Result<u8, ExplainFault>
-    ensures { Explains verdict (verdict_text verdict) (W.contents writer.old) (W.contents writer.new) result }
+    ensures { Explains verdict (verdict_written choice.now verdict) (W.contents writer.old) (W.contents writer.new) result }
 {
     let mut text = Text::new();
-    set_verdict(&mut text, verdict);
+    set_verdict_by(choice, &mut text, verdict);
     match write_whole(writer, text.as_bytes()) {
         Ok(()) => Ok(status_of(verdict)),
         Err(_) => Err(ExplainFault::WriteFault),

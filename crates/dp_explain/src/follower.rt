@@ -32,7 +32,8 @@ use std::marker::Model;
 /// Follows the rows of an audit text: checks each row, and explains its entry if the row is right. Contracts see what is
 /// known after the right rows so far, and the fault of the first wrong one.
 ///
-/// It takes memory for two lines, for the counts, and for the rows of one entry, however many rows it takes.
+/// It takes memory for two lines, for the counts, and for the rows of one entry and its line of JSON, however many rows it
+/// takes.
 #[derive(Drop)]
 pub struct Follower<'a> {
     /// The line before the next entry.
@@ -48,6 +49,8 @@ pub struct Follower<'a> {
     written: Text,
     /// A buffer for the rows of one entry.
     rows: String,
+    /// A buffer for the line of JSON of one entry.
+    line: String,
 }
 
 impl<'a> Model for Follower<'a> {
@@ -91,6 +94,7 @@ impl<'a> Follower<'a> {
             answer: Step::blank(),
             written: Text::new(),
             rows: String::new(alloc),
+            line: String::new(alloc),
         })
     }
 
@@ -101,7 +105,8 @@ impl<'a> Follower<'a> {
         self.before.count()
     }
 
-    /// Takes the next row of the text, without its LF. If the row is right, writes the rows of its entry if it is chosen.
+    /// Takes the next row of the text, without its LF. If the row is right and its entry is chosen, writes the rows of the
+    /// entry, or its line of JSON.
     ///
     /// Returns `Wrong` if the row is badly formed or isn't what the policy gives, with the number of the row; the header is
     /// row 1. Each later call returns the same fault. Returns `Explain` if memory runs out or a write fails. The event is
@@ -150,9 +155,14 @@ impl<'a> Follower<'a> {
             after: &self.after,
         };
         let outcome = &self.answer.outcome;
-        let written = self
-            .history
-            .write_entry(&taken, outcome, choice, &mut self.rows, writer);
+        let written = self.history.write_entry(
+            &taken,
+            outcome,
+            choice,
+            &mut self.rows,
+            &mut self.line,
+            writer,
+        );
         let stored = ended.push(&HoldsEnded { taken, outcome });
         self.history.take_event(&taken, outcome);
         self.before.take_into(&event, &mut self.answer);

@@ -1,16 +1,19 @@
 //! What is known from the entries so far, besides the state of the line.
 
-ghost use Rattle.std.specs.Prelude.{◌≡◌, ℕ, IfOk};
+ghost use Rattle.std.specs.Prelude.{◌≡◌, ℕ, IfOk, if◌then◌else◌};
 ghost use Rattle.dp_line.specs.World.{description_of};
+ghost use Rattle.dp_sentences.specs.Blocks.{block_text};
 ghost use Rattle.dp_explain.specs.Known.{first_known, first_world, known_with};
 ghost use Rattle.dp_explain.specs.Explained.{chosen_text, counts_text, Leaves};
 ghost use Rattle.dp_explain.specs.Following.{known_at};
+ghost use Rattle.dp_explain.specs.Json.{entry_json};
 
 use crate::choice::{Choice, is_chosen};
 use crate::count_event::count_statistics;
 use crate::count_holds::{count_all_lasting, moment};
 use crate::counts_tables::CountsTables;
 use crate::explain_fault::ExplainFault;
+use crate::json_entry::write_entry_line;
 use crate::output::write_rows;
 use crate::statistics::{AddressCounts, first_statistics};
 use crate::tally::{SenderCounts, count_event, first_tally};
@@ -55,13 +58,14 @@ impl<'a> History<'a> {
         })
     }
 
-    /// Writes the rows of an event if it is chosen; `rows` is a buffer for the text.
+    /// Writes the rows of an event, or its line of JSON, if it is chosen; `rows` and `line` are buffers for the texts.
     pub(crate) fn write_entry<W: Write>(
         &self,
         taken: &Taken<'_>,
         outcome: &Outcome,
         choice: &Choice,
         rows: &mut String,
+        line: &mut String,
         writer: &mut W,
     ) -> Result<(), ExplainFault>
         ensures { Leaves (chosen_text choice.now (known_at self.now taken.now.before.now.world).scene taken.now.after.now.world taken.now.place taken.now.event.now outcome.now)
@@ -84,7 +88,7 @@ impl<'a> History<'a> {
             event: taken.event,
             outcome,
         };
-        write_rows(&block, rows, writer)
+        write_block(&block, choice.json, rows, line, writer)
     }
 
     /// Counts and notes an event.
@@ -126,5 +130,24 @@ impl<'a> History<'a> {
             statistics: self.statistics.as_slice(),
         };
         write_rows(&counts, rows, writer)
+    }
+}
+
+/// Writes the rows of an event, or its line of JSON; `rows` and `line` are buffers for the texts.
+fn write_block<W: Write>(
+    block: &Block<'_>,
+    json: bool,
+    rows: &mut String,
+    line: &mut String,
+    writer: &mut W,
+) -> Result<(), ExplainFault>
+    ensures { Leaves (if json then entry_json block.now.scene.now block.now.after.now.world block.now.place block.now.event.now block.now.outcome.now
+        else block_text block.now.scene.now block.now.after.now.world block.now.place block.now.event.now block.now.outcome.now)
+        (W.contents writer.old) (W.contents writer.new) result }
+{
+    if json {
+        write_entry_line(block, rows, line, writer)
+    } else {
+        write_rows(block, rows, writer)
     }
 }

@@ -5,6 +5,6 @@ use Rattle.dp_explain.proofs.history.History.write_entry.Goals as goal
 
 pub returns : goal.returns
 returns g c =
-    chosen_is c.args.choice.now (description_of c.args.self.now.line.now) c.args.taken.now.before.now.world c.as_slice.result.now c.args.self.now.notes.items c.args.self.now.time
-    c.args.taken.now.after.now.world c.args.taken.now.place c.args.taken.now.event.now c.args.outcome.now (g.W.Write.contents c.args.writer.now) (g.W.Write.contents c.write_rows.new.writer) c.write_rows.result
-    c.as_slice.ensures.value (sym c.is_chosen.ensures ∙ c.if-not-is_chosen.false) c.write_rows.ensures
+    chosen_is c.args.choice.now (description_of c.args.self.now.line.now) c.args.taken.now.before.now.world c.as_slice.result.now c.args.self.now.notes.items c.as_slice-2.result.now c.args.self.now.releases.items c.args.self.now.time
+    c.args.taken.now.after.now.world c.args.taken.now.place c.args.taken.now.event.now c.args.outcome.now (g.W.Write.contents c.args.writer.now) (g.W.Write.contents c.write_block.new.writer) c.write_block.result
+    c.as_slice.ensures.value c.as_slice-2.ensures.value (sym c.is_chosen.ensures ∙ c.if-not-is_chosen.false) c.write_block.ensures
