@@ -4,10 +4,9 @@ use Rattle.std.specs.Io.KnownBytes.{Keeps}
 use Rattle.std.proofs.lemmas.List.{append-nil}
 use Rattle.dp_text.specs.Writes.{WritesPrefix}
 use Rattle.dp_audit.specs.declared.fault.AuditFault.TheVariants as faults
-use Rattle.dp_explain.specs.Explained.{verdict_text}
 use Rattle.dp_script.specs.declared.run_fault.RunFault.{RunFault}
 use Rattle.dp_script.specs.declared.run_fault.RunFault.TheVariants as runs
-use Rattle.dp_script.specs.Runs.{Reports}
+use Rattle.dp_script.specs.Runs.{ReportsText}
 use Rattle.dp_script.specs.Explanations.{Explains}
 
 nothing_written : (old new : Option (List ℕ)) (text : List ℕ) → Keeps old new → WritesPrefix old new text
@@ -15,11 +14,11 @@ nothing_written None new text same = ([], text, refl, tt)
 nothing_written (Some xs) None text same = absurd same
 nothing_written (Some xs) (Some ys) text same = ([], text, refl, same ∙ sym (append-nil xs))
 
--- a check and an explanation write the same verdict
-pub bad_line_reported : (old new : Option (List ℕ)) (result : Result ℕ RunFault) → Reports (Err (faults.BadLine 1)) old new result
-    → Explains (Err (faults.BadLine 1)) (verdict_text (Err (faults.BadLine 1))) old new result
-bad_line_reported old new (Ok status) reported = reported
-bad_line_reported old new (Err runs.WriteFault) reported = reported
-bad_line_reported old new (Err runs.OutOfMemory) kept = nothing_written old new (verdict_text (Err (faults.BadLine 1))) kept
-bad_line_reported old new (Err (runs.Script line)) never = absurd never
-bad_line_reported old new (Err (runs.Rack fault)) never = absurd never
+-- an explanation writes the verdict as it is reported
+pub bad_line_reported : (text : List ℕ) (old new : Option (List ℕ)) (result : Result ℕ RunFault) → ReportsText text (Err (faults.BadLine 1)) old new result
+    → Explains (Err (faults.BadLine 1)) text old new result
+bad_line_reported text old new (Ok status) reported = reported
+bad_line_reported text old new (Err runs.WriteFault) reported = reported
+bad_line_reported text old new (Err runs.OutOfMemory) kept = nothing_written old new text kept
+bad_line_reported text old new (Err (runs.Script line)) never = absurd never
+bad_line_reported text old new (Err (runs.Rack fault)) never = absurd never

@@ -8,7 +8,7 @@ use Rattle.dp_text.specs.Writes.{WritesPrefix}
 use Rattle.dp_audit.specs.declared.fault.AuditFault.{AuditFault}
 use Rattle.dp_audit.specs.declared.fault.AuditFault.TheVariants as faults
 use Rattle.dp_explain.specs.declared.choice.Choice.{Choice}
-use Rattle.dp_explain.specs.Explained.{explained, verdict_status, verdict_text}
+use Rattle.dp_explain.specs.Explained.{explained, verdict_status, verdict_written}
 use Rattle.dp_script.specs.declared.run_fault.RunFault.{RunFault}
 use Rattle.dp_script.specs.declared.run_fault.RunFault.TheVariants as runs
 use Rattle.dp_script.specs.Checks.{checked_on, line_named}
@@ -16,7 +16,7 @@ use Rattle.dp_script.specs.Runs.{RefusesRack}
 
 -- an audit text is explained on the line that it names; if it names none, the verdict is that its first line is bad
 abbrev pub explained_by_line : Option LineDescription → List ℕ → Choice → List ℕ
-explained_by_line None text choice = verdict_text (Err (faults.BadLine 1))
+explained_by_line None text choice = verdict_written choice (Err (faults.BadLine 1))
 explained_by_line (Some line) text choice = explained line.line text choice
 
 abbrev pub explained_on : RackDescription → List ℕ → Choice → List ℕ

@@ -50,13 +50,17 @@ abbrev pub RunsText : Result RackDescription RackFault → List ℕ → Option (
 RunsText (Ok rack) script old new result = Plays (script_text rack script) old new result
 RunsText (Err fault) script old new result = RefusesRack fault old new result
 
--- at the end of a check the writer has the whole verdict, a prefix of it if a write failed, and nothing if memory ran out
+-- at the end the writer has the whole text of a verdict, a prefix of it if a write failed, and nothing if memory ran out
+abbrev pub ReportsText : List ℕ → Result ℕ AuditFault → Option (List ℕ) → Option (List ℕ) → Result ℕ RunFault → Type 0
+ReportsText text verdict old new (Ok status) = (status ≡ verdict_status verdict) × Appends old new text
+ReportsText text verdict old new (Err runs.WriteFault) = WritesPrefix old new text
+ReportsText text verdict old new (Err runs.OutOfMemory) = Keeps old new
+ReportsText text verdict old new (Err (runs.Script line)) = ⊥
+ReportsText text verdict old new (Err (runs.Rack fault)) = ⊥
+
+-- the verdict of a check
 abbrev pub Reports : Result ℕ AuditFault → Option (List ℕ) → Option (List ℕ) → Result ℕ RunFault → Type 0
-Reports verdict old new (Ok status) = (status ≡ verdict_status verdict) × Appends old new (verdict_text verdict)
-Reports verdict old new (Err runs.WriteFault) = WritesPrefix old new (verdict_text verdict)
-Reports verdict old new (Err runs.OutOfMemory) = Keeps old new
-Reports verdict old new (Err (runs.Script line)) = ⊥
-Reports verdict old new (Err (runs.Rack fault)) = ⊥
+Reports verdict old new result = ReportsText (verdict_text verdict) verdict old new result
 
 -- the check of an audit text on the rack that a text describes, or the fault of that text
 abbrev pub RunsCheck : Result RackDescription RackFault → List ℕ → Option (List ℕ) → Option (List ℕ) → Result ℕ RunFault → Type 0

@@ -7,7 +7,7 @@ ghost use Rattle.rack_file.specs.RackFile.{rack_in};
 ghost use Rattle.rack_file.specs.Rack.{rack_described};
 ghost use Rattle.dp_audit.specs.Check.{is_accepted_header};
 ghost use Rattle.dp_script.specs.Checks.{checked_on};
-ghost use Rattle.dp_script.specs.Runs.{RunsCheck, Reports};
+ghost use Rattle.dp_script.specs.Runs.{RunsCheck, Reports, ReportsText};
 
 use crate::run_fault::RunFault;
 use dp_audit::{AuditFault, check_text, is_header_of};
@@ -63,7 +63,7 @@ pub fn line_named<'a>(lines: &'a [RackLine], header: &[u8]) -> Option<&'a RackLi
 
 /// Writes the verdict on an audit text, and returns the exit status: 0 if it is legal, else 1. Returns `OutOfMemory` if
 /// that is the verdict, and `WriteFault` if the write fails.
-pub fn report_verdict<W: Write>(
+fn report_verdict<W: Write>(
     verdict: Result<u32, AuditFault>,
     writer: &mut W,
 ) -> Result<u8, RunFault>
@@ -71,14 +71,27 @@ pub fn report_verdict<W: Write>(
     ensures memory { verdict ≡ Err AuditFault.OutOfMemory → result ≡ Err RunFault.OutOfMemory }
 {
     let mut text = Text::new();
+    set_verdict(&mut text, verdict);
+    report_text(text.as_bytes(), verdict, writer)
+}
+
+/// Writes the text of a verdict, and returns the exit status: 0 if the verdict is that a text is legal, else 1. Returns
+/// `OutOfMemory` if that is the verdict, which has no text, and `WriteFault` if the write fails.
+pub(crate) fn report_text<W: Write>(
+    text: &[u8],
+    verdict: Result<u32, AuditFault>,
+    writer: &mut W,
+) -> Result<u8, RunFault>
+    ensures reported { ReportsText text.now verdict (W.contents writer.old) (W.contents writer.new) result }
+    ensures memory { verdict ≡ Err AuditFault.OutOfMemory → result ≡ Err RunFault.OutOfMemory }
+{
     let status = match verdict {
         Ok(_) => 0,
         Err(AuditFault::OutOfMemory) => return Err(RunFault::OutOfMemory),
         Err(AuditFault::BadLine(_)) => 1,
         Err(AuditFault::NotThePolicy(_)) => 1,
     };
-    set_verdict(&mut text, verdict);
-    match write_whole(writer, text.as_bytes()) {
+    match write_whole(writer, text) {
         Ok(()) => Ok(status),
         Err(_) => Err(RunFault::WriteFault),
     }

@@ -1,20 +1,21 @@
 //! The explanation of an audit text on a rack.
 
-ghost use Rattle.std.specs.Prelude.{◌≡◌, None, All};
+ghost use Rattle.std.specs.Prelude.{◌≡◌, Err, None, All};
 ghost use Rattle.dp_line.specs.World.{description_of, opening_fault};
 ghost use Rattle.rack_file.specs.RackFile.{rack_in};
 ghost use Rattle.rack_file.specs.Rack.{rack_described};
 ghost use Rattle.dp_audit.specs.Check.{checked};
-ghost use Rattle.dp_explain.specs.Explained.{explained};
+ghost use Rattle.dp_explain.specs.Explained.{explained, verdict_written};
 ghost use Rattle.dp_script.specs.Checks.{checked_on};
 ghost use Rattle.dp_script.specs.Explanations.{Explains, RunsExplain, explained_on};
+ghost use Rattle.dp_script.specs.Runs.{ReportsText};
 
-use crate::check::{line_named, report_verdict};
+use crate::check::{line_named, report_text};
 use crate::run_fault::RunFault;
 use dp_audit::AuditFault;
-use dp_explain::{Choice, ExplainFault, explain_text};
+use dp_explain::{Choice, ExplainFault, explain_text, set_verdict_by};
 use dp_line::LineSpec;
-use dp_text::Lines;
+use dp_text::{Lines, Text};
 use rack_file::laws::accepted_lines_can_be_opened;
 use rack_file::{Rack, RackFault, read_rack};
 use std::alloc::Global;
@@ -22,7 +23,8 @@ use std::io::Write;
 
 /// Explains an audit text to a person, on the line of the rack that its header names. Writes the chosen entries, up to
 /// the first line of the text that is wrong, a summary of all entries, and then the verdict, as
-/// [`run_check`](crate::run_check) writes it. Returns the exit status: 0 if the text is legal, else 1.
+/// [`run_check`](crate::run_check) writes it. If the choice is JSON, writes lines of JSON and no summary. Returns the exit
+/// status: 0 if the text is legal, else 1.
 ///
 /// Returns `Rack` if the rack isn't accepted, and then nothing is written. `OutOfMemory` and `WriteFault` leave a
 /// prefix of the output. It never returns `Script`.
@@ -56,11 +58,11 @@ fn explain_on<W: Write>(
         (W.contents writer.old) (W.contents writer.new) result }
 {
     let Some(header) = Lines::new(audit.as_bytes()).next() else {
-        return report_verdict(Err(AuditFault::BadLine(1)), writer);
+        return report_verdict_by(choice, Err(AuditFault::BadLine(1)), writer);
     };
     match line_named(&rack.lines, header) {
         Some(line) => explain_line(alloc, &line.spec, audit, choice, writer),
-        None => report_verdict(Err(AuditFault::BadLine(1)), writer),
+        None => report_verdict_by(choice, Err(AuditFault::BadLine(1)), writer),
     }
 }
 
@@ -81,4 +83,20 @@ fn explain_line<W: Write>(
         Err(ExplainFault::OutOfMemory) => Err(RunFault::OutOfMemory),
         Err(ExplainFault::WriteFault) => Err(RunFault::WriteFault),
     }
+}
+
+/// Writes the verdict on an audit text, as a check writes it or, if the choice is JSON, as a line of JSON. Returns the exit
+/// status: 0 if the text is legal, else 1. Returns `OutOfMemory` if that is the verdict, and `WriteFault` if the write
+/// fails.
+pub fn report_verdict_by<W: Write>(
+    choice: &Choice,
+    verdict: Result<u32, AuditFault>,
+    writer: &mut W,
+) -> Result<u8, RunFault>
+    ensures reported { ReportsText (verdict_written choice.now verdict) verdict (W.contents writer.old) (W.contents writer.new) result }
+    ensures memory { verdict ≡ Err AuditFault.OutOfMemory → result ≡ Err RunFault.OutOfMemory }
+{
+    let mut text = Text::new();
+    set_verdict_by(choice, &mut text, verdict);
+    report_text(text.as_bytes(), verdict, writer)
 }

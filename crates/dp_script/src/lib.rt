@@ -3,8 +3,8 @@
 //! and a script.
 //!
 //! Memory is taken for the rack with its lines, slaves, streams and journals, and for the lines that a check or an
-//! explanation opens. An explanation also takes memory for the rows of an entry. No line of a script and no answer
-//! takes memory.
+//! explanation opens. An explanation also takes memory for the rows of an entry and for its line of JSON. No line of a
+//! script and no answer takes memory.
 #![tactic(auto)]
 
 mod check;
@@ -21,9 +21,9 @@ mod script_line;
 mod script_rack;
 pub mod stream_laws;
 
-pub use check::{line_named, report_verdict, run_check};
+pub use check::{line_named, run_check};
 pub use dp_explain::Choice;
-pub use explain::run_explain;
+pub use explain::{report_verdict_by, run_explain};
 pub use input::split_input;
 pub use run::run_text;
 pub use run_fault::RunFault;

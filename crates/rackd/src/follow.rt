@@ -10,7 +10,7 @@ use crate::texts::{choice_of, note_header};
 use dp_audit::AuditFault;
 use dp_explain::{Choice, ExplainFault, FollowFault, Follower};
 use dp_line::LineSpec;
-use dp_script::{RunFault, line_named, report_verdict};
+use dp_script::{RunFault, line_named, report_verdict_by};
 use rack_file::read_rack;
 use rackd_words::Entries;
 use std::fs::Files;
@@ -50,12 +50,13 @@ fn follow_on<'a, H: Runtime + AllocGlobal + Wait + Clock>(
     if !rows.read(rt, &mut output)? {
         return Ok(ExitCode::SUCCESS);
     }
+    let choice = choice_of(entries);
     match line_named(&rack.lines, rows.row()) {
         Some(line) => {
             check_line(&line.spec, entries)?;
-            follow_line(rt, &line.spec, &mut rows, &choice_of(entries), &mut output)
+            follow_line(rt, &line.spec, &mut rows, &choice, &mut output)
         }
-        None => end_at_header(rt, rows.row(), &mut output),
+        None => end_at_header(rt, rows.row(), &choice, &mut output),
     }
 }
 
@@ -74,10 +75,10 @@ fn follow_line<
 ) -> Result<ExitCode, Fault<'a>> {
     // No line of an accepted rack has a fault.
     if line.fault().is_some() {
-        return end_at_header(rt, rows.row(), output);
+        return end_at_header(rt, rows.row(), choice, output);
     }
     let Ok(header) = std::str::from_utf8(rows.row()) else {
-        return end_at_header(rt, rows.row(), output);
+        return end_at_header(rt, rows.row(), choice, output);
     };
     let Ok(mut follower) = Follower::open(rt.alloc(), line, header) else {
         return Err(Fault::Run(RunFault::OutOfMemory));
@@ -88,7 +89,7 @@ fn follow_line<
         }
         match follower.take_row(rows.row(), choice, output) {
             Ok(()) => {}
-            Err(FollowFault::Wrong(fault)) => return end_at(fault, output),
+            Err(FollowFault::Wrong(fault)) => return end_at(fault, choice, output),
             Err(FollowFault::Explain(fault)) => return end_early(fault, output),
         }
     }
@@ -99,15 +100,20 @@ fn follow_line<
 fn end_at_header<'a, W: Write>(
     errors: &impl Eprint,
     row: &[u8],
+    choice: &Choice,
     output: &mut W,
 ) -> Result<ExitCode, Fault<'a>> {
     note_header(errors, row);
-    end_at(AuditFault::BadLine(1), output)
+    end_at(AuditFault::BadLine(1), choice, output)
 }
 
-/// Writes the row of a check that found this fault, and returns its exit status.
-fn end_at<'a, W: Write>(fault: AuditFault, output: &mut W) -> Result<ExitCode, Fault<'a>> {
-    let status = report_verdict(Err(fault), output)?;
+/// Writes the row of a check that found this fault, or its line of JSON, and returns its exit status.
+fn end_at<'a, W: Write>(
+    fault: AuditFault,
+    choice: &Choice,
+    output: &mut W,
+) -> Result<ExitCode, Fault<'a>> {
+    let status = report_verdict_by(choice, Err(fault), output)?;
     if reaches_reader(output)? {
         Ok(ExitCode::from(status))
     } else {

@@ -137,6 +137,7 @@ pub(crate) fn choice_of(entries: Entries) -> Choice {
         faults: entries.are_faults,
         refused: entries.are_refused,
         summary: entries.only_summary,
+        json: entries.as_json,
     }
 }
 

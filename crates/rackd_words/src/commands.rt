@@ -27,6 +27,8 @@ pub(crate) const FAULTS: &str = "faults";
 
 pub(crate) const SUMMARY: &str = "summary";
 
+pub(crate) const JSON: &str = "json";
+
 pub(crate) const FOLLOW: &str = "follow";
 
 /// The most entries of an audit text, which only an endless line has.
@@ -150,7 +152,7 @@ fn place<'a>(alloc: Global, name: &'a str, help: &'a str) -> Arg<'a> {
         .help(help)
 }
 
-/// Adds the options that choose entries by slave, master, fault and refusal, `--summary` and `--follow`.
+/// Adds the options that choose entries by slave, master, fault and refusal, `--summary`, `--json` and `--follow`.
 fn with_choice<'a>(alloc: Global, words: Command<'a>) -> Result<Command<'a>, AllocError> {
     words
         .arg(address(alloc, SLAVE, "A", help::SLAVE))?
@@ -158,7 +160,13 @@ fn with_choice<'a>(alloc: Global, words: Command<'a>) -> Result<Command<'a>, All
         .arg(flag(alloc, FAULTS).help(help::FAULTS))?
         .arg(flag(alloc, REFUSED).help(help::REFUSED))?
         .arg(flag(alloc, SUMMARY).help(help::SUMMARY))?
+        .arg(json(alloc)?)?
         .arg(flag(alloc, FOLLOW).help(help::FOLLOW))
+}
+
+/// Returns the option `--json`, which refuses `--summary` beside it.
+fn json<'a>(alloc: Global) -> Result<Arg<'a>, AllocError> {
+    flag(alloc, JSON).help(help::JSON).conflicts_with(SUMMARY)
 }
 
 /// Returns an option with an address.

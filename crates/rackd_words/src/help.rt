@@ -124,7 +124,7 @@ pub(crate) const EXPLAIN: Help = Help {
     about: "Explain an audit text in words, and check it as 'check' does",
     usage: "\
 rackd explain RACK AUDIT.. [--faults] [--from N] [--to N] [--slave A] [--master M]
-             [--refused] [--summary] [--follow]
+             [--refused] [--summary | --json] [--follow]
        rackd explain --help",
     details: "\
 For each entry, standard output gets what was sent, in the names of the standard, the result and
@@ -137,12 +137,16 @@ The summary of all entries follows: which master held which slave, how often eac
 what each slave and each master did, and which addresses were polled. The last line and the exit
 status are those of 'check': status 0 if the text is legal, else 1.
 
+With --json each entry is one line of JSON, there is no summary, and the last line is the result
+of the check as JSON.
+
 With --follow a rack may still be writing the last file. Each entry is explained once its row is
 there, without a summary, until a row is wrong or rackd is stopped.
 
 Examples:
   rackd explain examples/audit-rack.toml examples/audit.txt
   rackd explain examples/day-of-a-line-rack.toml examples/day-of-a-line.audit --faults --slave 5
+  rackd explain rack.toml audit/line-1-1.audit --json | jq 'select(.fault)'
   rackd explain rack.toml audit/line-1-1.audit --faults --follow",
 };
 
@@ -235,6 +239,8 @@ pub(crate) const REFUSED: &str = "Explain only requests that were refused";
 
 pub(crate) const SUMMARY: &str =
     "Explain no entries; print the summary and the result of the check";
+
+pub(crate) const JSON: &str = "Print each entry as a line of JSON; print no summary";
 
 pub(crate) const FOLLOW: &str = "\
 Explain each entry as its row is written to the last file; print no

@@ -27,7 +27,7 @@ pub struct Service<'a> {
     pub log_detail: LogDetail,
 }
 
-/// Which entries of an audit text are explained: those that meet each condition that is given.
+/// Which entries of an audit text are explained, those that meet each condition that is given, and in which form.
 #[derive(Clone, Copy)]
 pub struct Entries {
     /// Only those from this place on, 1 to 4,294,967,295.
@@ -44,6 +44,8 @@ pub struct Entries {
     pub are_refused: bool,
     /// No entries, only the summary of all.
     pub only_summary: bool,
+    /// Each as a line of JSON in place of rows of text.
+    pub as_json: bool,
 }
 
 /// What the words ask for.

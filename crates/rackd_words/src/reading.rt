@@ -1,8 +1,8 @@
 //! Reads what the words of the command line ask for.
 
 use crate::commands::{
-    AUDIT, ENDLESS, FAULTS, FOLDER, FOLLOW, FROM, LOG, MASTER, PART, PORT, RACK, REFUSED, SCRIPT,
-    SESSIONS, SLAVE, STEP, SUMMARY, TICK, TO, explaining, known, operating, serving,
+    AUDIT, ENDLESS, FAULTS, FOLDER, FOLLOW, FROM, JSON, LOG, MASTER, PART, PORT, RACK, REFUSED,
+    SCRIPT, SESSIONS, SLAVE, STEP, SUMMARY, TICK, TO, explaining, known, operating, serving,
 };
 use crate::invocation::{Entries, Invocation, LogDetail, Service, WordsFault};
 use clap::error::ErrorKind as Refused;
@@ -210,6 +210,7 @@ fn entries_of(words: &ArgMatches<'_>) -> Entries {
         are_faults: words.get_flag(FAULTS),
         are_refused: words.get_flag(REFUSED),
         only_summary: words.get_flag(SUMMARY),
+        as_json: words.get_flag(JSON),
     }
 }
 

@@ -19,4 +19,4 @@ returns-in-None g c =
     let rack = c.args.rack.now in
     let verdict = verdict_of_named rack.workers rack.lines.items c.args.audit.now c.in-Some.header.now c.next.new.self None (search rules) (search rules) in
     let text = explained_of_named rack.workers rack.lines.items c.args.audit.now c.in-Some.header.now c.next.new.self None c.args.choice.now (search rules) (search rules) in
-    rw (verdict, text) (bad_line_reported (g.W.Write.contents c.args.writer.now) _ c.report_verdict-in-None.result c.report_verdict-in-None.ensures.reported)
+    rw (verdict, text) (bad_line_reported _ (g.W.Write.contents c.args.writer.now) _ c.report_verdict_by-in-None.result c.report_verdict_by-in-None.ensures.reported)
