@@ -190,9 +190,9 @@ hold 'the help of run: usage, arguments, the commands of a script' has run.help 
 hold 'the help of check: usage, arguments, results' has check.help 'Usage: rackd check RACK AUDIT..' '<RACK>' '<AUDIT>...' \
   "'ready'" '  legal N ' '  bad line N ' '  not the policy N ' $'\nExamples:\n  rackd '
 hold 'the help of explain: usage, options, ranges' has explain.help \
-  'Usage: rackd explain RACK AUDIT.. [--faults] [--from N] [--to N] [--slave A] [--master M]' '[--refused] [--summary] [--follow]' \
+  'Usage: rackd explain RACK AUDIT.. [--faults] [--from N] [--to N] [--slave A] [--master M]' '[--refused] [--summary | --json] [--follow]' \
   '--from <N>' '1 to 4294967295 [default: 1]' '--to <N>' '1 to 4294967295' '--slave <A>' '0 to 255' '--master <M>' '0 to 255' \
-  '--faults' '--refused' '--summary' '--follow' $'\nExamples:\n  rackd '
+  '--faults' '--refused' '--summary' '--json' '--follow' $'\nExamples:\n  rackd '
 hold 'the help of serve: usage, options, ranges' has serve.help \
   'Usage: rackd serve RACK [--sessions N] [--audit FOLDER [--endless [--part MB]]] [--log [WHAT]]' \
   '--sessions <N>' '1 to 1000000 [default: no limit]' '--audit <FOLDER>' '--endless' '4294967295; requires --audit' \
@@ -242,6 +242,8 @@ refused 'run rack' 'the following required arguments were not provided:' 'Usage:
 refused 'check rack audit --why' "unexpected argument '--why' found" 'Usage: rackd check RACK AUDIT..' 'rackd check --help' "$try"
 refused 'explain rack audit --from 01' "invalid value '01' for '--from <N>': a number has no sign and no leading zero" \
   'Usage: rackd explain RACK AUDIT..' 'rackd explain --help' "$try"
+refused 'explain rack audit --json --summary' "the argument '--json' cannot be used with '--summary'" \
+  'Usage: rackd explain RACK AUDIT..' 'rackd explain --help' "$try"
 refused 'serve rack --session 1' "unexpected argument '--session' found" 'Usage: rackd serve RACK' 'rackd serve --help' "$try"
 refused 'serve rack --sessions 0' "invalid value '0' for '--sessions <N>': 0 is not in 1..=1000000" "$try"
 refused 'serve rack --log loud' "invalid value 'loud' for '--log [<WHAT>]'" '[possible values: sessions, requests]' "$try"
@@ -258,6 +260,7 @@ for words in word -x --hel --help=1 --version=1 '' '--line 1' 'help word' 'help 
   'explain rack audit --to 4294967296' 'explain rack audit --from 4294967296' 'explain rack audit --slave 256' 'explain rack audit --slave 05' \
   'explain rack audit --master +1' 'explain rack audit --refused 1' 'explain rack audit --faults 1' 'explain rack audit --summary --summary' \
   'explain rack audit --why' 'check rack audit --summary' 'check rack audit --follow' 'explain rack --follow' 'explain rack audit --follow --follow' \
+  'explain rack audit --json --json' 'explain rack audit --json 1' 'check rack audit --json' 'explain rack audit --json --summary' \
   serve 'serve rack word' 'serve --sessions 1' 'serve rack --sessions' 'serve rack --sessions 0' \
   'serve rack --sessions 1000001' 'serve rack --sessions x' 'serve rack --sessions -1' \
   'serve rack --sessions 1 --sessions 1' 'serve rack --session 1' 'serve rack --sessions +5' 'serve rack --sessions 05' \

@@ -28,10 +28,14 @@ differ() {
   if ! cmp -s "$1" "$2"; then echo '  the last row has a LF in one of them, or there is a NUL'; fi
 }
 
-# verdict TEXT: sets $verdict to the last row of an output, and $ending to the status that goes with it, 2 where it is none
+# verdict TEXT: sets $verdict to the last row of an output, as a check writes it also if it is JSON, and $ending to the
+# status that goes with it, 2 if it is none
 verdict() {
   verdict=${1%$'\n'}
   verdict=${verdict##*$'\n'}
+  if [[ $verdict =~ ^\{\"verdict\":\"([a-z ]+)\",\"(entries|row)\":([0-9]+)\}$ ]]; then
+    verdict="${BASH_REMATCH[1]} ${BASH_REMATCH[3]}"
+  fi
   case $verdict in
     'legal '*) ending=0 ;;
     'bad line '* | 'not the policy '*) ending=1 ;;
@@ -79,11 +83,31 @@ checked() {
   fi
 }
 
+# read_lines FILE..: json_lines.py finds nothing wrong in these lines of JSON
+read_lines() {
+  local read
+  read=$("$stored/json_lines.py" "$@")
+  if [[ $read == *' lines, 0 files wrong' ]]; then passed=$((passed + 1)); else fail "$stored/json_lines.py" "$read"; fi
+}
+
+# read_all_in_json: each audit text is explained in JSON, and the lines are read; a text with options is another case
+read_all_in_json() {
+  local name
+  rm -rf "$work/json"
+  mkdir "$work/json"
+  names audit
+  for name in "${names[@]}"; do
+    "$program" explain "${name%/*}/rack.toml" "$name.audit" --json </dev/null >"$work/json/$(basename "${name%/*}")-${name##*/}" 2>/dev/null
+  done
+  read_lines "$work"/json/*
+}
+
 # tell_all: each case by the program
 tell_all() {
   local name
   names out; for name in "${names[@]}"; do told "$name"; done
   names audit; for name in "${names[@]}"; do checked "$name"; done
+  read_all_in_json
 }
 
 # find_strays: each file is of a kind that is read, and has its case beside it
@@ -115,5 +139,6 @@ compare_expected() {
 by_each tell_all "$@"
 find_strays
 compare_expected
+read_lines "$stored"/*/*-json*.out
 echo "$passed passed, $failed failed"
 [ "$failed" = 0 ]

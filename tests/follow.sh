@@ -9,6 +9,6 @@ top=$(cd "$(dirname "$0")/.." && pwd)
 client=$top/tests/follow_client.py
 . "$top/tests/cases.sh"
 
-try_beside stored_texts memory_stays rack_that_is_served
+try_beside stored_texts lines_of_json memory_stays rack_that_is_served
 try_all row_in_pieces rows_after_a_pause text_in_parts wrong_row row_behind_a_wrong_row no_header missing_station \
   missing_file reader_goes chosen_entries

@@ -237,6 +237,28 @@ def stored_texts(program, folder):
     print(f"{count} texts")
 
 
+def lines_of_json(program, folder):
+    """With --json each entry is the stored line as soon as its row is there, and the verdict on a wrong row is a line too."""
+    count = 0
+    for path in sorted(glob.glob(os.path.join(TOP, "tests", "explain", "*", "*-json*.out"))):
+        case = path[:-len(".out")]
+        text, wanted = read(case.rpartition("-")[0] + ".audit"), read(path)
+        if not wanted or not text.endswith(b"\n"):
+            continue
+        rack, options = os.path.join(os.path.dirname(path), "rack.toml"), read(case + ".options").decode().split()
+        with Followed(program, folder, rack, *options) as followed:
+            followed.write(text)
+            if verdict_of(wanted).startswith(b'{"verdict":"legal",'):
+                followed.expect(wanted[:-len(verdict_of(wanted))])
+            else:
+                followed.process.wait(PATIENCE)
+                expect(f"what is explained by {case}", wanted, followed.read())
+                expect("the status", 1, followed.process.returncode)
+        count += 1
+    hold("there are no stored lines", count > 25)
+    print(f"{count} texts")
+
+
 def resident(process):
     with open(f"/proc/{process.pid}/statm", encoding="ascii") as file:
         return int(file.read().split()[1]) * os.sysconf("SC_PAGE_SIZE")
@@ -307,7 +329,7 @@ def wait_for(path, words):
 
 
 CASES = (row_in_pieces, rows_after_a_pause, text_in_parts, wrong_row, row_behind_a_wrong_row, no_header, missing_station,
-         missing_file, reader_goes, chosen_entries, stored_texts, memory_stays, rack_that_is_served)
+         missing_file, reader_goes, chosen_entries, stored_texts, lines_of_json, memory_stays, rack_that_is_served)
 
 
 def main(words):

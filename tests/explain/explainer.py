@@ -5,10 +5,12 @@ The expected texts of tests/explain come from here. The program simulates the li
 docs/FORMATS.md: it reads a rack file and an audit text, takes each event of the text, compares facts and outcome with
 the text, and prints what `rackd explain` has to print. It needs Python 3.11 and the standard library only.
 
-usage: explainer.py RACK AUDIT.. [--from N] [--to N] [--slave A] [--master M] [--refused] [--faults] [--summary]
+usage: explainer.py RACK AUDIT.. [--from N] [--to N] [--slave A] [--master M] [--refused] [--faults]
+                    [--summary | --json]
        explainer.py --all        compares every stored case, and prints 'N agree, M differ'
 """
 
+import json
 import os
 import re
 import sys
@@ -1250,6 +1252,7 @@ class Entry:
     named: List[int] = field(default_factory=list)      # addresses in the outcome of a broadcast, a tick or a halt
     master: Optional[int] = None   # of a request
     telegram: Optional[Telegram] = None                 # of a request, if its frame is one
+    octets: Optional[bytes] = None                      # of a request
     ends: bool = False             # an operator's event that releases slaves by a watchdog, or halts the line
     time: Optional[int] = None     # ms, once a tick has come before
 
@@ -1404,13 +1407,14 @@ class Line:
             frame = read_frame(event.octets)
         except FrameFault as fault:
             entry = Entry(self.count, sender, 'nobody', f'no telegram: {fault.name}, {fault.words}',
-                          master=event.master)
+                          master=event.master, octets=event.octets)
             if event.octets:
                 entry.rows.append(('octets', spaced(event.octets)))
             entry.silent('NoFrame', 'The octets are no single frame.')
             return entry
         entry = Entry(self.count, sender, frame_target(frame), frame_kind(frame), master=event.master,
-                      telegram=frame if isinstance(frame, Telegram) else None, rows=content_row(frame))
+                      telegram=frame if isinstance(frame, Telegram) else None, rows=content_row(frame),
+                      octets=event.octets)
         refusal = self.refuse_on_line(event.master, frame)
         if refusal:
             entry.silent(refusal.rule, refusal.reason, refusal.way)
@@ -1819,6 +1823,104 @@ def summary(line: Line, entries: List[Entry]) -> str:
 
 
 # ---------------------------------------------------------------------------------------------------------------------
+# Lines of JSON
+# ---------------------------------------------------------------------------------------------------------------------
+
+NO_OCTETS = '-'                    # no octets in an audit text
+FIELD_SEPARATOR = '; '
+
+
+def line_of_json(value: Dict[str, Any]) -> str:
+    """Returns an object as one line, without spaces between its parts."""
+    return json.dumps(value, separators=(',', ':')) + '\n'
+
+
+def target_in_json(entry: Entry) -> Tuple[str, Optional[int]]:
+    """Returns to whom an entry goes, and the address if it goes to one station."""
+    words = entry.target.split(' ')
+    if words[0] in ('slave', 'station'):
+        return words[0], int(words[1])
+    return entry.target, None
+
+
+def points_in_json(telegram: Optional[Telegram]) -> Tuple[Optional[int], Optional[int]]:
+    """Returns DSAP and SSAP of a telegram, if it has them and they can be read."""
+    parts = telegram.parts() if telegram else None
+    return (parts.dsap, parts.ssap) if parts else (None, None)
+
+
+def rule_in_json(entry: Entry) -> Optional[str]:
+    """Returns the rule that answered a request, by the outcome in the audit text."""
+    words = entry.outcome.split(' ')
+    if entry.master is None or words[0] == 'spread':
+        return None
+    return 'Done' if words[0] == 'done' else words[-1]
+
+
+def text_labelled(entry: Entry, label: str) -> Optional[str]:
+    """Returns the text of the row with this label, or None if there is none."""
+    return next((text for name, text in entry.rows if name == label), None)
+
+
+def decoded_in_json(entry: Entry) -> Optional[Dict[str, List[str]]]:
+    """Returns the row before the result, by its label, in fields; None if the result is the first row."""
+    label, text = entry.rows[0]
+    return None if label == 'result' else {label: text.split(FIELD_SEPARATOR)}
+
+
+def slaves_in_json(entry: Entry) -> List[Dict[str, Any]]:
+    """Returns the answer of each slave to a request to all slaves."""
+    if entry.telegram is None or not entry.named:
+        return []
+    rules = [pair.partition(':')[2] for pair in entry.outcome.split(' ')[1:]]
+    return [{'slave': address, 'rule': rule, 'sentence': text_labelled(entry, f'slave {address}')}
+            for address, rule in zip(entry.named, rules)]
+
+
+def changes_in_json(entry: Entry) -> List[Dict[str, Any]]:
+    """Returns each change of a slave."""
+    changes = []
+    for label, text in entry.rows:
+        if label == 'change':
+            slave, _, conditions = text.partition(': ')
+            before, _, after = conditions.partition(' -> ')
+            changes.append({'slave': int(slave.removeprefix('slave ')), 'from': before, 'to': after})
+    return changes
+
+
+def entry_in_json(entry: Entry) -> str:
+    """Returns an entry as a line of JSON."""
+    (target, address), (dsap, ssap) = target_in_json(entry), points_in_json(entry.telegram)
+    reply = text_labelled(entry, 'reply')
+    return line_of_json({
+        'place': entry.place,
+        'time': None if entry.time is None else entry.time // MS_PER_UNIT,
+        'from': 'operator' if entry.master is None else 'master',
+        'master': entry.master,
+        'to': target,
+        'address': address,
+        'kind': entry.kind,
+        'dsap': dsap,
+        'ssap': ssap,
+        'octets': None if entry.octets is None else entry.octets.hex() or NO_OCTETS,
+        'decoded': decoded_in_json(entry),
+        'rule': rule_in_json(entry),
+        'refused': entry.is_refused,
+        'fault': entry.is_fault,
+        'sentence': text_labelled(entry, 'result'),
+        'slaves': slaves_in_json(entry),
+        'reply': None if reply is None else reply.split(FIELD_SEPARATOR),
+        'changes': changes_in_json(entry),
+    })
+
+
+def verdict_in_json(verdict: str) -> str:
+    """Returns the row of `check` as a line of JSON."""
+    name, _, number = verdict.rpartition(' ')
+    return line_of_json({'verdict': name, 'entries' if name == 'legal' else 'row': int(number)})
+
+
+# ---------------------------------------------------------------------------------------------------------------------
 # Words
 # ---------------------------------------------------------------------------------------------------------------------
 
@@ -1837,6 +1939,7 @@ class Options:
     refused: bool = False
     faults: bool = False
     summary: bool = False
+    json: bool = False
 
     def choose(self, entry: Entry) -> bool:
         """Returns whether an entry is chosen."""
@@ -1850,7 +1953,7 @@ class Options:
 
 NUMBER_OPTIONS = {'--from': ('first', 1, LARGEST_WORD), '--to': ('last', 1, LARGEST_WORD),
                   '--slave': ('slave', 0, LARGEST_OCTET), '--master': ('master', 0, LARGEST_OCTET)}
-FLAG_OPTIONS = {'--refused': 'refused', '--faults': 'faults', '--summary': 'summary'}
+FLAG_OPTIONS = {'--refused': 'refused', '--faults': 'faults', '--summary': 'summary', '--json': 'json'}
 
 
 def read_words(words: List[str]) -> Tuple[List[str], Options]:
@@ -1875,6 +1978,8 @@ def read_words(words: List[str]) -> Tuple[List[str], Options]:
             files.append(word)
     if len(files) < 2:
         raise WrongWords('RACK AUDIT..')
+    if options.summary and options.json:
+        raise WrongWords('--summary --json')
     return files, options
 
 
@@ -1905,12 +2010,24 @@ def explain(words: List[str]) -> Tuple[int, str, str]:
     missing = missing_station(explained, options)
     if missing:
         return STATUS_WRONG_INPUT, '', missing
+    output = output_in_json(explained, options) if options.json else output_in_rows(explained, options)
+    status = STATUS_LEGAL if explained.verdict.startswith('legal') else STATUS_WRONG_TEXT
+    return status, output, hint(text, explained)
+
+
+def output_in_rows(explained: Explained, options: Options) -> str:
+    """Returns the rows of the chosen entries, the summary and the verdict."""
     output = ''
     if explained.line is not None:
         output = ''.join(entry.block() for entry in explained.entries if options.choose(entry))
         output += summary(explained.line, explained.entries)
-    status = STATUS_LEGAL if explained.verdict.startswith('legal') else STATUS_WRONG_TEXT
-    return status, f'{output}{explained.verdict}\n', hint(text, explained)
+    return f'{output}{explained.verdict}\n'
+
+
+def output_in_json(explained: Explained, options: Options) -> str:
+    """Returns a line of JSON for each chosen entry, and one for the verdict."""
+    entries = ''.join(entry_in_json(entry) for entry in explained.entries if options.choose(entry))
+    return entries + verdict_in_json(explained.verdict)
 
 
 def missing_station(explained: Explained, options: Options) -> str:
@@ -1980,7 +2097,8 @@ def status_of(expected: str) -> int:
     """Returns the status that goes with an expected output: its last row decides, and 2 goes with no output."""
     if not expected:
         return STATUS_WRONG_INPUT
-    return STATUS_LEGAL if expected.splitlines()[-1].startswith('legal ') else STATUS_WRONG_TEXT
+    is_legal = expected.splitlines()[-1].startswith(('legal ', '{"verdict":"legal",'))
+    return STATUS_LEGAL if is_legal else STATUS_WRONG_TEXT
 
 
 def agrees(case: Case) -> bool:
