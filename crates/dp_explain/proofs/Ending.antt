@@ -1,18 +1,28 @@
 -- The explanation of a text, from what is written of its rows.
-use Rattle.std.proofs.Common.{◌≡◌, ℕ, Bool, true, cond, List, [], ◌∷◌, ◌++◌, Option, Some, Result, sym, ap, subst, ◌∙◌, append_assoc, unwrap_or}
+use Rattle.std.proofs.Common.{◌≡◌, ℕ, List, [], ◌++◌, Option, Some, None, Result, Ok, Err, refl, sym, ap, subst, ◌∙◌, append_assoc, unwrap_or}
 use Rattle.std.specs.Io.KnownBytes.{Appends}
+use Rattle.std.proofs.lemmas.List.{append-nil}
 use Rattle.dp_line.specs.World.{Description}
-use Rattle.dp_text.specs.Words.{lines_of}
 use Rattle.dp_text.specs.Writes.{WritesPrefix}
 use Rattle.dp_audit.specs.declared.fault.AuditFault.{AuditFault}
-use Rattle.dp_audit.specs.Check.{checked, is_accepted_header}
+use Rattle.dp_audit.specs.Check.{checked}
+use Rattle.dp_audit.proofs.Written.{appends_more, more_prefix}
 use Rattle.dp_explain.specs.declared.choice.Choice.{Choice}
-use Rattle.dp_explain.specs.declared.explain_fault.ExplainFault.{ExplainFault}
-use Rattle.dp_explain.specs.Explained.{Explains, explained, summary_written, verdict_written}
-use Rattle.dp_explain.specs.Followed.{FollowerView, entry_rows, first_follower, followed, followed_summary, followed_text, whole_rows}
+use Rattle.dp_explain.specs.declared.read_fault.ReadFault.{ReadFault}
+use Rattle.dp_explain.specs.declared.read_fault.ReadFault.TheVariants as faults
+use Rattle.dp_explain.specs.declared.rows_fault.RowsFault.{RowsFault}
+use Rattle.dp_explain.specs.declared.rows_fault.RowsFault.TheVariants as rows
+use Rattle.dp_explain.specs.Explained.{explained, summary_written, verdict_written}
+use Rattle.dp_explain.specs.ExplainedRows.{ExplainsRows, Reads}
+use Rattle.dp_explain.specs.Followed.{FollowerView, followed_summary, followed_text}
+use Rattle.dp_explain.specs.FollowedText.{FollowsText, IsFollowed}
 use Rattle.dp_explain.specs.Following.{stored_with}
 use Rattle.dp_explain.proofs.Following.{reported_by_rows}
-use Rattle.dp_explain.proofs.Writing.{front_cut, then_explains}
+use Rattle.dp_explain.proofs.Writing.{front_cut}
+
+then_cut : (old new newer : Option (List ℕ)) (text more : List ℕ) → Appends old new text → WritesPrefix new newer more → WritesPrefix old newer (text ++ more)
+then_cut old new newer text more written others =
+    more_prefix old new newer text more [] (text ++ more) written others (ap (λ (m : List ℕ). text ++ m) (append-nil more))
 
 -- what follows the last entry
 end_same : (choice : Choice) (line : Description) (verdict known : Result ℕ AuditFault) (ended first : Option (List ℕ)) (text : List ℕ) (last after : FollowerView)
@@ -25,35 +35,53 @@ end_same choice line verdict known ended first text last after is same stores op
     ∙ ap (λ (f : FollowerView). summary_written choice (followed_summary line text f.known) ++ verdict_written choice verdict) same
     ∙ ap (λ (v : Result ℕ AuditFault). summary_written choice (followed_summary line text after.known) ++ verdict_written choice v) is
 
+-- a text is written, and then another one, whole or in part
+then_explains : (verdict : Result ℕ AuditFault) (row : List ℕ) (old new newer : Option (List ℕ)) (text more : List ℕ) (result : Result ℕ RowsFault) → Appends old new text → ExplainsRows verdict row more new newer result
+    → ExplainsRows verdict row (text ++ more) old newer result
+then_explains verdict row old new newer text more (Ok status) written others = (others.0, appends_more old new newer text more written others.1, others.2)
+then_explains verdict row old new newer text more (Err (rows.Explain fault)) written others = then_cut old new newer text more written others
+then_explains verdict row old new newer text more (Err (rows.Read faults.OutOfMemory)) written others = then_cut old new newer text more written others
+then_explains verdict row old new newer text more (Err (rows.Read faults.CannotRead)) written others = then_cut old new newer text more written others
+then_explains verdict row old new newer text more (Err (rows.Read faults.NotText)) written others = (then_cut old new newer text more written others.0, others.1)
+
 -- the rows are written, and then what follows the last one
-pub explains : (choice : Choice) (line : Description) (text : List ℕ) (verdict : Result ℕ AuditFault) (ended first : Option (List ℕ)) (last : FollowerView) (old new newer : Option (List ℕ)) (result : Result ℕ ExplainFault)
-    → verdict ≡ checked line text → last ≡ (followed_text choice line text).last → ended ≡ stored_with (followed_text choice line text).ended first → first ≡ Some []
-    → Appends old new (followed_text choice line text).reported → Explains verdict (summary_written choice (followed_summary line (unwrap_or ended []) last.known) ++ verdict_written choice verdict) new newer result
-    → Explains (checked line text) (explained line text choice) old newer result
-explains choice line text verdict ended first last old new newer result is same stores opened written others =
+pub explains : (choice : Choice) (line : Description) (text row : List ℕ) (verdict : Result ℕ AuditFault) (last : FollowerView) (ended stored old new newer : Option (List ℕ)) (result : Result ℕ RowsFault)
+    → IsFollowed choice line text verdict last ended stored old new → ended ≡ Some []
+    → ExplainsRows verdict row (summary_written choice (followed_summary line (unwrap_or stored []) last.known) ++ verdict_written choice verdict) new newer result
+    → ExplainsRows (checked line text) row (explained line text choice) old newer result
+explains choice line text row verdict last ended stored old new newer result is none others =
     let all = followed_text choice line text in
-    let whole : all.reported ++ (summary_written choice (followed_summary line (unwrap_or ended []) last.known) ++ verdict_written choice verdict) ≡ explained line text choice =
-    ap (λ (t : List ℕ). all.reported ++ t) (end_same choice line verdict (checked line text) ended first all.ended last all.last is same stores opened)
+    let whole : all.reported ++ (summary_written choice (followed_summary line (unwrap_or stored []) last.known) ++ verdict_written choice verdict) ≡ explained line text choice =
+    ap (λ (t : List ℕ). all.reported ++ t) (end_same choice line verdict (checked line text) stored ended all.ended last all.last is.judged is.known is.ended_so none)
     ∙ sym (append_assoc all.reported (summary_written choice (followed_summary line all.ended all.last.known)) (verdict_written choice (checked line text)))
     ∙ sym (reported_by_rows choice line text) in
-    subst (λ (v : Result ℕ AuditFault). Explains v (explained line text choice) old newer result) is
-    (subst (λ (t : List ℕ). Explains verdict t old newer result) whole
-    (then_explains verdict old new newer all.reported (summary_written choice (followed_summary line (unwrap_or ended []) last.known) ++ verdict_written choice verdict) result written others))
+    subst (λ (v : Result ℕ AuditFault). ExplainsRows v row (explained line text choice) old newer result) is.judged
+    (subst (λ (t : List ℕ). ExplainsRows verdict row t old newer result) whole
+    (then_explains verdict row old new newer all.reported (summary_written choice (followed_summary line (unwrap_or stored []) last.known) ++ verdict_written choice verdict) result is.reported others))
 
 -- only a prefix of the rows is written
-pub explains_cut : (choice : Choice) (line : Description) (text : List ℕ) (old new : Option (List ℕ)) → WritesPrefix old new (followed_text choice line text).reported → WritesPrefix old new (explained line text choice)
-explains_cut choice line text old new cut =
+cut_is : (choice : Choice) (line : Description) (text : List ℕ) (old new : Option (List ℕ)) → WritesPrefix old new (followed_text choice line text).reported → WritesPrefix old new (explained line text choice)
+cut_is choice line text old new cut =
     let all = followed_text choice line text in
     subst (WritesPrefix old new) (sym (reported_by_rows choice line text))
     (front_cut old new (all.reported ++ summary_written choice (followed_summary line all.ended all.last.known)) (verdict_written choice (checked line text))
     (front_cut old new all.reported (summary_written choice (followed_summary line all.ended all.last.known)) cut))
 
--- the rows that are followed, of a text with an accepted header
-pub rows_followed : (choice : Choice) (line : Description) (text header first : List ℕ) (rest rows : List (List ℕ)) (self : FollowerView) → self ≡ first_follower line (lines_of text)
-    → lines_of text ≡ header ∷ rest → rest ≡ first ∷ rows → is_accepted_header line header ≡ true → followed choice self (whole_rows (first ∷ rows)) ≡ followed_text choice line text
-rows_followed choice line text header first rest rows self opened is more accepted =
-    ap (λ (f : FollowerView). followed choice f (whole_rows (first ∷ rows))) opened
-    ∙ ap (followed choice (first_follower line (lines_of text)))
-    (sym
-    (ap (entry_rows line) (is ∙ ap (λ (r : List (List ℕ)). header ∷ r) more)
-    ∙ ap (λ (b : Bool). cond b (whole_rows (first ∷ rows)) []) accepted))
+pub explains_cut : (choice : Choice) (line : Description) (text row : List ℕ) (last : FollowerView) (ended stored old new : Option (List ℕ)) (fault : RowsFault) → FollowsText choice line text last ended stored old new (Err fault)
+    → ExplainsRows (checked line text) row (explained line text choice) old new (Err fault)
+explains_cut choice line text row last ended stored old new (rows.Explain fault) cut = cut_is choice line text old new cut
+explains_cut choice line text row last ended stored old new (rows.Read faults.OutOfMemory) cut = cut_is choice line text old new cut
+explains_cut choice line text row last ended stored old new (rows.Read faults.CannotRead) cut = cut_is choice line text old new cut
+explains_cut choice line text row last ended stored old new (rows.Read faults.NotText) never = absurd never
+
+-- ---- what follows the last entry
+
+nothing_written : (old : Option (List ℕ)) (text : List ℕ) → WritesPrefix old old text
+nothing_written None text = ([], text, refl, tt)
+nothing_written (Some octets) text = ([], text, refl, sym (append-nil octets))
+
+-- nothing is written if the last row is not text
+pub not_readable : (verdict : Result ℕ AuditFault) (row text : List ℕ) (old : Option (List ℕ)) (fault : ReadFault) → Reads verdict row (Err fault) → ExplainsRows verdict row text old old (Err (rows.Read fault))
+not_readable verdict row text old faults.OutOfMemory reads = nothing_written old text
+not_readable verdict row text old faults.CannotRead reads = nothing_written old text
+not_readable verdict row text old faults.NotText reads = (nothing_written old text, reads)

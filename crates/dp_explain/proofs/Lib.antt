@@ -6,7 +6,6 @@ pub mod TenTimes
 pub mod Writing
 pub mod Places
 pub mod JsonFields
-pub mod Reported
 pub mod Knowing
 pub mod Rows
 pub mod RightRows
@@ -14,6 +13,11 @@ pub mod Following
 pub mod FollowedRow
 pub mod FollowedRows
 pub mod Ending
+pub mod Reading
+pub mod ReadLines
+pub mod WrongRow
+pub mod ReadRows
+pub mod CheckedRows
 pub mod ReportedAgain
 pub mod Reached
 pub mod Standings

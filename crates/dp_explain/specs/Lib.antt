@@ -14,6 +14,10 @@ pub mod JsonExamples
 pub mod Explained
 pub mod Followed
 pub mod Following
+pub mod ReadFaults
+pub mod TextRows
+pub mod ExplainedRows
+pub mod FollowedText
 pub mod StatisticsExamples
 pub mod JournalReported
 pub mod Standing

@@ -1,135 +1,25 @@
-//! The explanation of an audit text.
-//!
-//! The rows of the text are followed one after another, and each is checked before its entry is explained, so the
-//! explanation of a text that isn't legal stops where the check does. One pass goes over the text. The holds that ended
-//! are stored meanwhile, because they are written after the last entry.
-//!
-//! The summary is always of the whole text, whatever is chosen: someone who asks for the entries of one slave sees
-//! its holds there.
+//! What an explanation has behind its last entry: the summary, and the verdict.
 
-ghost use Rattle.std.specs.Prelude.{◌≡◌, ◌++◌, ◌∷◌, [], codes, None, unwrap_or, IfOk, OnOk, OnErr};
-ghost use Rattle.std.specs.Io.KnownBytes.{Appends};
-ghost use Rattle.dp_text.specs.Words.{lines_of};
-ghost use Rattle.dp_text.specs.Writes.{WritesPrefix};
-ghost use Rattle.dp_line.specs.World.{description_of, opening_fault};
-ghost use Rattle.dp_audit.specs.Check.{checked, checked_lines};
+ghost use Rattle.std.specs.Prelude.{◌≡◌, ◌++◌, [], codes, unwrap_or};
+ghost use Rattle.dp_line.specs.World.{description_of};
 ghost use Rattle.dp_explain.specs.Holds.{holds_lasting};
-ghost use Rattle.dp_explain.specs.Explained.{verdict_text, verdict_status, verdict_written, summary_written, explained, Leaves, Explains};
-ghost use Rattle.dp_explain.specs.Followed.{first_follower, followed, followed_summary, followed_text, whole_rows};
-ghost use Rattle.dp_explain.specs.Following.{stored_with};
+ghost use Rattle.dp_explain.specs.Explained.{verdict_text, verdict_status, verdict_written, summary_written, Leaves, Explains};
+ghost use Rattle.dp_explain.specs.Followed.{followed_summary};
 
 use crate::choice::Choice;
 use crate::ended_holds::EndedHolds;
 use crate::explain_fault::ExplainFault;
-use crate::follow_fault::FollowFault;
 use crate::follower::Follower;
 use crate::json_verdict::set_verdict_by;
-use dp_audit::{AuditFault, is_header_of};
+use crate::verdict::Verdict;
+use dp_audit::AuditFault;
 use dp_line::LineSpec;
-use dp_text::{Lines, Text, write_whole};
-use std::alloc::Global;
+use dp_text::{Text, write_whole};
 use std::io::Write;
-
-/// The number of entries of a legal text, or the fault of the first wrong row.
-type Verdict = Result<u32, AuditFault>;
-
-/// Explains an audit text of a line that can be opened. Writes the rows of each chosen entry, up to the first line of
-/// the text that differs from what the line would have written, then a summary, and then the verdict, as a check writes
-/// it: `legal N`, `bad line N` or `not the policy N`. If the choice is JSON, writes lines of JSON and no summary. Returns
-/// the exit status: 0 if the text is legal, else 1.
-///
-/// It takes memory for two lines, for the counts of 128 addresses, for the rows of one entry or of the summary, for the
-/// line of JSON of one entry, and for one row for each hold that ended. Returns `OutOfMemory` if memory runs out, `WriteFault` if a write fails; either
-/// leaves a prefix of the output.
-pub fn explain_text<W: Write>(
-    alloc: Global,
-    line: &LineSpec,
-    text: &str,
-    choice: &Choice,
-    writer: &mut W,
-) -> Result<u8, ExplainFault>
-    requires { opening_fault (description_of line.now) ≡ None }
-    ensures { Explains (checked (description_of line.now) text.now) (explained (description_of line.now) text.now choice.now)
-        (W.contents writer.old) (W.contents writer.new) result }
-{
-    let mut follower = match Follower::open(alloc, line, text) {
-        Ok(follower) => follower,
-        Err(fault) => return Err(fault),
-    };
-    let mut ended = EndedHolds::stored(alloc);
-    match follow_text(&mut follower, line, text, choice, &mut ended, writer) {
-        Ok(verdict) => write_end(&mut follower, line, &ended, verdict, choice, writer),
-        Err(fault) => Err(fault),
-    }
-}
-
-/// Follows the rows of a text, until the first wrong one, and stores the holds that they ended. Returns the verdict on
-/// the text.
-fn follow_text<W: Write>(
-    follower: &mut Follower<'_>,
-    line: &LineSpec,
-    text: &str,
-    choice: &Choice,
-    ended: &mut EndedHolds,
-    writer: &mut W,
-) -> Result<Verdict, ExplainFault>
-    requires { follower.old ≡ first_follower (description_of line.now) (lines_of text.now) }
-    ensures verdict { IfOk result (λ verdict. verdict ≡ checked (description_of line.now) text.now) }
-    ensures known { OnOk result (follower.new ≡ (followed_text choice.now (description_of line.now) text.now).last) }
-    ensures stored { OnOk result (ended.new ≡ stored_with (followed_text choice.now (description_of line.now) text.now).ended ended.old) }
-    ensures reported { OnOk result (Appends (W.contents writer.old) (W.contents writer.new) (followed_text choice.now (description_of line.now) text.now).reported) }
-    ensures cut { OnErr result (WritesPrefix (W.contents writer.old) (W.contents writer.new) (followed_text choice.now (description_of line.now) text.now).reported) }
-{
-    let mut rows = Lines::new(text.as_bytes());
-    let Some(header) = rows.next() else {
-        return Ok(Err(AuditFault::BadLine(1)));
-    };
-    let Some(first) = rows.next() else {
-        return Ok(Err(AuditFault::BadLine(1)));
-    };
-    if !is_header_of(header, line) {
-        return Ok(Err(AuditFault::BadLine(1)));
-    }
-    follow_rows(follower, first, &mut rows, choice, ended, writer)
-}
-
-/// Follows this row and the rows after it, until the first wrong one, and stores the holds that they ended. Returns the
-/// verdict on the text.
-fn follow_rows<W: Write>(
-    follower: &mut Follower<'_>,
-    first: &[u8],
-    rows: &mut Lines<'_>,
-    choice: &Choice,
-    ended: &mut EndedHolds,
-    writer: &mut W,
-) -> Result<Verdict, ExplainFault>
-    requires { follower.old.fault ≡ None }
-    ensures verdict { IfOk result (λ verdict. verdict ≡ checked_lines follower.old.known.scene.world follower.old.known.scene.world.count (first.now ∷ rows.old)) }
-    ensures known { OnOk result (follower.new ≡ (followed choice.now follower.old (whole_rows (first.now ∷ rows.old))).last) }
-    ensures stored { OnOk result (ended.new ≡ stored_with (followed choice.now follower.old (whole_rows (first.now ∷ rows.old))).ended ended.old) }
-    ensures reported { OnOk result (Appends (W.contents writer.old) (W.contents writer.new) (followed choice.now follower.old (whole_rows (first.now ∷ rows.old))).reported) }
-    ensures cut { OnErr result (WritesPrefix (W.contents writer.old) (W.contents writer.new) (followed choice.now follower.old (whole_rows (first.now ∷ rows.old))).reported) }
-{
-    let mut row = first;
-    while let Some(next) = rows.next() {
-        match follower.follow_row(row, choice, ended, writer) {
-            Ok(()) => {}
-            Err(FollowFault::Wrong(fault)) => return Ok(Err(fault)),
-            Err(FollowFault::Explain(fault)) => return Err(fault),
-        }
-        row = next;
-    }
-    if row.is_empty() {
-        Ok(Ok(follower.count()))
-    } else {
-        let number = u64::from(follower.count()) + 2;
-        Ok(Err(AuditFault::BadLine(number)))
-    }
-}
 
 /// Writes what follows the last entry: the summary, unless the choice is JSON, and then the verdict. Returns the exit
 /// status.
-fn write_end<W: Write>(
+pub(crate) fn write_end<W: Write>(
     follower: &mut Follower<'_>,
     line: &LineSpec,
     ended: &EndedHolds,

@@ -20,6 +20,7 @@ ghost use Rattle.dp_sentences.specs.declared.notes.Noted.{Noted};
 ghost use Rattle.dp_sentences.specs.Notes.{note_of};
 ghost use Rattle.dp_sentences.specs.Refusals.{repeat_text};
 ghost use Rattle.dp_sentences.specs.Results.{result_row, result_rows};
+ghost use Rattle.dp_explain.specs.ExplainedRows.{DecidesAtWrongRow};
 ghost use Rattle.dp_explain.specs.Followed.{HasTheVerdictOfItsRows, IsExplainedByItsRows};
 ghost use Rattle.dp_explain.specs.Holds.{ended_at, holds_ended};
 ghost use Rattle.dp_explain.specs.JournalReported.{IsExplainedByItsEntries, known_behind_entries};
@@ -44,6 +45,12 @@ pub fn a_legal_text_is_explained_by_its_entries()
 pub fn a_text_is_explained_by_its_rows()
     ensures text { IsExplainedByItsRows }
     ensures verdict { HasTheVerdictOfItsRows }
+{}
+
+/// What follows the first wrong row of a text changes neither its check nor its explanation. So a text need not be read any
+/// further: whole rows that are not legal decide both, whatever follows them.
+pub fn a_wrong_row_decides()
+    ensures { DecidesAtWrongRow }
 {}
 
 /// What has no row of changes is unchanged, at each entry of a legal journal since the line was opened. A slave that

@@ -2,15 +2,17 @@
 //! rows of [`dp_sentences`]; then who held which slave, how many requests were answered in each way, and statistics of
 //! each station.
 //!
-//! [`explain_text`] explains a whole text. A [`Follower`] takes the rows of a text one after another, so it explains a
-//! text that is still being written. Both write to any writer, and both check each row before they explain it. For a
-//! program each entry can be a line of JSON (`Choice::json`), which is made of the same rows.
+//! [`TextRows`] reads the rows of a text from any reader. [`explain_rows`] explains a text that is read so, and
+//! [`check_rows`] checks one. A [`Follower`] takes the rows of a text one after another, so it explains a text that is
+//! still being written. Explanations go to any writer, and each row is checked before it is explained. For a program each
+//! entry can be a line of JSON (`Choice::json`), which is made of the same rows.
 //!
-//! An event is taken by two lines, one of which is one event behind the other. They, the counts of 128 addresses, the
-//! rows of one entry and its line of JSON are all that takes memory; [`explain_text`] stores one more row for each hold
-//! that ended.
+//! An event is taken by two lines, one of which is one event behind the other. They, the counts of 128 addresses, one row
+//! of the text, the rows of one entry and its line of JSON are all that takes memory; [`explain_rows`] stores one more row
+//! for each hold that ended.
 #![tactic(auto)]
 
+mod checking;
 mod choice;
 mod columns;
 mod count_event;
@@ -20,6 +22,7 @@ mod counts_tables;
 mod ended_holds;
 mod explain;
 mod explain_fault;
+mod explaining;
 mod follow_fault;
 mod follower;
 mod history;
@@ -33,18 +36,29 @@ mod json_verdict;
 pub mod laws;
 mod live_list;
 mod output;
+mod read_fault;
 mod row;
+mod row_buffer;
+mod rows_fault;
 mod slices;
 mod station_rows;
 mod statistics;
 mod statistics_rows;
 mod tally;
 mod tally_rows;
+mod text_rows;
+mod verdict;
 
+pub use checking::check_rows;
 pub use choice::Choice;
-pub use explain::{explain_text, set_verdict};
+pub use explain::set_verdict;
 pub use explain_fault::ExplainFault;
+pub use explaining::explain_rows;
 pub use follow_fault::FollowFault;
 pub use follower::Follower;
 pub use json_verdict::set_verdict_by;
+pub use read_fault::ReadFault;
 pub use row::event_of_row;
+pub use rows_fault::RowsFault;
+pub use text_rows::TextRows;
+pub use verdict::readable;
