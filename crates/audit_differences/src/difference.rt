@@ -1,12 +1,13 @@
 //! The first row of an audit text that is not what the policy gives.
 
 use crate::expected::set_expected;
-use dp_audit::{AuditFault, check_text, is_header_of, open_line};
-use dp_explain::event_of_row;
-use dp_line::{LineSpec, LineState, Step};
-use dp_text::{Lines, Text};
+use dp_audit::{AuditFault, is_header_of, open_line, take_row};
+use dp_explain::{ReadFault, TextRows, event_of_row};
+use dp_line::{Event, LineSpec, LineState, Step};
+use dp_text::Text;
 use rack_file::Rack;
 use std::alloc::{AllocError, Global};
+use std::io::BufRead;
 
 /// A row of an audit text that is not what the policy gives.
 #[derive(Drop)]
@@ -20,81 +21,103 @@ pub struct Difference {
 }
 
 /// Returns the first row of an audit text that is not what the policy gives, if a check on this rack says that there is one.
-/// Returns an error if memory is refused.
-pub fn difference_in(
+/// The rows are read from the first on, up to this one. It takes the memory of two lines.
+///
+/// Returns `OutOfMemory` if memory runs out, and `CannotRead` if a read fails.
+pub fn difference_in<R: BufRead>(
     alloc: Global,
     rack: &Rack,
-    audit: &str,
-) -> Result<Option<Difference>, AllocError> {
-    let mut rows = Lines::new(audit.as_bytes());
-    let Some(header) = rows.next() else {
+    rows: &mut TextRows<R>,
+) -> Result<Option<Difference>, ReadFault> {
+    if !rows.complete_row()? {
         return Ok(None);
-    };
+    }
     match rack
         .lines
         .iter()
-        .find(|line| is_header_of(header, &line.spec))
+        .find(|line| is_header_of(rows.row(), &line.spec))
     {
-        Some(line) => difference_on(alloc, &line.spec, audit, &mut rows),
+        Some(line) => difference_on(alloc, &line.spec, rows),
         None => Ok(None),
     }
 }
 
 /// Returns the first row behind the header that is not what the policy gives on this line, if a check says that there is one.
-fn difference_on(
+fn difference_on<R: BufRead>(
     alloc: Global,
     line: &LineSpec,
-    audit: &str,
-    rows: &mut Lines<'_>,
-) -> Result<Option<Difference>, AllocError> {
+    rows: &mut TextRows<R>,
+) -> Result<Option<Difference>, ReadFault> {
     if line.fault().is_some() {
         return Ok(None);
     }
-    match check_text(alloc, line, audit) {
-        Ok(_) => return Ok(None),
-        Err(AuditFault::BadLine(_)) => return Ok(None),
-        Err(AuditFault::OutOfMemory) => return Err(AllocError),
-        Err(AuditFault::NotThePolicy(_)) => {}
-    }
-    match open_line(alloc, line, audit) {
-        Ok(mut state) => first_difference(alloc, &mut state, rows),
-        Err(_) => Err(AllocError),
-    }
+    let Ok(header) = std::str::from_utf8(rows.row()) else {
+        return Ok(None);
+    };
+    let Ok(mut before) = open_line(alloc, line, header) else {
+        return Err(ReadFault::OutOfMemory);
+    };
+    let Ok(mut after) = open_line(alloc, line, header) else {
+        return Err(ReadFault::OutOfMemory);
+    };
+    first_difference(alloc, &mut before, &mut after, rows)
 }
 
-/// Returns the first of these rows that is not what the line gives.
-fn first_difference(
+/// Returns the first of the next rows that is not what a line gives. Two lines take the events: one checks the rows, and the
+/// other one is behind it by one event.
+fn first_difference<R: BufRead>(
     alloc: Global,
-    state: &mut LineState,
-    rows: &mut Lines<'_>,
-) -> Result<Option<Difference>, AllocError> {
+    before: &mut LineState,
+    after: &mut LineState,
+    rows: &mut TextRows<R>,
+) -> Result<Option<Difference>, ReadFault> {
     let mut answer = Step::blank();
     let mut text = Text::new();
     for place in 1..u32::MAX {
-        let Some(row) = rows.next() else {
+        if !rows.read_row()? {
             return Ok(None);
-        };
-        let Some(event) = event_of_row(row) else {
-            return Ok(None);
-        };
-        state.take_into(&event, &mut answer);
-        set_expected(&mut text, place, &event, &answer);
-        if text.as_bytes() != row {
-            return Ok(Some(row_difference(alloc, place, row, text.as_bytes())?));
+        }
+        match take_row(after, rows.row(), &mut answer, &mut text) {
+            Ok(event) => before.take_into(&event, &mut answer),
+            Err(AuditFault::NotThePolicy(_)) => {
+                return difference_at(alloc, before, place, rows.row());
+            }
+            Err(AuditFault::BadLine(_) | AuditFault::OutOfMemory) => return Ok(None),
         }
     }
     Ok(None)
 }
 
-/// Returns the difference of the row of this place.
+/// Returns the difference of the row of this place, which is not what the line gives.
+fn difference_at(
+    alloc: Global,
+    line: &mut LineState,
+    place: u32,
+    row: &[u8],
+) -> Result<Option<Difference>, ReadFault> {
+    let Some(event) = event_of_row(row) else {
+        return Ok(None);
+    };
+    let mut answer = Step::blank();
+    line.take_into(&event, &mut answer);
+    match row_difference(alloc, place, row, &event, &answer) {
+        Ok(difference) => Ok(Some(difference)),
+        Err(AllocError) => Err(ReadFault::OutOfMemory),
+    }
+}
+
+/// Returns the difference of the row of this place, if this is the answer to its event.
 fn row_difference(
     alloc: Global,
     place: u32,
-    written: &[u8],
-    expected: &[u8],
+    row: &[u8],
+    event: &Event,
+    answer: &Step,
 ) -> Result<Difference, AllocError> {
-    let written = String::from_utf8_lossy(alloc, written)?;
-    let expected = String::from_utf8_lossy(alloc, expected)?;
+    let mut text = Text::new();
+    set_expected(&mut text, place, event, answer);
+    let written = String::from_utf8_lossy(alloc, row)?;
+    let expected = String::from_utf8_lossy(alloc, text.as_bytes())?;
     Ok(Difference {
         row: u64::from(place) + 1,
         written,

@@ -1,6 +1,6 @@
 //! What the policy gives in the place of a row of an audit text that is another (own).
 //!
-//! [`difference_in`] reads the text again, after a check has refused it.
+//! [`difference_in`] reads the rows of the text again, after a check has refused it.
 #![tactic(auto)]
 
 mod difference;

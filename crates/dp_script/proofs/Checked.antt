@@ -13,7 +13,7 @@ use Rattle.dp_script.specs.Checks.{line_named, checked_by_line, checked_on}
 use Rattle.dp_script.specs.Explanations.{explained_by_line, explained_on}
 
 -- this is an accepted header of the line
-abbrev is_headed : List ℕ → RackLine → Bool
+abbrev pub is_headed : List ℕ → RackLine → Bool
 is_headed header line = is_accepted_header (description_of line.spec) header
 
 abbrev is_described_headed : List ℕ → LineDescription → Bool

@@ -6,4 +6,5 @@ mod Passing
 mod Played
 mod Sending
 mod Checked
+mod FirstRow
 mod Reportings

@@ -8,3 +8,5 @@ run_fault_code runs.OutOfMemory = 1
 run_fault_code (runs.Rack fault) = 2
 run_fault_code (runs.Script line) = 3
 run_fault_code runs.WriteFault = 4
+run_fault_code runs.CannotRead = 5
+run_fault_code runs.NotText = 6

@@ -10,3 +10,5 @@ run_fault_text (runs.Rack fault) = rack_fault_text fault
 run_fault_text (runs.Script line) = codes "script line " ++ decimal line
 run_fault_text runs.OutOfMemory = codes "out of memory"
 run_fault_text runs.WriteFault = codes "cannot write"
+run_fault_text runs.CannotRead = codes "cannot read"
+run_fault_text runs.NotText = codes "not UTF-8"

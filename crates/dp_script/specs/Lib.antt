@@ -7,6 +7,7 @@ pub mod ScriptLineExamples
 pub mod ScriptText
 pub mod Runs
 pub mod FaultTexts
+pub mod ReadFaults
 pub mod Checks
 pub mod CheckExamples
 pub mod Input

@@ -1,5 +1,5 @@
 -- What a run leaves on its writer, and how it ends (own).
-use Rattle.std.specs.Prelude.{◌≡◌, ℕ, List, Option, Some, None, Result, Ok, Err}
+use Rattle.std.specs.Prelude.{◌≡◌, ℕ, List, Option, Some, None, Result, Ok, Err, IsUtf8}
 use Rattle.std.specs.Io.KnownBytes.{Appends, Keeps}
 use Rattle.dp_text.specs.Writes.{WritesPrefix}
 use Rattle.rack_file.specs.declared.fault.RackFault.{RackFault}
@@ -12,6 +12,8 @@ use Rattle.dp_script.specs.ScriptLines.{ScriptLine, Sent}
 use Rattle.dp_script.specs.ScriptText.{ScriptRack, Obeyed, Played, script_text}
 use Rattle.dp_audit.specs.declared.fault.AuditFault.{AuditFault}
 use Rattle.dp_explain.specs.Explained.{verdict_text, verdict_status}
+use Rattle.dp_explain.specs.ExplainedRows.{IsReadable}
+use Rattle.dp_explain.specs.TextRows.{TextRead, octets_read}
 use Rattle.dp_script.specs.Checks.{checked_on}
 
 -- a command to a line: at the end the line is as the command leaves it, and the writer has its whole text, or a prefix if a write failed;
@@ -38,6 +40,8 @@ Plays played old new (Err (runs.Script line)) = (played.fault ≡ Some line) × 
 Plays played old new (Err runs.OutOfMemory) = WritesPrefix old new played.text
 Plays played old new (Err runs.WriteFault) = WritesPrefix old new played.text
 Plays played old new (Err (runs.Rack fault)) = ⊥
+Plays played old new (Err runs.CannotRead) = ⊥
+Plays played old new (Err runs.NotText) = ⊥
 
 -- if a rack isn't accepted, its fault is reported, or that memory ran out, and nothing is written
 abbrev pub RefusesRack : {T : Type 0} → RackFault → Option (List ℕ) → Option (List ℕ) → Result T RunFault → Type 0
@@ -57,12 +61,25 @@ ReportsText text verdict old new (Err runs.WriteFault) = WritesPrefix old new te
 ReportsText text verdict old new (Err runs.OutOfMemory) = Keeps old new
 ReportsText text verdict old new (Err (runs.Script line)) = ⊥
 ReportsText text verdict old new (Err (runs.Rack fault)) = ⊥
+ReportsText text verdict old new (Err runs.CannotRead) = ⊥
+ReportsText text verdict old new (Err runs.NotText) = ⊥
 
 -- the verdict of a check
 abbrev pub Reports : Result ℕ AuditFault → Option (List ℕ) → Option (List ℕ) → Result ℕ RunFault → Type 0
 Reports verdict old new result = ReportsText (verdict_text verdict) verdict old new result
 
--- the check of an audit text on the rack that a text describes, or the fault of that text
-abbrev pub RunsCheck : Result RackDescription RackFault → List ℕ → Option (List ℕ) → Option (List ℕ) → Result ℕ RunFault → Type 0
-RunsCheck (Ok rack) audit old new result = Reports (checked_on rack audit) old new result
-RunsCheck (Err fault) audit old new result = RefusesRack fault old new result
+-- at the end of a check the writer has the whole verdict, and the last row that was read is UTF-8 if the text is not legal; nothing is written if a
+-- read failed, or the row is not UTF-8
+abbrev pub Checks : Result ℕ AuditFault → List ℕ → Option (List ℕ) → Option (List ℕ) → Result ℕ RunFault → Type 0
+Checks verdict row old new (Ok status) = (status ≡ verdict_status verdict) × Appends old new (verdict_text verdict) × IsReadable verdict row
+Checks verdict row old new (Err runs.WriteFault) = WritesPrefix old new (verdict_text verdict)
+Checks verdict row old new (Err runs.OutOfMemory) = Keeps old new
+Checks verdict row old new (Err runs.CannotRead) = Keeps old new
+Checks verdict row old new (Err runs.NotText) = Keeps old new × (¬ (IsUtf8 row))
+Checks verdict row old new (Err (runs.Script line)) = ⊥
+Checks verdict row old new (Err (runs.Rack fault)) = ⊥
+
+-- the check of an audit text, as far as it was read, on the rack that a text describes, or the fault of that text
+abbrev pub RunsCheck : Result RackDescription RackFault → TextRead → Option (List ℕ) → Option (List ℕ) → Result ℕ RunFault → Type 0
+RunsCheck (Ok rack) text old new result = Checks (checked_on rack (octets_read text)) text.row old new result
+RunsCheck (Err fault) text old new result = RefusesRack fault old new result

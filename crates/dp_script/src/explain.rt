@@ -1,87 +1,120 @@
 //! The explanation of an audit text on a rack.
 
-ghost use Rattle.std.specs.Prelude.{◌≡◌, Err, None, All};
+ghost use Rattle.std.specs.Prelude.{◌≡◌, ℕ, List, Result, Err, true, false, [], None, All, IfSome, IsOk, OnOk};
 ghost use Rattle.dp_line.specs.World.{description_of, opening_fault};
 ghost use Rattle.rack_file.specs.RackFile.{rack_in};
 ghost use Rattle.rack_file.specs.Rack.{rack_described};
 ghost use Rattle.dp_audit.specs.Check.{checked};
+ghost use Rattle.dp_audit.specs.declared.fault.AuditFault.{AuditFault as Fault};
 ghost use Rattle.dp_explain.specs.Explained.{explained, verdict_written};
+ghost use Rattle.dp_explain.specs.ExplainedRows.{Decides, Reads};
+ghost use Rattle.dp_explain.specs.TextRows.{Begins, known_text, octets_read};
 ghost use Rattle.dp_script.specs.Checks.{checked_on};
-ghost use Rattle.dp_script.specs.Explanations.{Explains, RunsExplain, explained_on};
+ghost use Rattle.dp_script.specs.Explanations.{DecidesOn, DecidesOnRack, Explains, RunsExplain, explained_on};
 ghost use Rattle.dp_script.specs.Runs.{ReportsText};
 
 use crate::check::{line_named, report_text};
 use crate::run_fault::RunFault;
 use dp_audit::AuditFault;
-use dp_explain::{Choice, ExplainFault, explain_text, set_verdict_by};
+use dp_explain::{Choice, ReadFault, TextRows, explain_rows, readable, set_verdict_by};
 use dp_line::LineSpec;
-use dp_text::{Lines, Text};
+use dp_text::Text;
 use rack_file::laws::accepted_lines_can_be_opened;
 use rack_file::{Rack, RackFault, read_rack};
 use std::alloc::Global;
-use std::io::Write;
+use std::io::{BufRead, Write};
 
 /// Explains an audit text to a person, on the line of the rack that its header names. Writes the chosen entries, up to
 /// the first line of the text that is wrong, a summary of all entries, and then the verdict, as
 /// [`run_check`](crate::run_check) writes it. If the choice is JSON, writes lines of JSON and no summary. Returns the exit
 /// status: 0 if the text is legal, else 1.
 ///
-/// Returns `Rack` if the rack isn't accepted, and then nothing is written. `OutOfMemory` and `WriteFault` leave a
-/// prefix of the output. It never returns `Script`.
-pub fn run_explain<W: Write>(
+/// The rows are read one after another, up to the first wrong one; the first row may have been read before.
+///
+/// Returns `Rack` if the rack isn't accepted, and then nothing is written. `OutOfMemory`, `WriteFault`, `CannotRead` if a
+/// read fails, and `NotText` if the first wrong row is not UTF-8, leave a prefix of the output. It never returns `Script`.
+pub fn run_explain<R: BufRead, W: Write>(
     alloc: Global,
     rack: &str,
-    audit: &str,
+    rows: &mut TextRows<R>,
     choice: &Choice,
     writer: &mut W,
 ) -> Result<u8, RunFault>
-    ensures { RunsExplain (rack_in rack.now) audit.now choice.now (W.contents writer.old) (W.contents writer.new) result }
+    requires { rows.old.text.past ≡ [] }
+    ensures reported { RunsExplain (rack_in rack.now) rows.new.text choice.now (W.contents writer.old) (W.contents writer.new) result }
+    ensures decided { OnOk result (IfSome (known_text rows.old.text (R.remaining rows.old.reader)) (DecidesOn (rack_in rack.now) (octets_read rows.new.text))) }
 {
     accepted_lines_can_be_opened();
     match read_rack(alloc, rack) {
-        Ok(rack) => explain_on(alloc, &rack, audit, choice, writer),
+        Ok(rack) => explain_on(alloc, &rack, rows, choice, writer),
         Err(RackFault::OutOfMemory) => Err(RunFault::OutOfMemory),
         Err(fault) => Err(RunFault::Rack(fault)),
     }
 }
 
 /// Explains an audit text on the line of the rack that its header names. If it names none, its first line is bad.
-fn explain_on<W: Write>(
+fn explain_on<R: BufRead, W: Write>(
     alloc: Global,
     rack: &Rack,
-    audit: &str,
+    rows: &mut TextRows<R>,
     choice: &Choice,
     writer: &mut W,
 ) -> Result<u8, RunFault>
-    requires { All (λ line. opening_fault (description_of line.spec) ≡ None) rack.now.lines.items }
-    ensures { Explains (checked_on (rack_described rack.now) audit.now) (explained_on (rack_described rack.now) audit.now choice.now)
+    requires opens { All (λ line. opening_fault (description_of line.spec) ≡ None) rack.now.lines.items }
+    requires first { rows.old.text.past ≡ [] }
+    ensures explained { Explains (checked_on (rack_described rack.now) (octets_read rows.new.text)) rows.new.text.row (explained_on (rack_described rack.now) (octets_read rows.new.text) choice.now)
         (W.contents writer.old) (W.contents writer.new) result }
+    ensures decided { OnOk result (IfSome (known_text rows.old.text (R.remaining rows.old.reader)) (DecidesOnRack (rack_described rack.now) (octets_read rows.new.text))) }
 {
-    let Some(header) = Lines::new(audit.as_bytes()).next() else {
-        return report_verdict_by(choice, Err(AuditFault::BadLine(1)), writer);
-    };
-    match line_named(&rack.lines, header) {
-        Some(line) => explain_line(alloc, &line.spec, audit, choice, writer),
-        None => report_verdict_by(choice, Err(AuditFault::BadLine(1)), writer),
+    match rows.complete_row() {
+        Ok(_) => {}
+        Err(fault) => return Err(RunFault::of_read(fault)),
+    }
+    match line_named(&rack.lines, rows.row()) {
+        Some(line) => explain_line(alloc, &line.spec, rows, choice, writer),
+        None => report_rows_by(
+            choice,
+            readable(Err(AuditFault::BadLine(1)), rows.row()),
+            writer,
+        ),
     }
 }
 
 /// Explains an audit text on a line.
-fn explain_line<W: Write>(
+fn explain_line<R: BufRead, W: Write>(
     alloc: Global,
     line: &LineSpec,
-    audit: &str,
+    rows: &mut TextRows<R>,
     choice: &Choice,
     writer: &mut W,
 ) -> Result<u8, RunFault>
-    requires { opening_fault (description_of line.now) ≡ None }
-    ensures { Explains (checked (description_of line.now) audit.now) (explained (description_of line.now) audit.now choice.now)
+    requires opens { opening_fault (description_of line.now) ≡ None }
+    requires first { rows.old.text.past ≡ [] }
+    ensures explained { Explains (checked (description_of line.now) (octets_read rows.new.text)) rows.new.text.row (explained (description_of line.now) (octets_read rows.new.text) choice.now)
         (W.contents writer.old) (W.contents writer.new) result }
+    ensures decided { rows.old.text.whole ≡ true → OnOk result (IfSome (known_text rows.old.text (R.remaining rows.old.reader)) (Decides (description_of line.now) (octets_read rows.new.text))) }
+    ensures unread { rows.old.text.whole ≡ false → rows.new.text ≡ rows.old.text }
+    ensures begins { Begins (octets_read rows.old.text) (octets_read rows.new.text) }
 {
-    match explain_text(alloc, line, audit, choice, writer) {
+    match explain_rows(alloc, line, rows, choice, writer) {
         Ok(status) => Ok(status),
-        Err(ExplainFault::OutOfMemory) => Err(RunFault::OutOfMemory),
-        Err(ExplainFault::WriteFault) => Err(RunFault::WriteFault),
+        Err(fault) => Err(RunFault::of_rows(fault)),
+    }
+}
+
+/// Writes a verdict, if it is known, and returns the exit status; or returns why it is not.
+fn report_rows_by<W: Write>(
+    choice: &Choice,
+    verdict: Result<Result<u32, AuditFault>, ReadFault>,
+    writer: &mut W,
+) -> Result<u8, RunFault>
+    ensures reported { (known : Result ℕ Fault) (row : List ℕ) → Reads known row verdict
+        → Explains known row (verdict_written choice.now known) (W.contents writer.old) (W.contents writer.new) result }
+    ensures read { OnOk result (IsOk verdict) }
+{
+    match verdict {
+        Ok(verdict) => report_verdict_by(choice, verdict, writer),
+        Err(fault) => Err(RunFault::of_read(fault)),
     }
 }
 

@@ -1,9 +1,10 @@
 //! Scripts and audit texts on a rack. [`run_text`] runs a script, [`run_check`] checks an audit text, and
-//! [`run_explain`] explains one to a person. All write to any writer. [`split_input`] splits an input into a rack text
-//! and a script.
+//! [`run_explain`] explains one to a person. All write to any writer. An audit text comes row by row from any reader.
+//! [`split_input`] splits an input into a rack text and a script.
 //!
 //! Memory is taken for the rack with its lines, slaves, streams and journals, and for the lines that a check or an
-//! explanation opens. An explanation also takes memory for the rows of an entry and for its line of JSON. No line of a
+//! explanation opens, and one row of the text. An explanation also takes memory for the rows of an entry and for its line
+//! of JSON. No line of a
 //! script and no answer takes memory.
 #![tactic(auto)]
 
@@ -22,7 +23,7 @@ mod script_rack;
 pub mod stream_laws;
 
 pub use check::{line_named, run_check};
-pub use dp_explain::Choice;
+pub use dp_explain::{Choice, TextRows};
 pub use explain::{report_verdict_by, run_explain};
 pub use input::split_input;
 pub use run::run_text;

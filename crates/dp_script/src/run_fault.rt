@@ -6,7 +6,9 @@
 ghost use Rattle.std.specs.Prelude.{◌≡◌, Some};
 ghost use Rattle.dp_script.specs.Codes.{run_fault_code};
 ghost use Rattle.dp_script.specs.FaultTexts.{run_fault_text};
+ghost use Rattle.dp_script.specs.ReadFaults.{run_fault_of_read, run_fault_of_rows};
 
+use dp_explain::{ExplainFault, ReadFault, RowsFault};
 use rack_file::{RackFault, RefusedRack};
 use std::error::Error;
 use std::fmt;
@@ -23,10 +25,14 @@ pub enum RunFault {
     Script(u64),
     /// A write failed, or took no bytes.
     WriteFault,
+    /// A read of the audit text failed. The reader knows the cause.
+    CannotRead,
+    /// The first wrong row of the audit text is not UTF-8.
+    NotText,
 }
 
 impl RunFault {
-    /// Returns the number of the fault, 1 to 4 (own).
+    /// Returns the number of the fault, 1 to 6 (own).
     pub const fn code(self) -> u8
         ensures { result ≡ run_fault_code self }
     {
@@ -35,6 +41,30 @@ impl RunFault {
             RunFault::Rack(_) => 2,
             RunFault::Script(_) => 3,
             RunFault::WriteFault => 4,
+            RunFault::CannotRead => 5,
+            RunFault::NotText => 6,
+        }
+    }
+
+    /// Returns the fault of a run whose read ended so.
+    pub const fn of_read(fault: ReadFault) -> RunFault
+        ensures { result ≡ run_fault_of_read fault }
+    {
+        match fault {
+            ReadFault::OutOfMemory => RunFault::OutOfMemory,
+            ReadFault::CannotRead => RunFault::CannotRead,
+            ReadFault::NotText => RunFault::NotText,
+        }
+    }
+
+    /// Returns the fault of a run whose explanation ended so.
+    pub(crate) const fn of_rows(fault: RowsFault) -> RunFault
+        ensures { result ≡ run_fault_of_rows fault }
+    {
+        match fault {
+            RowsFault::Explain(ExplainFault::OutOfMemory) => RunFault::OutOfMemory,
+            RowsFault::Explain(ExplainFault::WriteFault) => RunFault::WriteFault,
+            RowsFault::Read(fault) => RunFault::of_read(fault),
         }
     }
 }
@@ -51,6 +81,8 @@ impl fmt::Display for RunFault {
             }
             RunFault::Script(line) => write!(f, "script line {line}"),
             RunFault::WriteFault => f.write_str("cannot write"),
+            RunFault::CannotRead => f.write_str("cannot read"),
+            RunFault::NotText => f.write_str("not UTF-8"),
         }
     }
 }

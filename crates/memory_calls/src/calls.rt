@@ -8,7 +8,7 @@ use crate::described::{ANSWERS, AUDIT, RACK, SCRIPT, VERDICT, described};
 use crate::expecting::{Expecting, Written};
 use dp_audit::{AuditFault, Book, check_text};
 use dp_line::{LineSpec, LineState, OpenFault};
-use dp_script::{RunFault, run_check, run_text};
+use dp_script::{RunFault, TextRows, run_check, run_text};
 use dp_shared::{Claims, ClaimsFault, Line};
 use rack_file::{RackFault, read_rack};
 use std::alloc::Global;
@@ -93,7 +93,13 @@ fn script_run(alloc: Global) -> Answer {
 /// Checks the audit text on the rack.
 fn check_run(alloc: Global) -> Answer {
     let written = Written::nothing();
-    match run_check(alloc, RACK, AUDIT, &mut Expecting::new(VERDICT, &written)) {
+    let mut rows = TextRows::new(alloc, AUDIT.as_bytes());
+    match run_check(
+        alloc,
+        RACK,
+        &mut rows,
+        &mut Expecting::new(VERDICT, &written),
+    ) {
         Ok(0) if written.is_whole(VERDICT) => Answer::Whole,
         Err(RunFault::OutOfMemory) => refused(&written),
         _ => Answer::Other,

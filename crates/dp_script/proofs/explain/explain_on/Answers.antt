@@ -1,22 +1,60 @@
-use Rattle.std.proofs.Common.{None, Some, rules}
-use Rattle.dp_script.proofs.Checked.{explained_of_named, found_opens, verdict_of_named}
-use Rattle.dp_script.proofs.Reportings.{bad_line_reported}
+use Rattle.std.proofs.Common.{ℕ, List, None, Some, Err, refl, subst, ◌∙◌, rules}
+use Rattle.dp_audit.specs.declared.fault.AuditFault.TheVariants.{BadLine}
+use Rattle.dp_explain.specs.ExplainedRows.{Reads}
+use Rattle.dp_explain.specs.TextRows.{octets_read}
+use Rattle.dp_script.proofs.Checked.{found_opens}
+use Rattle.dp_script.proofs.FirstRow.{decides_if_ok, explanation_is, first_line, named_by, none_if_ok, only_line, verdict_is}
 use Rattle.dp_script.proofs.explain.explain_on.Goals as goal
 
-pub explain_line-requires : goal.explain_line-requires
-explain_line-requires g c =
-    found_opens c.in-Some.header.now c.args.rack.now.lines.items c.in-Some-line_named.line.now (search rules) c.requires
+pub explain_line-requires-clause-opens : goal.explain_line-requires-clause-opens
+explain_line-requires-clause-opens g c =
+    found_opens c.row.result.now c.args.rack.now.lines.items c.in-Some.line.now (search rules) c.requires.opens
 
-pub returns-in-Some-line_named : goal.returns-in-Some-line_named
-returns-in-Some-line_named g c =
+pub returns-in-Some-clause-explained : goal.returns-in-Some-clause-explained
+returns-in-Some-clause-explained g c =
     let rack = c.args.rack.now in
-    let verdict = verdict_of_named rack.workers rack.lines.items c.args.audit.now c.in-Some.header.now c.next.new.self (Some c.in-Some-line_named.line.now) (search rules) (search rules) in
-    let text = explained_of_named rack.workers rack.lines.items c.args.audit.now c.in-Some.header.now c.next.new.self (Some c.in-Some-line_named.line.now) c.args.choice.now (search rules) (search rules) in
-    rw (verdict, text) c.explain_line.ensures
+    let text = c.complete_row.new.self.text in
+    let new = c.explain_line.new.rows.text in
+    let reads = c.complete_row.ensures.reads in
+    let line = first_line text new (reads.same_past ∙ c.requires.first) reads.no_lf c.explain_line.ensures.begins c.explain_line.ensures.unread in
+    let named = named_by rack.lines.items c.row.result.now text.row (Some c.in-Some.line.now) c.row.ensures.row (search rules) in
+    rw (
+      verdict_is rack.workers rack.lines.items (octets_read new) text.row (Some c.in-Some.line.now) line named,
+      explanation_is rack.workers rack.lines.items (octets_read new) text.row (Some c.in-Some.line.now) c.args.choice.now line named,
+    )
+    c.explain_line.ensures.explained
 
-pub returns-in-None : goal.returns-in-None
-returns-in-None g c =
+pub returns-in-Some-clause-decided : goal.returns-in-Some-clause-decided
+returns-in-Some-clause-decided g c =
     let rack = c.args.rack.now in
-    let verdict = verdict_of_named rack.workers rack.lines.items c.args.audit.now c.in-Some.header.now c.next.new.self None (search rules) (search rules) in
-    let text = explained_of_named rack.workers rack.lines.items c.args.audit.now c.in-Some.header.now c.next.new.self None c.args.choice.now (search rules) (search rules) in
-    rw (verdict, text) (bad_line_reported _ (g.W.Write.contents c.args.writer.now) _ c.report_verdict_by-in-None.result c.report_verdict_by-in-None.ensures.reported)
+    let text = c.complete_row.new.self.text in
+    let new = c.explain_line.new.rows.text in
+    let reads = c.complete_row.ensures.reads in
+    decides_if_ok c.explain_line.result rack.workers rack.lines.items _ _ c.args.rows.now.text text new (Some c.in-Some.line.now)
+    (record { first = reads.same_past ∙ c.requires.first; no_lf = reads.no_lf; kept = c.complete_row.ensures.kept; end = c.in-Ok.ensures.end })
+    (first_line text new (reads.same_past ∙ c.requires.first) reads.no_lf c.explain_line.ensures.begins c.explain_line.ensures.unread)
+    (named_by rack.lines.items c.row.result.now text.row (Some c.in-Some.line.now) c.row.ensures.row (search rules)) c.explain_line.ensures.unread c.explain_line.ensures.decided
+
+pub returns-in-None-clause-explained : goal.returns-in-None-clause-explained
+returns-in-None-clause-explained g c =
+    let rack = c.args.rack.now in
+    let text = c.complete_row.new.self.text in
+    let reads = c.complete_row.ensures.reads in
+    let line = only_line text (reads.same_past ∙ c.requires.first) reads.no_lf in
+    let named = named_by rack.lines.items c.row.result.now text.row None c.row.ensures.row (search rules) in
+    let known = subst (λ (r : List ℕ). Reads (Err (BadLine 1)) r c.readable.result) c.row-in-None.ensures.row c.readable.ensures.verdict in
+    rw (
+      verdict_is rack.workers rack.lines.items (octets_read text) text.row None line named,
+      explanation_is rack.workers rack.lines.items (octets_read text) text.row None c.args.choice.now line named,
+    )
+    (c.report_rows_by.ensures.reported (Err (BadLine 1)) text.row known)
+
+pub returns-in-None-clause-decided : goal.returns-in-None-clause-decided
+returns-in-None-clause-decided g c =
+    let rack = c.args.rack.now in
+    let text = c.complete_row.new.self.text in
+    let reads = c.complete_row.ensures.reads in
+    decides_if_ok c.report_rows_by.result rack.workers rack.lines.items _ _ c.args.rows.now.text text text None
+    (record { first = reads.same_past ∙ c.requires.first; no_lf = reads.no_lf; kept = c.complete_row.ensures.kept; end = c.in-Ok.ensures.end })
+    (only_line text (reads.same_past ∙ c.requires.first) reads.no_lf)
+    (named_by rack.lines.items c.row.result.now text.row None c.row.ensures.row (search rules)) (λ part. refl) (λ whole. none_if_ok c.report_rows_by.result _ (octets_read text))
