@@ -36,6 +36,8 @@ status_of (faults.Run (runs.Rack other)) = 2
 status_of (faults.Run (runs.Script line)) = 2
 status_of (faults.Run runs.OutOfMemory) = 3
 status_of (faults.Run runs.WriteFault) = 4
+status_of (faults.Run runs.CannotRead) = 2
+status_of (faults.Run runs.NotText) = 2
 status_of (faults.Serve fault) = serve_status fault
 
 -- the line on standard error without its LF

@@ -1,28 +1,37 @@
 //! Reports the row of an audit text that is not what the policy gives.
 
+use crate::audit_files::{AuditFiles, rows_of};
 use audit_differences::{Difference, difference_in};
+use dp_explain::ReadFault;
 use dp_script::RunFault;
 use rack_file::read_rack;
 use row_queue::Escaped;
-use std::alloc::Global;
+use std::fs::Files;
+use std::io::Read;
+use std::rt::Runtime;
 
 /// What is reported behind a row that is not what the policy gives.
 const ANOTHER_RACK: &str = "  a check on another rack file than the line's own finds this too";
 
-/// Reports the first row of an audit text that is not what the policy gives on a rack, and what it gives.
-pub(crate) fn note_difference(
-    errors: &impl Eprint,
-    alloc: Global,
+/// Reports the first row of an audit text that is not what the policy gives on a rack, and what it gives. The files of the
+/// text are opened and read again. Nothing is reported if that fails.
+pub(crate) fn note_difference<R: Read + Drop, H: Runtime + AllocGlobal + Files<File = R>>(
+    rt: &H,
     rack: &str,
-    audit: &str,
+    audit: &[&str],
 ) -> Result<(), RunFault> {
-    let Ok(rack) = read_rack(alloc, rack) else {
+    let Ok(rack) = read_rack(rt.alloc(), rack) else {
         return Err(RunFault::OutOfMemory);
     };
-    match difference_in(alloc, &rack, audit) {
-        Ok(Some(difference)) => report_difference(errors, &difference),
+    let Ok(files) = AuditFiles::open(rt, audit) else {
+        return Ok(());
+    };
+    let mut rows = rows_of(files)?;
+    match difference_in(rt.alloc(), &rack, &mut rows) {
+        Ok(Some(difference)) => report_difference(rt, &difference),
         Ok(None) => {}
-        Err(_) => return Err(RunFault::OutOfMemory),
+        Err(ReadFault::OutOfMemory) => return Err(RunFault::OutOfMemory),
+        Err(ReadFault::CannotRead | ReadFault::NotText) => {}
     }
     Ok(())
 }

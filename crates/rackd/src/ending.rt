@@ -79,6 +79,7 @@ pub fn status(fault: Fault<'_>) -> u8
         Fault::CannotConnect(_, _) | Fault::PortEnded(_) => 2,
         Fault::NoSlave(_) | Fault::NoMaster(_) => 2,
         Fault::Run(RunFault::Rack(_) | RunFault::Script(_)) => 2,
+        Fault::Run(RunFault::CannotRead | RunFault::NotText) => 2,
         Fault::Serve(fault) => status_of_serving(fault),
     }
 }

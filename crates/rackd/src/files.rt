@@ -15,24 +15,6 @@ pub(crate) fn read_file<'a>(
     fs::read_to_string(rt, path).map_err(|error| read_fault(error, path))
 }
 
-/// Returns the text of these files, one after another.
-pub(crate) fn read_files<'a>(
-    rt: &(impl Runtime + AllocGlobal),
-    paths: &[&'a str],
-) -> Result<String, Fault<'a>> {
-    let Some((first, others)) = paths.split_first() else {
-        return Ok(String::new(rt.alloc()));
-    };
-    let mut text = read_file(rt, first)?;
-    for path in others {
-        let part = read_file(rt, path)?;
-        if text.push_str(part.as_str()).is_err() {
-            return Err(Fault::Run(RunFault::OutOfMemory));
-        }
-    }
-    Ok(text)
-}
-
 /// Returns the fault of a file that cannot be read, for this reason.
 pub(crate) fn read_fault(error: io::Error, path: &str) -> Fault<'_> {
     match error.kind() {

@@ -1,27 +1,31 @@
 //! Explains an audit text while a rack writes it.
 
+use crate::audit_files::{AuditFiles, FileRows, reported_read, rows_of};
 use crate::ending::Fault;
 use crate::files::read_file;
-use crate::followed_rows::FollowedRows;
 use crate::output::{buffered, reaches_reader};
 use crate::reporting::reported;
 use crate::stations::check_line;
 use crate::texts::{choice_of, note_header};
 use dp_audit::AuditFault;
-use dp_explain::{Choice, ExplainFault, FollowFault, Follower};
+use dp_explain::{Choice, ExplainFault, FollowFault, Follower, TextRows};
 use dp_line::LineSpec;
 use dp_script::{RunFault, line_named, report_verdict_by};
-use rack_file::read_rack;
+use rack_file::{Rack, read_rack};
 use rackd_words::Entries;
 use std::fs::Files;
-use std::io::{Read, Write};
+use std::io::{BufRead, Read, Write};
 use std::process::ExitCode;
 use std::rt::Runtime;
 use std::sync::Wait;
-use std::time::Clock;
+use std::thread;
+use std::time::{Clock, Duration};
 
-/// Explains the audit text of these files on the rack of another. A rack may still be writing the last file: each entry is
-/// explained once its row is there. It ends at the first wrong row with the row of a check, or when nobody reads standard
+/// How long it waits at the end of the text before it reads on, in milliseconds.
+const READ_INTERVAL_MS: u64 = 100;
+
+/// Explains the audit text of these files on the rack of another. A rack may still be writing the last file, or a later part
+/// of the same text: each entry is explained once its row is there. It ends at the first wrong row with the row of a check, or when nobody reads standard
 /// output any more.
 pub(crate) fn follow_files<'a, H: Runtime + AllocGlobal + Wait + Clock>(
     rt: &H,
@@ -34,42 +38,49 @@ pub(crate) fn follow_files<'a, H: Runtime + AllocGlobal + Wait + Clock>(
     reported(rt, rt.alloc(), rack.as_str(), followed)
 }
 
-/// Follows a text on the line of the rack that its first row names.
+/// Follows the text of these files on a rack.
 fn follow_on<'a, H: Runtime + AllocGlobal + Wait + Clock>(
     rt: &H,
     rack: &str,
     audit: &[&'a str],
     entries: Entries,
 ) -> Result<ExitCode, Fault<'a>> {
+    let files = AuditFiles::open(rt, audit)?;
     let rack = match read_rack(rt.alloc(), rack) {
         Ok(rack) => rack,
         Err(fault) => return Err(Fault::Run(RunFault::Rack(fault))),
     };
-    let mut rows = FollowedRows::open(rt, audit)?;
+    let mut rows = rows_of(files.followed())?;
+    let followed = follow_rows(rt, &rack, entries, &mut rows);
+    reported_read(rt, &rows, followed)
+}
+
+/// Follows a text on the line of the rack that its first row names.
+fn follow_rows<'a, H: Runtime + AllocGlobal + Files<File = R> + Wait + Clock, R: Read + Drop>(
+    rt: &H,
+    rack: &Rack,
+    entries: Entries,
+    rows: &mut FileRows<'_, '_, '_, H, R>,
+) -> Result<ExitCode, Fault<'a>> {
     let mut output = buffered(rt, rt.alloc())?;
-    if !rows.read(rt, &mut output)? {
+    if !read_next(rt, rows, &mut output)? {
         return Ok(ExitCode::SUCCESS);
     }
     let choice = choice_of(entries);
     match line_named(&rack.lines, rows.row()) {
         Some(line) => {
             check_line(&line.spec, entries)?;
-            follow_line(rt, &line.spec, &mut rows, &choice, &mut output)
+            follow_line(rt, &line.spec, rows, &choice, &mut output)
         }
         None => end_at_header(rt, rows.row(), &choice, &mut output),
     }
 }
 
 /// Follows a text on its line, behind its header.
-fn follow_line<
-    'a,
-    R: Read + Drop,
-    H: Runtime + AllocGlobal + Files<File = R> + Wait + Clock,
-    W: Write,
->(
+fn follow_line<'a, H: Runtime + AllocGlobal + Wait + Clock, R: BufRead, W: Write>(
     rt: &H,
     line: &LineSpec,
-    rows: &mut FollowedRows<'a, '_, R>,
+    rows: &mut TextRows<R>,
     choice: &Choice,
     output: &mut W,
 ) -> Result<ExitCode, Fault<'a>> {
@@ -84,7 +95,7 @@ fn follow_line<
         return Err(Fault::Run(RunFault::OutOfMemory));
     };
     for _ in rt.forever() {
-        if !rows.read(rt, output)? {
+        if !read_next(rt, rows, output)? {
             return Ok(ExitCode::SUCCESS);
         }
         match follower.take_row(rows.row(), choice, output) {
@@ -92,6 +103,27 @@ fn follow_line<
             Err(FollowFault::Wrong(fault)) => return end_at(fault, choice, output),
             Err(FollowFault::Explain(fault)) => return end_early(fault, output),
         }
+    }
+    unreachable!()
+}
+
+/// Reads the next row. At the end of the text it writes out what was written to `output`, and waits for more of the text.
+/// Returns whether there is a row: there is none if standard output has no reader any more.
+fn read_next<H: Wait + Clock, R: BufRead, W: Write>(
+    rt: &H,
+    rows: &mut TextRows<R>,
+    output: &mut W,
+) -> Result<bool, RunFault> {
+    for _ in rt.forever() {
+        match rows.read_row() {
+            Ok(true) => return Ok(true),
+            Ok(false) => {}
+            Err(fault) => return Err(RunFault::of_read(fault)),
+        }
+        if !reaches_reader(output)? {
+            return Ok(false);
+        }
+        thread::sleep(rt, Duration::from_millis(READ_INTERVAL_MS));
     }
     unreachable!()
 }

@@ -8,13 +8,15 @@
 #![tactic(auto)]
 
 mod answers;
+mod audit_files;
 mod differences;
 mod ending;
 mod files;
 mod follow;
-mod followed_rows;
 mod missing_port;
+mod next_part;
 mod output;
+mod progress;
 mod rack_cause;
 mod reporting;
 mod script_form;
@@ -30,7 +32,7 @@ use log::{Level, Log, Logged, info};
 use operator_client::{Operation, operate};
 use output::{buffered, flushed};
 use rack_server::{Host, Served, serve_text};
-use rackd_words::{Invocation, Service, read_words, words_of};
+use rackd_words::{Entries, Invocation, Service, read_words, words_of};
 use reporting::{ended, report, reported};
 use row_queue::{RowQueue, Written};
 use std::alloc::Global;
@@ -64,7 +66,8 @@ fn main(rt: HostRuntime) -> ExitCode {
         }
         Ok(Invocation::Run { rack, script }) => ended(&rt, run_files(&rt, rack, script)),
         Ok(Invocation::Check { rack, audit }) => {
-            ended(&rt, check_files(&rt, rack, audit.as_slice()))
+            let shows = rt.stderr().is_terminal();
+            ended(&rt, check_files(&rt, rack, audit.as_slice(), shows))
         }
         Ok(
             Invocation::Explain {
@@ -77,7 +80,12 @@ fn main(rt: HostRuntime) -> ExitCode {
             if follows {
                 ended(&rt, follow_files(&rt, rack, audit.as_slice(), entries))
             } else {
-                ended(&rt, explain_files(&rt, rack, audit.as_slice(), entries))
+                let terminals = (rt.stdout().is_terminal(), rt.stderr().is_terminal());
+                let shows = shows_progress(terminals, entries);
+                ended(
+                    &rt,
+                    explain_files(&rt, rack, audit.as_slice(), entries, shows),
+                )
             }
         }
         Ok(Invocation::Serve { rack, service }) => match before_serving(&rt, rack) {
@@ -104,6 +112,12 @@ fn hint(errors: &impl Eprint, is_terminal: bool) {
     if is_terminal {
         let _ = errors.eprintln(HINT);
     }
+}
+
+/// Returns whether the progress of an explanation is shown, by whether standard output and standard error are terminals. What
+/// is explained shows the progress itself if both are.
+fn shows_progress((output, errors): (bool, bool), entries: Entries) -> bool {
+    errors && (entries.only_summary || !output)
 }
 
 /// Reads the rack file, and starts the queue of rows for standard error. With the queue, serving never waits until

@@ -7,26 +7,23 @@ use rack_file::{RackFault, read_rack};
 use rackd_words::Entries;
 use std::alloc::Global;
 
-/// Returns a fault if the line that the header of an audit text names lacks the slave or the master whose entries are asked
-/// for. A rack that is not accepted, and a text that names no line of it, are left to the explanation.
+/// Returns a fault if the line that this header of an audit text names lacks the slave or the master whose entries are asked
+/// for. A rack that is not accepted, and a header that names no line of it, are left to the explanation.
 pub(crate) fn check_stations<'a>(
     alloc: Global,
     rack: &str,
-    audit: &str,
+    header: &[u8],
     entries: Entries,
 ) -> Result<(), Fault<'a>> {
     if entries.slave.is_none() && entries.master.is_none() {
         return Ok(());
     }
-    let Some((header, _)) = audit.split_once('\n') else {
-        return Ok(());
-    };
     let rack = match read_rack(alloc, rack) {
         Ok(rack) => rack,
         Err(RackFault::OutOfMemory) => return Err(Fault::Run(RunFault::OutOfMemory)),
         Err(_) => return Ok(()),
     };
-    match line_named(&rack.lines, header.as_bytes()) {
+    match line_named(&rack.lines, header) {
         Some(line) => check_line(&line.spec, entries),
         None => Ok(()),
     }

@@ -1,15 +1,20 @@
 //! Runs scripts, and checks and explains audit texts.
 
+ghost use Rattle.std.specs.Prelude.{◌≡◌, []};
+
+use crate::audit_files::{FileRows, open_rows, reported_read};
 use crate::differences::note_difference;
 use crate::ending::Fault;
-use crate::files::{read_fault, read_file, read_files};
+use crate::files::{read_fault, read_file};
 use crate::output::{buffered, flushed, has_reader};
 use crate::reporting::{report, reported};
 use crate::script_form::form_in;
 use crate::stations::check_stations;
+use dp_explain::TextRows;
 use dp_script::{Choice, RunFault, run_check, run_explain, run_text, split_input};
 use rackd_words::Entries;
-use std::io;
+use std::fs::Files;
+use std::io::{self, BufRead, Read};
 use std::process::ExitCode;
 use std::rt::Runtime;
 
@@ -40,29 +45,41 @@ pub(crate) fn run_files<'a>(
     reported(rt, rt.alloc(), rack.as_str(), ran)
 }
 
-/// Checks the audit text of these files on the rack of another.
-pub(crate) fn check_files<'a>(
-    rt: &(impl Runtime + AllocGlobal),
+/// Checks the audit text of these files on the rack of another. `shows` is whether the progress of a long text is shown.
+pub(crate) fn check_files<'a, H: Runtime + AllocGlobal>(
+    rt: &H,
     rack: &'a str,
     audit: &[&'a str],
+    shows: bool,
 ) -> Result<ExitCode, Fault<'a>> {
     let rack = read_file(rt, rack)?;
-    let audit = read_files(rt, audit)?;
-    let checked = check_out(rt, rack.as_str(), audit.as_str());
-    reported(rt, rt.alloc(), rack.as_str(), checked)
+    let mut rows = open_rows(rt, audit, shows)?;
+    let checked = check_out(rt, rack.as_str(), audit, &mut rows);
+    reported(
+        rt,
+        rt.alloc(),
+        rack.as_str(),
+        reported_read(rt, &rows, checked),
+    )
 }
 
-/// Explains the audit text of these files on the rack of another.
-pub(crate) fn explain_files<'a>(
-    rt: &(impl Runtime + AllocGlobal),
+/// Explains the audit text of these files on the rack of another. `shows` is whether the progress of a long text is shown.
+pub(crate) fn explain_files<'a, H: Runtime + AllocGlobal>(
+    rt: &H,
     rack: &'a str,
     audit: &[&'a str],
     entries: Entries,
+    shows: bool,
 ) -> Result<ExitCode, Fault<'a>> {
     let rack = read_file(rt, rack)?;
-    let audit = read_files(rt, audit)?;
-    let explained = explain_out(rt, rack.as_str(), audit.as_str(), entries);
-    reported(rt, rt.alloc(), rack.as_str(), explained)
+    let mut rows = open_rows(rt, audit, shows)?;
+    let explained = explain_out(rt, rack.as_str(), entries, &mut rows);
+    reported(
+        rt,
+        rt.alloc(),
+        rack.as_str(),
+        reported_read(rt, &rows, explained),
+    )
 }
 
 /// Returns the exit status of a script. If one of its lines is not accepted, reports this here, with the form of its command
@@ -94,37 +111,63 @@ fn run_out<'a>(
 }
 
 /// Checks an audit text on a rack, and writes the result on standard output.
-fn check_out<'a>(
-    rt: &(impl Runtime + AllocGlobal),
+fn check_out<'a, H: Runtime + AllocGlobal + Files<File = R>, R: Read + Drop>(
+    rt: &H,
     rack: &str,
-    audit: &str,
-) -> Result<ExitCode, Fault<'a>> {
+    audit: &[&'a str],
+    rows: &mut FileRows<'_, '_, '_, H, R>,
+) -> Result<ExitCode, Fault<'a>>
+    requires { rows.old.text.past ≡ [] }
+{
+    let is_headless = lacks_header(rows)?;
     let mut output = buffered(rt, rt.alloc())?;
-    let checked = run_check(rt.alloc(), rack, audit, &mut output);
+    let checked = run_check(rt.alloc(), rack, rows, &mut output);
+    rows.reader().get_ref().clear_progress();
     flushed(output)?;
     let status = checked?;
     if status != 0 {
-        note_difference(rt, rt.alloc(), rack, audit)?;
+        note_difference(rt, rack, audit)?;
     }
-    Ok(noted_header(rt, audit, status))
+    Ok(noted_header(rt, is_headless, status))
 }
 
 /// Explains an audit text on a rack, and writes the explanation on standard output. If its reader ends before, the rest is
 /// not written, and that is no fault.
-fn explain_out<'a>(
-    rt: &(impl Runtime + AllocGlobal),
+fn explain_out<'a, H: Runtime + AllocGlobal + Files<File = R>, R: Read + Drop>(
+    rt: &H,
     rack: &str,
-    audit: &str,
     entries: Entries,
-) -> Result<ExitCode, Fault<'a>> {
-    check_stations(rt.alloc(), rack, audit, entries)?;
+    rows: &mut FileRows<'_, '_, '_, H, R>,
+) -> Result<ExitCode, Fault<'a>>
+    requires { rows.old.text.past ≡ [] }
+{
+    let is_headless = lacks_header(rows)?;
+    if rows.is_whole() {
+        check_stations(rt.alloc(), rack, rows.row(), entries)?;
+    }
     let choice = choice_of(entries);
     let mut output = buffered(rt, rt.alloc())?;
-    let explained = run_explain(rt.alloc(), rack, audit, &choice, &mut output);
+    let explained = run_explain(rt.alloc(), rack, rows, &choice, &mut output);
+    rows.reader().get_ref().clear_progress();
     if !has_reader(output)? {
         return Ok(ExitCode::SUCCESS);
     }
-    Ok(noted_header(rt, audit, explained?))
+    Ok(noted_header(rt, is_headless, explained?))
+}
+
+/// Reads the first row of a text. Returns whether no audit text begins so.
+fn lacks_header<R: BufRead>(rows: &mut TextRows<R>) -> Result<bool, RunFault>
+    ensures { rows.new.text.past ≡ rows.old.text.past }
+{
+    match rows.complete_row() {
+        Ok(whole) => Ok(!begins_header(rows.row(), whole)),
+        Err(fault) => Err(RunFault::of_read(fault)),
+    }
+}
+
+/// Returns whether an audit text may begin with this row. If the row is not whole, it may end within the header.
+fn begins_header(row: &[u8], whole: bool) -> bool {
+    row.starts_with(HEADER.as_bytes()) || !whole && HEADER.as_bytes().starts_with(row)
 }
 
 /// Returns the entries that the words choose.
@@ -141,11 +184,10 @@ pub(crate) fn choice_of(entries: Entries) -> Choice {
     }
 }
 
-/// Returns the exit status of an audit text. If the text does not begin as an audit text, reports that.
-fn noted_header(rt: &impl Eprint, audit: &str, status: u8) -> ExitCode {
-    // A text that ends within its header is reported on standard output only.
-    if status != 0 && !HEADER.starts_with(audit) {
-        note_header(rt, audit.as_bytes());
+/// Returns the exit status of an audit text. If the text is not legal and lacks a header, reports that.
+fn noted_header(rt: &impl Eprint, is_headless: bool, status: u8) -> ExitCode {
+    if status != 0 && is_headless {
+        let _ = rt.eprintln(NO_HEADER);
     }
     ExitCode::from(status)
 }
