@@ -139,6 +139,72 @@ def text_in_parts(program, folder):
         followed.expect(entries)
 
 
+def new_part(folder, number, octets):
+    """Writes a part of the text of line 1."""
+    with open(os.path.join(folder, f"line-1-1.{number:06}.audit"), "wb") as file:
+        file.write(octets)
+
+
+def later_parts(program, folder):
+    """A part that appears is followed behind the end of the part before it, and a row may be cut by that end."""
+    rack, rows, entries = day()
+    with Followed(program, folder, rack, files=("line-1-1.000009.audit",)) as followed:
+        cut = len(rows[8]) // 2
+        followed.write(b"".join(rows[:8]) + rows[8][:cut])
+        followed.expect(first_blocks(entries, 7))
+        followed.expect_nothing_more(first_blocks(entries, 7))
+        new_part(folder, 10, rows[8][cut:] + rows[9])
+        followed.expect(first_blocks(entries, 9))
+        # three parts at once; one of them has no rows yet
+        new_part(folder, 11, rows[10])
+        new_part(folder, 12, b"")
+        new_part(folder, 13, b"".join(rows[11:]))
+        followed.expect(entries)
+
+
+def part_that_grows(program, folder):
+    """What was written to a part last comes before what is in the next one."""
+    rack, rows, entries = day()
+    for turn in range(20):
+        inner = os.path.join(folder, str(turn))
+        os.mkdir(inner)
+        with Followed(program, inner, rack, files=("line-1-1.999999.audit",)) as followed:
+            followed.write(b"".join(rows[:8]))
+            followed.expect(first_blocks(entries, 7))
+            time.sleep(turn * 0.01)
+            followed.write(rows[8])
+            new_part(inner, 1000000, b"".join(rows[9:]))
+            followed.expect(entries)
+
+
+def no_later_part(program, folder):
+    """A file that is not the next part of the same text is not read."""
+    rack, rows, entries = day()
+    for name in ("line-1-1.audit", "line-1-1.00001.audit", "line-1-1.0000001.audit", "line-1-1.000000.text", "line-1.000001.audit",
+                 "text-1-1.000001.audit", "line-1-1.000001x.audit", "line-1-2.000001.audit", "line-x-1.000001.audit"):
+        inner = os.path.join(folder, name)
+        os.mkdir(inner)
+        with Followed(program, inner, rack, files=(name,)) as followed:
+            followed.write(b"".join(rows[:8]))
+            followed.expect(first_blocks(entries, 7))
+            new_part(inner, 2, b"".join(rows[8:]))
+            for other in ("line-1.000002.audit", "text-1-1.000002.audit", "line-x-1.000002.audit"):
+                with open(os.path.join(inner, other), "wb") as file:
+                    file.write(b"".join(rows[8:]))
+            followed.expect_nothing_more(first_blocks(entries, 7))
+
+
+def later_part_is_no_file(program, folder):
+    """A later part that can't be read is refused with its path."""
+    rack, rows, entries = day()
+    with Followed(program, folder, rack, files=("line-1-1.000001.audit",)) as followed:
+        followed.write(b"".join(rows[:8]))
+        followed.expect(first_blocks(entries, 7))
+        part = os.path.join(folder, "line-1-1.000002.audit")
+        os.mkdir(part)
+        followed.ends(first_blocks(entries, 7), 2, b"rackd: cannot read " + part.encode() + b"\n  a folder\n")
+
+
 def wrong_row(program, folder):
     """A row that is not what the policy gives ends it, and so does one that is badly formed."""
     rack, rows, entries = day()
@@ -328,8 +394,9 @@ def wait_for(path, words):
     raise Wrong(f"no {words} comes behind {read(path)}")
 
 
-CASES = (row_in_pieces, rows_after_a_pause, text_in_parts, wrong_row, row_behind_a_wrong_row, no_header, missing_station,
-         missing_file, reader_goes, chosen_entries, stored_texts, lines_of_json, memory_stays, rack_that_is_served)
+CASES = (row_in_pieces, rows_after_a_pause, text_in_parts, later_parts, part_that_grows, no_later_part, later_part_is_no_file,
+         wrong_row, row_behind_a_wrong_row, no_header, missing_station, missing_file, reader_goes, chosen_entries, stored_texts,
+         lines_of_json, memory_stays, rack_that_is_served)
 
 
 def main(words):
