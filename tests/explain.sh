@@ -49,8 +49,8 @@ audit_of() {
   if [ ! -f "$audit" ]; then audit=${1%-*}.audit; fi
 }
 
-# told NAME: explains the audit text of a case with its options, and compares
-told() {
+# explained NAME: explains the audit text of a case with its options, and compares
+explained() {
   local output='' error='' options=() verdict ending audit status
   load output "$1.out"
   if [ -f "$1.err" ]; then load error "$1.err"; fi
@@ -102,10 +102,10 @@ read_all_in_json() {
   read_lines "$work"/json/*
 }
 
-# tell_all: each case by the program
-tell_all() {
+# explain_all: each case by the program
+explain_all() {
   local name
-  names out; for name in "${names[@]}"; do told "$name"; done
+  names out; for name in "${names[@]}"; do explained "$name"; done
   names audit; for name in "${names[@]}"; do checked "$name"; done
   read_all_in_json
 }
@@ -136,7 +136,7 @@ compare_expected() {
   if [[ $agreed == *' agree, 0 differ' ]]; then passed=$((passed + 1)); else fail "$stored/explainer.py" "$agreed"; fi
 }
 
-by_each tell_all "$@"
+by_each explain_all "$@"
 find_strays
 compare_expected
 read_lines "$stored"/*/*-json*.out

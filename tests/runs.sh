@@ -9,18 +9,18 @@ top=$(cd "$(dirname "$0")/.." && pwd)
 stored=$top/tests/runs
 . "$top/tests/stored.sh"
 said=''
-told=''
+reported=''
 
-# run WORD..: runs the program with these words; how it ended is in $status, $said and $told
+# run WORD..: runs the program with these words; how it ended is in $status, $said and $reported
 run() {
   "$program" "$@" </dev/null >"$work/out" 2>"$work/err"
   status=$?
   load said "$work/out"
-  load told "$work/err"
+  load reported "$work/err"
 }
 
 # is_as STATUS OUTPUT ERROR: whether the last run ended so
-is_as() { [ "$status" = "$1" ] && [ "$said" = "$2" ] && [ "$told" = "$3" ]; }
+is_as() { [ "$status" = "$1" ] && [ "$said" = "$2" ] && [ "$reported" = "$3" ]; }
 
 # expect NAME STATUS OUTPUT ERROR: counts a case by whether the last run ended so
 expect() {
