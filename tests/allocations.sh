@@ -90,6 +90,7 @@ rack 1 1 1 >"$work/rack"
 printf 'm 100 68 05 05 68 81 E4 6D 3C 3E 4C 16\njournal\n' >"$work/script"
 printf 'rack-audit 2 line 1\n' >"$work/audit"
 printf 'rack-audit 2 line 1\n1 tick 1 | none | done\n' >"$work/other"
+printf 'rack-audit 2 line 1\n1 tick 1 | none | done\n' >"$work/other"
 { rack 1 1 1 | sed 's/^capacity = 1000/capacity = 1/'; } >"$work/one-place"
 
 sweep 'help' 4 /dev/null --help
@@ -182,6 +183,7 @@ else
   in_turn 'a rack whose culprit is named' "$work/one-place"
   in_turn 'an explanation' /dev/null explain "$work/rack" "$work/audit"
   in_turn 'an explanation of a slave' /dev/null explain "$work/rack" "$work/audit" --slave 1
+  in_turn 'an entry as a line of JSON' /dev/null explain "$work/rack" "$work/entry" --json
   in_turn 'a text that is followed' /dev/null explain "$work/rack" "$work/other" --follow
   mapfile -t knocked < <("$top/tests/serve_client.py" ports 2)
   sed "s/^number = 1$/&\nlisten = ${knocked[0]}\noperator = ${knocked[1]}/" "$work/rack" >"$work/served"

@@ -5,7 +5,7 @@ usage: long_client.py CASE PROGRAM FOLDER
 
 CASE is a function of this file, in the list CASES at its end. What the case needs is written to FOLDER, which is there and
 empty. If the case holds, nothing or one row is written, and the status is 0; otherwise it is reported what does not hold, and
-the status is 1.
+the status is 1. ENTRIES in the environment is how many entries a long text has.
 """
 import os
 import pty
@@ -23,11 +23,11 @@ from trail_client import Wrong, expect, hold
 TOP = os.path.dirname(os.path.dirname(os.path.abspath(__file__)))
 DAY = os.path.join(TOP, "examples", "day-of-a-line")
 # Seconds that anything is waited for.
-PATIENCE = 40
+PATIENCE = 120
 # Entries of a short and of a long text, and the KiB by which the most memory of the two may differ.
-SHORT, LONG, SLACK = 2_000, 200_000, 1024
-# Entries of a text whose progress is shown, and the seconds for which its check is stopped meanwhile.
-SHOWN, STOPPED = 400_000, 2.6
+SHORT, LONG, SLACK = 2_000, int(os.environ.get("ENTRIES", "200000")), 1024
+# Entries of a text whose progress is shown, and the seconds for which the call is stopped meanwhile.
+SHOWN, STOPPED = LONG // 4, 2.6
 # What is shown of the progress, and what clears it.
 PROGRESS = re.compile(rb"\r  ([0-9]+) %, ([0-9]+) entries a second ")
 CLEARED = re.compile(rb"\r +\r$")
@@ -145,7 +145,7 @@ def many_files(program, folder):
     def few():
         resource.setrlimit(resource.RLIMIT_NOFILE, (64, 64))
 
-    for words, last in ((("check",), b"legal 300"), (("explain", "--summary"), b"legal 300")):
+    for words, last in ((("check",), b"legal 300"), (("explain",), b"legal 300")):
         done = ran(program, words[0], rack, *parts, *words[1:], preexec_fn=few)
         expect("the status and standard error", (0, b""), (done.returncode, done.stderr))
         expect("the verdict", last, done.stdout.splitlines()[-1])
@@ -155,12 +155,28 @@ def many_files(program, folder):
         hold("another file is missing", done.stderr.startswith(b"rackd: cannot read " + folder.encode() + b"/none\n"))
 
 
-def stopped(program, words, output, error):
-    """Stops a call for a while in the middle of its text, and returns its status."""
+def has_begun(process, text):
+    """Waits until a process has read from a file."""
+    end = time.monotonic() + PATIENCE
+    while time.monotonic() < end and process.poll() is None:
+        folder = f"/proc/{process.pid}"
+        for name in os.listdir(folder + "/fd"):
+            try:
+                is_text = os.readlink(f"{folder}/fd/{name}") == text
+                with open(f"{folder}/fdinfo/{name}", encoding="ascii") as file:
+                    position = int(file.readline().split()[1])
+            except OSError:
+                continue
+            if is_text and position > 0:
+                return
+    raise Wrong("it does not begin to read, or has ended before it was stopped")
+
+
+def stopped(program, words, text, output, error):
+    """Stops a call for a while in the middle of this text, and returns its status."""
     with subprocess.Popen([program, *words], stdin=subprocess.DEVNULL, stdout=output, stderr=error) as process:
-        time.sleep(0.05)
+        has_begun(process, text)
         process.send_signal(signal.SIGSTOP)
-        hold("it has ended before it was stopped", process.poll() is None)
         time.sleep(STOPPED)
         process.send_signal(signal.SIGCONT)
         return process.wait(PATIENCE)
@@ -210,7 +226,7 @@ def progress_of(program, folder, *words, both=False):
     if not os.path.exists(text):
         written(folder, "text", ticks(SHOWN))
     with Terminal() as terminal, open(os.path.join(folder, "output"), "wb") as output:
-        status = stopped(program, [words[0], rack, text, *words[1:]], terminal.there if both else output, terminal.there)
+        status = stopped(program, [words[0], rack, text, *words[1:]], text, terminal.there if both else output, terminal.there)
     with open(os.path.join(folder, "output"), "rb") as file:
         return status, file.read(), terminal.seen
 
@@ -243,7 +259,7 @@ def no_progress(program, folder):
     rack = rack_in(folder)
     text = written(folder, "text", ticks(SHOWN))
     with open(os.path.join(folder, "output"), "wb") as output, open(os.path.join(folder, "error"), "wb") as error:
-        expect("the status", 0, stopped(program, ["check", rack, text], output, error))
+        expect("the status", 0, stopped(program, ["check", rack, text], text, output, error))
     with open(os.path.join(folder, "error"), "rb") as file:
         expect("standard error", b"", file.read())
     short = written(folder, "short", ticks(SHORT))
