@@ -1140,6 +1140,14 @@ def ways_of_control(ways: List[str]) -> List[str]:
     return [NONE_SELECTED] * len(ways) if set(ways) == {NOT_SELECTED} else ways
 
 
+def first_fault(addresses: List[int], ways: List[str]) -> str:
+    """Returns the first fault among the ways in which slaves answered a Global_Control, with its slave."""
+    for address, way in zip(addresses, ways):
+        if way in FAULTS:
+            return f'; {way}' if way == NONE_SELECTED else f'; {way} at slave {address}'
+    return ''
+
+
 # ---------------------------------------------------------------------------------------------------------------------
 # Kinds, rows and replies in words
 # ---------------------------------------------------------------------------------------------------------------------
@@ -1466,16 +1474,18 @@ class Line:
         if not slaves:
             entry.ways = [TO_NO_SLAVE]
             entry.rows.append(('result', f'spread: master {master} holds no slave.'))
-        else:
-            entry.rows.append(('result', f'spread over the slaves of master {master}:'))
-        entry.outcome = 'spread'
+        entry.outcome, answers = 'spread', []
         for slave in slaves:
             rule, words = control(slave, master, frame, parts)
             entry.outcome += f' {slave.address}:{rule}'
             entry.ways.append(way_of_control(slave, rule, parts.payload))
             entry.named.append(slave.address)
-            entry.rows.append((f'slave {slave.address}', words))
+            answers.append((f'slave {slave.address}', words))
         entry.ways = ways_of_control(entry.ways)
+        if slaves:
+            fault = first_fault(entry.named, entry.ways)
+            entry.rows.append(('result', f'spread over the slaves of master {master}{fault}:'))
+        entry.rows += answers
 
     def ask(self, entry: Entry, event: Request, frame: Telegram, slave: Slave) -> None:
         """Answers a request to one slave."""

@@ -35,7 +35,8 @@ use Rattle.dp_sentences.specs.declared.notes.Noted.{Noted}
 use Rattle.dp_sentences.specs.Notes.{has_octets, note_of, notes_after}
 use Rattle.dp_sentences.specs.Releases.{release_of}
 use Rattle.dp_sentences.specs.Refusals.{repeat_text}
-use Rattle.dp_sentences.specs.Results.{result_row, result_rows, shown_at, reported_of_parts, reported_of_telegram, reported_where_known}
+use Rattle.dp_sentences.specs.Results.{result_row, result_rows, reported_of_parts, reported_of_telegram, reported_where_known}
+use Rattle.dp_sentences.specs.Shown.{shown_at}
 use Rattle.dp_sentences.specs.Scenes.{AskedView, SceneView}
 use Rattle.dp_explain.specs.JournalReported.{known_behind_entries, known_behind_entry}
 use Rattle.dp_explain.specs.Known.{KnownView, first_known}

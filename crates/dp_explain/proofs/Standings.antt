@@ -41,7 +41,7 @@ use Rattle.dp_audit.specs.EventWays.{Way}
 use Rattle.dp_audit.specs.Legal.{Follows, IsLegal, after_entries, after_entry}
 use Rattle.dp_sentences.specs.declared.who.Whom.TheVariants.{Slave, AllSlaves}
 use Rattle.dp_sentences.specs.Heads.{whom_of_frame}
-use Rattle.dp_sentences.specs.Results.{shown_at}
+use Rattle.dp_sentences.specs.Shown.{shown_at}
 use Rattle.dp_sentences.specs.Changes.{asked_addresses, change_of, change_row, changed_row, same_holder, same_state, touched}
 use Rattle.dp_explain.specs.Holds.{ended_at, hold_ended}
 use Rattle.dp_explain.specs.Standing.{standing_at}

@@ -10,7 +10,7 @@ use Rattle.dp_line.specs.World.{World}
 use Rattle.dp_sentences.specs.declared.ending.Ending.{Ending}
 use Rattle.dp_sentences.specs.declared.ending.Ending.TheVariants as endings
 use Rattle.dp_sentences.specs.Words.{at_left}
-use Rattle.dp_sentences.specs.Results.{shown_at}
+use Rattle.dp_sentences.specs.Shown.{shown_at}
 use Rattle.dp_sentences.specs.Changes.{same_holder, touched}
 use Rattle.dp_sentences.specs.Endings.{ending_by, ending_text}
 

@@ -23,7 +23,7 @@ use Rattle.dp_sentences.specs.declared.way.Answered.{Answered}
 use Rattle.dp_sentences.specs.declared.way.Answered.TheVariants as ways
 use Rattle.dp_sentences.specs.Changes.{same_holder, touched}
 use Rattle.dp_sentences.specs.Endings.{ending_by}
-use Rattle.dp_sentences.specs.Results.{shown_at}
+use Rattle.dp_sentences.specs.Shown.{shown_at}
 use Rattle.dp_sentences.specs.Scenes.{SceneView}
 use Rattle.dp_sentences.specs.Times.{time_after}
 use Rattle.dp_sentences.specs.Ways.{answered_as}

@@ -2,7 +2,7 @@
 
 ghost use Rattle.std.specs.Prelude.{◌≡◌};
 ghost use Rattle.dp_sentences.specs.Changes.{asked_addresses, let_go, touched};
-ghost use Rattle.dp_sentences.specs.Results.{shown_at};
+ghost use Rattle.dp_sentences.specs.Shown.{shown_at};
 ghost use Rattle.dp_explain.specs.Statistics.{moment, began_at, hold_counted, hold_begun, change_counted, changes_counted, lasting_counted, all_lasting_counted};
 
 use crate::statistics::{AddressCounts, Count, Item, count_at, count_at_both};

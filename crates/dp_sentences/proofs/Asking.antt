@@ -12,7 +12,8 @@ use Rattle.dp_sentences.specs.Notes.{note_of}
 use Rattle.dp_sentences.specs.Releases.{release_of}
 use Rattle.dp_sentences.specs.Scenes.{AskedView, SceneView}
 use Rattle.dp_sentences.specs.Sentences.{slave_text}
-use Rattle.dp_sentences.specs.Results.{reported_of_parts, reported_of_slave, shown_at}
+use Rattle.dp_sentences.specs.Results.{reported_of_parts, reported_of_slave}
+use Rattle.dp_sentences.specs.Shown.{shown_at}
 
 pub parts_reported : (scene : SceneView) (master : ℕ) (octets : List ℕ) (silent : Bool) (rule : Rule) (telegram : Telegram) (parts : Parts) (address : ℕ) → address ≡ address_of telegram.da → Some parts ≡ parts_of telegram
     → reported_of_slave scene (record { master = master; octets = octets; telegram = telegram; parts = parts }) address silent rule ≡ reported_of_parts scene master octets silent rule telegram (parts_of telegram)

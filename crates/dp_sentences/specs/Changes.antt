@@ -15,7 +15,7 @@ use Rattle.dp_sentences.specs.declared.who.Whom.{Whom}
 use Rattle.dp_sentences.specs.declared.who.Whom.TheVariants.{Slave, AllSlaves, Station, Nobody}
 use Rattle.dp_sentences.specs.Heads.{whom_of_frame}
 use Rattle.dp_sentences.specs.Words.{holder_words, state_words}
-use Rattle.dp_sentences.specs.Results.{shown_at}
+use Rattle.dp_sentences.specs.Shown.{shown_at}
 
 abbrev pub same_state : State → State → Bool
 same_state WaitPrm WaitPrm = true

@@ -7,7 +7,7 @@ use Rattle.dp_line.specs.World.{World}
 use Rattle.dp_sentences.specs.declared.releases.Release.{Release}
 use Rattle.dp_sentences.specs.Changes.{same_holder, touched}
 use Rattle.dp_sentences.specs.Endings.{ending_by}
-use Rattle.dp_sentences.specs.Results.{shown_at}
+use Rattle.dp_sentences.specs.Shown.{shown_at}
 
 -- a slave that this master held before the event is released by it
 abbrev pub release_noted : ℕ → Event → ℕ → Option ℕ → List (Option Release) → List (Option Release)

@@ -1,5 +1,5 @@
 -- The result of an event, in its result rows (own).
-use Rattle.std.specs.Prelude.{codes, ℕ, Bool, true, false, if◌then◌else◌, List, [], ◌∷◌, ◌++◌, Option, Some, None, option_map}
+use Rattle.std.specs.Prelude.{codes, ℕ, Bool, true, false, if◌then◌else◌, List, [], ◌∷◌, ◌++◌, Option, Some, None}
 use Rattle.std.specs.Option.{option_and_then}
 use Rattle.std.specs.List.{flat_map}
 use Rattle.std.specs.Fmt.{decimal}
@@ -12,30 +12,28 @@ use Rattle.dp_responder.specs.declared.rule.Rule.{Rule}
 use Rattle.dp_responder.specs.declared.rule.Rule.TheVariants as rules
 use Rattle.dp_slave.specs.declared.description.SlaveSpec.{SlaveSpec}
 use Rattle.dp_slave.specs.declared.view.SlaveView.{SlaveView}
-use Rattle.dp_slave.specs.View.{view_of}
 use Rattle.dp_line.specs.declared.event.Event.{Event}
 use Rattle.dp_line.specs.declared.event.Event.TheVariants.{Request, Operator}
 use Rattle.dp_line.specs.declared.event.Op.{Op}
 use Rattle.dp_line.specs.declared.event.Outcome.{Outcome}
 use Rattle.dp_line.specs.declared.event.Outcome.TheVariants.{Reply, Silence, Spread, Released, Done, Refused}
 use Rattle.dp_line.specs.Names.{operator_fault_name}
-use Rattle.dp_line.specs.World.{World, described_at, is_last_place, slave_at}
+use Rattle.dp_line.specs.World.{World, described_at, is_last_place}
 use Rattle.dp_line.specs.Events.{is_halt}
 use Rattle.dp_line.specs.Hearing.{telegram_of_frame}
 use Rattle.dp_line.specs.Verdict.{concerns_a_slave}
 use Rattle.dp_sentences.specs.declared.notes.Noted.{Noted}
 use Rattle.dp_sentences.specs.declared.releases.Release.{Release}
+use Rattle.dp_sentences.specs.declared.way.Answered.TheVariants as ways
 use Rattle.dp_sentences.specs.Words.{at_left, numbers_words, time_words}
 use Rattle.dp_sentences.specs.Notes.{note_of}
 use Rattle.dp_sentences.specs.Releases.{release_of}
 use Rattle.dp_sentences.specs.Scenes.{SceneView, AskedView}
 use Rattle.dp_sentences.specs.Sentences.{line_text, slave_text}
+use Rattle.dp_sentences.specs.Shown.{shown_at}
+use Rattle.dp_sentences.specs.Ways.{first_fault, some_selected, way_name, way_of_pair}
 
 -- ---- the answer of one slave
-
--- the view of the slave at an address before the event
-abbrev pub shown_at : World → ℕ → Option SlaveView
-shown_at world address = option_map view_of (slave_at world address)
 
 -- the sentence of the slave; empty if the line has no such slave
 abbrev pub reported_where_known : AskedView → Option Noted → Option Release → Bool → Rule → Option SlaveSpec → Option SlaveView → List ℕ
@@ -94,9 +92,19 @@ abbrev pub spread_rows : SceneView → ℕ → List ℕ → List (ℕ × Rule) �
 spread_rows scene master octets pairs None = []
 spread_rows scene master octets pairs (Some telegram) = pairs_rows scene master octets pairs telegram (parts_of telegram)
 
-abbrev pub spread_text : ℕ → List (ℕ × Rule) → List ℕ
-spread_text master [] = codes "spread: master " ++ decimal master ++ codes " holds no slave."
-spread_text master (pair ∷ pairs) = codes "spread over the slaves of master " ++ decimal master ++ codes ":"
+-- the first fault of the bus among the answers: no slave is selected, or the way of one slave
+abbrev pub fault_at : SceneView → List ℕ → Option (ℕ × Rule) → List ℕ
+fault_at scene octets None = []
+fault_at scene octets (Some pair) = codes "; " ++ way_name (way_of_pair scene octets true pair) ++ codes " at slave " ++ decimal pair.0
+
+abbrev pub fault_in_spread : SceneView → List ℕ → List (ℕ × Rule) → List ℕ
+fault_in_spread scene octets pairs =
+    if some_selected pairs then fault_at scene octets (first_fault scene octets pairs) else codes "; " ++ way_name ways.NoneSelected
+
+abbrev pub spread_text : SceneView → ℕ → List ℕ → List (ℕ × Rule) → List ℕ
+spread_text scene master octets [] = codes "spread: master " ++ decimal master ++ codes " holds no slave."
+spread_text scene master octets (pair ∷ pairs) =
+    codes "spread over the slaves of master " ++ decimal master ++ fault_in_spread scene octets (pair ∷ pairs) ++ codes ":"
 
 -- ---- a request
 
@@ -105,7 +113,7 @@ request_rows scene master octets frame (Reply reply rule) = result_row (reported
 request_rows scene master octets frame (Silence rule) = result_row (reported_of_one scene master octets frame true rule)
 request_rows scene master octets frame Done = result_row (reported_of_one scene master octets frame true rules.Done)
 request_rows scene master octets frame (Spread pairs) =
-    result_row (spread_text master pairs.items) ++ spread_rows scene master octets pairs.items (option_and_then telegram_of_frame frame)
+    result_row (spread_text scene master octets pairs.items) ++ spread_rows scene master octets pairs.items (option_and_then telegram_of_frame frame)
 request_rows scene master octets frame (Released addresses) = []
 request_rows scene master octets frame (Refused fault) = []
 

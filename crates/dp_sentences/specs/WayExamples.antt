@@ -18,11 +18,12 @@ use Rattle.dp_sentences.specs.declared.way.Answered.TheVariants as ways
 use Rattle.dp_decode.specs.Replies.{reply_text}
 use Rattle.dp_sentences.specs.Blocks.{reply_row}
 use Rattle.dp_sentences.specs.Releases.{first_releases, release_of}
+use Rattle.dp_sentences.specs.Results.{fault_in_spread}
 use Rattle.dp_sentences.specs.ReleaseChanges.{change_noted}
 use Rattle.dp_sentences.specs.Notes.{first_notes, has_octets, note_of, notes_after, place_noted}
 use Rattle.dp_sentences.specs.Scenes.{SceneView}
 use Rattle.dp_sentences.specs.Times.{time_after}
-use Rattle.dp_sentences.specs.Ways.{answered_as, is_fault, way_name, way_of_pair}
+use Rattle.dp_sentences.specs.Ways.{answered_as, first_fault, is_fault, way_name, way_of_pair}
 
 -- ---- notes
 
@@ -202,6 +203,15 @@ a_group_of_no_slave_is_a_fault = refl
 
 pub no_slave_is_no_fault : is_fault scene (ask 1 stray) (spread []) ≡ false
 no_slave_is_no_fault = refl
+
+pub the_first_fault : first_fault scene sync ((7, rules.NotSelected) ∷ (5, rules.Done) ∷ (9, rules.Busy) ∷ []) ≡ Some (5, rules.Done)
+the_first_fault = refl
+
+pub the_result_names_a_group_of_no_slave : fault_in_spread scene stray ((5, rules.NotSelected) ∷ (7, rules.NotSelected) ∷ []) ≡ codes "; none selected"
+the_result_names_a_group_of_no_slave = refl
+
+pub the_result_names_no_fault : fault_in_spread scene stray ((5, rules.NotSelected) ∷ (7, rules.Done) ∷ []) ≡ []
+the_result_names_no_fault = refl
 
 abbrev released : List ℕ → Outcome
 released addresses = Released (record { items = addresses })

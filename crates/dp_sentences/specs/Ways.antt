@@ -1,5 +1,5 @@
 -- The way in which a request was answered: its rule, or what is known beyond the rule. And the ways and events that are faults of the bus (own).
-use Rattle.std.specs.Prelude.{codes, ℕ, ◌==◌, ◌&&◌, ◌||◌, not, if◌then◌else◌, Bool, true, false, List, length, Option, Some, None}
+use Rattle.std.specs.Prelude.{codes, ℕ, ◌==◌, ◌&&◌, ◌||◌, not, if◌then◌else◌, Bool, true, false, List, find, length, Option, Some, None}
 use Rattle.std.specs.List.{list_any}
 use Rattle.dp_telegram.specs.declared.access.Parts.{Parts}
 use Rattle.dp_telegram.specs.declared.frame.Telegram.{Telegram}
@@ -27,7 +27,7 @@ use Rattle.dp_sentences.specs.declared.way.Answered.{Answered}
 use Rattle.dp_sentences.specs.declared.way.Answered.TheVariants as ways
 use Rattle.dp_sentences.specs.Notes.{has_octets, note_of}
 use Rattle.dp_sentences.specs.Scenes.{SceneView}
-use Rattle.dp_sentences.specs.Results.{shown_at}
+use Rattle.dp_sentences.specs.Shown.{shown_at}
 use Rattle.dp_sentences.specs.Services.{freeze_is_asked, has_wrong_configuration, has_wrong_parameters, sync_is_asked}
 
 -- ---- the way
@@ -152,12 +152,22 @@ is_fault_way ways.WrongChkCfg = true
 is_fault_way ways.NotAskedFor = true
 is_fault_way ways.NoneSelected = true
 
+-- whether a slave that a request to all slaves reached answered it in such a way, and the first that did
+abbrev pub shows_fault : SceneView → List ℕ → List (ℕ × Rule) → ℕ × Rule → Bool
+shows_fault scene octets pairs pair = is_fault_way (way_of_pair scene octets (some_selected pairs) pair)
+
+abbrev pub has_fault : SceneView → List ℕ → List (ℕ × Rule) → Bool
+has_fault scene octets pairs = list_any (shows_fault scene octets pairs) pairs
+
+abbrev pub first_fault : SceneView → List ℕ → List (ℕ × Rule) → Option (ℕ × Rule)
+first_fault scene octets pairs = find (shows_fault scene octets pairs) pairs
+
 -- a request: its way; to all slaves, at least one of the ways. If it reached the last place, the halt was recorded instead
 abbrev pub is_fault_of_request : SceneView → ℕ → List ℕ → Outcome → Bool
 is_fault_of_request scene master octets (Reply reply rule) = is_fault_way (answered_as scene master octets rule)
 is_fault_of_request scene master octets (Silence rule) = is_fault_way (answered_as scene master octets rule)
 is_fault_of_request scene master octets Done = is_fault_way (answered_as scene master octets rules.Done)
-is_fault_of_request scene master octets (Spread pairs) = list_any (λ pair. is_fault_way (way_of_pair scene octets (some_selected pairs.items) pair)) pairs.items
+is_fault_of_request scene master octets (Spread pairs) = has_fault scene octets pairs.items
 is_fault_of_request scene master octets (Released addresses) = true
 is_fault_of_request scene master octets (Refused fault) = false
 

@@ -5,8 +5,8 @@ ghost use Rattle.std.specs.List.{flat_map};
 ghost use Rattle.std.specs.Option.{option_copied};
 ghost use Rattle.dp_line.specs.declared.event.Event.TheVariants.{Operator};
 ghost use Rattle.dp_line.specs.Events.{is_halt};
-ghost use Rattle.dp_sentences.specs.Shown.{shown_if_any};
-ghost use Rattle.dp_sentences.specs.Results.{watchdog_words, full_time_of, shown_at, expired_words, expired_behind, tick_text, halted_words, halt_text, released_text, op_text};
+ghost use Rattle.dp_sentences.specs.Results.{watchdog_words, full_time_of, expired_words, expired_behind, tick_text, halted_words, halt_text, released_text, op_text};
+ghost use Rattle.dp_sentences.specs.Shown.{shown_at, shown_if_any};
 
 use crate::shown::slave_at;
 use crate::ways::is_at_last_place;

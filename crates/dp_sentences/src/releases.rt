@@ -4,7 +4,7 @@ ghost use Rattle.std.specs.Prelude.{◌≡◌, IfOk, None, Some};
 ghost use Rattle.dp_sentences.specs.Changes.{asked_addresses, let_go};
 ghost use Rattle.dp_sentences.specs.ReleaseChanges.{change_noted, changes_noted, release_noted, releases_after};
 ghost use Rattle.dp_sentences.specs.Releases.{first_releases, release_of};
-ghost use Rattle.dp_sentences.specs.Results.{shown_at};
+ghost use Rattle.dp_sentences.specs.Shown.{shown_at};
 
 use crate::changes::same_holder;
 use crate::ending::Ending;
@@ -46,7 +46,7 @@ pub fn first_releases(alloc: Global) -> Result<Vec<Option<Release>>, AllocError>
 }
 
 /// Returns the last release of the slave at this address; None if it was not released.
-pub(crate) fn release_of(releases: &[Option<Release>], address: u8) -> Option<Release>
+pub fn release_of(releases: &[Option<Release>], address: u8) -> Option<Release>
     ensures { result ≡ release_of releases.now address }
 {
     match releases.get(usize::from(address)) {

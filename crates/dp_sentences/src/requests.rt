@@ -195,7 +195,9 @@ impl<'a> fmt::Display for RequestRows<'a> {
             }
             Outcome::Spread(pairs) => {
                 let words = SpreadWords {
+                    scene: self.scene,
                     master: self.master,
+                    request: self.request,
                     pairs: pairs.as_slice(),
                 };
                 let rows = SpreadRows {

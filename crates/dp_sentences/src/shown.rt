@@ -2,8 +2,7 @@
 
 ghost use Rattle.std.specs.Prelude.{◌≡◌};
 ghost use Rattle.std.specs.Option.{option_copied};
-ghost use Rattle.dp_sentences.specs.Results.{shown_at};
-ghost use Rattle.dp_sentences.specs.Shown.{shown_if_any};
+ghost use Rattle.dp_sentences.specs.Shown.{shown_at, shown_if_any};
 
 use dp_line::LineState;
 use dp_slave::Slave;

@@ -3,11 +3,13 @@
 ghost use Rattle.std.specs.Prelude.{Some};
 ghost use Rattle.std.specs.List.{flat_map};
 ghost use Rattle.dp_line.specs.Hearing.{telegram_spelt};
-ghost use Rattle.dp_sentences.specs.Results.{pair_row, spread_rows, spread_text};
+ghost use Rattle.dp_sentences.specs.Results.{fault_in_spread, pair_row, spread_rows, spread_text};
 
 use crate::frames::telegram_in;
 use crate::requests::OfSlave;
 use crate::scene::{Scene, SlaveRequest};
+use crate::way::Answered;
+use crate::ways::{first_fault, some_selected, way_of_pair};
 use crate::words::{Spaces, digits_of};
 use dp_decode::ReadOctets;
 use dp_responder::Rule;
@@ -126,22 +128,56 @@ impl<'a> fmt::Display for SpreadRows<'a> {
     }
 }
 
+/// The first fault of the bus among the answers to a request to all slaves; writes nothing if there is none.
+#[derive(Clone, Copy)]
+struct FaultInSpread<'a> {
+    scene: &'a Scene<'a>,
+    request: &'a ReadOctets<'a>,
+    pairs: &'a [(u8, Rule)],
+}
+
+impl<'a> fmt::Display for FaultInSpread<'a> {
+    ghost output = { λ s. Some (fault_in_spread s.scene.now s.request.now s.pairs.now) };
+
+    fn fmt<W: fmt::Write>(&self, f: &mut fmt::Formatter<W>) -> fmt::Result {
+        if !some_selected(self.pairs) {
+            let way = Answered::NoneSelected.name();
+            return write!(f, "; {way}");
+        }
+        let Some(pair) = first_fault(self.scene, self.request, self.pairs) else {
+            return Ok(());
+        };
+        let way = way_of_pair(self.scene, self.request, true, *pair).name();
+        let address = pair.0;
+        write!(f, "; {way} at slave {address}")
+    }
+}
+
 /// The result of a request to all slaves, before the answers of the slaves.
 #[derive(Clone, Copy)]
 pub(crate) struct SpreadWords<'a> {
+    pub(crate) scene: &'a Scene<'a>,
     /// The address of the sender.
     pub(crate) master: u8,
+    pub(crate) request: &'a ReadOctets<'a>,
     pub(crate) pairs: &'a [(u8, Rule)],
 }
 
 impl<'a> fmt::Display for SpreadWords<'a> {
-    ghost output = { λ s. Some (spread_text s.master s.pairs.now) };
+    ghost output = { λ s. Some (spread_text s.scene.now s.master s.request.now s.pairs.now) };
 
     fn fmt<W: fmt::Write>(&self, f: &mut fmt::Formatter<W>) -> fmt::Result {
         let master = self.master;
         match self.pairs {
             [] => write!(f, "spread: master {master} holds no slave."),
-            [_, ..] => write!(f, "spread over the slaves of master {master}:"),
+            [_, ..] => {
+                let fault = FaultInSpread {
+                    scene: self.scene,
+                    request: self.request,
+                    pairs: self.pairs,
+                };
+                write!(f, "spread over the slaves of master {master}{fault}:")
+            }
         }
     }
 }

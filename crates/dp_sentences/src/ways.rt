@@ -1,12 +1,12 @@
 //! The way in which a request was answered, and the events that show a fault of the bus.
 
 ghost use Rattle.std.specs.Prelude.{◌≡◌, ◌||◌, Some};
-ghost use Rattle.std.specs.List.{list_any};
+ghost use Rattle.std.specs.Option.{option_copied};
 ghost use Rattle.dp_sap.specs.AccessTable.{same_point, chk_cfg, global_control, set_prm};
 ghost use Rattle.dp_line.specs.Hearing.{telegram_spelt};
 ghost use Rattle.dp_line.specs.World.{described_at, is_last_place};
-ghost use Rattle.dp_sentences.specs.Results.{shown_at};
-ghost use Rattle.dp_sentences.specs.Ways.{answered_as, is_fault, is_fault_of_op, is_fault_of_release, is_fault_of_request, is_fault_way, is_selected, some_selected, way_of_control, way_of_done, way_of_pair, way_of_parts, way_of_repeat, way_of_service, way_where_asked, way_without_station};
+ghost use Rattle.dp_sentences.specs.Shown.{shown_at};
+ghost use Rattle.dp_sentences.specs.Ways.{answered_as, first_fault, has_fault, is_fault, is_fault_of_op, is_fault_of_release, is_fault_of_request, is_selected, some_selected, way_of_control, way_of_done, way_of_pair, way_of_parts, way_of_repeat, way_of_service, way_where_asked, way_without_station};
 
 use crate::chk_cfg::has_wrong_configuration;
 use crate::control::is_not_asked_for;
@@ -272,12 +272,25 @@ fn is_fault_of_request(
 
 /// Returns whether the way in which one of these slaves answered a request to all slaves shows a fault of the bus.
 fn has_fault(scene: &Scene<'_>, request: &ReadOctets<'_>, pairs: &[(u8, Rule)]) -> bool
-    ensures { result ≡ list_any (λ pair. is_fault_way (way_of_pair scene.now request.now (some_selected pairs.now) pair)) pairs.now }
+    ensures { result ≡ has_fault scene.now request.now pairs.now }
 {
     let some = some_selected(pairs);
     pairs
         .iter()
         .any(|pair| way_of_pair(scene, request, some, *pair).is_fault())
+}
+
+/// Returns the first of these slaves that answered a request to all slaves in a way that shows a fault of the bus; None
+/// if none did.
+pub(crate) fn first_fault<'a>(
+    scene: &Scene<'_>,
+    request: &ReadOctets<'_>,
+    pairs: &'a [(u8, Rule)],
+) -> Option<&'a (u8, Rule)>
+    ensures { option_copied result ≡ first_fault scene.now request.now pairs.now }
+{
+    let some = some_selected(pairs);
+    pairs.iter().find(|pair| way_of_pair(scene, request, some, **pair).is_fault())
 }
 
 /// Returns whether an event of the operator is a fault, or shows one.

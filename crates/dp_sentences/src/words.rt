@@ -71,7 +71,7 @@ impl<'a> fmt::Display for OctetsWords<'a> {
 
 /// An ident number as four hex digits.
 #[derive(Clone, Copy)]
-pub(crate) struct IdentWords(pub(crate) u16);
+pub struct IdentWords(pub u16);
 
 impl fmt::Display for IdentWords {
     ghost output = { λ ident. Some (ident_words ident.0) };
@@ -170,7 +170,7 @@ impl fmt::Display for TimeWords {
 }
 
 /// Returns the standard's name of a state.
-pub(crate) fn state_name(state: State) -> &'static str
+pub fn state_name(state: State) -> &'static str
     ensures { result.now ≡ state_words state }
 {
     match state {

@@ -1,9 +1,8 @@
 use Rattle.std.proofs.Common.{◌≡◌, Some}
 use Rattle.std.proofs.Output.{has_written_of_eq}
 use Rattle.dp_line.specs.World.{described_at, description_of}
-use Rattle.dp_sentences.specs.Results.{shown_at}
+use Rattle.dp_sentences.specs.Shown.{shown, shown_at}
 use Rattle.dp_sentences.specs.Scenes.{AskedView, SceneView}
-use Rattle.dp_sentences.specs.Shown.{shown}
 use Rattle.dp_sentences.proofs.Asking.{slave_reported}
 use Rattle.dp_sentences.proofs.requests.OfSlaveDisplay.fmt.Goals as goal
 
