@@ -1,14 +1,13 @@
 -- The fields of a text, one after another, and the values of an array.
 use Rattle.std.proofs.Common.{◌≡◌, ℕ, suc, ◌+◌, ◌==◌, Bool, true, false, not, cond, codes, List, [], ◌∷◌, ◌++◌, length, take, drop, map, Some, None, refl, sym, ap, ◌∙◌, arith}
 use Rattle.std.specs.Prelude.{position}
-use Rattle.std.specs.List.{flat_map, join_by, list_all, onto_first, position_or_len, slice_split}
-use Rattle.std.proofs.Output.{has_written_append, has_written_of_eq}
+use Rattle.std.specs.List.{list_all, onto_first, position_or_len, slice_split}
+use Rattle.std.proofs.Output.{has_written_append}
 use Rattle.std.specs.Fmt.{HasWritten}
 use Rattle.std.specs.declared.fmt.Formatter.{Formatter}
 use Rattle.std.proofs.lemmas.Bool.{and_parts, cond-true}
 use Rattle.std.proofs.lemmas.List.Splits.{slice_split_first}
-use Rattle.dp_explain.specs.JsonValues.{array_json, fields_of, inside_json, is_plain, octet_json, unspaced}
-use Rattle.dp_explain.specs.JsonWriting.{each_behind}
+use Rattle.dp_explain.specs.JsonValues.{array_json, each_behind, fields_of, inside_json, is_plain, octet_json, unspaced}
 use Rattle.dp_explain.proofs.Places.{place_found, place_is_inside, place_at_end}
 
 -- ---- fields
@@ -48,18 +47,9 @@ plain_inside (octet ∷ octets) e =
 
 -- ---- arrays
 
-after_commas : (values : List (List ℕ)) → each_behind (codes ",") values ≡ flat_map (λ (value : List ℕ). codes "," ++ value) values
-after_commas [] = refl
-after_commas (value ∷ values) = ap (λ (rest : List ℕ). (codes "," ++ value) ++ rest) (after_commas values)
-
-joined : (values : List (List ℕ)) → each_behind [] values ≡ join_by (λ (value : List ℕ). value) (codes ",") values
-joined [] = refl
-joined (value ∷ values) = ap (λ (rest : List ℕ). value ++ rest) (after_commas values)
-
 -- a bracket, the values and a bracket, written one after another
 pub bracketed : {W : Type 0} (took : W → List ℕ → W → Type 0) (f f₁ f₂ f₃ : Formatter W) (values : List (List ℕ))
     → HasWritten took f (codes "[") f₁ → HasWritten took f₁ (each_behind [] values) f₂ → HasWritten took f₂ (codes "]") f₃ → HasWritten took f (array_json values) f₃
 unfolding array_json
 bracketed took f f₁ f₂ f₃ values opened inside closed =
-    has_written_of_eq took f _ _ f₃ (ap (λ (text : List ℕ). codes "[" ++ text ++ codes "]") (joined values))
-    (has_written_append took f _ f₂ _ f₃ (has_written_append took f _ f₁ _ f₂ opened inside) closed)
+    has_written_append took f _ f₂ _ f₃ (has_written_append took f _ f₁ _ f₂ opened inside) closed

@@ -1,6 +1,6 @@
 -- The values of JSON: numbers, strings, and arrays (RFC 8259; own).
 use Rattle.std.specs.Prelude.{codes, ℕ, ◌==◌, ◌&&◌, not, nat_le, if◌then◌else◌, Bool, true, false, List, [], ◌∷◌, ◌++◌, map, Option, Some, None}
-use Rattle.std.specs.List.{flat_map, join_by, slice_split}
+use Rattle.std.specs.List.{flat_map, slice_split}
 use Rattle.std.specs.Fmt.{decimal}
 use Rattle.dp_decode.specs.Words.{hex_pair}
 
@@ -33,9 +33,13 @@ string_json text = codes "\"" ++ inside_json text ++ codes "\""
 
 -- ---- arrays
 
--- values, with commas between
+-- values, the first after a separator and each other one after a comma
+abbrev pub each_behind : List ℕ → List (List ℕ) → List ℕ
+each_behind separator [] = []
+each_behind separator (value ∷ values) = separator ++ value ++ each_behind (codes ",") values
+
 unfoldable pub array_json : List (List ℕ) → List ℕ
-array_json values = codes "[" ++ join_by (λ value. value) (codes ",") values ++ codes "]"
+array_json values = codes "[" ++ each_behind [] values ++ codes "]"
 
 -- a text without the space at its front
 abbrev pub unspaced : List ℕ → List ℕ

@@ -10,6 +10,7 @@ pub mod JsonValues
 pub mod JsonRows
 pub mod Json
 pub mod JsonWriting
+pub mod JsonCounts
 pub mod JsonExamples
 pub mod Explained
 pub mod Followed

@@ -8,6 +8,7 @@ ghost use Rattle.std.specs.Prelude.{◌≡◌, None, MatchResult};
 ghost use Rattle.dp_text.specs.Words.{lines_of};
 ghost use Rattle.dp_line.specs.World.{description_of, opening_fault};
 ghost use Rattle.dp_audit.specs.Check.{places_of_lines};
+ghost use Rattle.dp_sentences.specs.Releases.{release_of};
 ghost use Rattle.dp_explain.specs.Holds.{holds_lasting};
 ghost use Rattle.dp_explain.specs.Known.{first_world, outcome_with};
 ghost use Rattle.dp_explain.specs.Explained.{counts_text, Leaves};
@@ -21,9 +22,10 @@ use crate::follow_fault::FollowFault;
 use crate::history::History;
 use crate::holds::{HoldsEnded, HoldsLasting};
 use crate::output::write_rows;
+use crate::tally::SenderCounts;
 use dp_audit::{AuditFault, open_line, take_row};
 use dp_line::{LineSpec, LineState, Outcome, SlaveSpec, Step};
-use dp_sentences::Taken;
+use dp_sentences::{Release, Taken};
 use dp_text::Text;
 use std::alloc::Global;
 use std::io::Write;
@@ -103,6 +105,41 @@ impl<'a> Follower<'a> {
         ensures { result ≡ self.now.known.scene.world.count }
     {
         self.before.count()
+    }
+
+    /// Returns the line after the entries so far.
+    pub fn line(&self) -> &LineState
+        ensures { result.now.world ≡ self.now.known.scene.world }
+    {
+        &self.before
+    }
+
+    /// Returns the fault of the first wrong row; None if no row was wrong.
+    pub fn fault(&self) -> Option<AuditFault>
+        ensures { result ≡ self.now.fault }
+    {
+        self.fault
+    }
+
+    /// Returns the sum of the ticks so far, in units of 10 ms; None before the first tick.
+    pub fn time(&self) -> Option<u64>
+        ensures { result ≡ self.now.known.scene.time }
+    {
+        self.history.time()
+    }
+
+    /// Returns the last release of the slave at this address; None if it was not released.
+    pub fn release(&self, address: u8) -> Option<Release>
+        ensures { result ≡ release_of self.now.known.scene.releases address }
+    {
+        self.history.release(address)
+    }
+
+    /// Returns the counts of each master, in the order of the line, and then those of all other senders.
+    pub fn senders(&self) -> &[SenderCounts]
+        ensures { result.now ≡ self.now.known.tally }
+    {
+        self.history.senders()
     }
 
     /// Takes the next row of the text, without its LF. If the row is right and its entry is chosen, writes the rows of the

@@ -3,6 +3,7 @@
 ghost use Rattle.std.specs.Prelude.{◌≡◌, ℕ, IfOk, if◌then◌else◌};
 ghost use Rattle.dp_line.specs.World.{description_of};
 ghost use Rattle.dp_sentences.specs.Blocks.{block_text};
+ghost use Rattle.dp_sentences.specs.Releases.{release_of};
 ghost use Rattle.dp_explain.specs.Known.{first_known, first_world, known_with};
 ghost use Rattle.dp_explain.specs.Explained.{chosen_text, counts_text, Leaves};
 ghost use Rattle.dp_explain.specs.Following.{known_at};
@@ -20,7 +21,7 @@ use crate::tally::{SenderCounts, count_event, first_tally};
 use dp_line::{LineSpec, LineState, Outcome};
 use dp_sentences::{
     Block, Noted, ReadEvent, Release, Scene, Taken, first_notes, first_releases, note_event,
-    note_releases, time_after,
+    note_releases, release_of, time_after,
 };
 use std::alloc::{AllocError, Global};
 use std::io::Write;
@@ -56,6 +57,27 @@ impl<'a> History<'a> {
             tally,
             statistics,
         })
+    }
+
+    /// Returns the sum of the ticks, in units of 10 ms; None before the first tick.
+    pub(crate) fn time(&self) -> Option<u64>
+        ensures { result ≡ self.now.time }
+    {
+        self.time
+    }
+
+    /// Returns the last release of the slave at this address; None if it was not released.
+    pub(crate) fn release(&self, address: u8) -> Option<Release>
+        ensures { result ≡ release_of self.now.releases.items address }
+    {
+        release_of(self.releases.as_slice(), address)
+    }
+
+    /// Returns the counts of each sender.
+    pub(crate) fn senders(&self) -> &[SenderCounts]
+        ensures { result.now ≡ self.now.tally.items }
+    {
+        self.tally.as_slice()
     }
 
     /// Writes the rows of an event, or its line of JSON, if it is chosen; `rows` and `line` are buffers for the texts.

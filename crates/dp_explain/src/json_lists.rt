@@ -6,8 +6,7 @@ ghost use Rattle.std.specs.List.{zip};
 ghost use Rattle.dp_text.specs.Words.{lines_of};
 ghost use Rattle.dp_explain.specs.Json.{change_json, slave_json};
 ghost use Rattle.dp_explain.specs.JsonRows.{texts_labelled};
-ghost use Rattle.dp_explain.specs.JsonValues.{array_json};
-ghost use Rattle.dp_explain.specs.JsonWriting.{each_behind};
+ghost use Rattle.dp_explain.specs.JsonValues.{array_json, each_behind};
 
 use crate::json_rows::next_labelled;
 use crate::json_values::{Inside, Quoted};

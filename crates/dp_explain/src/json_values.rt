@@ -3,8 +3,8 @@
 ghost use Rattle.std.specs.Prelude.{◌≡◌, ◌<◌, ◌∷◌, map, length, IfSome, Some};
 ghost use Rattle.std.specs.Fmt.{WritesOnOk};
 ghost use Rattle.std.specs.List.{list_all};
-ghost use Rattle.dp_explain.specs.JsonValues.{fields_json, fields_of, inside_json, is_plain, number_json, octet_json, string_json, truth_json, unspaced};
-ghost use Rattle.dp_explain.specs.JsonWriting.{each_behind, fields_left};
+ghost use Rattle.dp_explain.specs.JsonValues.{each_behind, fields_json, fields_of, inside_json, is_plain, number_json, octet_json, string_json, truth_json, unspaced};
+ghost use Rattle.dp_explain.specs.JsonWriting.{fields_left};
 
 use crate::slices::{behind, index_of};
 use dp_decode::HexPair;
@@ -12,7 +12,7 @@ use std::fmt;
 
 /// A number; `null` if there is none.
 #[derive(Clone, Copy)]
-pub(crate) struct NumberOrNull(pub(crate) Option<u64>);
+pub struct NumberOrNull(pub Option<u64>);
 
 impl fmt::Display for NumberOrNull {
     ghost output = { λ s. Some (number_json s.0) };
@@ -26,7 +26,7 @@ impl fmt::Display for NumberOrNull {
 }
 
 /// Returns the name of a truth value.
-pub(crate) fn truth_name(is_true: bool) -> &'static str
+pub fn truth_name(is_true: bool) -> &'static str
     ensures { result.now ≡ truth_json is_true }
 {
     if is_true { "true" } else { "false" }
@@ -84,9 +84,9 @@ impl<'a> fmt::Display for Inside<'a> {
     }
 }
 
-/// A text as a string.
+/// A text as a string. Each octet that is not printable ASCII is escaped, and so are quotation marks and backslashes.
 #[derive(Clone, Copy)]
-pub(crate) struct Quoted<'a>(pub(crate) &'a [u8]);
+pub struct Quoted<'a>(pub &'a [u8]);
 
 impl<'a> fmt::Display for Quoted<'a> {
     ghost output = { λ s. Some (string_json s.0.now) };

@@ -16,9 +16,9 @@ const WAYS: usize = 28;
 ///
 /// Senders that are no master of the line are counted together, because they may have any of 256 addresses.
 #[derive(Drop)]
-pub(crate) struct SenderCounts {
+pub struct SenderCounts {
     /// A master of the line, 0 to 126; None stands for all other senders.
-    pub(crate) sender: Option<u8>,
+    pub sender: Option<u8>,
     /// For each way, at its number, the number of requests, which stops at the largest number of 64 bits.
     pub(crate) by_way: [u64; WAYS],
 }

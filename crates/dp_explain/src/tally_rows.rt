@@ -14,7 +14,7 @@ use std::fmt;
 const WAY_COLUMNS: usize = 14;
 
 /// All ways in the order of their rows. None is the way of a request to all slaves that reached no slave.
-const ALL_WAYS: [Option<Answered>; 27] = [
+pub(crate) const ALL_WAYS: [Option<Answered>; 27] = [
     Some(Answered::ByRule(Rule::Halted)),
     Some(Answered::ByRule(Rule::NoFrame)),
     Some(Answered::ByRule(Rule::NoMaster)),
@@ -45,7 +45,7 @@ const ALL_WAYS: [Option<Answered>; 27] = [
 ];
 
 /// Returns the name of a way.
-fn way_name(way: Option<Answered>) -> &'static str
+pub(crate) fn way_name(way: Option<Answered>) -> &'static str
     ensures { result.now ≡ way_words way }
 {
     match way {
@@ -185,7 +185,7 @@ fn total(tally: &[SenderCounts], way: Option<Answered>) -> u64
 }
 
 /// Returns whether a way is a fault of the bus.
-fn is_fault(way: Option<Answered>) -> bool
+pub(crate) fn is_fault(way: Option<Answered>) -> bool
     ensures { result ≡ is_fault way }
 {
     match way {
