@@ -92,11 +92,12 @@ abbrev pub spread_rows : SceneView → ℕ → List ℕ → List (ℕ × Rule) �
 spread_rows scene master octets pairs None = []
 spread_rows scene master octets pairs (Some telegram) = pairs_rows scene master octets pairs telegram (parts_of telegram)
 
--- the first fault of the bus among the answers: no slave is selected, or the way of one slave
+-- the words about the first answer that is a fault of the bus, if one is
 abbrev pub fault_at : SceneView → List ℕ → Option (ℕ × Rule) → List ℕ
 fault_at scene octets None = []
 fault_at scene octets (Some pair) = codes "; " ++ way_name (way_of_pair scene octets true pair) ++ codes " at slave " ++ decimal pair.0
 
+-- the words about the first fault of the bus among the answers: that no slave is selected, or the way of one slave
 abbrev pub fault_in_spread : SceneView → List ℕ → List (ℕ × Rule) → List ℕ
 fault_in_spread scene octets pairs =
     if some_selected pairs then fault_at scene octets (first_fault scene octets pairs) else codes "; " ++ way_name ways.NoneSelected
