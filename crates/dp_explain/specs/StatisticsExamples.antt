@@ -13,6 +13,7 @@ use Rattle.dp_explain.specs.declared.statistics.AddressCounts.{AddressCounts}
 use Rattle.dp_explain.specs.declared.statistics.Item.{Item}
 use Rattle.dp_explain.specs.declared.statistics.Item.TheVariants as items
 use Rattle.dp_explain.specs.StationCounts.{first_statistics, item_count, item_number}
+use Rattle.dp_explain.specs.Tallies.{all_ways, way_number}
 use Rattle.dp_explain.specs.StatisticsRows.{all_items, station_rows, statistics_text}
 use Rattle.dp_explain.specs.Known.{KnownView, first_known, known_after, last_statistics}
 
@@ -101,6 +102,10 @@ polls = refl
 -- no two items have one number
 pub numbers_differ : has_twice (map item_number (items.Poll ∷ items.Released endings.Lasts ∷ all_items)) ≡ false
 numbers_differ = refl
+
+-- no two ways have one number
+pub way_numbers_differ : has_twice (map way_number all_ways) ≡ false
+way_numbers_differ = refl
 
 -- each rule that refuses has a row, in the order of the rules
 pub refusals_have_rows : take 15 (drop 3 all_items) ≡ map items.Refused (filter is_refusal all_rules)
