@@ -1,2 +1,3 @@
 pub mod AuditPaths
+pub mod AuditNames
 pub mod FileFaults

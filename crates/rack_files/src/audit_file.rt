@@ -14,11 +14,10 @@ use crate::file_host::FileHost;
 use dp_cause::Cause;
 use dp_notes::Notes;
 use dp_shared::Line;
-use dp_trail::{CatchUp, Tail, Trail, TrailBreak, TrailFault};
+use dp_trail::{Tail, Trail, TrailBreak, TrailFault};
 use std::alloc::Global;
 use std::fs::{self, File, Files};
 use std::io::{self, ErrorKind};
-use std::sync::Wait;
 
 /// The audit text of a line in files, with the trail that writes it.
 ///
@@ -27,13 +26,8 @@ use std::sync::Wait;
 pub struct AuditFile<'a, T> {
     /// The path of the text as if it had one file.
     pub path: AuditPath<'a>,
-    trail: T,
-}
-
-impl<T: CatchUp<K>, K: Drop> CatchUp<K> for AuditFile<'_, T> {
-    fn catch_up<H: Wait>(&self, rt: &H) -> Result<K, TrailBreak> {
-        self.trail.catch_up(rt)
-    }
+    /// The trail that writes the text.
+    pub trail: T,
 }
 
 /// An audit file that lacks an entry, and the reason.

@@ -72,7 +72,7 @@ impl<'a> AuditPath<'a> {
 }
 
 /// Returns the zeros that fill a number up to six digits.
-fn leading_zeros(number: u32) -> &'static str
+pub(crate) fn leading_zeros(number: u32) -> &'static str
     ensures { result.now ≡ leading_zeros number }
 {
     if number < 10 {

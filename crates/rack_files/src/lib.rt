@@ -2,10 +2,11 @@
 //!
 //! The folder is made first (`make_folder`). The text of a line is begun in a new file with its header (`begin_text`). Its trail
 //! writes each entry, for an endless line to one file per part (`audit_writer`). When serving has ended, the text is completed
-//! (`complete_text`).
+//! (`complete_text`). A reader of the folder reads names of files by [`AuditName`].
 #![tactic(auto)]
 
 mod audit_file;
+mod audit_name;
 mod audit_path;
 mod audit_writer;
 mod file_fault;
@@ -14,6 +15,7 @@ mod file_host;
 pub use audit_file::{
     AuditFile, FileTrail, IncompleteFile, begin_text, complete_text, make_folder,
 };
+pub use audit_name::AuditName;
 pub use audit_path::AuditPath;
 pub use audit_writer::AuditWriter;
 pub use file_fault::FileFault;

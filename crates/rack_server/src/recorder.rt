@@ -36,7 +36,7 @@ pub(crate) type FileRecorder<'a, 's, H> = Recorder<'a, 's, H, FileTrail<'a, 's, 
 
 impl<N: Net, T: CatchUp<K>, K: Drop> CatchUp<K> for Recorder<'_, '_, N, T> {
     fn catch_up<H: Wait>(&self, rt: &H) -> Result<K, TrailBreak> {
-        match self.file.catch_up(rt) {
+        match self.file.trail.catch_up(rt) {
             Ok(caught_up) => Ok(caught_up),
             Err(reason) => {
                 self.gate.stop(rt, self.net);
