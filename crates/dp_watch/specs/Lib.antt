@@ -1,0 +1,4 @@
+pub mod Kept
+pub mod Notable
+pub mod Watched
+pub mod Rack

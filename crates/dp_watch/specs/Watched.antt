@@ -1,0 +1,136 @@
+-- A line whose audit text is followed for the page (own).
+use Rattle.std.specs.Prelude.{codes, ◌≡◌, ℕ, if◌then◌else◌, List, [], ◌++◌, true, false, Option, Some, None}
+use Rattle.dp_line.specs.declared.event.Event.{Event}
+use Rattle.dp_line.specs.World.{Description}
+use Rattle.dp_text.specs.Words.{lines_of}
+use Rattle.dp_audit.specs.declared.fault.AuditFault.{AuditFault}
+use Rattle.dp_audit.specs.declared.fault.AuditFault.TheVariants as faults
+use Rattle.dp_audit.specs.Check.{is_accepted_header}
+use Rattle.dp_explain.specs.declared.choice.Choice.{Choice}
+use Rattle.dp_explain.specs.JsonValues.{string_json}
+use Rattle.dp_explain.specs.Followed.{FollowerView, after_row, event_taken, first_follower, text_of_row}
+use Rattle.dp_watch.specs.declared.kept_entry.KeptEntry.{KeptEntry}
+use Rattle.dp_watch.specs.declared.watched_line.Header.{Header}
+use Rattle.dp_watch.specs.declared.watched_line.Header.TheVariants as headers
+use Rattle.dp_watch.specs.declared.standing.Standing.{Standing}
+use Rattle.dp_watch.specs.declared.standing.Standing.TheVariants as standings
+use Rattle.dp_watch.specs.Kept.{KeptView, entry_kept}
+use Rattle.dp_watch.specs.Notable.{IsNotable}
+
+-- every entry, as a line of JSON
+abbrev pub every_entry : Choice
+every_entry = record {
+  from = None;
+  to = None;
+  slave = None;
+  master = None;
+  refused = false;
+  faults = false;
+  summary = false;
+  json = true;
+}
+
+-- a line by the text that is followed: the name of the file that is read, what its header was found to be, what is known from its rows, how
+-- many octets a row has whose LF has not come, and what is stored
+pub record WatchedView : Type 0 where
+  pub line : Description
+  pub file : List ℕ
+  pub header : Header
+  pub follower : FollowerView
+  pub begun : ℕ
+  pub kept : KeptView
+
+-- a line at the start of a text
+abbrev pub text_begun : Description → List ℕ → KeptView → WatchedView
+text_begun line file kept = record {
+  line = line;
+  file = file;
+  header = headers.NotRead;
+  follower = first_follower line (lines_of []);
+  begun = 0;
+  kept = kept;
+}
+
+-- ---- a row
+
+-- the first row has to be a header of the line
+abbrev pub header_judged : Description → List ℕ → Header
+header_judged line row = if is_accepted_header line row then headers.Accepted else headers.Wrong
+
+abbrev pub header_after : WatchedView → List ℕ → Header → Header
+header_after watched row headers.NotRead = header_judged watched.line row
+header_after watched row headers.Wrong = headers.Wrong
+header_after watched row headers.Accepted = headers.Accepted
+
+-- the line is opened at an accepted header, and takes each row behind it
+abbrev pub follower_opened : WatchedView → List ℕ → Header → FollowerView
+follower_opened watched row headers.Accepted = first_follower watched.line (lines_of row)
+follower_opened watched row headers.Wrong = watched.follower
+follower_opened watched row headers.NotRead = watched.follower
+
+abbrev pub follower_after : WatchedView → List ℕ → Header → FollowerView
+follower_after watched row headers.NotRead = follower_opened watched row (header_judged watched.line row)
+follower_after watched row headers.Wrong = watched.follower
+follower_after watched row headers.Accepted = after_row watched.follower row
+
+-- the event that is taken from a row: none before an accepted header
+abbrev pub event_behind : WatchedView → List ℕ → Header → Option Event
+event_behind watched row headers.NotRead = None
+event_behind watched row headers.Wrong = None
+event_behind watched row headers.Accepted = event_taken watched.follower row
+
+-- the line of JSON of a note
+abbrev pub note_json : List ℕ → List ℕ
+note_json note = codes "{\"note\":" ++ string_json note ++ codes "}\n"
+
+-- an entry with this number and this line of JSON is stored
+pub record IsKept (number : ℕ) (text : List ℕ) (old new : KeptView) : Type 0 where
+  pub entry : KeptEntry
+  pub numbered : entry.number ≡ number
+  pub written : entry.text.items ≡ text
+  pub notable : IsNotable text entry.is_notable
+  pub kept : new ≡ entry_kept entry old
+
+-- a note with this number is stored as a line of JSON, for as long as a notable entry
+pub record IsNoted (number : ℕ) (note : List ℕ) (old new : KeptView) : Type 0 where
+  pub entry : KeptEntry
+  pub numbered : entry.number ≡ number
+  pub written : entry.text.items ≡ note_json note
+  pub notable : entry.is_notable ≡ true
+  pub kept : new ≡ entry_kept entry old
+
+-- the entry of a right row is stored; nothing of another row
+abbrev pub KeepsEvent : Option Event → ℕ → List ℕ → KeptView → KeptView → Type 0
+KeepsEvent None number text old new = new ≡ old
+KeepsEvent (Some event) number text old new = IsKept number text old new
+
+abbrev pub KeepsRow : WatchedView → List ℕ → ℕ → KeptView → Type 0
+KeepsRow watched row number new =
+    KeepsEvent (event_behind watched row watched.header) number (text_of_row every_entry watched.follower row) watched.kept new
+
+-- the row is taken under this number: no octet of a row has begun then
+pub record TakesRow (watched : WatchedView) (row : List ℕ) (number : ℕ) (new : WatchedView) : Type 0 where
+  pub line : new.line ≡ watched.line
+  pub file : new.file ≡ watched.file
+  pub header : new.header ≡ header_after watched row watched.header
+  pub follower : new.follower ≡ follower_after watched row watched.header
+  pub begun : new.begun ≡ 0
+  pub kept : KeepsRow watched row number new.kept
+
+-- a text begins under this number, with a note of it if there is one
+abbrev pub KeepsNote : Option (List ℕ) → ℕ → KeptView → KeptView → Type 0
+KeepsNote None number old new = new ≡ old
+KeepsNote (Some note) number old new = IsNoted number note old new
+
+-- ---- the standing of the text
+
+abbrev pub standing_by : Option AuditFault → Standing
+standing_by None = standings.Legal
+standing_by (Some (faults.BadLine row)) = standings.BadLine row
+standing_by (Some (faults.NotThePolicy row)) = standings.NotThePolicy row
+standing_by (Some faults.OutOfMemory) = standings.Legal
+
+abbrev pub standing_of : WatchedView → Header → Standing
+standing_of watched headers.NotRead = standings.Empty
+standing_of watched headers.Wrong = standings.BadLine 1
+standing_of watched headers.Accepted = standing_by watched.follower.fault

@@ -1,0 +1,295 @@
+//! A line whose audit text is followed for the page.
+
+ghost use Rattle.std.specs.Prelude.{◌≡◌, [], None, IfOk, OnOk};
+ghost use Rattle.std.specs.Option.{option_copied};
+ghost use Rattle.dp_line.specs.World.{description_of, opening_fault};
+ghost use Rattle.dp_text.specs.Words.{lines_of};
+ghost use Rattle.dp_explain.specs.Followed.{after_row, event_taken, first_follower, text_of_row};
+ghost use Rattle.dp_watch.specs.Kept.{nothing_kept};
+ghost use Rattle.dp_watch.specs.Watched.{every_entry, follower_opened, header_judged, note_json, standing_by, standing_of, text_begun, IsKept, IsNoted, KeepsEvent, KeepsNote, TakesRow};
+
+use crate::kept_entries::KeptEntries;
+use crate::kept_entry::{KeptEntry, is_notable};
+use crate::standing::Standing;
+use dp_audit::{AuditFault, is_header_of};
+use dp_explain::{Choice, FollowFault, Follower, Quoted};
+use dp_line::LineSpec;
+use std::alloc::{AllocError, Global};
+use std::marker::Model;
+
+/// Every entry, as a line of JSON.
+const EVERY_ENTRY: Choice = Choice {
+    from: None,
+    to: None,
+    slave: None,
+    master: None,
+    refused: false,
+    faults: false,
+    summary: false,
+    json: true,
+};
+
+/// What the first row of a text was found to be.
+#[derive(Clone, Copy)]
+pub(crate) enum Header {
+    /// It has not come yet.
+    NotRead,
+    /// It is a header of the line.
+    Accepted,
+    /// It is no header of the line.
+    Wrong,
+}
+
+/// A line whose audit text is followed. Contracts see what is known from its rows, and what is stored.
+#[derive(Drop)]
+pub struct WatchedLine<'a> {
+    alloc: Global,
+    line: &'a LineSpec,
+    /// The name of the file that is read; empty before the first.
+    file: String,
+    header: Header,
+    follower: Follower<'a>,
+    /// The number of octets of a row whose LF has not come.
+    begun: usize,
+    kept: KeptEntries,
+}
+
+impl<'a> Model for WatchedLine<'a> {
+    ghost use Rattle.std.specs.Prelude.{◌≡◌, None, string_bytes};
+    ghost use Rattle.dp_line.specs.World.{description_of, opening_fault};
+    ghost use Rattle.dp_watch.specs.Watched.{WatchedView};
+
+    ghost Value = { WatchedView };
+
+    ghost view = { λ w. record {
+      line = description_of w.line.now;
+      file = string_bytes w.file;
+      header = w.header;
+      follower = w.follower;
+      begun = w.begun;
+      kept = w.kept;
+    } };
+
+    ghost invariant = { λ w. opening_fault (description_of w.line.now) ≡ None };
+}
+
+impl<'a> WatchedLine<'a> {
+    /// Opens the line, before a text is there. `AllocError` if memory runs out.
+    pub fn open(alloc: Global, line: &'a LineSpec) -> Result<WatchedLine<'a>, AllocError>
+        requires { opening_fault (description_of line.now) ≡ None }
+        ensures { IfOk result (λ watched. watched ≡ text_begun (description_of line.now) [] nothing_kept) }
+    {
+        let follower = open_follower(alloc, line, "")?;
+        Ok(WatchedLine {
+            alloc,
+            line,
+            file: String::new(alloc),
+            header: Header::NotRead,
+            follower,
+            begun: 0,
+            kept: KeptEntries::new(alloc),
+        })
+    }
+
+    /// Returns the description of the line.
+    pub fn description(&self) -> &'a LineSpec
+        ensures { description_of result.now ≡ self.now.line }
+    {
+        self.line
+    }
+
+    /// Returns the name of the file that is read; empty before the first.
+    pub fn file(&self) -> &str
+        ensures { result.now ≡ self.now.file }
+    {
+        self.file.as_str()
+    }
+
+    /// Returns what follows the rows of the text: the line, the counts, the time and the releases.
+    pub fn follower(&self) -> &Follower<'a>
+        ensures { result.now ≡ self.now.follower }
+    {
+        &self.follower
+    }
+
+    /// Returns the number of octets of a row whose LF has not come.
+    pub fn begun(&self) -> usize
+        ensures { result ≡ self.now.begun }
+    {
+        self.begun
+    }
+
+    /// Returns the entries that are stored.
+    pub fn kept(&self) -> &KeptEntries
+        ensures { result.now ≡ self.now.kept }
+    {
+        &self.kept
+    }
+
+    /// Returns what the text was found to be so far.
+    pub fn standing(&self) -> Standing
+        ensures { result ≡ standing_of self.now self.now.header }
+    {
+        match self.header {
+            Header::NotRead => Standing::Empty,
+            Header::Wrong => Standing::BadLine(1),
+            Header::Accepted => standing_by(self.follower.fault()),
+        }
+    }
+
+    /// Begins the next text of the line in the file of this name: the line is opened anew. A note of it is stored under
+    /// this number, if there is one. `AllocError` if memory runs out.
+    pub(crate) fn begin_text(
+        &mut self,
+        file: &str,
+        note: Option<&str>,
+        number: u64,
+    ) -> Result<(), AllocError>
+        ensures text { OnOk result (self.new ≡ text_begun self.old.line file.now self.new.kept) }
+        ensures kept { OnOk result (KeepsNote (option_copied note.entry) number self.old.kept self.new.kept) }
+    {
+        let follower = open_follower(self.alloc, self.line, "")?;
+        self.file = String::from_str(self.alloc, file)?;
+        self.header = Header::NotRead;
+        self.follower = follower;
+        self.begun = 0;
+        match note {
+            Some(note) => self.keep_note(note, number),
+            None => Ok(()),
+        }
+    }
+
+    /// Goes on with the text in the file of this name. `AllocError` if memory runs out.
+    pub(crate) fn set_file(&mut self, file: &str) -> Result<(), AllocError>
+        ensures { OnOk result (self.new ≡ record self.old { file = file.now }) }
+    {
+        self.file = String::from_str(self.alloc, file)?;
+        Ok(())
+    }
+
+    /// Sets the number of octets of a row whose LF has not come.
+    pub(crate) fn set_begun(&mut self, octets: usize)
+        ensures { self.new ≡ record self.old { begun = octets } }
+    {
+        self.begun = octets;
+    }
+
+    /// Takes the next row of the text, without its LF, under this number. The first row has to be a header of the line; the
+    /// entry of each right row behind it is stored. After a wrong row nothing changes any more. `AllocError` if memory
+    /// runs out.
+    pub(crate) fn take_row(&mut self, row: &[u8], number: u64) -> Result<(), AllocError>
+        ensures { OnOk result (TakesRow self.old row.now number self.new) }
+    {
+        self.begun = 0;
+        match self.header {
+            Header::NotRead => self.take_header(row),
+            Header::Wrong => Ok(()),
+            Header::Accepted => self.take_entry(row, number),
+        }
+    }
+
+    /// Takes the first row.
+    fn take_header(&mut self, row: &[u8]) -> Result<(), AllocError>
+        ensures { OnOk result (self.new ≡ record self.old {
+          header = header_judged self.old.line row.now;
+          follower = follower_opened self.old row.now (header_judged self.old.line row.now);
+        }) }
+    {
+        if is_header_of(row, self.line) {
+            self.accept_header(row)
+        } else {
+            self.header = Header::Wrong;
+            Ok(())
+        }
+    }
+
+    /// Opens the line at its header, which is ASCII.
+    fn accept_header(&mut self, row: &[u8]) -> Result<(), AllocError>
+        ensures { OnOk result (self.new ≡ record self.old { header = Header.Accepted; follower = first_follower self.old.line (lines_of row.now) }) }
+    {
+        match std::str::from_utf8(row) {
+            Ok(header) => {
+                self.follower = open_follower(self.alloc, self.line, header)?;
+                self.header = Header::Accepted;
+                Ok(())
+            }
+            Err(_) => Err(AllocError),
+        }
+    }
+
+    /// Takes a row behind the header.
+    fn take_entry(&mut self, row: &[u8], number: u64) -> Result<(), AllocError>
+        ensures follower { OnOk result (self.new ≡ record self.old { follower = after_row self.old.follower row.now; kept = self.new.kept }) }
+        ensures kept { OnOk result (KeepsEvent (event_taken self.old.follower row.now) number (text_of_row every_entry self.old.follower row.now) self.old.kept self.new.kept) }
+    {
+        let mut text = Vec::new(self.alloc);
+        match self.follower.take_row(row, &EVERY_ENTRY, &mut text) {
+            Ok(()) => self.keep_entry(text, number),
+            Err(FollowFault::Wrong(_)) => Ok(()),
+            Err(FollowFault::Explain(_)) => Err(AllocError),
+        }
+    }
+
+    /// Stores an entry by its line of JSON.
+    fn keep_entry(&mut self, text: Vec<u8>, number: u64) -> Result<(), AllocError>
+        ensures same { OnOk result (self.new ≡ record self.old { kept = self.new.kept }) }
+        ensures kept { OnOk result (IsKept number text.items self.old.kept self.new.kept) }
+    {
+        let is_notable = is_notable(text.as_slice());
+        self.kept.keep(KeptEntry {
+            number,
+            is_notable,
+            text,
+        })
+    }
+
+    /// Stores a note.
+    fn keep_note(&mut self, note: &str, number: u64) -> Result<(), AllocError>
+        ensures same { OnOk result (self.new ≡ record self.old { kept = self.new.kept }) }
+        ensures kept { OnOk result (IsNoted number note.now self.old.kept self.new.kept) }
+    {
+        let text = note_line(self.alloc, note)?;
+        self.kept.keep(KeptEntry {
+            number,
+            is_notable: true,
+            text,
+        })
+    }
+}
+
+/// Returns the line of JSON of a note. `AllocError` if memory runs out.
+fn note_line(alloc: Global, note: &str) -> Result<Vec<u8>, AllocError>
+    ensures { IfOk result (λ text. text.items ≡ note_json note.now) }
+{
+    let mut text = String::new(alloc);
+    let quoted = Quoted(note.as_bytes());
+    write!(text, "{{\"note\":{quoted}}}\n")?;
+    Ok(text.into_bytes())
+}
+
+/// Opens what follows the text with this header. `AllocError` if memory runs out.
+fn open_follower<'a>(
+    alloc: Global,
+    line: &'a LineSpec,
+    header: &str,
+) -> Result<Follower<'a>, AllocError>
+    requires { opening_fault (description_of line.now) ≡ None }
+    ensures { IfOk result (λ follower. follower ≡ first_follower (description_of line.now) (lines_of header.now)) }
+{
+    match Follower::open(alloc, line, header) {
+        Ok(follower) => Ok(follower),
+        Err(_) => Err(AllocError),
+    }
+}
+
+/// Returns what a text was found to be, by the fault of its first wrong row.
+fn standing_by(fault: Option<AuditFault>) -> Standing
+    ensures { result ≡ standing_by fault }
+{
+    match fault {
+        None => Standing::Legal,
+        Some(AuditFault::BadLine(row)) => Standing::BadLine(row),
+        Some(AuditFault::NotThePolicy(row)) => Standing::NotThePolicy(row),
+        Some(AuditFault::OutOfMemory) => Standing::Legal,
+    }
+}
