@@ -1,0 +1,4 @@
+pub mod Values
+pub mod Slaves
+pub mod Lines
+pub mod Racks
