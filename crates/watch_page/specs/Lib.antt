@@ -1,0 +1,5 @@
+pub mod Targets
+pub mod TargetExamples
+pub mod Answers
+pub mod Queries
+pub mod QueryExamples
