@@ -1,0 +1,23 @@
+//! Follows the audit texts of a rack in a folder, and serves a page that shows them on 127.0.0.1.
+//!
+//! One thread reads the texts ([`following`]): it takes the rows of each line in turn, under the lock of what the page shows.
+//! Sixteen threads accept connections at one listener, and each serves one connection at a time ([`connections`]). So the
+//! number of connections that are served is bounded, and nothing waits in a queue of the program. No file is written.
+//!
+//! [`following`]: crate::following
+//! [`connections`]: crate::connections
+#![tactic(auto)]
+
+mod connections;
+mod following;
+mod found_texts;
+mod host;
+mod line_text;
+mod shared_rack;
+mod text_file;
+mod watch;
+mod watch_fault;
+
+pub use host::{PageHost, WatchHost};
+pub use watch::{Folder, listen, watch_at};
+pub use watch_fault::WatchFault;

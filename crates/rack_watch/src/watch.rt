@@ -1,0 +1,154 @@
+//! Following a rack, and serving its page.
+
+use crate::connections::serve_connections;
+use crate::following::follow_lines;
+use crate::host::{PageHost, WatchHost};
+use crate::line_text::Followed;
+use crate::shared_rack::SharedRack;
+use crate::watch_fault::WatchFault;
+use dp_cause::Cause;
+use dp_watch::{WatchedLine, WatchedRack};
+use rack_file::{Rack, read_rack};
+use std::alloc::Global;
+use std::net::{Ipv4Addr, Net, TcpListener, TcpStream};
+use std::sync::Mutex;
+use std::sync::atomic::{AtomicBool, Ordering};
+use std::thread::{self, Scope, Threads};
+use std::time::SystemTime;
+use watch_page::PageService;
+
+/// The number of threads that serve connections.
+const WORKERS: usize = 16;
+
+/// Where the rack and its audit texts are.
+#[derive(Clone, Copy)]
+pub struct Folder<'a> {
+    /// The text of the rack file.
+    pub rack: &'a str,
+    /// The path of the rack file.
+    pub file: &'a str,
+    /// The path of the folder with the audit texts.
+    pub folder: &'a str,
+}
+
+/// Listens at a port of the loopback address; for 0 the system chooses one.
+///
+/// Returns `CannotListen` if that fails.
+pub fn listen<N: Net>(net: &N, port: u16) -> Result<N::Listener, WatchFault> {
+    match TcpListener::bind(net, (Ipv4Addr::LOCALHOST, port)) {
+        Ok(listener) => Ok(listener),
+        Err(error) => Err(WatchFault::CannotListen(port, Cause::from_error(&error))),
+    }
+}
+
+/// Follows the audit texts of a rack, and serves its page at this listener, which has this port. It ends only with a fault.
+///
+/// Returns `Rack` if the rack is not accepted, and `OutOfMemory` if memory or a thread is refused.
+pub fn watch_at<'a, H: WatchHost + Sync>(
+    host: &'a H,
+    listener: &'a TcpListener,
+    port: u16,
+    folder: Folder<'a>,
+) -> Result<(), WatchFault> {
+    let alloc = host.alloc();
+    let rack = match read_rack(alloc, folder.rack) {
+        Ok(rack) => rack,
+        Err(fault) => return Err(WatchFault::Rack(fault)),
+    };
+    let watched = Mutex::new(open_lines(alloc, &rack)?);
+    let followed = Followed {
+        host,
+        alloc,
+        folder: folder.folder,
+        rack: &watched,
+    };
+    let shared = SharedRack {
+        host,
+        rack: &watched,
+        file: folder.file,
+        folder: folder.folder,
+        run: number_of_run(host),
+    };
+    let numbered = format!(in alloc; "127.0.0.1:{port}")?;
+    let named = format!(in alloc; "localhost:{port}")?;
+    let hosts = (numbered.as_str(), named.as_str());
+    let ends = AtomicBool::new(false);
+    let (source, ended) = (&shared, &ends);
+    thread::scope(
+        thread::scope_env(),
+        host,
+        |scope| -> Result<(), WatchFault> {
+            let started = start_workers(scope, host, alloc, listener, source, hosts, ended);
+            let followed = match started {
+                Ok(()) => follow_lines(&followed, &rack),
+                Err(fault) => Err(fault),
+            };
+            end_workers(host, port, ended);
+            followed
+        },
+    )
+}
+
+/// Starts the threads that serve connections. `hosts` are the two texts that a Host may have.
+fn start_workers<'s, 'w, E, H: PageHost + Threads + Sync>(
+    scope: &Scope<'s, E>,
+    host: &'s H,
+    alloc: Global,
+    listener: &'s TcpListener,
+    source: &'s SharedRack<'s, 'w, H>,
+    hosts: (&'s str, &'s str),
+    ended: &'s AtomicBool,
+) -> Result<(), WatchFault> {
+    let (numbered, named) = hosts;
+    for _ in 0..WORKERS {
+        let serving = move || {
+            let service = PageService {
+                alloc,
+                source,
+                numbered,
+                named,
+            };
+            serve_connections(host, listener, service, ended)
+        };
+        if scope.spawn(serving).is_err() {
+            return Err(WatchFault::OutOfMemory);
+        }
+    }
+    Ok(())
+}
+
+/// Has the threads that serve connections end: each that waits for a connection gets one.
+fn end_workers<N: Net>(net: &N, port: u16, ended: &AtomicBool) {
+    ended.store(true, Ordering::SeqCst);
+    for _ in 0..WORKERS {
+        // A connection that fails is one that nobody waits for.
+        let _ = TcpStream::connect(net, (Ipv4Addr::LOCALHOST, port));
+    }
+}
+
+/// Opens all lines of a rack.
+fn open_lines(alloc: Global, rack: &Rack) -> Result<WatchedRack<'_>, WatchFault> {
+    let mut lines = Vec::new(alloc);
+    for line in rack.lines.as_slice() {
+        // No line of an accepted rack has a fault.
+        if line.spec.fault().is_some() {
+            return Err(WatchFault::OutOfMemory);
+        }
+        lines.push(WatchedLine::open(alloc, &line.spec)?)?;
+    }
+    Ok(WatchedRack { lines, number: 0 })
+}
+
+/// Returns the number of a run: the nanoseconds since 1970, or 1 if the clock fails.
+fn number_of_run(host: &impl WatchHost) -> u64 {
+    let Ok(now) = SystemTime::now(host) else {
+        return 1;
+    };
+    match now.duration_since(SystemTime::UNIX_EPOCH) {
+        Ok(since) => {
+            let seconds = since.as_secs().wrapping_mul(1_000_000_000);
+            seconds.wrapping_add(u64::from(since.subsec_nanos()))
+        }
+        Err(_) => 1,
+    }
+}
