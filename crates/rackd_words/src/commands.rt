@@ -48,7 +48,14 @@ pub(crate) const PART: &str = "part";
 /// The most megabytes of a part of an audit text.
 const MOST_PART: u64 = 4_096;
 
+pub(crate) const PAGE: &str = "page";
+
 pub(crate) const LOG: &str = "log";
+
+/// The argument and the option of `watch`.
+pub(crate) const WATCHED: &str = "FOLDER";
+
+pub(crate) const PAGE_PORT: &str = "port";
 
 /// The word and the options of `operate`, and the least milliseconds of each option.
 pub(crate) const PORT: &str = "PORT";
@@ -70,8 +77,8 @@ const TOLD: [&str; 2] = ["sessions", "requests"];
 /// What `--version` prints after the program's name: the version, and the toolchain that proves and builds the program.
 const VERSION: &str = "0.1.0 (rattle-kit-13f logic dac8208d650f15bf)";
 
-/// Returns the words that are known: `run`, `check`, `explain`, `serve` and `operate`. `clap` adds `help`, and the
-/// options `--help` and `--version`.
+/// Returns the words that are known: `run`, `check`, `explain`, `serve`, `watch` and `operate`. `clap` adds `help`, and
+/// the options `--help` and `--version`.
 pub(crate) fn known<'a>(alloc: Global) -> Result<Command<'a>, AllocError> {
     let words = with_help(Command::new(alloc, "rackd"), help::PROGRAM)
         .version(VERSION)
@@ -113,6 +120,8 @@ fn checking<'a>(alloc: Global) -> Result<Command<'a>, AllocError> {
 fn with_ports<'a>(alloc: Global, words: Command<'a>) -> Result<Command<'a>, AllocError> {
     let serve = serving(alloc)?;
     let words = words.subcommand(serve)?;
+    let watch = watching(alloc)?;
+    let words = words.subcommand(watch)?;
     let operate = operating(alloc)?;
     words.subcommand(operate)
 }
@@ -197,7 +206,9 @@ pub(crate) fn serving<'a>(alloc: Global) -> Result<Command<'a>, AllocError> {
     let endless = endless(alloc)?;
     let words = words.arg(endless)?;
     let part = part(alloc)?;
-    words.arg(part)?.arg(log(alloc))
+    let words = words.arg(part)?;
+    let page = page(alloc)?;
+    words.arg(page)?.arg(log(alloc))
 }
 
 /// Returns the option `--sessions N`.
@@ -231,6 +242,14 @@ fn part<'a>(alloc: Global) -> Result<Arg<'a>, AllocError> {
         .requires_arg(ENDLESS)
 }
 
+/// Returns the option `--page N`, which requires `--audit`.
+fn page<'a>(alloc: Global) -> Result<Arg<'a>, AllocError> {
+    number(alloc, PAGE, 0, u64::from(u16::MAX))
+        .value_name("N")
+        .help(help::PAGE)
+        .requires_arg(FOLDER)
+}
+
 /// Returns the option `--log`, which may be followed by what is reported.
 fn log<'a>(alloc: Global) -> Arg<'a> {
     Arg::new(alloc, LOG)
@@ -241,6 +260,28 @@ fn log<'a>(alloc: Global) -> Arg<'a> {
         .value_parser(ValueParser::Names(&TOLD))
         .hide_possible_values(true)
         .help(help::LOG)
+}
+
+/// Returns the word `watch`, with a rack, a folder, and the port of the page.
+pub(crate) fn watching<'a>(alloc: Global) -> Result<Command<'a>, AllocError> {
+    with_rack(alloc, "watch", help::WATCH)?
+        .arg(watched(alloc))?
+        .arg(page_port(alloc))
+}
+
+/// Returns the argument for the folder of audit texts.
+fn watched<'a>(alloc: Global) -> Arg<'a> {
+    Arg::new(alloc, WATCHED)
+        .required(true)
+        .value_parser(ValueParser::NonEmptyString)
+        .help(help::WATCHED)
+}
+
+/// Returns the option `--port N`.
+fn page_port<'a>(alloc: Global) -> Arg<'a> {
+    number(alloc, PAGE_PORT, 0, u64::from(u16::MAX))
+        .value_name("N")
+        .help(help::PAGE_PORT)
 }
 
 /// Returns the word `operate`, with a port, and how often a tick and a step are sent.

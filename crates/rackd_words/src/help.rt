@@ -28,6 +28,7 @@ rackd < INPUT
        rackd check RACK AUDIT..
        rackd explain RACK AUDIT.. [OPTIONS]
        rackd serve RACK [OPTIONS]
+       rackd watch RACK FOLDER [--port N]
        rackd operate PORT [OPTIONS]
        rackd --help
        rackd WORD --help",
@@ -154,7 +155,8 @@ Examples:
 pub(crate) const SERVE: Help = Help {
     about: "Serve the lines of a rack to masters and operators at TCP ports of 127.0.0.1",
     usage: "\
-rackd serve RACK [--sessions N] [--audit FOLDER [--endless [--part MB]]] [--log [WHAT]]
+rackd serve RACK [--sessions N] [--audit FOLDER [--endless [--part MB]] [--page N]]
+             [--log [WHAT]]
        rackd serve --help",
     details: "\
 The rack file gives each line two ports: 'listen' for masters and 'operator' for its operator.
@@ -178,12 +180,33 @@ With --endless, memory has only the newest entries of each line: at least half a
 capacity, and at least 8208. The files are line-N-K.000001.audit, line-N-K.000002.audit and so on,
 and standard output gets only 'ready'.
 
+With --page, a page in a browser shows the rack, as 'watch' does. Standard output gets its address
+before 'ready'.
+
 Standard error gets warnings, for example that a line is halted, also without --log.
 
 Examples:
   rackd serve examples/serve/rack.toml --audit audit --log
   rackd serve examples/serve/rack.toml --audit audit --endless --part 100
   rackd serve examples/serve/rack.toml --sessions 1 > served.txt",
+};
+
+/// The help of `watch`.
+pub(crate) const WATCH: Help = Help {
+    about: "Show a rack that is served in a browser: who may change which slave, and why not",
+    usage: "\
+rackd watch RACK FOLDER [--port N]
+       rackd watch --help",
+    details: "\
+FOLDER is that of 'serve --audit'. The audit texts in it are followed while they are written, so the
+page shows what happens; of a rack that is served no more, it shows the newest texts.
+
+Standard output gets the address of the page, which only programs of this machine reach. rackd
+changes no file, and ends by a signal.
+
+Examples:
+  rackd watch examples/serve/rack.toml audit
+  rackd watch examples/serve/rack.toml audit --port 7300",
 };
 
 /// The help of `operate`.
@@ -263,10 +286,21 @@ pub(crate) const PART: &str = "\
 Begin the next file of an audit text after MB megabytes: 1 to 4096;
 requires --endless [default: 16]";
 
+pub(crate) const PAGE: &str = "\
+Show the rack at port N of 127.0.0.1 in a browser: 0 to 65535, where 0
+lets the system choose; requires --audit [default: no page]";
+
 pub(crate) const LOG: &str = "\
 Log to standard error: 'sessions' for connections, ends of sessions and
 octets that are no telegram, 'requests' for each request and answer too
 [default: only warnings; if WHAT is missing: sessions]";
+
+/// The argument and the option of `watch`.
+pub(crate) const WATCHED: &str =
+    "Folder with the audit texts of the rack, as 'serve --audit' writes them";
+
+pub(crate) const PAGE_PORT: &str =
+    "Port of the page, at 127.0.0.1: 0 to 65535 [default: 0, the system chooses]";
 
 /// The options of `operate`.
 pub(crate) const TICK: &str = "\

@@ -23,6 +23,8 @@ pub struct Service<'a> {
     /// The least megabytes of a part of an audit text, 1 to 4,096, if the lines are endless; None if each line has the
     /// places of the rack file.
     pub endless: Option<u16>,
+    /// The port of the page that shows the rack, 0 if the system chooses one; None if there is no page.
+    pub page: Option<u16>,
     /// How much is reported on standard error.
     pub log_detail: LogDetail,
 }
@@ -84,6 +86,15 @@ pub enum Invocation<'a> {
         rack: &'a str,
         /// How it is served.
         service: Service<'a>,
+    },
+    /// `watch RACK FOLDER`: show the rack of a file, and the audit texts of a folder, in a browser.
+    Watch {
+        /// The path of the rack.
+        rack: &'a str,
+        /// The path of the folder.
+        folder: &'a str,
+        /// The port of the page, 0 if the system chooses one.
+        port: u16,
     },
     /// `operate PORT`: operate a line that is served, by standard input and the clock.
     Operate {

@@ -1,8 +1,9 @@
 //! Reads what the words of the command line ask for.
 
 use crate::commands::{
-    AUDIT, ENDLESS, FAULTS, FOLDER, FOLLOW, FROM, JSON, LOG, MASTER, PART, PORT, RACK, REFUSED,
-    SCRIPT, SESSIONS, SLAVE, STEP, SUMMARY, TICK, TO, explaining, known, operating, serving,
+    AUDIT, ENDLESS, FAULTS, FOLDER, FOLLOW, FROM, JSON, LOG, MASTER, PAGE, PAGE_PORT, PART, PORT,
+    RACK, REFUSED, SCRIPT, SESSIONS, SLAVE, STEP, SUMMARY, TICK, TO, WATCHED, explaining, known,
+    operating, serving, watching,
 };
 use crate::invocation::{Entries, Invocation, LogDetail, Service, WordsFault};
 use clap::error::ErrorKind as Refused;
@@ -12,13 +13,15 @@ use std::env::{self, Env};
 use std::io::ErrorKind;
 
 /// The arguments that are numbers, and their names in messages.
-const NUMBERS: [(&str, &str); 9] = [
+const NUMBERS: [(&str, &str); 11] = [
     (FROM, "--from <N>"),
     (TO, "--to <N>"),
     (SLAVE, "--slave <A>"),
     (MASTER, "--master <M>"),
     (SESSIONS, "--sessions <N>"),
     (PART, "--part <MB>"),
+    (PAGE, "--page <N>"),
+    (PAGE_PORT, "--port <N>"),
     (PORT, "<PORT>"),
     (TICK, "--tick <MS>"),
     (STEP, "--step <MS>"),
@@ -142,6 +145,7 @@ fn refuse_number<'a>(alloc: Global, odd: OddNumber<'_>) -> Result<Invocation<'a>
     let command = match command {
         "operate" => operating(alloc),
         "explain" => explaining(alloc),
+        "watch" => watching(alloc),
         _ => serving(alloc),
     };
     refuse_value(command, message.as_str())
@@ -169,6 +173,11 @@ fn invocation_of<'a>(
             audit: paths_in(alloc, words, AUDIT)?,
             entries: entries_of(words),
             follows: words.get_flag(FOLLOW),
+        }),
+        "watch" => Ok(Invocation::Watch {
+            rack: path_in(words, RACK),
+            folder: path_in(words, WATCHED),
+            port: words.get_one(PAGE_PORT).unwrap_or(0),
         }),
         "operate" => Ok(Invocation::Operate {
             port: words.get_one(PORT).unwrap_or(0),
@@ -220,6 +229,7 @@ fn service_of<'a>(words: &ArgMatches<'a>) -> Service<'a> {
         sessions: words.get_one(SESSIONS),
         audit: words.get_str(FOLDER),
         endless: part_of(words),
+        page: words.get_one(PAGE),
         log_detail: log_detail_of(words.get_str(LOG)),
     }
 }
