@@ -22,6 +22,7 @@ mod reporting;
 mod script_form;
 mod stations;
 mod texts;
+mod watching;
 
 use answers::answer_words;
 use dp_script::RunFault;
@@ -32,6 +33,7 @@ use log::{Level, Log, Logged, info};
 use operator_client::{Operation, operate};
 use output::{buffered, flushed};
 use rack_server::{Host, Served, serve_text};
+use rack_watch::WatchHost;
 use rackd_words::{Entries, Invocation, Service, read_words, words_of};
 use reporting::{ended, report, reported};
 use row_queue::{RowQueue, Written};
@@ -42,8 +44,9 @@ use std::net::{TcpListener, TcpStream};
 use std::process::ExitCode;
 use std::rt::Runtime;
 use std::sync::Wait;
-use std::thread::Threads;
+use std::thread::{self, Threads};
 use texts::{check_files, explain_files, run_files, run_input};
+use watching::{ServedPage, watch_folder};
 
 /// A file that has no bytes.
 const NOTHING: &str = "/dev/null";
@@ -88,8 +91,22 @@ fn main(rt: HostRuntime) -> ExitCode {
                 )
             }
         }
-        Ok(Invocation::Serve { rack, service }) => match before_serving(&rt, rack) {
-            Ok((rack, queue, written)) => {
+        Ok(Invocation::Watch { rack, folder, port }) => {
+            ended(&rt, watch_folder(&rt, rack, folder, port))
+        }
+        Ok(Invocation::Serve { rack, service }) => match before_serving(&rt, rack, service) {
+            Ok((rack, page, queue, written)) => {
+                if let Some(page) = page {
+                    let showing = move || {
+                        let _named: (Option<TcpListener>, Option<TcpStream>, Option<File>) = (
+                            None, None, None,
+                        );
+                        page.show(&rt)
+                    };
+                    if thread::spawn(&rt, showing).is_err() {
+                        return report(&rt, Fault::Run(RunFault::OutOfMemory));
+                    }
+                }
                 let host = Logged::new(rt, Level::Info, queue);
                 let code = serve_rack(&host, host.sink(), rt.alloc(), rack.as_str(), service);
                 let (_, queue) = host.into_parts();
@@ -120,15 +137,17 @@ fn shows_progress((output, errors): (bool, bool), entries: Entries) -> bool {
     errors && (entries.only_summary || !output)
 }
 
-/// Reads the rack file, and starts the queue of rows for standard error. With the queue, serving never waits until
-/// these rows are read.
-fn before_serving<'a, H: Runtime + AllocGlobal + Threads + Wait + Copy + Send + 'static>(
+/// Reads the rack file, opens the page if there is one, and starts the queue of rows for standard error. With the queue,
+/// serving never waits until these rows are read.
+fn before_serving<'a, H: WatchHost + Print + Copy + Send + 'static>(
     rt: &H,
     rack: &'a str,
-) -> Result<(String, RowQueue<H>, Written), Fault<'a>> {
-    let rack = read_file(rt, rack)?;
+    service: Service<'_>,
+) -> Result<(String, Option<ServedPage>, RowQueue<H>, Written), Fault<'a>> {
+    let text = read_file(rt, rack)?;
+    let page = ServedPage::open(rt, text.as_str(), rack, service)?;
     match row_queue::start(*rt, rt.alloc()) {
-        Ok((queue, written)) => Ok((rack, queue, written)),
+        Ok((queue, written)) => Ok((text, page, queue, written)),
         Err(_) => Err(Fault::Run(RunFault::OutOfMemory)),
     }
 }
