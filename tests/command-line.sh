@@ -141,9 +141,10 @@ declare -A does=(
   [check]='Check whether a line of the rack would have answered as an audit text says'
   [explain]="Explain an audit text in words, and check it as 'check' does"
   [serve]='Serve the lines of a rack to masters and operators at TCP ports of 127.0.0.1'
+  [watch]='Show a rack that is served in a browser: who may change which slave, and why not'
   [operate]='Operate a line that is served: send commands and time, and print the answers'
 )
-known=(run check explain serve operate)
+known=(run check explain serve watch operate)
 
 # helped NAME FIRST WORD..: the words print the help with this first line, always the same text, which is left in NAME.help
 helped() {
@@ -177,12 +178,12 @@ done
 helped check "${does[check]}" check rack --help
 helped serve "${does[serve]}" serve rack --sessions 1 -h
 helped operate "${does[operate]}" operate 7 --help
-hold 'each word has a help of its own' [ "$(sha256sum "$work"/*.help | cut -d ' ' -f 1 | sort -u | wc -l)" = 6 ]
+hold 'each word has a help of its own' [ "$(sha256sum "$work"/*.help | cut -d ' ' -f 1 | sort -u | wc -l)" = 7 ]
 hold 'the help of the program has at most 45 lines' [ "$(wc -l <"$work/rackd.help")" -le 45 ]
 hold 'no line of the help has more than 100 characters' eval '! grep -n ".\{101\}" "$work"/*.help'
 hold 'the help of the program: usage, words, options, exit statuses, an example' has rackd.help 'Usage: rackd < INPUT' \
   'rackd run RACK SCRIPT' 'rackd check RACK AUDIT..' 'rackd explain RACK AUDIT.. [OPTIONS]' 'rackd serve RACK [OPTIONS]' \
-  'rackd operate PORT [OPTIONS]' 'rackd WORD --help' '-h, --help' '-V, --version' 'Exit statuses:' \
+  'rackd watch RACK FOLDER [--port N]' 'rackd operate PORT [OPTIONS]' 'rackd WORD --help' '-h, --help' '-V, --version' 'Exit statuses:' \
   '  0  ' '  1  ' '  2  ' '  3  ' '  4  ' '  5  ' $'\nExample:\n  rackd '
 hold 'the help of run: usage, arguments, the commands of a script' has run.help 'Usage: rackd run RACK SCRIPT' 'rackd < INPUT' \
   '<RACK>' '<SCRIPT>' 'exactly %%' '  line N ' '  m M HEX.. ' '  in A HEX ' '  diag A FLAGS HEX ' '  busy A POINT on ' \
@@ -194,10 +195,13 @@ hold 'the help of explain: usage, options, ranges' has explain.help \
   '--from <N>' '1 to 4294967295 [default: 1]' '--to <N>' '1 to 4294967295' '--slave <A>' '0 to 255' '--master <M>' '0 to 255' \
   '--faults' '--refused' '--summary' '--json' '--follow' $'\nExamples:\n  rackd '
 hold 'the help of serve: usage, options, ranges' has serve.help \
-  'Usage: rackd serve RACK [--sessions N] [--audit FOLDER [--endless [--part MB]]] [--log [WHAT]]' \
+  'Usage: rackd serve RACK [--sessions N] [--audit FOLDER [--endless [--part MB]] [--page N]]' '[--log [WHAT]]' \
   '--sessions <N>' '1 to 1000000 [default: no limit]' '--audit <FOLDER>' '--endless' '4294967295; requires --audit' \
-  '--part <MB>' '1 to 4096' 'requires --endless [default: 16]' '--log [<WHAT>]' "'sessions'" "'requests'" "'ready'" E5 8208 \
+  '--part <MB>' '1 to 4096' 'requires --endless [default: 16]' '--page <N>' '0 to 65535' 'requires --audit [default: no page]' \
+  '--log [<WHAT>]' "'sessions'" "'requests'" "'ready'" E5 8208 \
   $'\nExamples:\n  rackd '
+hold 'the help of watch: usage, arguments, ranges' has watch.help 'Usage: rackd watch RACK FOLDER [--port N]' \
+  '<RACK>' '<FOLDER>' '--port <N>' '127.0.0.1: 0 to 65535' 'default: 0' $'\nExamples:\n  rackd '
 hold 'the help of operate: usage, options, ranges' has operate.help 'Usage: rackd operate PORT [--tick MS] [--step MS]' \
   '<PORT>' '1 to 65535' '--tick <MS>' '10 to 86400000' '--step <MS>' '1 to 86400000' 'rackd operate 7201'
 
@@ -233,7 +237,7 @@ refused() {
 }
 
 try="For more information, try '--help'."
-each_word=('Usage: rackd < INPUT' 'rackd run ' 'rackd check ' 'rackd explain ' 'rackd serve ' 'rackd operate ' 'rackd --help'
+each_word=('Usage: rackd < INPUT' 'rackd run ' 'rackd check ' 'rackd explain ' 'rackd serve ' 'rackd watch ' 'rackd operate ' 'rackd --help'
   "$try")
 refused word "unrecognized subcommand 'word'" "${each_word[@]}"
 refused 'help word' "unrecognized subcommand 'word'" "${each_word[@]}"
