@@ -90,7 +90,10 @@ rack 1 1 1 >"$work/rack"
 printf 'm 100 68 05 05 68 81 E4 6D 3C 3E 4C 16\njournal\n' >"$work/script"
 printf 'rack-audit 2 line 1\n' >"$work/audit"
 printf 'rack-audit 2 line 1\n1 tick 1 | none | done\n' >"$work/other"
-printf 'rack-audit 2 line 1\n1 tick 1 | none | done\n' >"$work/other"
+{
+  printf 'rack-audit 2 line 1\n1 req 100 6805056881e46d3c3e4c16'
+  printf ' | WaitPrm none | reply 680b0b68e481083e3c020500ff80a10e16 Done\n'
+} >"$work/entry"
 { rack 1 1 1 | sed 's/^capacity = 1000/capacity = 1/'; } >"$work/one-place"
 
 sweep 'help' 4 /dev/null --help
