@@ -31,8 +31,8 @@ PATIENCE, SETTLED = 10, 0.6
 REQUEST, BEYOND = 10, 4
 # Entries that are kept: the recent ones, and the notable ones before them.
 RECENT, NOTABLE = 300, 120
-# Entries of a long text, and the octets by which memory may grow from its first third to its end.
-LONG, GROWTH = 200_000, 2_000_000
+# Entries of a long text, answers after each third of it, and the octets by which memory may grow from the first third on.
+LONG, ANSWERS, GROWTH = 200_000, 200, 1_000_000
 FIELDS = {
     "allow": "GET, HEAD",
     "cache-control": "no-store",
@@ -524,6 +524,9 @@ def memory_stays(program, folder):
             while watched.line()["count"] < first + LONG // 3 - 1 and time.monotonic() < end:
                 time.sleep(0.1)
             expect("the entries", first + LONG // 3 - 1, watched.line()["count"])
+            # By then each thread that serves connections has taken its memory.
+            for _ in range(ANSWERS):
+                watched.line()
             held.append(resident(watched.process))
         hold(f"memory grew: {held}", held[-1] - held[0] <= GROWTH)
     print(f"{LONG} entries, {held[-1]} octets")
