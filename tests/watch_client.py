@@ -111,7 +111,9 @@ def entries(line):
 
 
 def notes(line):
-    return [each["entry"]["note"] for each in line["notable"] + line["recent"] if "note" in each["entry"]]
+    """The notes of a line: the file of the text that begins, and the words about it."""
+    kept = [each["entry"] for each in line["notable"] + line["recent"]]
+    return [(entry["begins"], entry["note"]) for entry in kept if "note" in entry]
 
 
 class Folder:
@@ -234,12 +236,13 @@ def next_texts(program, folder):
         expect("it is halted", True, line["halted"])
         audit.write("line-1-2.audit", *rows[:2])
         line = watched.expect("the next text", standing, ("line-1-2.audit", "legal", 0, 1))
-        expect("a note", ["line-1-2.audit begins; every slave waits for its parameters"], notes(line))
+        begins = "{} begins; every slave waits for its parameters"
+        expect("a note", [("line-1-2.audit", begins.format("line-1-2.audit"))], notes(line))
         expect("it is not halted", (False, "Wait_Prm"), (line["halted"], line["slaves"][0]["state"]))
         audit.write("line-1-2.audit", rows[2][:11])
         audit.write("line-1-3.audit", *rows[:3])
         line = watched.expect("behind a kill", standing, ("line-1-3.audit", "legal", 0, 2))
-        expect("another note", "line-1-3.audit begins; every slave waits for its parameters; line-1-2.audit ended without a halt",
+        expect("another note", ("line-1-3.audit", begins.format("line-1-3.audit") + "; line-1-2.audit ended without a halt"),
                notes(line)[-1])
         expect("its entries", [1, 2], [entry["place"] for entry in entries(line)][-2:])
 

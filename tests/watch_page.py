@@ -357,13 +357,14 @@ def endless_line(trial):
 def next_text(trial):
     page = trial.open()
     trial.rack.set(file="line-1-2.audit", count=0)
-    trial.follow(note("line-1-2.audit begins; every slave waits for its parameters"),
+    trial.follow(note("line-1-2.audit", "a text begins"),
                  refusal(1, 3, 9, NOT_LISTED, "NotListed"))
     until("the entry", "1 of line-1-2.audit", lambda: page.reason()["entry"].split(" · ")[0])
     expect("before it", "no entry on this page changed slave 9", page.reason()["before it"])
     expect("the foot", "This page has every entry of this text. In a terminal: rackd explain rack.toml "
            "audit/line-1-2.audit", page.text("#foot"))
     for _ in range(2):
+        until("the entry", "1 of line-1-2.audit", lambda: page.reason()["entry"].split(" · ")[0])
         trial.tab.click("#refusals tbody tr:nth-child(2) button")
         until("the entry", "14 of line-1-1.audit", lambda: page.reason()["entry"].split(" · ")[0])
         trial.open(trial.rack)
@@ -482,7 +483,7 @@ def markup_is_text(trial):
     rack = sample()
     rack.rack, rack.folder = "<b>.toml", MARKUP
     rack.set(1, file=None)
-    rack.add(note(MARKUP), refusal(16, sentence=f"refused: {MARKUP}", rule="<script>alert(1)</script>",
+    rack.add(note("line-1-1.audit", MARKUP), refusal(16, sentence=f"refused: {MARKUP}", rule="<script>alert(1)</script>",
                                    decoded={MARKUP: [MARKUP]}, reply=[MARKUP]))
     rack.lines[0].fields["masters"][0]["ways"].append(way(MARKUP, 1))
     page = trial.open(rack)

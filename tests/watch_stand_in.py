@@ -74,8 +74,8 @@ def change(slave, before, after):
     return {"slave": slave, "from": before, "to": after}
 
 
-def note(text):
-    return {"note": text}
+def note(file, text):
+    return {"begins": file, "note": text}
 
 
 FREE, LOCKED, RUNNING = "Wait_Prm, held by nobody", "Wait_Cfg, held by master {}", "Data_Exch, held by master {}"
@@ -250,7 +250,7 @@ def sample():
     rack = Rack(first, Line(2, [1, 4], [slave(33)]))
     parameters = {"parameters": ["Lock_Req", "watchdog 1000 ms", "min TSDR 11", "ident 80A1", "groups 1, 3"]}
     rack.add(
-        note("line-1-1.audit begins; every slave waits for its parameters"),
+        note("line-1-1.audit", "line-1-1.audit begins; every slave waits for its parameters"),
         request(1, 1, 5, "Slave_Diag", reply=["Station_Not_Ready", "Prm_Req", "held by nobody", "ident 80A1"]),
         request(2, 2, 12, "Set_Prm", "wrong parameters: ident 80D2, the slave has 80A1.", decoded=parameters),
         request(3, 1, 5, "Set_Prm", "locked: master 1 holds slave 5.", decoded=parameters,

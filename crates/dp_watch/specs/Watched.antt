@@ -79,9 +79,9 @@ event_behind watched row headers.NotRead = None
 event_behind watched row headers.Wrong = None
 event_behind watched row headers.Accepted = event_taken watched.follower row
 
--- the line of JSON of a note
-abbrev pub note_json : List ℕ → List ℕ
-note_json note = codes "{\"note\":" ++ string_json note ++ codes "}\n"
+-- the line of JSON of a note that the text in this file begins
+abbrev pub note_json : List ℕ → List ℕ → List ℕ
+note_json file note = codes "{\"begins\":" ++ string_json file ++ codes ",\"note\":" ++ string_json note ++ codes "}\n"
 
 -- an entry with this number and this line of JSON is stored
 pub record IsKept (number : ℕ) (text : List ℕ) (old new : KeptView) : Type 0 where
@@ -91,11 +91,11 @@ pub record IsKept (number : ℕ) (text : List ℕ) (old new : KeptView) : Type 0
   pub notable : IsNotable text entry.is_notable
   pub kept : new ≡ entry_kept entry old
 
--- a note with this number is stored as a line of JSON, for as long as a notable entry
-pub record IsNoted (number : ℕ) (note : List ℕ) (old new : KeptView) : Type 0 where
+-- a note with this number, that the text in this file begins, is stored as a line of JSON, for as long as a notable entry
+pub record IsNoted (number : ℕ) (file note : List ℕ) (old new : KeptView) : Type 0 where
   pub entry : KeptEntry
   pub numbered : entry.number ≡ number
-  pub written : entry.text.items ≡ note_json note
+  pub written : entry.text.items ≡ note_json file note
   pub notable : entry.is_notable ≡ true
   pub kept : new ≡ entry_kept entry old
 
@@ -117,10 +117,10 @@ pub record TakesRow (watched : WatchedView) (row : List ℕ) (number : ℕ) (new
   pub begun : new.begun ≡ 0
   pub kept : KeepsRow watched row number new.kept
 
--- a text begins under this number, with a note of it if there is one
-abbrev pub KeepsNote : Option (List ℕ) → ℕ → KeptView → KeptView → Type 0
-KeepsNote None number old new = new ≡ old
-KeepsNote (Some note) number old new = IsNoted number note old new
+-- the text in this file begins under this number, with a note of it if there is one
+abbrev pub KeepsNote : Option (List ℕ) → ℕ → List ℕ → KeptView → KeptView → Type 0
+KeepsNote None number file old new = new ≡ old
+KeepsNote (Some note) number file old new = IsNoted number file note old new
 
 -- ---- the standing of the text
 

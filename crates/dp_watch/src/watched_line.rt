@@ -146,7 +146,7 @@ impl<'a> WatchedLine<'a> {
         number: u64,
     ) -> Result<(), AllocError>
         ensures text { OnOk result (self.new ≡ text_begun self.old.line file.now self.new.kept) }
-        ensures kept { OnOk result (KeepsNote (option_copied note.entry) number self.old.kept self.new.kept) }
+        ensures kept { OnOk result (KeepsNote (option_copied note.entry) number file.now self.old.kept self.new.kept) }
     {
         let follower = open_follower(self.alloc, self.line, "")?;
         self.file = String::from_str(self.alloc, file)?;
@@ -154,7 +154,7 @@ impl<'a> WatchedLine<'a> {
         self.follower = follower;
         self.begun = 0;
         match note {
-            Some(note) => self.keep_note(note, number),
+            Some(note) => self.keep_note(file, note, number),
             None => Ok(()),
         }
     }
@@ -243,12 +243,12 @@ impl<'a> WatchedLine<'a> {
         })
     }
 
-    /// Stores a note.
-    fn keep_note(&mut self, note: &str, number: u64) -> Result<(), AllocError>
+    /// Stores a note that the text in this file begins.
+    fn keep_note(&mut self, file: &str, note: &str, number: u64) -> Result<(), AllocError>
         ensures same { OnOk result (self.new ≡ record self.old { kept = self.new.kept }) }
-        ensures kept { OnOk result (IsNoted number note.now self.old.kept self.new.kept) }
+        ensures kept { OnOk result (IsNoted number file.now note.now self.old.kept self.new.kept) }
     {
-        let text = note_line(self.alloc, note)?;
+        let text = note_line(self.alloc, file, note)?;
         self.kept.keep(KeptEntry {
             number,
             is_notable: true,
@@ -257,13 +257,14 @@ impl<'a> WatchedLine<'a> {
     }
 }
 
-/// Returns the line of JSON of a note. `AllocError` if memory runs out.
-fn note_line(alloc: Global, note: &str) -> Result<Vec<u8>, AllocError>
-    ensures { IfOk result (λ text. text.items ≡ note_json note.now) }
+/// Returns the line of JSON of a note that the text in this file begins. `AllocError` if memory runs out.
+fn note_line(alloc: Global, file: &str, note: &str) -> Result<Vec<u8>, AllocError>
+    ensures { IfOk result (λ text. text.items ≡ note_json file.now note.now) }
 {
     let mut text = String::new(alloc);
-    let quoted = Quoted(note.as_bytes());
-    write!(text, "{{\"note\":{quoted}}}\n")?;
+    let begins = Quoted(file.as_bytes());
+    let note = Quoted(note.as_bytes());
+    write!(text, "{{\"begins\":{begins},\"note\":{note}}}\n")?;
     Ok(text.into_bytes())
 }
 

@@ -28,7 +28,7 @@ impl<'a> WatchedRack<'a> {
     ) -> Result<(), AllocError>
         ensures number { self.new.number ≡ next_number self.old.number }
         ensures lines { OnOk result (ChangesLine index
-            (λ old new. (new ≡ text_begun old.line file.now new.kept) × KeepsNote (option_copied note.entry) (next_number self.old.number) old.kept new.kept)
+            (λ old new. (new ≡ text_begun old.line file.now new.kept) × KeepsNote (option_copied note.entry) (next_number self.old.number) file.now old.kept new.kept)
             self.old.lines.items self.new.lines.items) }
     {
         self.number = self.number.saturating_add(1);

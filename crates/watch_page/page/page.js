@@ -293,7 +293,7 @@ function takeOctets(record, slave, key) {
 function takeEntries(record, line, isFirst) {
   const last = record.entries.at(-1), at = isFirst ? null : Date.now();
   const came = [...line.notable, ...line.recent].filter(entry => entry.number > (last?.number ?? 0));
-  const beginnings = came.map(({ entry }) => /^(\S+\.audit) begins/.exec(entry.note ?? "")?.[1] ?? null);
+  const beginnings = came.map(({ entry }) => entry.begins ?? null);
   let text = beginnings.some(name => name !== null) ? last?.text ?? null : textName(line.file);
   const read = came.map((entry, place) => {
     text = textName(beginnings[place]) ?? text;
