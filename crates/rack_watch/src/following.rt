@@ -2,21 +2,20 @@
 
 use crate::host::WatchHost;
 use crate::line_text::{Followed, LineText, Turn};
+use crate::processor_share::ProcessorShare;
 use crate::watch_fault::WatchFault;
 use rack_file::Rack;
 use std::thread;
-use std::time::Duration;
-
-/// How long it waits before it reads on if all that was written is read, in milliseconds.
-const READ_INTERVAL_MS: u64 = 25;
+use std::time::{Duration, Instant};
 
 /// The number of rounds after which it looks for the next texts.
 const ROUNDS_TO_LOOK: u32 = 6;
 
-/// Follows the audit texts of all lines of a rack. It ends only with a fault.
+/// Follows the audit texts of all lines of a rack, with this share of a processor. It ends only with a fault.
 pub(crate) fn follow_lines<'a, H: WatchHost>(
     followed: &Followed<'a, '_, H>,
     rack: &Rack,
+    share: ProcessorShare,
 ) -> Result<(), WatchFault> {
     let mut lines = Vec::new(followed.alloc);
     for line in rack.lines.as_slice() {
@@ -25,11 +24,14 @@ pub(crate) fn follow_lines<'a, H: WatchHost>(
     }
     let mut round: u32 = 0;
     for _ in followed.host.forever() {
+        let begun = Instant::now(followed.host);
         let has_more = follow_round(followed, lines.as_mut_slice(), round == 0)?;
         round = next_round(round);
-        if !has_more {
-            thread::sleep(followed.host, Duration::from_millis(READ_INTERVAL_MS));
-        }
+        let took = match begun {
+            Ok(begun) => begun.elapsed(followed.host).unwrap_or(Duration::ZERO),
+            Err(_) => Duration::ZERO,
+        };
+        thread::sleep(followed.host, share.pause(took, has_more));
     }
     unreachable!()
 }

@@ -13,11 +13,13 @@ mod following;
 mod found_texts;
 mod host;
 mod line_text;
+mod processor_share;
 mod shared_rack;
 mod text_file;
 mod watch;
 mod watch_fault;
 
 pub use host::{PageHost, WatchHost};
+pub use processor_share::ProcessorShare;
 pub use watch::{Folder, listen, watch_at};
 pub use watch_fault::WatchFault;

@@ -4,6 +4,7 @@ use crate::connections::serve_connections;
 use crate::following::follow_lines;
 use crate::host::{PageHost, WatchHost};
 use crate::line_text::Followed;
+use crate::processor_share::ProcessorShare;
 use crate::shared_rack::SharedRack;
 use crate::watch_fault::WatchFault;
 use dp_cause::Cause;
@@ -41,7 +42,8 @@ pub fn listen<N: Net>(net: &N, port: u16) -> Result<N::Listener, WatchFault> {
     }
 }
 
-/// Follows the audit texts of a rack, and serves its page at this listener, which has this port. It ends only with a fault.
+/// Follows the audit texts of a rack with this share of a processor, and serves its page at this listener, which has this
+/// port. It ends only with a fault.
 ///
 /// Returns `Rack` if the rack is not accepted, and `OutOfMemory` if memory or a thread is refused.
 pub fn watch_at<'a, H: WatchHost + Sync>(
@@ -49,6 +51,7 @@ pub fn watch_at<'a, H: WatchHost + Sync>(
     listener: &'a TcpListener,
     port: u16,
     folder: Folder<'a>,
+    share: ProcessorShare,
 ) -> Result<(), WatchFault> {
     let alloc = host.alloc();
     let rack = match read_rack(alloc, folder.rack) {
@@ -80,7 +83,7 @@ pub fn watch_at<'a, H: WatchHost + Sync>(
         |scope| -> Result<(), WatchFault> {
             let started = start_workers(scope, host, alloc, listener, source, hosts, ended);
             let followed = match started {
-                Ok(()) => follow_lines(&followed, &rack),
+                Ok(()) => follow_lines(&followed, &rack, share),
                 Err(fault) => Err(fault),
             };
             end_workers(host, port, ended);

@@ -6,7 +6,7 @@ use crate::reporting::reported;
 use dp_script::RunFault;
 use rack_file::read_rack;
 use rack_server::ServeFault;
-use rack_watch::{Folder, WatchFault, WatchHost, listen, watch_at};
+use rack_watch::{Folder, ProcessorShare, WatchFault, WatchHost, listen, watch_at};
 use rackd_words::Service;
 use std::io::{self, Write};
 use std::net::TcpListener;
@@ -26,7 +26,7 @@ pub(crate) fn watch_folder<'a, H: WatchHost + Print + Eprint + Sync>(
         file: rack,
         folder,
     };
-    let ended = match watch_at(rt, &listener, port, watched) {
+    let ended = match watch_at(rt, &listener, port, watched, ProcessorShare::Whole) {
         Ok(()) => Ok(ExitCode::SUCCESS),
         Err(fault) => Err(fault_of(fault)),
     };
@@ -108,13 +108,14 @@ impl ServedPage {
         }))
     }
 
-    /// Shows the rack. A fault ends the page only, and the rack is still served.
+    /// Shows the rack, with a tenth of a processor at the most. A fault ends the page only, and the rack is still served.
     pub(crate) fn show<H: WatchHost + Sync>(&self, rt: &H) {
         let watched = Folder {
             rack: self.text.as_str(),
             file: self.rack.as_str(),
             folder: self.folder.as_str(),
         };
-        let _ = watch_at(rt, &self.listener, self.port, watched);
+        let share = ProcessorShare::Tenth;
+        let _ = watch_at(rt, &self.listener, self.port, watched, share);
     }
 }
