@@ -1,23 +1,29 @@
 #!/usr/bin/env python3
-"""Measures 'rackd watch' with its page open in Chromium.
+"""Measures 'rackd watch' and 'rackd serve --page' with the page open in Chromium.
 
 usage: watch_speed.py PROGRAM
 
 The first row: what it takes of a processor while a text grows by 5,000 ticks a second. The second: how long a refused request
-takes from its row in the text to the screen, in the middle and at the most of 20.
+takes from its row in the text to the screen, in the middle and at the most of 20. Then, for so many sessions of masters with
+lines of their own: how many requests a second are answered without a page and with one, and the ratio.
 """
 import os
+import socket
+import subprocess
 import sys
 import tempfile
 import time
 
 sys.dont_write_bytecode = True
 from browser import Browser, chromium
+from trail_client import ACCEPTED, Rack, diag, fresh
 from watch_client import Folder, Watched, polls, tick_rack, ticks
 
 # Events and writes a second, for how many seconds; how many requests are waited for, each for how long.
 RATE, WRITES, SECONDS, REQUESTS, PATIENCE = 5_000, 50, 20, 20, 10
 TEXT = "line-1-1.000001.audit"
+# Sessions, the requests of all sessions of a round, the rounds of which the best counts, and the requests that are sent at once.
+SESSIONS, ROUND, ROUNDS, AT_ONCE = (1, 2, 4, 8), 96_000, 5, 16
 
 
 def used(process):
@@ -55,19 +61,87 @@ def show(tab, audit, place):
     print(f"on the screen after {times[REQUESTS // 2] * 1000:.0f} ms in the middle, {times[-1] * 1000:.0f} ms at the most")
 
 
+def ask(port, count, connected, start):
+    """Asks for diagnoses as master 1 of the line at a port, in a process of its own. Returns its number."""
+    process = os.fork()
+    if process:
+        return process
+    with socket.create_connection(("127.0.0.1", port), PATIENCE) as line:
+        line.setsockopt(socket.IPPROTO_TCP, socket.TCP_NODELAY, 1)
+        line.sendall(b"\x01")
+        accepted = line.recv(1) == ACCEPTED
+        os.write(connected, b".")
+        os.read(start, 1)
+        requests, replies = diag(1, 5) * AT_ONCE, fresh(1, 5) * AT_ONCE
+        for _ in range(count // AT_ONCE):
+            line.sendall(requests)
+            got = b""
+            while len(got) < len(replies) and (octets := line.recv(65_536)):
+                got += octets
+            accepted = accepted and got == replies
+    os._exit(0 if accepted else 1)
+
+
+def rate(rack, sessions):
+    """Returns how many requests a second are answered to so many masters."""
+    connected, ready = os.pipe()
+    start, go = os.pipe()
+    masters = [ask(rack.masters[line], ROUND // sessions, ready, start) for line in range(1, sessions + 1)]
+    for _ in masters:
+        os.read(connected, 1)
+    begun = time.monotonic()
+    os.write(go, b"." * sessions)
+    statuses = [os.waitpid(master, 0)[1] for master in masters]
+    took = time.monotonic() - begun
+    for descriptor in (connected, ready, start, go):
+        os.close(descriptor)
+    if any(statuses):
+        sys.exit("a master did not get its replies")
+    return ROUND / took
+
+
+def served_rate(program, folder, sessions, tab):
+    """Returns the rate of a rack that is served, with its page in a tab if there is one."""
+    rack = Rack(os.path.join(folder, "rack.toml"), *range(1, 9), workers=8)
+    with tempfile.TemporaryDirectory(dir=folder) as audit:
+        page = ["--page", "0"] if tab else []
+        words = [program, "serve", rack.path, "--audit", audit, "--endless", *page]
+        with subprocess.Popen(words, stdin=subprocess.DEVNULL, stdout=subprocess.PIPE) as process:
+            try:
+                if tab:
+                    tab.open(process.stdout.readline().decode().split()[-1])
+                process.stdout.readline()
+                return rate(rack, sessions)
+            finally:
+                if tab:
+                    tab.open("about:blank")
+                process.kill()
+
+
+def serve(program, folder, tab):
+    """Writes what an open page costs the masters."""
+    for sessions in SESSIONS:
+        without, beside = 0, 0
+        for _ in range(ROUNDS):
+            without = max(without, served_rate(program, folder, sessions, None))
+            beside = max(beside, served_rate(program, folder, sessions, tab))
+        print(f"{sessions} sessions: {without:,.0f} requests a second, with a page {beside:,.0f}: {beside / without:.2f}")
+
+
 def main():
     if len(sys.argv) != 2:
         sys.exit(__doc__.split("\n")[2])
-    with tempfile.TemporaryDirectory() as folder:
+    with tempfile.TemporaryDirectory() as folder, Browser(chromium()) as window:
+        tab = window.page()
         audit = Folder(folder)
         audit.write(TEXT, b"rack-audit 3 line 1\n")
-        with Watched(sys.argv[1], tick_rack(folder), audit.path) as watched, Browser(chromium()) as window:
-            tab = window.page()
+        with Watched(sys.argv[1], tick_rack(folder), audit.path) as watched:
             tab.open(f"http://127.0.0.1:{watched.port}/")
             place = follow(watched, audit)
             watched.expect("the entries", lambda line: line["count"], place - 1)
             time.sleep(2)
             show(tab, audit, place)
+        serve(sys.argv[1], folder, tab)
 
 
 if __name__ == "__main__":
