@@ -7,3 +7,5 @@ pub mod Listening
 pub mod Tying
 pub mod TyingOperators
 pub mod Dropping
+pub mod Recording
+pub mod RecordingLines

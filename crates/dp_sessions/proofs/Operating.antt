@@ -39,7 +39,7 @@ unended_more (first ∷ line) octet before other =
 
 -- ---- answers
 
-answered_then : (driven : List DrivenSlave) (lines : List (List ℕ)) (line : List ℕ) (texts : List (List ℕ)) (text : List ℕ) (p q r : PassView)
+pub answered_then : (driven : List DrivenSlave) (lines : List (List ℕ)) (line : List ℕ) (texts : List (List ℕ)) (text : List ℕ) (p q r : PassView)
     → AreAnswered driven lines p q texts → IsAnswered driven line q r text → AreAnswered driven (lines ++ line ∷ []) p r (texts ++ text ∷ [])
 answered_then driven [] line texts text p q r first one =
     let here : IsAnswered driven line p r text = subst (λ w. IsAnswered driven line w r text) first.0 one in
@@ -87,7 +87,7 @@ kept_command line = elim (cases_lt 1024 (length line)) [
   | inr short ↦ ap command_in (take_all 1025 line (omega (arith, short)))
 ]
 
-answered_kept : (driven : List DrivenSlave) (line held : List ℕ) (q r : PassView) (text : List ℕ) → held ≡ kept line → IsAnswered driven held q r text → IsAnswered driven line q r text
+pub answered_kept : (driven : List DrivenSlave) (line held : List ℕ) (q r : PassView) (text : List ℕ) → held ≡ kept line → IsAnswered driven held q r text → IsAnswered driven line q r text
 answered_kept driven line held q r text is answered = subst (λ c. IsDone driven c q r text) (ap command_in is ∙ kept_command line) answered
 
 -- ---- what was served so far
@@ -138,7 +138,7 @@ on_failed (Ok x) f p = tt
 on_failed (Err e) f p = f p
 
 -- the line that was begun ends here
-line_ends : (stream rest : List ℕ) (lines : List (List ℕ)) → FallsInto stream lines rest → BeginsWith (stream ++ line_feed ∷ []) (lines ++ rest ∷ []) []
+pub line_ends : (stream rest : List ℕ) (lines : List (List ℕ)) → FallsInto stream lines rest → BeginsWith (stream ++ line_feed ∷ []) (lines ++ rest ∷ []) []
 line_ends stream rest lines parted = record {
   whole =
       ap (λ t. t ++ line_feed ∷ []) parted.begins.whole

@@ -8,3 +8,5 @@ pub mod Operating
 pub mod Tied
 pub mod TiedOperators
 pub mod Dropped
+pub mod Recorded
+pub mod Recording

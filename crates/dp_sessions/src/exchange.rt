@@ -6,7 +6,9 @@ ghost use Rattle.std.specs.Io.KnownBytes.{Appends, Consumes};
 ghost use Rattle.dp_telegram.specs.Stream.{cut_length, cut_lent, cuts_of, uncut};
 ghost use Rattle.dp_audit.specs.declared.entry.Receipt.{Receipt as TheReceipt};
 ghost use Rattle.dp_shared.specs.Passes.{table_of};
-ghost use Rattle.dp_sessions.specs.Sessions.{Accepts, AreExchanged, HasExchanged, IsCutOff, octets_of, reply_in};
+ghost use Rattle.dp_sessions.specs.Recorded.{WritesRecorded};
+ghost use Rattle.dp_sessions.specs.Recording.{RepliesRecorded, StopsRecorded};
+ghost use Rattle.dp_sessions.specs.Sessions.{Accepts, AreExchanged, HasExchanged, IsCutOff, acceptance, octets_of, reply_in};
 ghost use Rattle.dp_sessions.specs.SessionProgress.{IsBrokenIn, IsServedTo};
 
 use crate::dropped::DroppedOctets;
@@ -26,8 +28,9 @@ const CHUNK: usize = 255;
 
 /// Serves a master by its pass, in at most `turns` reads, and returns how the session ended (own).
 ///
-/// The octets that are read are a stream of telegrams. Each frame of it is one exchange. The reply is written whole
-/// before the next frame is exchanged; a silence writes nothing. A read that fails in any way ends the session.
+/// The octets that are read are a stream of telegrams. Each frame of it is one exchange. The gate records its entry; then
+/// the reply is written whole before the next frame is exchanged, and a silence writes nothing. A read that fails in any
+/// way ends the session, and so does an entry that is not recorded: none of its reply is written.
 ///
 /// Afterwards the pass has one more receipt for each frame, in order, and the replies in these receipts are what was
 /// written. The call waits for the gate and for the line, and allocates no memory.
@@ -46,6 +49,8 @@ pub fn serve_pass<T: Wait, R: Read, W: Write, G: Gate>(
     ensures exchanged { HasExchanged turns
         (record { left = R.remaining reader.old; left_after = R.remaining reader.new; written = W.contents writer.old; written_after = W.contents writer.new })
         pass.old.view pass.new.view result }
+    ensures recorded { WritesRecorded (G.recorded gate.now pass.old.line) [] pass.old.view.receipts pass.new.view.receipts
+        (W.contents writer.old) (W.contents writer.new) result }
 {
     serve_pass_by::<T, R, Uncounted, W, G>(rt, reader, writer, line, pass, gate, turns)
 }
@@ -68,6 +73,8 @@ pub fn serve_pass_by<T: Wait, R: Read, C: Reads<R>, W: Write, G: Gate>(
     ensures exchanged { HasExchanged turns
         (record { left = R.remaining reader.old; left_after = R.remaining reader.new; written = W.contents writer.old; written_after = W.contents writer.new })
         pass.old.view pass.new.view result }
+    ensures recorded { WritesRecorded (G.recorded gate.now pass.old.line) [] pass.old.view.receipts pass.new.view.receipts
+        (W.contents writer.old) (W.contents writer.new) result }
 {
     cut_and_computation_agree();
     let mut cutter = Cutter::new();
@@ -116,6 +123,8 @@ pub(crate) fn accept<T: Wait, R: Read, C: Reads<R>, W: Write, G: Gate>(
     ensures failed { result ≡ SessionEnd.ReadFault → C.failed reader.new ≡ true }
     ensures accepted { (stream : List ℕ) × (made : ℕ) × Consumes (R.remaining reader.old) (R.remaining reader.new) stream × (made ≤ turns)
         × Accepts result pass.old.view.address turns made stream pass.old.view pass.new.view (R.remaining reader.new) (W.contents writer.old) (W.contents writer.new) }
+    ensures recorded { WritesRecorded (G.recorded gate.now pass.old.line) acceptance pass.old.view.receipts pass.new.view.receipts
+        (W.contents writer.old) (W.contents writer.new) result }
 {
     match write_whole(writer, &[SC]) {
         Ok(()) => serve_pass_by::<T, R, C, W, G>(rt, reader, writer, line, pass, gate, turns),
@@ -123,8 +132,8 @@ pub(crate) fn accept<T: Wait, R: Read, C: Reads<R>, W: Write, G: Gate>(
     }
 }
 
-/// Passes octets on, and exchanges each frame that they complete. Each reply is written before the next frame is
-/// exchanged.
+/// Passes octets on, and exchanges each frame that they complete. Each entry is recorded and its reply written before the
+/// next frame is exchanged.
 fn pass_octets<T: Wait, W: Write, G: Gate>(
     rt: &T,
     writer: &mut W,
@@ -139,6 +148,7 @@ fn pass_octets<T: Wait, W: Write, G: Gate>(
     requires master { pass.old.view.address ≢ 127 }
     requires most { length cutter.old ≤ 255 }
     ensures ours { pass.new.table ≡ pass.old.table }
+    ensures number { pass.new.line ≡ pass.old.line }
     ensures address { pass.new.view.address ≡ pass.old.view.address }
     ensures most { OnOk result (length cutter.new ≤ 255) }
     ensures ok { OnOk result (IsServedTo pass.old.view.address (cutter.old ++ octets.now) cutter.new
@@ -146,6 +156,10 @@ fn pass_octets<T: Wait, W: Write, G: Gate>(
     ensures rest { OnOk result (cuts_of cutter.new ≡ uncut cutter.new) }
     ensures err { OnErr result (IsBrokenIn pass.old.view.address (cutter.old ++ octets.now)
         pass.old.view pass.new.view (W.contents writer.old) (W.contents writer.new)) }
+    ensures recorded { OnOk result (RepliesRecorded (G.recorded gate.now pass.old.line) pass.old.view.receipts pass.new.view.receipts
+        (W.contents writer.old) (W.contents writer.new)) }
+    ensures stopped { OnErr result (StopsRecorded (G.recorded gate.now pass.old.line) pass.old.view.receipts pass.new.view.receipts
+        (W.contents writer.old) (W.contents writer.new)) }
 {
     let mut left = octets;
     let mut dropped = DroppedOctets::default();
@@ -175,8 +189,9 @@ fn pass_octets<T: Wait, W: Write, G: Gate>(
     }
 }
 
-/// Exchanges a frame, after the gate has let it through, and writes its reply, if there is one. Octets that are dropped are
-/// added to `dropped`, which is reported before the frame is exchanged. `step` is room for the answer of the line.
+/// Exchanges a frame, after the gate has let it through, has the gate record its entry, and writes its reply, if there is
+/// one. Octets that are dropped are added to `dropped`, which is reported before the frame is exchanged. `step` is room for
+/// the answer of the line.
 fn answer<T: Wait, W: Write, G: Gate>(
     rt: &T,
     writer: &mut W,
@@ -192,18 +207,28 @@ fn answer<T: Wait, W: Write, G: Gate>(
     requires master { pass.old.view.address ≢ 127 }
     requires few { length octets.now ≤ 255 }
     ensures ours { pass.new.table ≡ pass.old.table }
+    ensures number { pass.new.line ≡ pass.old.line }
     ensures address { pass.new.view.address ≡ pass.old.view.address }
     ensures ok { OnOk result ((receipts : List TheReceipt) × AreExchanged pass.old.view.address (cut_lent piece.entry ∷ []) receipts pass.old.view pass.new.view
         × Appends (W.contents writer.old) (W.contents writer.new) (concat (map reply_in receipts))) }
     ensures err { OnErr result ((receipts : List TheReceipt) × AreExchanged pass.old.view.address (cut_lent piece.entry ∷ []) receipts pass.old.view pass.new.view
         × IsCutOff (W.contents writer.old) (W.contents writer.new) (map reply_in receipts)) }
+    ensures recorded { OnOk result (RepliesRecorded (G.recorded gate.now pass.old.line) pass.old.view.receipts pass.new.view.receipts
+        (W.contents writer.old) (W.contents writer.new)) }
+    ensures stopped { OnErr result (StopsRecorded (G.recorded gate.now pass.old.line) pass.old.view.receipts pass.new.view.receipts
+        (W.contents writer.old) (W.contents writer.new)) }
 {
     match piece {
         Piece::Frame(frame) => {
             report(rt, gate, pass, dropped);
-            gate.enter(rt, pass.line(), pass.address());
+            let number = pass.line();
+            let master = pass.address();
+            gate.enter(rt, number, master);
             line.exchange_frame(rt, pass, &frame, step);
-            gate.answered(rt, pass.line(), pass.address(), &frame, step);
+            gate.answered(rt, number, master, &frame, step);
+            let Ok(()) = gate.record(rt, number, step.place) else {
+                return Err(WriteFault);
+            };
             write_whole(writer, octets_in(&step.outcome))
         }
         Piece::Dropped { fault, .. } => {

@@ -23,7 +23,7 @@ pub use dp_devices::next_inputs;
 pub use dp_text::{OpLine, TextFault, read_op};
 pub use dropped::DroppedOctets;
 pub use exchange::{serve_pass, serve_pass_by};
-pub use gate::{Gate, OpenGate};
+pub use gate::{Gate, NotRecorded, OpenGate};
 pub use operator::{
     serve_operator, serve_operator_at, serve_operator_pass, serve_operator_pass_by,
     serve_operator_session,

@@ -9,6 +9,8 @@ ghost use Rattle.dp_devices.specs.DrivenSlaves.{driven_slaves as all_driven};
 ghost use Rattle.dp_sessions.specs.Operators.{HasOperatedBy, IsAnswered, IsOperatorSession};
 ghost use Rattle.dp_sessions.specs.Operating.{BreaksOff, GoesOn, kept};
 ghost use Rattle.dp_sessions.specs.Ended.{IsOperatorSessionOf, end_of};
+ghost use Rattle.dp_sessions.specs.Recorded.{EndsOperatorRecorded, HasOperatedRecorded, IsRecordedOperatorSession};
+ghost use Rattle.dp_sessions.specs.Recording.{GainsRecorded, StopsAnswer, StopsOff};
 
 use crate::gate::{Gate, OpenGate};
 use crate::operator_line::answer_line;
@@ -65,7 +67,9 @@ pub fn serve_operator<T: Wait, R: Read, W: Write>(
     serve_operator_at(rt, reader, writer, port, line, &OpenGate, turns)
 }
 
-/// Serves as [`serve_operator`] does, and calls the gate before and after each event.
+/// Serves as [`serve_operator`] does, and calls the gate before and after each event. The gate records the entries of a
+/// line's events before its answer is written. If one is not recorded, none of the answer is written, and the session ends
+/// with `WriteFault`.
 pub fn serve_operator_at<T: Wait, R: Read, W: Write, G: Gate>(
     rt: &T,
     reader: &mut R,
@@ -77,6 +81,10 @@ pub fn serve_operator_at<T: Wait, R: Read, W: Write, G: Gate>(
 ) -> SessionEnd
     requires described { line_of port.now.line ≡ line.now }
     ensures session { IsOperatorSession (all_driven (line_of port.now.line).slaves.items) turns
+        (record { left = R.remaining reader.old; left_after = R.remaining reader.new; written = W.contents writer.old; written_after = W.contents writer.new })
+        result }
+    ensures recorded { EndsOperatorRecorded (G.recorded gate.now (line_of port.now.line).number) (table_of port.now.line)
+        (all_driven (line_of port.now.line).slaves.items) turns
         (record { left = R.remaining reader.old; left_after = R.remaining reader.new; written = W.contents writer.old; written_after = W.contents writer.new })
         result }
 {
@@ -101,6 +109,9 @@ pub fn serve_operator_session<T: Wait, R: Read, C: Reads<R>, W: Write, G: Gate>(
     ensures reads { C.reads reader.new ≤ C.reads reader.old + turns }
     ensures failed { end_of result ≡ SessionEnd.ReadFault → C.failed reader.new ≡ true }
     ensures session { IsOperatorSessionOf (table_of port.now.line) (all_driven (line_of port.now.line).slaves.items) turns
+        (record { left = R.remaining reader.old; left_after = R.remaining reader.new; written = W.contents writer.old; written_after = W.contents writer.new })
+        result }
+    ensures recorded { IsRecordedOperatorSession (all_driven (line_of port.now.line).slaves.items) (G.recorded gate.now (line_of port.now.line).number)
         (record { left = R.remaining reader.old; left_after = R.remaining reader.new; written = W.contents writer.old; written_after = W.contents writer.new })
         result }
 {
@@ -139,6 +150,9 @@ pub fn serve_operator_pass<T: Wait, R: Read, W: Write, G: Gate>(
     ensures operated { HasOperatedBy (all_driven (line_of line.now).slaves.items) turns
         (record { left = R.remaining reader.old; left_after = R.remaining reader.new; written = W.contents writer.old; written_after = W.contents writer.new })
         pass.old.view pass.new.view result }
+    ensures recorded { HasOperatedRecorded (all_driven (line_of line.now).slaves.items) (G.recorded gate.now pass.old.line)
+        (record { left = R.remaining reader.old; left_after = R.remaining reader.new; written = W.contents writer.old; written_after = W.contents writer.new })
+        pass.old.view pass.new.view result }
 {
     serve_operator_pass_by::<T, R, Uncounted, W, G>(
         rt,
@@ -170,6 +184,9 @@ pub fn serve_operator_pass_by<T: Wait, R: Read, C: Reads<R>, W: Write, G: Gate>(
     ensures reads { C.reads reader.new ≤ C.reads reader.old + turns }
     ensures failed { result ≡ SessionEnd.ReadFault → C.failed reader.new ≡ true }
     ensures operated { HasOperatedBy (all_driven (line_of line.now).slaves.items) turns
+        (record { left = R.remaining reader.old; left_after = R.remaining reader.new; written = W.contents writer.old; written_after = W.contents writer.new })
+        pass.old.view pass.new.view result }
+    ensures recorded { HasOperatedRecorded (all_driven (line_of line.now).slaves.items) (G.recorded gate.now pass.old.line)
         (record { left = R.remaining reader.old; left_after = R.remaining reader.new; written = W.contents writer.old; written_after = W.contents writer.new })
         pass.old.view pass.new.view result }
 {
@@ -216,6 +233,9 @@ impl OperatorSession {
         ensures operated { HasOperatedBy self.old.driven.items turns
             (record { left = R.remaining reader.old; left_after = R.remaining reader.new; written = W.contents writer.old; written_after = W.contents writer.new })
             pass.old.view pass.new.view result }
+        ensures recorded { HasOperatedRecorded self.old.driven.items (G.recorded gate.now pass.old.line)
+            (record { left = R.remaining reader.old; left_after = R.remaining reader.new; written = W.contents writer.old; written_after = W.contents writer.new })
+            pass.old.view pass.new.view result }
     {
         let mut chunk = [0; CHUNK];
         let mut made = 0;
@@ -248,11 +268,15 @@ impl OperatorSession {
         requires ours { pass.old.table ≡ table_of line.now }
         requires operator { pass.old.view.address ≡ 127 }
         ensures ours { pass.new.table ≡ pass.old.table }
+        ensures number { pass.new.line ≡ pass.old.line }
         ensures address { pass.new.view.address ≡ pass.old.view.address }
         ensures driven { self.new.driven ≡ self.old.driven }
         ensures ok { OnOk result (GoesOn self.old.driven.items octets.now self.old.begun.items self.new.begun.items
             pass.old.view pass.new.view (W.contents writer.old) (W.contents writer.new)) }
         ensures err { OnErr result (BreaksOff self.old.driven.items octets.now self.old.begun.items
+            pass.old.view pass.new.view (W.contents writer.old) (W.contents writer.new)) }
+        ensures recorded { OnOk result (GainsRecorded (G.recorded gate.now pass.old.line) pass.old.view.receipts pass.new.view.receipts) }
+        ensures stopped { OnErr result (StopsOff self.old.driven.items (G.recorded gate.now pass.old.line) octets.now self.old.begun.items
             pass.old.view pass.new.view (W.contents writer.old) (W.contents writer.new)) }
     {
         let mut text = Text::new();
@@ -278,11 +302,15 @@ impl OperatorSession {
         requires ours { pass.old.table ≡ table_of line.now }
         requires operator { pass.old.view.address ≡ 127 }
         ensures ours { pass.new.table ≡ pass.old.table }
+        ensures number { pass.new.line ≡ pass.old.line }
         ensures address { pass.new.view.address ≡ pass.old.view.address }
         ensures driven { self.new.driven ≡ self.old.driven }
         ensures ok { OnOk result (GoesOn self.old.driven.items (octet ∷ []) self.old.begun.items self.new.begun.items
             pass.old.view pass.new.view (W.contents writer.old) (W.contents writer.new)) }
         ensures err { OnErr result (BreaksOff self.old.driven.items (octet ∷ []) self.old.begun.items
+            pass.old.view pass.new.view (W.contents writer.old) (W.contents writer.new)) }
+        ensures recorded { OnOk result (GainsRecorded (G.recorded gate.now pass.old.line) pass.old.view.receipts pass.new.view.receipts) }
+        ensures stopped { OnErr result (StopsOff self.old.driven.items (G.recorded gate.now pass.old.line) (octet ∷ []) self.old.begun.items
             pass.old.view pass.new.view (W.contents writer.old) (W.contents writer.new)) }
     {
         if octet == LF {
@@ -302,7 +330,7 @@ impl OperatorSession {
         }
     }
 
-    /// Ends the line: answers it, and writes the answer.
+    /// Ends the line: answers it, and writes the answer, unless the gate has not recorded an entry of it.
     fn end_line<T: Wait, W: Write, G: Gate>(
         &mut self,
         rt: &T,
@@ -315,14 +343,18 @@ impl OperatorSession {
         requires ours { pass.old.table ≡ table_of line.now }
         requires operator { pass.old.view.address ≡ 127 }
         ensures ours { pass.new.table ≡ pass.old.table }
+        ensures number { pass.new.line ≡ pass.old.line }
         ensures address { pass.new.view.address ≡ pass.old.view.address }
         ensures driven { self.new.driven ≡ self.old.driven }
         ensures begun { self.new.begun.items ≡ [] }
         ensures answered { IsAnswered self.old.driven.items self.old.begun.items pass.old.view pass.new.view text.new }
         ensures ok { OnOk result (Appends (W.contents writer.old) (W.contents writer.new) text.new) }
         ensures err { OnErr result (WritesPrefix (W.contents writer.old) (W.contents writer.new) text.new) }
+        ensures recorded { OnOk result (GainsRecorded (G.recorded gate.now pass.old.line) pass.old.view.receipts pass.new.view.receipts) }
+        ensures stopped { OnErr result (StopsAnswer (G.recorded gate.now pass.old.line) pass.old.view.receipts pass.new.view.receipts
+            (W.contents writer.old) (W.contents writer.new)) }
     {
-        answer_line(
+        let recorded = answer_line(
             rt,
             line,
             gate,
@@ -332,6 +364,9 @@ impl OperatorSession {
             text,
         );
         self.begun.clear();
+        let Ok(()) = recorded else {
+            return Err(WriteFault);
+        };
         write_whole(writer, text.as_bytes())
     }
 }

@@ -3,9 +3,10 @@
 ghost use Rattle.std.specs.Prelude.{◌≡◌, ◌≢◌, ◌+◌, ◌≤◌, ℕ, true, None, [], ◌∷◌, IfErr, IfOk};
 ghost use Rattle.std.specs.Io.KnownBytes.{Consumes, Keeps};
 ghost use Rattle.dp_shared.specs.Claims.{claimed};
-ghost use Rattle.dp_shared.specs.Passes.{new_pass, table_of};
+ghost use Rattle.dp_shared.specs.Passes.{line_of, new_pass, table_of};
 ghost use Rattle.dp_sessions.specs.Sessions.{EndsAtOnce, IsSession, Refuses, is_master_of};
 ghost use Rattle.dp_sessions.specs.Ended.{IsSessionOf, end_of};
+ghost use Rattle.dp_sessions.specs.Recorded.{EndsRecorded, IsRecordedSession};
 
 use crate::exchange::accept;
 use crate::gate::Gate;
@@ -45,6 +46,9 @@ pub fn serve<T: Wait, R: Read, W: Write, G: Gate>(
     ensures session { IsSession port.now.claims.masters turns
         (record { left = R.remaining reader.old; left_after = R.remaining reader.new; written = W.contents writer.old; written_after = W.contents writer.new })
         seat.old.view seat.new.view result }
+    ensures recorded { EndsRecorded (G.recorded gate.now (line_of port.now.line).number) (table_of port.now.line) port.now.claims.masters turns
+        (record { left = R.remaining reader.old; left_after = R.remaining reader.new; written = W.contents writer.old; written_after = W.contents writer.new })
+        seat.old.view seat.new.view result }
 {
     serve_by::<T, R, Uncounted, W, G>(rt, reader, writer, port, seat, gate, turns)
 }
@@ -66,6 +70,9 @@ pub fn serve_by<T: Wait, R: Read, C: Reads<R>, W: Write, G: Gate>(
     ensures reads { C.reads reader.new ≤ C.reads reader.old + turns }
     ensures failed { result ≡ SessionEnd.ReadFault → C.failed reader.new ≡ true }
     ensures session { IsSession port.now.claims.masters turns
+        (record { left = R.remaining reader.old; left_after = R.remaining reader.new; written = W.contents writer.old; written_after = W.contents writer.new })
+        seat.old.view seat.new.view result }
+    ensures recorded { EndsRecorded (G.recorded gate.now (line_of port.now.line).number) (table_of port.now.line) port.now.claims.masters turns
         (record { left = R.remaining reader.old; left_after = R.remaining reader.new; written = W.contents writer.old; written_after = W.contents writer.new })
         seat.old.view seat.new.view result }
 {
@@ -95,6 +102,9 @@ pub fn serve_session<T: Wait, R: Read, C: Reads<R>, W: Write, G: Gate>(
     ensures session { IsSessionOf (table_of port.now.line) port.now.claims.masters turns
         (record { left = R.remaining reader.old; left_after = R.remaining reader.new; written = W.contents writer.old; written_after = W.contents writer.new })
         seat.old.view seat.new.view result }
+    ensures recorded { IsRecordedSession (G.recorded gate.now (line_of port.now.line).number)
+        (record { left = R.remaining reader.old; left_after = R.remaining reader.new; written = W.contents writer.old; written_after = W.contents writer.new })
+        result }
 {
     if turns == 0 {
         return Session::TurnedAway {
@@ -153,6 +163,7 @@ fn admit<T: Wait>(
     ensures known { IfOk result (λ _. is_master_of port.now.claims.masters address ≡ true) }
     ensures claimed { IfOk result (λ _. seat.new.view ≡ claimed seat.old.view address) }
     ensures pass { IfOk result (λ pass. (pass.table ≡ table_of port.now.line) × (pass.view ≡ new_pass pass.view.number address)) }
+    ensures number { IfOk result (λ pass. pass.line ≡ (line_of port.now.line).number) }
     ensures free { IfErr result (λ _. seat.new.view.held ≡ None) }
     ensures unread { IfErr result (λ end. end ≢ SessionEnd.ReadFault) }
     ensures refused { IfErr result (λ end. Refuses end port.now.claims.masters address seat.old.view seat.new.view) }

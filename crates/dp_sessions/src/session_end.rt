@@ -10,7 +10,7 @@ pub enum SessionEnd {
     EndOfInput,
     /// A read failed.
     ReadFault,
-    /// A write failed, or took no octet.
+    /// A write failed, or took no octet, or an entry was not recorded.
     WriteFault,
     /// Another session holds the master's address; nothing was written.
     AddressHeld,

@@ -4,14 +4,17 @@ use Rattle.dp_devices.specs.declared.driven_slave.DrivenSlave.{DrivenSlave}
 use Rattle.dp_sessions.proofs.Exchanging.{on_err}
 use Rattle.dp_sessions.proofs.Listening.{breaks_off_as, goes_on_as}
 use Rattle.dp_sessions.proofs.Operating.{breaks_at, goes_to, on_more, on_start}
+use Rattle.dp_sessions.proofs.RecordingLines.{gains_as, gains_none, gains_then, stops_at, stops_off_as}
 use Rattle.dp_sessions.proofs.operator.OperatorSession.pass_octets.Goals as goal
 
 pub loop-octet-init : goal.loop-octet-init
 loop-octet-init g c = record {
   ours = refl;
+  number = refl;
   address = refl;
   driven = refl;
   on = ([], refl, on_start c.args.self.now.driven.items c.args.self.now.begun.items c.args.pass.now.view (g.W.Write.contents c.args.writer.now));
+  recorded = gains_none (g.G.Gate.recorded c.args.gate.now c.args.pass.now.line) c.args.pass.now.view c.args.pass.now.view refl;
 }
 
 pub loop-octet-preserved : goal.loop-octet-preserved
@@ -19,6 +22,7 @@ loop-octet-preserved g c =
     let way = c.loop-octet.invariant.on in
     let octet : ℕ = c.in-Some.octet.now in record {
       ours = c.take.ensures.ours ∙ c.loop-octet.invariant.ours;
+      number = c.take.ensures.number ∙ c.loop-octet.invariant.number;
       address = c.take.ensures.address ∙ c.loop-octet.invariant.address;
       driven = c.take.ensures.driven ∙ c.loop-octet.invariant.driven;
       on = (
@@ -31,6 +35,10 @@ loop-octet-preserved g c =
             c.loop-octet.pass.view c.take.new.pass.view (g.W.Write.contents c.loop-octet.writer) (g.W.Write.contents c.take.new.writer)
             (ap (λ (d : ArrayVec DrivenSlave). d.items) c.loop-octet.invariant.driven) c.in_ok-take.ensures.ok),
       );
+      recorded =
+          gains_then (g.G.Gate.recorded c.args.gate.now c.args.pass.now.line) c.args.pass.now.view.receipts c.loop-octet.pass.view.receipts c.take.new.pass.view.receipts c.loop-octet.invariant.recorded
+          (gains_as (g.G.Gate.recorded c.args.gate.now) c.args.pass.now.line c.loop-octet.pass.line c.loop-octet.pass.view.receipts c.take.new.pass.view.receipts
+          c.loop-octet.invariant.number c.in_ok-take.ensures.recorded);
     }
 
 pub returns-in_err-take-clause-err : goal.returns-in_err-take-clause-err
@@ -51,3 +59,16 @@ returns-clause-ok g c =
     goes_to c.args.self.now.driven.items c.args.octets.now way.0 c.loop-octet.left.now c.args.self.now.begun.items c.loop-octet.self.begun.items
     c.args.pass.now.view c.loop-octet.pass.view (g.W.Write.contents c.args.writer.now) (g.W.Write.contents c.loop-octet.writer)
     way.1 c.in_default.ensures.cases way.2
+
+pub returns-in_err-take-clause-stopped : goal.returns-in_err-take-clause-stopped
+returns-in_err-take-clause-stopped g c =
+    let way = c.loop-octet.invariant.on in
+    let octet : ℕ = c.in-Some.octet.now in
+    on_err c.from_residual.result
+    (stops_at c.args.self.now.driven.items (g.G.Gate.recorded c.args.gate.now c.args.pass.now.line) c.args.octets.now way.0 c.loop-octet.left.now octet c.in-Some.rest.now
+    c.args.self.now.begun.items c.loop-octet.self.begun.items c.args.pass.now.view c.loop-octet.pass.view c.take.new.pass.view
+    (g.W.Write.contents c.args.writer.now) (g.W.Write.contents c.loop-octet.writer) (g.W.Write.contents c.take.new.writer)
+    way.1 c.in-Some.ensures.cases.0 way.2 c.loop-octet.invariant.recorded
+    (stops_off_as c.args.self.now.driven.items c.loop-octet.self.driven.items (g.G.Gate.recorded c.args.gate.now) c.args.pass.now.line c.loop-octet.pass.line (octet ∷ []) c.loop-octet.self.begun.items
+    c.loop-octet.pass.view c.take.new.pass.view (g.W.Write.contents c.loop-octet.writer) (g.W.Write.contents c.take.new.writer)
+    (ap (λ (d : ArrayVec DrivenSlave). d.items) c.loop-octet.invariant.driven) c.loop-octet.invariant.number c.in_err-take.ensures.stopped))

@@ -1,5 +1,6 @@
 use Rattle.std.proofs.Common.{refl}
 use Rattle.dp_sessions.proofs.Operating.{line_served, line_broken, not_ended, on_ok, on_failed, served_octet}
+use Rattle.dp_sessions.proofs.RecordingLines.{gains_none, line_stopped}
 use Rattle.dp_sessions.proofs.operator.OperatorSession.take.Goals as goal
 
 pub returns-then-octet-eq-LF-clause-ok : goal.returns-then-octet-eq-LF-clause-ok
@@ -20,3 +21,12 @@ pub returns-clause-ok : goal.returns-clause-ok
 returns-clause-ok g c =
     served_octet c.args.self.now.driven.items c.args.self.now.begun.items c.keep.new.self.begun.items c.args.octet c.args.pass.now.view c.args.pass.now.view (g.W.Write.contents c.args.writer.now)
     (not_ended c.args.octet c.if-octet-eq-LF.false) refl c.keep.ensures.begun
+
+pub returns-then-octet-eq-LF-clause-stopped : goal.returns-then-octet-eq-LF-clause-stopped
+returns-then-octet-eq-LF-clause-stopped g c =
+    line_stopped c.end_line.result c.args.self.now.driven.items (g.G.Gate.recorded c.args.gate.now c.args.pass.now.line) c.args.self.now.begun.items c.args.octet
+    c.args.pass.now.view c.end_line.new.pass.view c.end_line.new.text (g.W.Write.contents c.args.writer.now) (g.W.Write.contents c.end_line.new.writer)
+    c.if-octet-eq-LF.true c.end_line.ensures.answered c.end_line.ensures.err c.end_line.ensures.stopped
+
+pub returns-clause-recorded : goal.returns-clause-recorded
+returns-clause-recorded g c = gains_none (g.G.Gate.recorded c.args.gate.now c.args.pass.now.line) c.args.pass.now.view c.args.pass.now.view refl
