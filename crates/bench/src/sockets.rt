@@ -1,11 +1,14 @@
 //! Clients that send requests over sockets, to a session with a line or to an answerer without one.
 
+ghost use Rattle.std.specs.Prelude.{Contains};
+ghost use Rattle.dp_trail.specs.Named.{name_of};
 ghost use Rattle.dp_sessions.specs.Pools.{IsSeatAt};
 
-use dp_sessions::{OpenGate, Port, serve};
+use dp_sessions::{Gate, NotRecorded, OpenGate, Port, serve};
 use dp_shared::WorkerSeat;
-use dp_trail::{Tail, Trail, Trailed};
+use dp_trail::{Naming, RecordEntries, Tail, Trail};
 use std::io::{self, Read, Write};
+use std::marker::Brand;
 use std::net::{Net, TcpListener, TcpStream};
 use std::sync::Wait;
 use std::sync::atomic::AtomicU32;
@@ -117,18 +120,50 @@ impl<F: Write + Drop> Answers for Recorded<F> {
         let Ok(tail) = Tail::open(rt, &port.line, file) else {
             return;
         };
-        let trail = Trail::new(tail);
-        let mut reader = Trailed::new(rt, &trail, stream);
-        let mut writer = Trailed::new(rt, &trail, replies);
-        serve(
-            rt,
-            &mut reader,
-            &mut writer,
-            &port,
-            &mut seat,
-            &OpenGate,
-            u32::MAX,
-        );
+        serve_recorded::<Brand, R, F>(rt, tail, stream, replies, &port, &mut seat);
+    }
+}
+
+/// Serves a session whose entries are recorded by the trail of this tail, which `J` names.
+fn serve_recorded<'l, J: Naming, R: Wait, F: Write + Drop>(
+    rt: &R,
+    tail: Tail<'l, F>,
+    stream: TcpStream,
+    replies: TcpStream,
+    port: &Port,
+    seat: &mut WorkerSeat,
+)
+    requires named { Contains J.trails (name_of tail.pass) }
+    requires ours { IsSeatAt port.now.claims seat.old }
+{
+    let mut reader = stream;
+    let mut writer = replies;
+    let trail = Trail::<F, J>::new(tail);
+    let gate = Recording { recorder: &trail };
+    serve(rt, &mut reader, &mut writer, port, seat, &gate, u32::MAX);
+}
+
+/// A gate that has a recorder record each entry.
+#[derive(Drop)]
+struct Recording<'a, C> {
+    recorder: &'a C,
+}
+
+impl<C: RecordEntries> Gate for Recording<'_, C> {
+    ghost recorded = { λ gate line place. C.recorded gate.recorder.now line place };
+
+    fn enter<W: Wait>(&self, _rt: &W, _line: u8, _master: u8) {}
+
+    fn record<W: Wait>(
+        &self,
+        rt: &W,
+        line: u8,
+        place: Option<u32>,
+    ) -> Result<(), NotRecorded> {
+        match self.recorder.record(rt, line, place) {
+            Ok(()) => Ok(()),
+            Err(_) => Err(NotRecorded),
+        }
     }
 }
 

@@ -5,7 +5,7 @@ use crate::time_of_day::TimeOfDay;
 use arrayvec::ArrayVec;
 use dp_audit::Receipt;
 use dp_line::{Event, Op, OperatorFault, Outcome, Rule, Step, is_refused_request};
-use dp_sessions::{DroppedOctets, Gate, SessionEnd};
+use dp_sessions::{DroppedOctets, Gate, NotRecorded, SessionEnd};
 use dp_telegram::WholeFrame;
 use dp_text::{LONGEST_LINE, LineFault, Text};
 use log::{Log, info, warn};
@@ -242,7 +242,22 @@ impl<'a, L: Log + Clock> Notes<'a, L> {
 }
 
 impl<L: Log + Clock> Gate for Notes<'_, L> {
+    ghost recorded = { λ notes line place. Unit {0} };
+
     fn enter<W: Wait>(&self, _rt: &W, _line: u8, _master: u8) {}
+
+    /// Records nothing: reports are no record.
+    fn record<W: Wait>(
+        &self,
+        _rt: &W,
+        _line: u8,
+        place: Option<u32>,
+    ) -> Result<(), NotRecorded> {
+        match place {
+            Some(_) => Ok(()),
+            None => Ok(()),
+        }
+    }
 
     fn accepted<W: Wait>(&self, rt: &W, line: u8, master: u8) {
         if self.log_detail != LogDetail::Warnings {

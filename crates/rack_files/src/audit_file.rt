@@ -14,19 +14,20 @@ use crate::file_host::FileHost;
 use dp_cause::Cause;
 use dp_notes::Notes;
 use dp_shared::Line;
-use dp_trail::{Tail, Trail, TrailBreak, TrailFault};
+use dp_trail::{Naming, Tail, Trail, TrailBreak, TrailFault};
 use std::alloc::Global;
 use std::fs::{self, File, Files};
 use std::io::{self, ErrorKind};
 
 /// The audit text of a line in files, with the trail that writes it.
 ///
-/// It is generic in the trail, since the check derives from the type parameter that threads may share it.
+/// It is generic in the trail, since the check derives from the type parameter that threads may share it. Until the trails of
+/// all lines are open and have names, `trail` is the tail of one.
 #[derive(Drop)]
 pub struct AuditFile<'a, T> {
     /// The path of the text as if it had one file.
     pub path: AuditPath<'a>,
-    /// The trail that writes the text.
+    /// The trail that writes the text, or its tail.
     pub trail: T,
 }
 
@@ -51,8 +52,11 @@ impl IncompleteFile<'_> {
     }
 }
 
-/// A trail that writes to audit files.
-pub type FileTrail<'a, 's, H> = Trail<'s, AuditWriter<'a, 's, H>>;
+/// The tail of a trail that writes to audit files.
+pub type FileTail<'a, 's, H> = Tail<'s, AuditWriter<'a, 's, H>>;
+
+/// A trail that writes to audit files, and that `J` names.
+pub type FileTrail<'a, 's, H, J> = Trail<'s, AuditWriter<'a, 's, H>, J>;
 
 /// Makes the folder of audit texts and its parents, unless they exist.
 ///
@@ -83,7 +87,7 @@ pub fn begin_text<'a, 's, H: FileHost>(
     megabytes: Option<u16>,
     line: &'s Line,
     number: u8,
-) -> Result<AuditFile<'a, FileTrail<'a, 's, H>>, FileFault<'a>>
+) -> Result<AuditFile<'a, FileTail<'a, 's, H>>, FileFault<'a>>
     ensures path { IfOk result (λ file. IsOfLine folder.now number file.path) }
     ensures fault { IfErr result (IsRecordingFault (Some folder.entry) (number ∷ [])) }
 {
@@ -137,14 +141,14 @@ fn begin_trail<'a, 's, H: FileHost>(
     writer: AuditWriter<'a, 's, H>,
     text: AuditPath<'a>,
     path: AuditPath<'a>,
-) -> Result<AuditFile<'a, FileTrail<'a, 's, H>>, FileFault<'a>>
+) -> Result<AuditFile<'a, FileTail<'a, 's, H>>, FileFault<'a>>
     ensures path { IfOk result (λ file. file.path ≡ text.entry) }
     ensures fault { IfErr result (IsNotBegun path.entry) }
 {
     match Tail::open(host, line, writer) {
         Ok(tail) => Ok(AuditFile {
             path: text,
-            trail: Trail::new(tail),
+            trail: tail,
         }),
         Err(TrailFault::NoPass) => Err(FileFault::OutOfMemory),
         Err(TrailFault::WriteFault) => Err(FileFault::CannotMake(path, Cause::NotTaken)),
@@ -154,9 +158,9 @@ fn begin_trail<'a, 's, H: FileHost>(
 /// Writes the entries that a text still lacks, and returns its pass to the line.
 ///
 /// Returns the file that lacks an entry, if one was not written.
-pub fn complete_text<'a, H: FileHost>(
+pub fn complete_text<'a, H: FileHost, J: Naming>(
     host: &H,
-    file: AuditFile<'a, FileTrail<'a, '_, H>>,
+    file: AuditFile<'a, FileTrail<'a, '_, H, J>>,
 ) -> Option<IncompleteFile<'a>>
     ensures { IfSome result (λ incomplete. (part : Option ℕ) × (incomplete.path ≡ in_part file.entry.path part)) }
 {

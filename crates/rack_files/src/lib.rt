@@ -13,7 +13,7 @@ mod file_fault;
 mod file_host;
 
 pub use audit_file::{
-    AuditFile, FileTrail, IncompleteFile, begin_text, complete_text, make_folder,
+    AuditFile, FileTail, FileTrail, IncompleteFile, begin_text, complete_text, make_folder,
 };
 pub use audit_name::AuditName;
 pub use audit_path::AuditPath;

@@ -4,3 +4,4 @@ mod Opening
 mod LinesServed
 mod Sharing
 mod RacksServed
+mod Naming

@@ -10,6 +10,7 @@ use Rattle.dp_shared.proofs.Sharing.{numbered_book_send}
 use Rattle.dp_sessions.proofs.port.LineAndClaims.TheSendSync as port
 use Rattle.dp_trail.proofs.Crossings.{trail_sync}
 use Rattle.dp_trail.specs.contracts.trail.Trail as trail
+use Rattle.dp_trail.specs.declared.naming.Naming.{Ghosts as Names}
 use Rattle.rack_server.proofs.recorder.Recorder.TheSendSync as crossing
 use Rattle.rack_server.specs.contracts.operators.OperatedLine as operated
 use Rattle.rack_server.specs.contracts.recorder.Recorder as recorder
@@ -18,9 +19,9 @@ use Rattle.rack_server.specs.contracts.recorder.Recorder as recorder
 pub operated_send : (lent : NamedLft) → IsSend (operated.the_row lent)
 operated_send lent = search (sendable, crosses, port.the_sync, slot.the_sync, claims.the_sync, numbered_book_send) depth 80 fits 200000
 
--- a recorder with a trail
-pub recorder_sync : (N W : RattleType) (g : Ghosts W.Denot) → IsSync N → IsSend W → (a l b : NamedLft)
-    → IsSync (recorder.the_row a l N (trail.the_row b W g))
-recorder_sync N W g shared sent a l b =
-    let t : IsSync (trail.the_row b W g) = trail_sync W g sent b in
+-- a recorder with a trail that has a name
+pub recorder_sync : (H W N : RattleType) (g : Ghosts W.Denot) (n : Names N.Denot) → IsSync H → IsSend W → (a l b : NamedLft)
+    → IsSync (recorder.the_row a l H (trail.the_row b W N g n))
+recorder_sync H W N g n shared sent a l b =
+    let t : IsSync (trail.the_row b W N g n) = trail_sync W N g n sent b in
     search (sendable, crosses, shared, t, crossing.the_sync) depth 40 fits 100000

@@ -10,23 +10,21 @@ use crate::operators::{OperatedLine, OperatorAcceptor};
 use crate::served_line::ServedLine;
 use crate::server_context::ServerContext;
 use crossbeam_channel::Sender;
-use dp_sessions::Port;
-use dp_trail::CatchUp;
+use dp_sessions::{Gate, Port};
 use std::alloc::AllocError;
-use std::marker::PhantomData;
 use std::net::TcpListener;
 use std::sync::Wait;
 
 /// The acceptors of a rack: two for each line.
 #[derive(Drop)]
-pub(crate) struct Acceptors<'a, H: Wait, C, K> {
-    pub(crate) masters: Vec<MasterAcceptor<'a, H, C, K>>,
-    pub(crate) operators: Vec<OperatorAcceptor<'a, OperatedLine<'a>, H, C, K>>,
+pub(crate) struct Acceptors<'a, H: Wait, G> {
+    pub(crate) masters: Vec<MasterAcceptor<'a, H>>,
+    pub(crate) operators: Vec<OperatorAcceptor<'a, OperatedLine<'a>, H, G>>,
 }
 
-impl<'a, H: Wait, C: CatchUp<K>, K: Drop> Acceptors<'a, H, C, K> {
-    /// Returns the acceptors of these lines, each with the recorder of its line. The channel of jobs closes when the last
-    /// acceptor of masters is dropped.
+impl<'a, H: Wait, G: Gate> Acceptors<'a, H, G> {
+    /// Returns the acceptors of these lines. `gate` is that of the sessions. The channel of jobs closes when the last acceptor
+    /// of masters is dropped.
     ///
     /// Returns an error if memory is refused.
     pub(crate) fn new(
@@ -34,12 +32,11 @@ impl<'a, H: Wait, C: CatchUp<K>, K: Drop> Acceptors<'a, H, C, K> {
         listening: Vec<Listeners<TcpListener>>,
         lines: &'a [ServedLine],
         ports: &'a [Port],
-        recorders: &'a [C],
-        jobs: Sender<MasterJob<'a, H, C, K>>,
-    ) -> Result<Acceptors<'a, H, C, K>, AllocError>
+        gate: &'a G,
+        jobs: Sender<MasterJob<'a, H>>,
+    ) -> Result<Acceptors<'a, H, G>, AllocError>
         requires opened { AreOpened lines.now ports.now }
         requires each { length listening.items ≡ length lines.now }
-        requires recorded { length recorders.now ≡ length lines.now }
         requires few { length lines.now ≤ 8 }
         ensures masters { IfOk result (λ all. map (λ acceptor. acceptor.port) all.masters.items ≡ range_with_len 0 (length ports.now)) }
         ensures operators { IfOk result (λ all. map (λ acceptor. acceptor.target.port.now) all.operators.items ≡ ports.now) }
@@ -55,7 +52,7 @@ impl<'a, H: Wait, C: CatchUp<K>, K: Drop> Acceptors<'a, H, C, K> {
                 spec: &lines[place].spec,
             };
             let jobs = jobs.clone()?;
-            all.add(here, place as u8, target, jobs, &recorders[place], context)?;
+            all.add(here, place as u8, target, jobs, gate, context)?;
         }
         Ok(all)
     }
@@ -66,8 +63,8 @@ impl<'a, H: Wait, C: CatchUp<K>, K: Drop> Acceptors<'a, H, C, K> {
         here: Listeners<TcpListener>,
         port: u8,
         target: OperatedLine<'a>,
-        jobs: Sender<MasterJob<'a, H, C, K>>,
-        recorder: &'a C,
+        jobs: Sender<MasterJob<'a, H>>,
+        gate: &'a G,
         context: &'a ServerContext<'a, H>,
     ) -> Result<(), AllocError>
         ensures masters { OnOk result (map (λ acceptor. acceptor.port) self.new.masters.items ≡ map (λ acceptor. acceptor.port) self.old.masters.items ++ port ∷ []) }
@@ -79,14 +76,12 @@ impl<'a, H: Wait, C: CatchUp<K>, K: Drop> Acceptors<'a, H, C, K> {
             port,
             line: target.spec.number,
             jobs,
-            recorder,
             context,
         })?;
         self.operators.push(OperatorAcceptor {
             listener: here.operators,
             target,
-            recorder,
-            caught_up: PhantomData,
+            gate,
             context,
         })?;
         Ok(())

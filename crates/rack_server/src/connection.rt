@@ -1,7 +1,6 @@
 //! The connection of a session.
 
 use crate::server_context::ServerContext;
-use dp_trail::{CatchUp, Trailed};
 use log::Log;
 use std::io::{Error, ErrorKind, Read, Result, Write};
 use std::net::TcpStream;
@@ -18,24 +17,20 @@ const POLL_INTERVAL_MS: u64 = 100;
 /// its `E5` may stay silent without limit.
 pub(crate) const ADDRESS_POLLS: u32 = 100;
 
-/// One direction of a connection. Each read or write polls, after what records the line has caught up.
-type Connection<'a, H, C, K, S> = Trailed<'a, 'a, H, PollingStream<'a, H, S>, C, K>;
-
 /// Reads from a connection.
-pub(crate) type ConnectionReader<'a, H, C, K> = Connection<'a, H, C, K, Screened<TcpStream>>;
+pub(crate) type ConnectionReader<'a, H> = PollingStream<'a, H, Screened<TcpStream>>;
 
 /// Writes to a connection.
-pub(crate) type ConnectionWriter<'a, H, C, K> = Connection<'a, H, C, K, TcpStream>;
+pub(crate) type ConnectionWriter<'a, H> = PollingStream<'a, H, TcpStream>;
 
 /// Returns the reader and the writer of an accepted connection. `polls` is the number of poll intervals that the first read may
 /// take, or `None` if it has no limit.
-pub(crate) fn open_connection<'a, H: Wait + Log + Clock, C: CatchUp<K>, K: Drop>(
+pub(crate) fn open_connection<'a, H: Wait + Log + Clock>(
     context: &'a ServerContext<'a, H>,
-    recorder: &'a C,
     line: u8,
     stream: TcpStream,
     polls: Option<u32>,
-) -> Result<(ConnectionReader<'a, H, C, K>, ConnectionWriter<'a, H, C, K>)> {
+) -> Result<(ConnectionReader<'a, H>, ConnectionWriter<'a, H>)> {
     set_options(&stream)?;
     let reader = PollingStream {
         context,
@@ -49,10 +44,7 @@ pub(crate) fn open_connection<'a, H: Wait + Log + Clock, C: CatchUp<K>, K: Drop>
         stream,
         polls_left: None,
     };
-    Ok((
-        Trailed::new(context.rt, recorder, reader),
-        Trailed::new(context.rt, recorder, writer),
-    ))
+    Ok((reader, writer))
 }
 
 /// Limits each read and write to one poll interval, and turns off the delay of small packets.

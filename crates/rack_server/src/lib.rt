@@ -1,9 +1,9 @@
 //! Serves a rack at sockets: its lines at their ports, and their audit texts in files meanwhile.
 //!
-//! The thread of a port accepts a connection (`accept`) and makes a reader and a writer of it, which poll and first let the
-//! recorder of the line catch up (`connection`). A master's connection goes through a queue to the first free worker
-//! (`masters`, `threads`), which reads the address and serves the session. An operator's connection is served by the thread of
-//! its port (`operators`).
+//! The thread of a port accepts a connection (`accept`) and makes a reader and a writer of it, which poll (`connection`). A
+//! master's connection goes through a queue to the first free worker (`masters`, `threads`), which reads the address and serves
+//! the session. An operator's connection is served by the thread of its port (`operators`). The gate of all sessions reports what
+//! they do, and records the entries of a line before their answers are sent (`session_gate`, `recorder`).
 #![tactic(auto)]
 
 mod accept;
@@ -22,6 +22,7 @@ mod serve_fault;
 mod served_line;
 mod server_context;
 mod serving;
+mod session_gate;
 mod threads;
 
 pub use host::Host;

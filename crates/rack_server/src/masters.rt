@@ -5,7 +5,6 @@ use crate::connection::{ADDRESS_POLLS, ConnectionReader, ConnectionWriter, open_
 use crate::server_context::ServerContext;
 use crossbeam_channel::Sender;
 use dp_sessions::Job;
-use dp_trail::CatchUp;
 use log::Log;
 use std::io;
 use std::net::{TcpListener, TcpStream};
@@ -13,30 +12,25 @@ use std::sync::Wait;
 use std::time::Clock;
 
 /// A session of a master on a connection, for a worker.
-pub(crate) type MasterJob<'a, H, C, K> = Job<
-    ConnectionReader<'a, H, C, K>,
-    ConnectionWriter<'a, H, C, K>,
->;
+pub(crate) type MasterJob<'a, H> = Job<ConnectionReader<'a, H>, ConnectionWriter<'a, H>>;
 
 /// Accepts the masters of a line, and passes their sessions to the workers.
 #[derive(Drop)]
-pub(crate) struct MasterAcceptor<'a, H: Wait, C, K> {
+pub(crate) struct MasterAcceptor<'a, H: Wait> {
     pub(crate) listener: TcpListener,
     /// The index of the port among those of the workers.
     pub(crate) port: u8,
     /// The number of the line.
     pub(crate) line: u8,
-    pub(crate) jobs: Sender<MasterJob<'a, H, C, K>>,
-    pub(crate) recorder: &'a C,
+    pub(crate) jobs: Sender<MasterJob<'a, H>>,
     pub(crate) context: &'a ServerContext<'a, H>,
 }
 
-impl<'a, H: Wait + Log + Clock, C: CatchUp<K>, K: Drop> MasterAcceptor<'a, H, C, K> {
+impl<'a, H: Wait + Log + Clock> MasterAcceptor<'a, H> {
     /// Returns the session of a master on a connection.
-    fn job_of(&self, stream: TcpStream) -> io::Result<MasterJob<'a, H, C, K>> {
+    fn job_of(&self, stream: TcpStream) -> io::Result<MasterJob<'a, H>> {
         let (reader, writer) = open_connection(
             self.context,
-            self.recorder,
             self.line,
             stream,
             Some(ADDRESS_POLLS),
@@ -49,7 +43,7 @@ impl<'a, H: Wait + Log + Clock, C: CatchUp<K>, K: Drop> MasterAcceptor<'a, H, C,
     }
 }
 
-impl<L: Wait + Log + Clock, C: CatchUp<K>, K: Drop> Accept for MasterAcceptor<'_, L, C, K> {
+impl<L: Wait + Log + Clock> Accept for MasterAcceptor<'_, L> {
     fn listener(&self) -> &TcpListener {
         &self.listener
     }

@@ -7,11 +7,9 @@ use crate::accept::Accept;
 use crate::connection::open_connection;
 use crate::server_context::{MAX_READS, ServerContext};
 use dp_line::LineSpec;
-use dp_sessions::{Port, serve_operator_at};
-use dp_trail::CatchUp;
+use dp_sessions::{Gate, Port, serve_operator_at};
 use log::Log;
 use std::io;
-use std::marker::PhantomData;
 use std::net::{TcpListener, TcpStream};
 use std::sync::Wait;
 use std::sync::atomic::Ordering::SeqCst;
@@ -32,27 +30,20 @@ pub(crate) struct OperatedLine<'a> {
 /// It is generic in the line. The check derives from the type parameters that the acceptor may be sent to a thread, but not from
 /// the types that a line consists of.
 #[derive(Drop)]
-pub(crate) struct OperatorAcceptor<'a, D, H, C, K> {
+pub(crate) struct OperatorAcceptor<'a, D, H, G> {
     pub(crate) listener: TcpListener,
     /// The line that is operated.
     pub(crate) target: D,
-    pub(crate) recorder: &'a C,
-    pub(crate) caught_up: PhantomData<K>,
+    /// The gate of the sessions.
+    pub(crate) gate: &'a G,
     pub(crate) context: &'a ServerContext<'a, H>,
 }
 
-impl<L: Wait + Log + Clock, C: CatchUp<K>, K: Drop> OperatorAcceptor<
-    '_,
-    OperatedLine<'_>,
-    L,
-    C,
-    K,
-> {
+impl<L: Wait + Log + Clock, G: Gate> OperatorAcceptor<'_, OperatedLine<'_>, L, G> {
     /// Serves an operator on a connection.
     fn serve(&self, stream: TcpStream) -> io::Result<()> {
         let (context, line) = (self.context, self.target.spec.number);
-        let opened = open_connection::<L, C, K>(context, self.recorder, line, stream, None)?;
-        let (mut reader, mut writer) = opened;
+        let (mut reader, mut writer) = open_connection(context, line, stream, None)?;
         let (rt, notes) = (context.rt, context.notes);
         notes.operator_connected(rt, line);
         let end = serve_operator_at(
@@ -61,7 +52,7 @@ impl<L: Wait + Log + Clock, C: CatchUp<K>, K: Drop> OperatorAcceptor<
             &mut writer,
             self.target.port,
             self.target.spec,
-            notes,
+            self.gate,
             MAX_READS,
         );
         notes.operator_ended(rt, line, end);
@@ -70,8 +61,7 @@ impl<L: Wait + Log + Clock, C: CatchUp<K>, K: Drop> OperatorAcceptor<
     }
 }
 
-impl<L: Wait + Log + Clock, C: CatchUp<K>, K: Drop> Accept
-    for OperatorAcceptor<'_, OperatedLine<'_>, L, C, K> {
+impl<L: Wait + Log + Clock, G: Gate> Accept for OperatorAcceptor<'_, OperatedLine<'_>, L, G> {
     fn listener(&self) -> &TcpListener {
         &self.listener
     }

@@ -4,7 +4,8 @@
 //! stops serving. Each session sees that within 100 ms, by the timeout of its reads and writes. So the audit texts still come
 //! on standard output, and the program ends with status 5.
 
-ghost use Rattle.std.specs.Prelude.{◌≡◌, ◌≤◌, IfErr, IfOk, IfSome, Some, length};
+ghost use Rattle.std.specs.Prelude.{◌≡◌, ◌≤◌, All, Contains, IfErr, IfOk, IfSome, Some, length};
+ghost use Rattle.dp_trail.specs.Named.{name_of};
 ghost use Rattle.rack_files.specs.FileFaults.{IsRecordingFault};
 ghost use Rattle.rack_server.specs.Recordings.{AreRecordedIn, IsPartOfOne, paths_of};
 ghost use Rattle.rack_server.specs.ServedLines.{line_numbers};
@@ -15,9 +16,10 @@ use crate::host::Host;
 use crate::served_line::ServedLine;
 use dp_notes::Notes;
 use dp_sessions::Port;
-use dp_trail::{CatchUp, TrailBreak};
+use dp_trail::{Naming, RecordEntries, Trail, TrailBreak};
 use rack_files::{
-    AuditFile, FileFault, FileTrail, IncompleteFile, begin_text, complete_text, make_folder,
+    AuditFile, FileFault, FileTail, FileTrail, IncompleteFile, begin_text, complete_text,
+    make_folder,
 };
 use std::alloc::Global;
 use std::net::Net;
@@ -31,13 +33,18 @@ pub(crate) struct Recorder<'a, 'l, N, T> {
     pub(crate) file: AuditFile<'a, T>,
 }
 
-/// A recorder whose trail writes to audit files.
-pub(crate) type FileRecorder<'a, 's, H> = Recorder<'a, 's, H, FileTrail<'a, 's, H>>;
+/// A recorder whose trail writes to audit files, and that `J` names.
+pub(crate) type FileRecorder<'a, 's, H, J> = Recorder<'a, 's, H, FileTrail<'a, 's, H, J>>;
 
-impl<N: Net, T: CatchUp<K>, K: Drop> CatchUp<K> for Recorder<'_, '_, N, T> {
-    fn catch_up<H: Wait>(&self, rt: &H) -> Result<K, TrailBreak> {
-        match self.file.trail.catch_up(rt) {
-            Ok(caught_up) => Ok(caught_up),
+/// A recorder whose trail has no name yet.
+pub(crate) type UnnamedRecorder<'a, 's, H> = Recorder<'a, 's, H, FileTail<'a, 's, H>>;
+
+impl<N: Net, T: RecordEntries> RecordEntries for Recorder<'_, '_, N, T> {
+    ghost recorded = { λ recorder line place. T.recorded recorder.file.trail line place };
+
+    fn record<H: Wait>(&self, rt: &H, line: u8, place: Option<u32>) -> Result<(), TrailBreak> {
+        match self.file.trail.record(rt, line, place) {
+            Ok(()) => Ok(()),
             Err(reason) => {
                 self.gate.stop(rt, self.net);
                 Err(reason)
@@ -59,7 +66,7 @@ pub(crate) fn record_lines<'a, 's, H: Host>(
     megabytes: Option<u16>,
     lines: &[ServedLine],
     ports: &'s [Port],
-) -> Result<Vec<FileRecorder<'a, 's, H>>, FileFault<'a>>
+) -> Result<Vec<UnnamedRecorder<'a, 's, H>>, FileFault<'a>>
     requires opened { AreOpened lines.now ports.now }
     requires few { length lines.now ≤ 8 }
     ensures each { IfOk result (λ all. length all.items ≡ length lines.now) }
@@ -90,10 +97,40 @@ pub(crate) fn record_lines<'a, 's, H: Host>(
     Ok(all)
 }
 
+/// Lets threads share the trail of each recorder. `J` names these trails.
+///
+/// Returns `None` if memory is refused.
+pub(crate) fn name_trails<'a, 's, H: Host, J: Naming>(
+    alloc: Global,
+    recorders: Vec<UnnamedRecorder<'a, 's, H>>,
+) -> Option<Vec<FileRecorder<'a, 's, H, J>>>
+    requires { All (λ recorder. Contains J.trails (name_of recorder.file.trail.pass)) recorders.items }
+    ensures { IfSome result (λ all. paths_of all.items ≡ paths_of recorders.entry.items) }
+{
+    let mut all = Vec::new(alloc);
+    for recorder in recorders {
+        let Recorder {
+            net,
+            gate,
+            file: AuditFile { path, trail },
+        } = recorder;
+        let trail = Trail::new(trail);
+        let named = Recorder {
+            net,
+            gate,
+            file: AuditFile { path, trail },
+        };
+        if all.push(named).is_err() {
+            return None;
+        }
+    }
+    Some(all)
+}
+
 /// Completes the audit text of each recorder. Returns the first file that lacks an entry.
-pub(crate) fn first_incomplete<'a, H: Host>(
+pub(crate) fn first_incomplete<'a, H: Host, J: Naming>(
     host: &H,
-    recorders: Vec<FileRecorder<'a, '_, H>>,
+    recorders: Vec<FileRecorder<'a, '_, H, J>>,
 ) -> Option<IncompleteFile<'a>>
     ensures { IfSome result (λ incomplete. IsPartOfOne (paths_of recorders.entry.items) incomplete.path) }
 {

@@ -14,8 +14,8 @@ use crate::listening::{Listeners, check_descriptors, listen_at_lines};
 use crate::opened_lines::{OpenedLines, open_lines};
 use crate::serve_fault::ServeFault;
 use crate::served_line::{ServedLine, lines_to_serve};
-use crate::serving::serve_connections;
-use dp_notes::{LineNumbers, Notes};
+use crate::serving::{numbers_of, serve_connections};
+use dp_notes::Notes;
 use rack_file::laws::{
     accepted_lines_can_be_opened, accepted_racks_have_1_to_8_lines,
     accepted_racks_have_1_to_32_workers,
@@ -166,13 +166,4 @@ fn serve_lines<'a, 's, H: Host + Sync, W: Write>(
         Ok(()) => outcome.into_result(false),
         Err(fault) => Err(ServeFault::from(fault)),
     }
-}
-
-/// Returns the numbers of lines.
-fn numbers_of(lines: &[ServedLine]) -> LineNumbers {
-    let mut numbers = LineNumbers::new();
-    for line in lines {
-        let _ = numbers.try_push(line.spec.number);
-    }
-    numbers
 }

@@ -1,11 +1,13 @@
 //! Accepting and serving the connections of all lines, and recording what is served.
 
-ghost use Rattle.std.specs.Prelude.{◌≡◌, ◌≤◌, ℕ, Bool, List, Option, All, Err, IfErr, IfOk, IfSome, None, OnErr, OnOk, Some, length};
+ghost use Rattle.std.specs.Prelude.{◌≡◌, ◌≤◌, ℕ, Bool, List, Option, All, Contains, Err, IfErr, IfOk, IfSome, None, OnErr, OnOk, Some, length};
 ghost use Rattle.std.specs.Borrow.{Bor};
 ghost use Rattle.std.specs.Io.KnownBytes.{Appends};
 ghost use Rattle.dp_text.specs.Writes.{WritesPrefix};
 ghost use Rattle.dp_sessions.specs.Pools.{HasSeats};
+ghost use Rattle.dp_trail.specs.Named.{name_of};
 ghost use Rattle.rack_files.specs.AuditPaths.{IsFileIn};
+ghost use Rattle.rack_server.specs.Recordings.{IsPartOfOne, paths_of};
 ghost use Rattle.rack_server.specs.declared.served_line.ServedLine.{ServedLine};
 ghost use Rattle.rack_server.specs.ServedLines.{line_numbers};
 ghost use Rattle.rack_server.specs.ServeOutput.{AreOpened, AreServed, ServesConnections, ServesLines, ready, serving_result};
@@ -14,22 +16,24 @@ use crate::accept_gate::AcceptGate;
 use crate::acceptors::Acceptors;
 use crate::host::Host;
 use crate::listening::Listeners;
-use crate::recorder::{FileRecorder, first_incomplete, record_lines};
+use crate::recorder::{UnnamedRecorder, first_incomplete, name_trails, record_lines};
 use crate::serve::{Served, sessions_of};
 use crate::serve_fault::{OutputFault, ServeFault};
 use crate::served_line::ServedLine;
 use crate::server_context::ServerContext;
+use crate::session_gate::SessionGate;
 use crate::threads::{accept_and_serve, can_start};
 use crossbeam_channel::bounded;
-use dp_notes::Notes;
-use dp_sessions::Port;
+use dp_notes::{LineNumbers, Notes};
+use dp_sessions::{Gate, Port};
 use dp_shared::WorkerSeat;
 use dp_text::write_whole;
-use dp_trail::{CatchUp, CaughtUp, NoRows, NoTrail};
+use dp_trail::{Naming, NoTrail, RecordEntries};
 use rack_files::IncompleteFile;
 use rackd_words::Service;
 use std::alloc::Global;
 use std::io::Write;
+use std::marker::Brand;
 use std::net::TcpListener;
 use std::sync::atomic::AtomicU32;
 use std::sync::atomic::Ordering::SeqCst;
@@ -130,9 +134,7 @@ fn serve_unrecorded<'a, 's, H: Host + Sync, W: Write>(
     ensures err { IfErr result (λ fault. (folder : Option (Bor (List ℕ))) → (endless : Bool) → ServesLines folder endless lines.now (W.contents writer.old) (W.contents writer.new) (Err fault)) }
 {
     let none = &[NoTrail; MOST_LINES][..lines.len()];
-    let served = serve_with_recorders::<H, NoTrail, NoRows, W>(
-        context, lines, listening, ports, seats, none, writer,
-    );
+    let served = serve_with_recorders(context, lines, listening, ports, seats, none, writer);
     match served {
         Ok(served) => Ok(ServingOutcome {
             served,
@@ -169,24 +171,53 @@ fn serve_recorded<'a, 's, H: Host + Sync, W: Write>(
         Ok(recorders) => recorders,
         Err(fault) => return Err(ServeFault::from(fault)),
     };
-    let served = serve_with_recorders::<H, FileRecorder<'a, 's, H>, CaughtUp, W>(
-        context, lines, listening, ports, seats, &recorders, writer,
+    let served = serve_named::<Brand, H, W>(
+        context, lines, listening, ports, seats, recorders, writer,
     );
+    match served {
+        Ok(outcome) => Ok(outcome),
+        Err(fault) => Err(ServeFault::from(fault)),
+    }
+}
+
+/// Serves the connections of all lines, each with its recorder, whose trail `J` names.
+fn serve_named<'a, 's, J: Naming + Send + Sync, H: Host + Sync, W: Write>(
+    context: &'s ServerContext<'s, H>,
+    lines: &'s [ServedLine],
+    listening: Vec<Listeners<TcpListener>>,
+    ports: &'s [Port],
+    seats: Vec<Vec<WorkerSeat>>,
+    recorders: Vec<UnnamedRecorder<'a, 's, H>>,
+    writer: &mut W,
+) -> Result<ServingOutcome<'a>, OutputFault>
+    requires few { length lines.now ≤ 8 }
+    requires each { length listening.items ≡ length lines.now }
+    requires opened { AreOpened lines.now ports.now }
+    requires named { All (λ recorder. Contains J.trails (name_of recorder.file.trail.pass)) recorders.items }
+    requires workers { (1 ≤ length seats.items) × (length seats.items ≤ 32) }
+    requires seats { All (λ own. HasSeats ports.now own.items) seats.items }
+    ensures ok { OnOk result (Appends (W.contents writer.old) (W.contents writer.new) ready) }
+    ensures incomplete { IfOk result (λ outcome. IfSome outcome.incomplete (λ file. IsPartOfOne (paths_of recorders.entry.items) file.path)) }
+    ensures err { IfErr result (λ fault. ServesConnections (W.contents writer.old) (W.contents writer.new) (Err fault)) }
+{
+    let (rt, alloc) = (context.rt, context.alloc);
+    let Some(recorders) = name_trails::<H, J>(alloc, recorders) else {
+        return Err(OutputFault::OutOfMemory);
+    };
+    let served = serve_with_recorders(context, lines, listening, ports, seats, &recorders, writer);
     match served {
         Ok(served) => Ok(ServingOutcome {
             served,
             incomplete: first_incomplete(rt, recorders),
         }),
-        Err(fault) => Err(ServeFault::from(fault)),
+        Err(fault) => Err(fault),
     }
 }
 
 /// Writes `ready`, and then accepts and serves the connections of all lines, each with its recorder.
 ///
-/// Returns how many sessions were served, or `None` if a thread could not be started after that. Returns `OutOfMemory` if there
-/// is not enough memory or there are not enough threads for all sessions; nothing is written then. Returns `WriteFault` if
-/// `ready` is not written.
-fn serve_with_recorders<'a, H: Host + Sync, C: CatchUp<K> + Sync, K: Drop + Send, W: Write>(
+/// Returns as [`serve_at_gate`] does.
+fn serve_with_recorders<'a, H: Host + Sync, C: RecordEntries + Sync, W: Write>(
     context: &'a ServerContext<'a, H>,
     lines: &'a [ServedLine],
     listening: Vec<Listeners<TcpListener>>,
@@ -198,7 +229,35 @@ fn serve_with_recorders<'a, H: Host + Sync, C: CatchUp<K> + Sync, K: Drop + Send
     requires few { length lines.now ≤ 8 }
     requires each { length listening.items ≡ length lines.now }
     requires opened { AreOpened lines.now ports.now }
-    requires recorded { length recorders.now ≡ length lines.now }
+    requires workers { (1 ≤ length seats.items) × (length seats.items ≤ 32) }
+    requires seats { All (λ own. HasSeats ports.now own.items) seats.items }
+    ensures { ServesConnections (W.contents writer.old) (W.contents writer.new) result }
+{
+    let gate = SessionGate {
+        notes: context.notes,
+        numbers: numbers_of(lines),
+        recorders,
+    };
+    serve_at_gate(context, lines, listening, ports, seats, &gate, writer)
+}
+
+/// Writes `ready`, and then accepts and serves the connections of all lines, with this gate of their sessions.
+///
+/// Returns how many sessions were served, or `None` if a thread could not be started after that. Returns `OutOfMemory` if there
+/// is not enough memory or there are not enough threads for all sessions; nothing is written then. Returns `WriteFault` if
+/// `ready` is not written.
+fn serve_at_gate<'a, H: Host + Sync, G: Gate + Sync, W: Write>(
+    context: &'a ServerContext<'a, H>,
+    lines: &'a [ServedLine],
+    listening: Vec<Listeners<TcpListener>>,
+    ports: &'a [Port],
+    seats: Vec<Vec<WorkerSeat>>,
+    gate: &'a G,
+    writer: &mut W,
+) -> Result<Option<Served>, OutputFault>
+    requires few { length lines.now ≤ 8 }
+    requires each { length listening.items ≡ length lines.now }
+    requires opened { AreOpened lines.now ports.now }
     requires workers { (1 ≤ length seats.items) × (length seats.items ≤ 32) }
     requires seats { All (λ own. HasSeats ports.now own.items) seats.items }
     ensures { ServesConnections (W.contents writer.old) (W.contents writer.new) result }
@@ -209,20 +268,29 @@ fn serve_with_recorders<'a, H: Host + Sync, C: CatchUp<K> + Sync, K: Drop + Send
     let Ok((sender, jobs)) = bounded(context.alloc, MOST_WAITING) else {
         return Err(OutputFault::OutOfMemory);
     };
-    let opened = Acceptors::new(context, listening, lines, ports, recorders, sender);
+    let opened = Acceptors::new(context, listening, lines, ports, gate, sender);
     let Ok(acceptors) = opened else {
         return Err(OutputFault::OutOfMemory);
     };
     let Ok(()) = write_ready(writer) else {
         return Err(OutputFault::WriteFault);
     };
-    match accept_and_serve(context, acceptors, ports, seats, jobs) {
+    match accept_and_serve(context, gate, acceptors, ports, seats, jobs) {
         Ok(masters) => Ok(Some(Served {
             masters,
             operators: context.operators.load(SeqCst),
         })),
         Err(_) => Ok(None),
     }
+}
+
+/// Returns the numbers of lines.
+pub(crate) fn numbers_of(lines: &[ServedLine]) -> LineNumbers {
+    let mut numbers = LineNumbers::new();
+    for line in lines {
+        let _ = numbers.try_push(line.spec.number);
+    }
+    numbers
 }
 
 /// Writes `ready` and flushes the writer.

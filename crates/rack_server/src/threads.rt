@@ -12,7 +12,6 @@ use crate::server_context::{MAX_READS, ServerContext};
 use crossbeam_channel::Receiver;
 use dp_sessions::{Gate, Job, PoolFault, Port, run_pool};
 use dp_shared::WorkerSeat;
-use dp_trail::CatchUp;
 use std::io::{Read, Write};
 use std::net::Net;
 use std::sync::{Mutex, Wait};
@@ -44,19 +43,19 @@ pub(crate) fn can_start<H: Threads + Wait + Sync>(rt: &H, count: usize) -> bool 
 ///
 /// Returns how many sessions of masters were served. If the thread of an acceptor cannot be started, no connection is accepted.
 /// If the thread of a worker cannot be started, no connection is accepted once the workers that started have ended.
-pub(crate) fn accept_and_serve<'a, H: Host + Sync, C: CatchUp<K> + Sync, K: Drop + Send>(
+pub(crate) fn accept_and_serve<'a, H: Host + Sync, G: Gate + Sync>(
     context: &'a ServerContext<'a, H>,
-    acceptors: Acceptors<'a, H, C, K>,
+    session_gate: &'a G,
+    acceptors: Acceptors<'a, H, G>,
     ports: &[Port],
     seats: Vec<Vec<WorkerSeat>>,
-    jobs: Receiver<MasterJob<'a, H, C, K>>,
+    jobs: Receiver<MasterJob<'a, H>>,
 ) -> Result<u32, PoolFault>
     requires workers { (1 ≤ length seats.items) × (length seats.items ≤ 32) }
     requires seats { All (λ own. HasSeats ports.now own.items) seats.items }
 {
     let Acceptors { masters, operators } = acceptors;
     let (rt, gate) = (context.rt, context.gate);
-    let notes = context.notes;
     serve_while_accepting(
         rt,
         gate,
@@ -66,7 +65,7 @@ pub(crate) fn accept_and_serve<'a, H: Host + Sync, C: CatchUp<K> + Sync, K: Drop
         || -> Result<u32, PoolFault>
             requires { (1 ≤ length seats.items) × (length seats.items ≤ 32)
                 × All (λ own. HasSeats ports.now own.items) seats.items }
-        { serve_masters(rt, gate, ports, seats, jobs, notes) },
+        { serve_masters(rt, gate, ports, seats, jobs, session_gate) },
     )
 }
 
@@ -83,12 +82,12 @@ fn serve_masters<
     ports: &[Port],
     seats: Vec<Vec<WorkerSeat>>,
     jobs: Receiver<Job<R, W>>,
-    notes: &G,
+    session_gate: &G,
 ) -> Result<u32, PoolFault>
     requires workers { (1 ≤ length seats.items) × (length seats.items ≤ 32) }
     requires seats { All (λ own. HasSeats ports.now own.items) seats.items }
 {
-    let served = run_pool(rt, ports, seats, jobs, notes, MAX_READS);
+    let served = run_pool(rt, ports, seats, jobs, session_gate, MAX_READS);
     if served.is_err() {
         gate.stop(rt, rt);
     }

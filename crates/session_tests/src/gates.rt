@@ -4,7 +4,9 @@ ghost use Rattle.dp_sessions.specs.Pools.{IsSeatAt};
 
 use dp_audit::Receipt;
 use dp_line::{Device, Op, Step};
-use dp_sessions::{DroppedOctets, Gate, OpenGate, Port, SessionEnd, serve, serve_operator_at};
+use dp_sessions::{
+    DroppedOctets, Gate, NotRecorded, OpenGate, Port, SessionEnd, serve, serve_operator_at,
+};
 use dp_shared::WorkerSeat;
 use dp_telegram::WholeFrame;
 use dp_text::LineFault;
@@ -18,8 +20,8 @@ use std::sync::atomic::Ordering::SeqCst;
 use std::sync::{Mutex, Wait};
 use std::test::Fail;
 
-/// The calls and writes in order, as decimal digits: 1 `accepted`, 2 a write, 3 `enter`, 4 `answered`, 5 `ended`, 6
-/// `dropped`, 7 `turned_away`, 8 `operates`, 9 `operated`, 0 `faulty_line`.
+/// The calls and writes in order, as hexadecimal digits: 1 `accepted`, 2 a write, 3 `enter`, 4 `answered`, 5 `ended`, 6
+/// `dropped`, 7 `turned_away`, 8 `operates`, 9 `operated`, a `record`, 0 `faulty_line`.
 #[derive(Drop)]
 struct Calls {
     digits: AtomicU64,
@@ -29,7 +31,7 @@ impl Calls {
     fn add(&self, digit: u64) {
         let before = self.digits.load(SeqCst);
         self.digits
-            .store(before.wrapping_mul(10).wrapping_add(digit), SeqCst);
+            .store(before.wrapping_mul(16).wrapping_add(digit), SeqCst);
     }
 }
 
@@ -84,8 +86,20 @@ struct Noting<'a> {
 }
 
 impl Gate for Noting<'_> {
+    ghost recorded = { λ gate line place. Unit {0} };
+
     fn enter<W: Wait>(&self, _rt: &W, _line: u8, _master: u8) {
         self.calls.add(3);
+    }
+
+    fn record<W: Wait>(
+        &self,
+        rt: &W,
+        line: u8,
+        place: Option<u32>,
+    ) -> Result<(), NotRecorded> {
+        self.calls.add(10);
+        OpenGate.record(rt, line, place)
     }
 
     fn accepted<W: Wait>(&self, _rt: &W, _line: u8, _master: u8) {
@@ -158,7 +172,7 @@ fn master_calls<T: Wait>(rt: &T, alloc: Global, octets: &[u8], expected: &str) -
     let mut writer = CountedWrites { calls: &calls };
     serve(rt, &mut asks, &mut writer, &port, &mut seat, &gate, 9);
     is_reported(
-        format!(in alloc; "{}", calls.digits.load(SeqCst))?,
+        format!(in alloc; "{:x}", calls.digits.load(SeqCst))?,
         expected,
     )
 }
@@ -181,7 +195,7 @@ fn operator_calls<T: Wait>(rt: &T, alloc: Global, lines: &str, expected: &str) -
     let mut writer = CountedWrites { calls: &calls };
     serve_operator_at(rt, &mut asks, &mut writer, &port, &spec, &gate, 9);
     is_reported(
-        format!(in alloc; "{}", calls.digits.load(SeqCst))?,
+        format!(in alloc; "{:x}", calls.digits.load(SeqCst))?,
         expected,
     )
 }
@@ -192,12 +206,12 @@ fn operator_calls<T: Wait>(rt: &T, alloc: Global, lines: &str, expected: &str) -
 #[test]
 fn master_session_calls_its_gate(rt: HostRuntime) -> Result<(), Fail> {
     let octets = [0x01, 0x33, 0x10, 0x05, 0x01, 0x49, 0x4F, 0x16];
-    master_calls(&rt, rt.alloc(), &octets, "1263425421")
+    master_calls(&rt, rt.alloc(), &octets, "12634a25421")
 }
 
-// Each event of the operator, including the input of a step, is between the calls of its gate and before its answer. A
-// line that is no command is one call, before its fault is written.
+// Each event of the operator, including the input of a step, is between the calls of its gate, and is recorded before its
+// answer. A line that is no command is one call, before its fault is written.
 #[test]
 fn operator_session_calls_its_gate(rt: HostRuntime) -> Result<(), Fail> {
-    operator_calls(&rt, rt.alloc(), "tick 1\nstep\nshow 5\nnone\n", "892892202")
+    operator_calls(&rt, rt.alloc(), "tick 1\nstep\nshow 5\nnone\n", "89a289a2202")
 }

@@ -6,7 +6,7 @@ use arrayvec::ArrayString;
 use dp_audit::Receipt;
 use dp_line::{Device, Op, Outcome, Rule, Step};
 use dp_notes::{LineNumbers, Notes};
-use dp_sessions::{Gate, Port, SessionEnd, serve_operator_at, serve_pass};
+use dp_sessions::{Gate, NotRecorded, OpenGate, Port, SessionEnd, serve_operator_at, serve_pass};
 use dp_telegram::WholeFrame;
 use fixtures::line_specs::line_spec;
 use fixtures::place::{Place, fresh_place};
@@ -108,7 +108,18 @@ struct MasterMeanwhile<'a> {
 }
 
 impl Gate for MasterMeanwhile<'_> {
+    ghost recorded = { λ gate line place. Unit {0} };
+
     fn enter<W: Wait>(&self, _rt: &W, _line: u8, _master: u8) {}
+
+    fn record<W: Wait>(
+        &self,
+        rt: &W,
+        line: u8,
+        place: Option<u32>,
+    ) -> Result<(), NotRecorded> {
+        OpenGate.record(rt, line, place)
+    }
 
     fn operates<W: Wait>(&self, rt: &W, line: u8, op: &Op) {
         self.notes.operates(rt, line, op);

@@ -5,7 +5,7 @@ ghost use Rattle.dp_sessions.specs.Pools.{IsSeatAt};
 
 use crossbeam_channel::unbounded;
 use dp_line::Device;
-use dp_sessions::{Gate, Job, OpenGate, Port, run_pool};
+use dp_sessions::{Gate, Job, NotRecorded, OpenGate, Port, run_pool};
 use dp_shared::WorkerSeat;
 use dp_telegram::Octets;
 use fixtures::line_specs::ample_line;
@@ -163,6 +163,8 @@ impl Until<'_> {
 }
 
 impl Gate for Until<'_> {
+    ghost recorded = { λ gate line place. Unit {0} };
+
     fn enter<W: Wait>(&self, rt: &W, line: u8, master: u8) {
         let _ = rt;
         if line == 1 && master == 1 {
@@ -175,6 +177,15 @@ impl Gate for Until<'_> {
         } else {
             self.seen.stranger.fetch_add(1, SeqCst);
         }
+    }
+
+    fn record<W: Wait>(
+        &self,
+        rt: &W,
+        line: u8,
+        place: Option<u32>,
+    ) -> Result<(), NotRecorded> {
+        OpenGate.record(rt, line, place)
     }
 }
 

@@ -4,7 +4,7 @@ ghost use Rattle.std.specs.Prelude.{◌≡◌, None};
 
 use crate::limits::{Limits, end_of};
 use dp_line::Device;
-use dp_sessions::{Gate, OpenGate, Port, serve};
+use dp_sessions::{Gate, NotRecorded, OpenGate, Port, serve};
 use dp_shared::WorkerSeat;
 use dp_telegram::Octets;
 use fixtures::line_specs::ample_line;
@@ -121,12 +121,23 @@ struct Beside<'a> {
 }
 
 impl Gate for Beside<'_> {
+    ghost recorded = { λ gate line place. Unit {0} };
+
     fn enter<W: Wait>(&self, rt: &W, line: u8, master: u8) {
         let mut visitor = self.visitor.lock(rt);
         let reported = visitor.visit(rt, self.alloc, line, master, self.sessions.as_slice());
         if reported.is_err() {
             visitor.reported.clear();
         }
+    }
+
+    fn record<W: Wait>(
+        &self,
+        rt: &W,
+        line: u8,
+        place: Option<u32>,
+    ) -> Result<(), NotRecorded> {
+        OpenGate.record(rt, line, place)
     }
 }
 

@@ -3,18 +3,20 @@
 //! A log has the text of the trail as it is written, `> HEX` for each read of the session, `> -` for its end, and
 //! `< HEX` for each write.
 
-ghost use Rattle.std.specs.Prelude.{◌≡◌, None};
+ghost use Rattle.std.specs.Prelude.{◌≡◌, Contains, None};
+ghost use Rattle.dp_trail.specs.Named.{name_of};
 
 use dp_line::Device;
-use dp_sessions::{OpenGate, Port, SessionEnd, serve};
+use dp_sessions::{Gate, NotRecorded, Port, SessionEnd, serve};
 use dp_shared::WorkerSeat;
 use dp_telegram::Octets;
-use dp_trail::{CatchUp, NoTrail, Tail, Trail, Trailed};
+use dp_trail::{Naming, NoTrail, RecordEntries, Tail, Trail};
 use fixtures::line_specs::ample_line;
 use fixtures::place::{Place, fresh_place};
 use fixtures::rows::{closed_with, hex_of, is_reported, many_passes, octets_of};
 use std::alloc::Global;
 use std::io::{ErrorKind, Read, Result as IoResult, Write};
+use std::marker::Brand;
 use std::sync::{Mutex, Wait};
 use std::test::Fail;
 
@@ -110,10 +112,34 @@ fn reads_in(alloc: Global, words: &str) -> Result<Vec<Octets>, Fail> {
     Ok(reads)
 }
 
-/// Serves a session of these reads. A trail catches up before each read and write.
-fn serve_between<T: Wait, C: CatchUp<K>, K: Drop>(
+/// A gate that has a recorder record each entry.
+#[derive(Drop)]
+struct Recording<'a, C> {
+    recorder: &'a C,
+}
+
+impl<C: RecordEntries> Gate for Recording<'_, C> {
+    ghost recorded = { λ gate line place. C.recorded gate.recorder.now line place };
+
+    fn enter<W: Wait>(&self, _rt: &W, _line: u8, _master: u8) {}
+
+    fn record<W: Wait>(
+        &self,
+        rt: &W,
+        line: u8,
+        place: Option<u32>,
+    ) -> Result<(), NotRecorded> {
+        match self.recorder.record(rt, line, place) {
+            Ok(()) => Ok(()),
+            Err(_) => Err(NotRecorded),
+        }
+    }
+}
+
+/// Serves a session of these reads. Each entry is recorded before its answer is written.
+fn serve_between<T: Wait, C: RecordEntries>(
     rt: &T,
-    trail: &C,
+    recorder: &C,
     port: &Port,
     seat: &mut WorkerSeat,
     log: &Mutex<Log>,
@@ -122,14 +148,32 @@ fn serve_between<T: Wait, C: CatchUp<K>, K: Drop>(
     requires ours { seat.old.table ≡ port.now.claims.table }
     requires free { seat.old.view.held ≡ None }
 {
-    let telegrams = Telegrams {
+    let mut reader = Telegrams {
         rt,
         log,
         left: reads,
     };
-    let mut reader = Trailed::new(rt, trail, telegrams);
-    let mut writer = Trailed::new(rt, trail, Replies { rt, log });
-    serve(rt, &mut reader, &mut writer, port, seat, &OpenGate, 100)
+    let mut writer = Replies { rt, log };
+    let gate = Recording { recorder };
+    serve(rt, &mut reader, &mut writer, port, seat, &gate, 100)
+}
+
+/// Serves a session of these reads with the trail of this tail, which `J` names. Returns the tail and how the session ended.
+fn serve_named<'l, J: Naming, T: Wait>(
+    rt: &T,
+    tail: Tail<'l, Rows<'l, T>>,
+    port: &Port,
+    seat: &mut WorkerSeat,
+    log: &Mutex<Log>,
+    reads: &[Octets],
+) -> (Tail<'l, Rows<'l, T>>, SessionEnd)
+    requires named { Contains J.trails (name_of tail.pass) }
+    requires ours { seat.old.table ≡ port.now.claims.table }
+    requires free { seat.old.view.held ≡ None }
+{
+    let trail = Trail::<Rows<'l, T>, J>::new(tail);
+    let end = serve_between(rt, &trail, port, seat, log, reads);
+    (trail.into_tail(), end)
 }
 
 /// Serves a session of these reads on a fresh line, with a trail that has this much room or without one. Afterwards the
@@ -149,13 +193,19 @@ fn log_of<T: Wait>(
     let log = empty_log(alloc, room.unwrap_or(0));
     let reads = reads_in(alloc, words)?;
     let end = if room.is_some() {
-        let trail = Trail::new(Tail::open(rt, &port.line, Rows { rt, log: &log })?);
-        let end = serve_between(rt, &trail, &port, &mut seat, &log, reads.as_slice());
+        let tail = Tail::open(rt, &port.line, Rows { rt, log: &log })?;
+        let (mut tail, end) = serve_named::<Brand, T>(
+            rt,
+            tail,
+            &port,
+            &mut seat,
+            &log,
+            reads.as_slice(),
+        );
         let mut other = port.line.open_pass(rt, 2)?;
         port.line
             .exchange(rt, &mut other, &octets_of("100902495416")?);
         log.lock(rt).room = 1000;
-        let mut tail = trail.into_tail();
         let _ = tail.catch_up(rt);
         tail.close(rt);
         end
@@ -176,7 +226,7 @@ fn empty_log(alloc: Global, room: usize) -> Mutex<Log> {
     })
 }
 
-/// The entry of a reply is written before the reply, and the entry of a silence before the next read.
+/// The entry of each event is written before its reply, and before the next read.
 #[test]
 fn rows_come_first(rt: HostRuntime) -> Result<(), Fail> {
     let reported = log_of(

@@ -1,0 +1,14 @@
+use denote.Param.Send.{sendable}
+use Rattle.std.proofs.Common.{IfSome, subst}
+use Rattle.std.proofs.Crossing.{crosses}
+use Rattle.rack_files.proofs.Crossings.{writer_send}
+use Rattle.rack_server.specs.Recordings.{IsPartOfOne}
+use Rattle.rack_server.proofs.Sharing.{recorder_sync}
+use Rattle.rack_server.proofs.serving.serve_named.Goals as goal
+
+pub serve_with_recorders-served-requires-sync-C : goal.serve_with_recorders-served-requires-sync-C
+serve_with_recorders-served-requires-sync-C g c κs within = search (sendable, crosses, recorder_sync, writer_send) depth 40 fits 100000
+
+pub returns-in-Ok-clause-incomplete : goal.returns-in-Ok-clause-incomplete
+returns-in-Ok-clause-incomplete g c =
+    subst (λ ps. IfSome c.first_incomplete.result (λ file. IsPartOfOne ps file.path)) c.in-Some.ensures c.first_incomplete.ensures
