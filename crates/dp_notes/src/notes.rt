@@ -247,12 +247,7 @@ impl<L: Log + Clock> Gate for Notes<'_, L> {
     fn enter<W: Wait>(&self, _rt: &W, _line: u8, _master: u8) {}
 
     /// Records nothing: reports are no record.
-    fn record<W: Wait>(
-        &self,
-        _rt: &W,
-        _line: u8,
-        place: Option<u32>,
-    ) -> Result<(), NotRecorded> {
+    fn record<W: Wait>(&self, _rt: &W, _line: u8, place: Option<u32>) -> Result<(), NotRecorded> {
         match place {
             Some(_) => Ok(()),
             None => Ok(()),

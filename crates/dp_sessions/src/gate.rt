@@ -29,12 +29,7 @@ pub trait Gate {
     /// and each event of an operator, before the answer is written.
     ///
     /// If it fails, no octet of the answer is written, and the session ends with `WriteFault`.
-    fn record<W: Wait>(
-        &self,
-        rt: &W,
-        line: u8,
-        place: Option<u32>,
-    ) -> Result<(), NotRecorded>
+    fn record<W: Wait>(&self, rt: &W, line: u8, place: Option<u32>) -> Result<(), NotRecorded>
         ensures { OnOk result (IfSome place (recorded self.now line)) };
 
     /// Called after a session has claimed the address of a master, before E5 is written.
@@ -85,12 +80,7 @@ impl Gate for OpenGate {
 
     fn enter<W: Wait>(&self, _rt: &W, _line: u8, _master: u8) {}
 
-    fn record<W: Wait>(
-        &self,
-        _rt: &W,
-        _line: u8,
-        place: Option<u32>,
-    ) -> Result<(), NotRecorded> {
+    fn record<W: Wait>(&self, _rt: &W, _line: u8, place: Option<u32>) -> Result<(), NotRecorded> {
         match place {
             Some(_) => Ok(()),
             None => Ok(()),

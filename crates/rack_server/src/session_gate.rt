@@ -30,12 +30,7 @@ impl<H: Log + Clock, C: RecordEntries> Gate for SessionGate<'_, H, C> {
         self.notes.enter(rt, line, master);
     }
 
-    fn record<W: Wait>(
-        &self,
-        rt: &W,
-        line: u8,
-        place: Option<u32>,
-    ) -> Result<(), NotRecorded> {
+    fn record<W: Wait>(&self, rt: &W, line: u8, place: Option<u32>) -> Result<(), NotRecorded> {
         let found = self.numbers.iter().position(|number| *number == line);
         let Some(index) = found else {
             return Err(NotRecorded);

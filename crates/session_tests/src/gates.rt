@@ -92,12 +92,7 @@ impl Gate for Noting<'_> {
         self.calls.add(3);
     }
 
-    fn record<W: Wait>(
-        &self,
-        rt: &W,
-        line: u8,
-        place: Option<u32>,
-    ) -> Result<(), NotRecorded> {
+    fn record<W: Wait>(&self, rt: &W, line: u8, place: Option<u32>) -> Result<(), NotRecorded> {
         self.calls.add(10);
         OpenGate.record(rt, line, place)
     }
@@ -213,5 +208,10 @@ fn master_session_calls_its_gate(rt: HostRuntime) -> Result<(), Fail> {
 // answer. A line that is no command is one call, before its fault is written.
 #[test]
 fn operator_session_calls_its_gate(rt: HostRuntime) -> Result<(), Fail> {
-    operator_calls(&rt, rt.alloc(), "tick 1\nstep\nshow 5\nnone\n", "89a289a2202")
+    operator_calls(
+        &rt,
+        rt.alloc(),
+        "tick 1\nstep\nshow 5\nnone\n",
+        "89a289a2202",
+    )
 }

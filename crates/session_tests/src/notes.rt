@@ -112,12 +112,7 @@ impl Gate for MasterMeanwhile<'_> {
 
     fn enter<W: Wait>(&self, _rt: &W, _line: u8, _master: u8) {}
 
-    fn record<W: Wait>(
-        &self,
-        rt: &W,
-        line: u8,
-        place: Option<u32>,
-    ) -> Result<(), NotRecorded> {
+    fn record<W: Wait>(&self, rt: &W, line: u8, place: Option<u32>) -> Result<(), NotRecorded> {
         OpenGate.record(rt, line, place)
     }
 

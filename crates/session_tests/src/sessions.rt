@@ -131,12 +131,7 @@ impl Gate for Beside<'_> {
         }
     }
 
-    fn record<W: Wait>(
-        &self,
-        rt: &W,
-        line: u8,
-        place: Option<u32>,
-    ) -> Result<(), NotRecorded> {
+    fn record<W: Wait>(&self, rt: &W, line: u8, place: Option<u32>) -> Result<(), NotRecorded> {
         OpenGate.record(rt, line, place)
     }
 }

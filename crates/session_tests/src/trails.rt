@@ -123,12 +123,7 @@ impl<C: RecordEntries> Gate for Recording<'_, C> {
 
     fn enter<W: Wait>(&self, _rt: &W, _line: u8, _master: u8) {}
 
-    fn record<W: Wait>(
-        &self,
-        rt: &W,
-        line: u8,
-        place: Option<u32>,
-    ) -> Result<(), NotRecorded> {
+    fn record<W: Wait>(&self, rt: &W, line: u8, place: Option<u32>) -> Result<(), NotRecorded> {
         match self.recorder.record(rt, line, place) {
             Ok(()) => Ok(()),
             Err(_) => Err(NotRecorded),
