@@ -1,17 +1,17 @@
 //! The operator client.
 //!
-//! The client sends one thing at a time and waits for its answer. So answers come in the order of the lines, a slow
-//! line gets few ticks, and nothing has to be matched.
+//! The client sends one line at a time and waits for its answer. So answers come in the order of the lines, and nothing
+//! has to be matched.
 //!
 //! A thread reads standard input, one line for each request, because a read can't be ended: the program ends while
 //! that thread waits.
 
+use crate::answers::is_answered;
 use crate::fault::ClientFault;
 use crate::incoming::{Incoming, LF, Side, Taken, hand_on, without_end};
 use crate::printable::printable;
 use crossbeam_channel::{Receiver, Sender, bounded};
 use dp_cause::Cause;
-use dp_operate::{Due, Schedule, is_answered, is_news};
 use log::{Log, info, warn};
 use std::alloc::Global;
 use std::io::{self, BufReader, ErrorKind, Read, Write};
@@ -19,7 +19,7 @@ use std::net::{Ipv4Addr, Net, TcpStream};
 use std::sync::Wait;
 use std::thread;
 use std::thread::Threads;
-use std::time::{Clock, Duration, Instant};
+use std::time::{Clock, Duration};
 
 /// The most items that were read and wait to be handled.
 const WAITING: usize = 4;
@@ -30,28 +30,6 @@ const PATIENCE: u64 = 2_000;
 /// The milliseconds for which the client waits for the end of the input after the end of the port. An end within that
 /// time counts as before the end of the port, because the end of a file is read only after its last line is answered.
 const LATE: u64 = 100;
-
-/// The port that a client sends to, and how often it sends ticks and steps.
-#[derive(Clone, Copy)]
-pub struct Operation {
-    /// The operator port of the line, on this machine.
-    pub port: u16,
-    /// The milliseconds from tick to tick, 10 or more; if None, no tick is sent.
-    pub tick: Option<u32>,
-    /// The milliseconds from step to step, 1 or more; if None, no step is sent.
-    pub step: Option<u32>,
-}
-
-/// The kind of request whose answer is awaited.
-#[derive(Clone, Copy, PartialEq, Eq)]
-enum Awaited {
-    /// A line of the input.
-    Line,
-    /// A tick.
-    Tick,
-    /// A step.
-    Step,
-}
 
 /// The state of the input.
 #[derive(Clone, Copy, PartialEq, Eq)]
@@ -64,9 +42,8 @@ enum Input {
     Ended,
 }
 
-/// Sends lines of the input to a port of this machine, and ticks and steps by the clock, each after the one before
-/// was answered. Writes each answer to a line, and an answer to a tick or step if it is news (see [`is_news`]). Ends
-/// with the input or, if ticks or steps are sent, with the port.
+/// Sends lines of the input to the operator port of a line on this machine, each after the one before was answered, and
+/// writes the answers. Ends with the input.
 ///
 /// Returns `CannotConnect` if nothing listens at the port, `PortEnded` if the connection ends before the input or
 /// before a line is answered, `CannotRead` if the input cannot be read, `WriteFault` if an answer cannot be written,
@@ -75,8 +52,7 @@ pub fn operate<
     H: Net<Stream = TcpStream> + Threads + Wait + Clock + Log + Copy + Send + 'static,
     R: Read + Send + Drop + 'static,
     W: Write,
->(rt: H, alloc: Global, operation: Operation, input: R, output: &mut W) -> Result<(), ClientFault> {
-    let Operation { port, tick, step } = operation;
+>(rt: H, alloc: Global, port: u16, input: R, output: &mut W) -> Result<(), ClientFault> {
     let (stream, answers) = match connect(&rt, port) {
         Ok(both) => both,
         Err(cause) => return Err(ClientFault::CannotConnect(cause)),
@@ -90,16 +66,12 @@ pub fn operate<
         alloc,
         port,
         stream,
-        schedule: Schedule::new(tick, step),
-        start: Instant::now(&rt).ok(),
         ask,
         incoming,
         input: Input::Resting,
         line: None,
-        awaited: None,
+        is_awaiting: false,
         is_served: false,
-        ticked: Vec::new(alloc),
-        stepped: Vec::new(alloc),
     };
     operator.run(output)
 }
@@ -190,19 +162,15 @@ struct Operator<H: Copy> {
     alloc: Global,
     port: u16,
     stream: TcpStream,
-    schedule: Schedule,
-    start: Option<Instant>,
     ask: Sender<()>,
     incoming: Receiver<Incoming>,
     input: Input,
     /// A line that was read and has not been sent.
     line: Option<Vec<u8>>,
-    awaited: Option<Awaited>,
+    /// Whether a line was sent whose answer has not come.
+    is_awaiting: bool,
     /// Whether an answer has come, or the client has reported what it waits for.
     is_served: bool,
-    /// The last answers to a tick and to a step.
-    ticked: Vec<u8>,
-    stepped: Vec<u8>,
 }
 
 impl<H: Wait + Clock + Log + Copy> Operator<H> {
@@ -219,45 +187,18 @@ impl<H: Wait + Clock + Log + Copy> Operator<H> {
 
     /// Sends what can be sent, or handles what is read next. Returns whether the client has ended.
     fn go_on<W: Write>(&mut self, output: &mut W) -> Result<bool, ClientFault> {
-        let moment = self.moment();
-        if self.awaited.is_none() {
-            if let Some(due) = self.schedule.next(moment) {
-                return self.send_due(due);
-            }
+        if !self.is_awaiting {
             if let Some(line) = self.line.take() {
                 return self.send_line(line);
             }
-            if self.input == Input::Ended && self.schedule.wait(moment).is_none() {
+            if self.input == Input::Ended {
                 return Ok(true);
             }
             self.ask_for_line();
         }
-        match self.receive(moment) {
+        match self.receive() {
             Some(incoming) => self.take(incoming, output),
             None => Ok(false),
-        }
-    }
-
-    /// Returns the milliseconds since the start, or 0 if the clock cannot be read.
-    fn moment(&self) -> u64 {
-        let Some(start) = self.start else {
-            return 0;
-        };
-        match start.elapsed(&self.rt) {
-            Ok(passed) => u64::try_from(passed.as_millis()).unwrap_or(u64::MAX),
-            Err(_) => 0,
-        }
-    }
-
-    /// Sends what is due by the clock. Returns whether the client has ended.
-    fn send_due(&mut self, due: Due) -> Result<bool, ClientFault> {
-        self.awaited = match due {
-            Due::Tick(_) => Some(Awaited::Tick),
-            Due::Step => Some(Awaited::Step),
-        };
-        match format!(in self.alloc; "{due}\n") {
-            Ok(text) => self.send(text.as_bytes()),
-            Err(_) => Err(ClientFault::OutOfMemory),
         }
     }
 
@@ -267,7 +208,7 @@ impl<H: Wait + Clock + Log + Copy> Operator<H> {
             return Err(ClientFault::OutOfMemory);
         }
         if is_answered(without_end(&line)) {
-            self.awaited = Some(Awaited::Line);
+            self.is_awaiting = true;
         }
         self.send(&line)
     }
@@ -287,20 +228,15 @@ impl<H: Wait + Clock + Log + Copy> Operator<H> {
         }
     }
 
-    /// Returns what is read next, or None if something is due before that. If no answer has come for [`PATIENCE`]
-    /// milliseconds, logs a warning, once, and returns None.
-    fn receive(&mut self, moment: u64) -> Option<Incoming> {
-        let wait = match self.awaited {
-            None => self.schedule.wait(moment),
-            Some(_) if !self.is_served => Some(PATIENCE),
-            Some(_) => None,
-        };
-        let Some(milliseconds) = wait else {
+    /// Returns what is read next. If no answer has come for [`PATIENCE`] milliseconds, logs a warning, once, and returns
+    /// None.
+    fn receive(&mut self) -> Option<Incoming> {
+        if !self.is_awaiting || self.is_served {
             return self.incoming.recv(&self.rt).ok();
-        };
-        let time = Duration::from_millis(milliseconds);
+        }
+        let time = Duration::from_millis(PATIENCE);
         let came = self.incoming.recv_timeout(&self.rt, time).ok();
-        if came.is_none() && self.awaited.is_some() {
+        if came.is_none() {
             warn!(&self.rt; "no answer yet: a line serves one operator after another");
             self.is_served = true;
         }
@@ -327,27 +263,15 @@ impl<H: Wait + Clock + Log + Copy> Operator<H> {
         }
     }
 
-    /// Writes an answer, if it is to be shown. Always returns false: the client has not ended.
+    /// Writes an answer. Always returns false: the client has not ended.
     fn show<W: Write>(&mut self, row: Vec<u8>, output: &mut W) -> Result<bool, ClientFault> {
         self.is_served = true;
-        let asked = self.awaited.take();
-        let is_shown = match asked {
-            Some(Awaited::Line) | None => true,
-            Some(Awaited::Tick) => is_news(without_end(&row), without_end(&self.ticked)),
-            Some(Awaited::Step) => is_news(without_end(&row), without_end(&self.stepped)),
+        self.is_awaiting = false;
+        let Ok(shown) = printable(self.alloc, without_end(&row)) else {
+            return Err(ClientFault::OutOfMemory);
         };
-        if is_shown {
-            let Ok(shown) = printable(self.alloc, without_end(&row)) else {
-                return Err(ClientFault::OutOfMemory);
-            };
-            if output.write_all(&shown).is_err() || output.flush().is_err() {
-                return Err(ClientFault::WriteFault);
-            }
-        }
-        match asked {
-            Some(Awaited::Tick) => self.ticked = row,
-            Some(Awaited::Step) => self.stepped = row,
-            Some(Awaited::Line) | None => {}
+        if output.write_all(&shown).is_err() || output.flush().is_err() {
+            return Err(ClientFault::WriteFault);
         }
         Ok(false)
     }
@@ -355,7 +279,7 @@ impl<H: Wait + Clock + Log + Copy> Operator<H> {
     /// Handles the end of the port: the client has ended if each line of the input is answered and the input has
     /// ended too. Otherwise returns `PortEnded`.
     fn end_of_port(&mut self) -> Result<bool, ClientFault> {
-        if self.line.is_some() || self.awaited == Some(Awaited::Line) || !self.input_has_ended() {
+        if self.line.is_some() || self.is_awaiting || !self.input_has_ended() {
             return Err(ClientFault::PortEnded);
         }
         info!(&self.rt; "port {} has ended", self.port);

@@ -1,3 +1,0 @@
-pub mod Moments
-pub mod Answers
-pub mod OperateExamples

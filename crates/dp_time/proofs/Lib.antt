@@ -1,0 +1,3 @@
+mod Rounds
+mod Taking
+mod Advancing
