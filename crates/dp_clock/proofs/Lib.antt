@@ -1,0 +1,2 @@
+mod Ticking
+pub mod Crossings
