@@ -138,6 +138,13 @@ impl<'a, L: Log + Clock> Notes<'a, L> {
         self.log_row(rt, format_args!("line {line} goes on in {file}"));
     }
 
+    /// Reports that the program was held up, so that these milliseconds don't pass on a line.
+    pub fn held_up<W: Wait>(&self, rt: &W, line: u8, milliseconds: u64) {
+        let _one_row_at_a_time = self.noted.lock(rt);
+        let time = TimeOfDay::now(self.log);
+        warn!(self.log; target: "rackd", "{time} line {line}: {milliseconds} ms not told, the rack was held up");
+    }
+
     /// Returns the number of the line whose port has this place, or 0 if there is none.
     fn line_at(&self, port: u8) -> u8 {
         match self.lines.get(usize::from(port)) {
@@ -157,7 +164,7 @@ impl<'a, L: Log + Clock> Notes<'a, L> {
 
     /// Reports once that a line is halted, with the cause. While a halt of its operator is not answered yet, only the answer
     /// to that halt shows the cause: a master that is answered `Halted` meanwhile may have come after the operator's halt.
-    /// That is exact for one operator at a time, which is what `serve` has.
+    /// That is exact for one operator at a time that halts, which is what `serve` has: the clock of a line never does.
     fn report_halt<W: Wait>(&self, rt: &W, line: u8, is_halt: bool, outcome: &Outcome) {
         let Some(cause) = cause_of_halt(is_halt, outcome) else {
             return;
