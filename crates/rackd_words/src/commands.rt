@@ -50,6 +50,19 @@ const MOST_PART: u64 = 4_096;
 
 pub(crate) const PAGE: &str = "page";
 
+pub(crate) const TICK: &str = "tick";
+
+pub(crate) const STEP: &str = "step";
+
+/// The least and the most milliseconds of `--tick`, up to a minute, and of `--step`, up to a day.
+const LEAST_TICK: u64 = 10;
+
+const MOST_TICK: u64 = 60_000;
+
+const LEAST_STEP: u64 = 1;
+
+const MOST_STEP: u64 = 86_400_000;
+
 pub(crate) const LOG: &str = "log";
 
 /// The argument and the option of `watch`.
@@ -57,19 +70,8 @@ pub(crate) const WATCHED: &str = "FOLDER";
 
 pub(crate) const PAGE_PORT: &str = "port";
 
-/// The word and the options of `operate`, and the least milliseconds of each option.
+/// The argument of `operate`.
 pub(crate) const PORT: &str = "PORT";
-
-pub(crate) const TICK: &str = "tick";
-
-pub(crate) const STEP: &str = "step";
-
-const LEAST_TICK: u64 = 10;
-
-const LEAST_STEP: u64 = 1;
-
-/// The most milliseconds of an option: a day.
-const MOST_MILLISECONDS: u64 = 86_400_000;
 
 /// What may follow `--log`. The first one is meant if nothing follows.
 const TOLD: [&str; 2] = ["sessions", "requests"];
@@ -197,8 +199,8 @@ fn number<'a>(alloc: Global, name: &'a str, least: u64, most: u64) -> Arg<'a> {
         .value_parser(ValueParser::unsigned(least, most))
 }
 
-/// Returns the word `serve`, with a rack, the number of sessions of each port, the folder of its audit texts, and what
-/// is reported.
+/// Returns the word `serve`, with a rack, the number of sessions of each port, the folder of its audit texts, how time
+/// passes and devices step, and what is reported.
 pub(crate) fn serving<'a>(alloc: Global) -> Result<Command<'a>, AllocError> {
     let words = with_rack(alloc, "serve", help::SERVE)?
         .arg(sessions(alloc))?
@@ -208,7 +210,8 @@ pub(crate) fn serving<'a>(alloc: Global) -> Result<Command<'a>, AllocError> {
     let part = part(alloc)?;
     let words = words.arg(part)?;
     let page = page(alloc)?;
-    words.arg(page)?.arg(log(alloc))
+    let words = words.arg(page)?.arg(tick(alloc))?;
+    words.arg(step(alloc))?.arg(log(alloc))
 }
 
 /// Returns the option `--sessions N`.
@@ -250,6 +253,20 @@ fn page<'a>(alloc: Global) -> Result<Arg<'a>, AllocError> {
         .requires_arg(FOLDER)
 }
 
+/// Returns the option `--tick MS`.
+fn tick<'a>(alloc: Global) -> Arg<'a> {
+    number(alloc, TICK, LEAST_TICK, MOST_TICK)
+        .value_name("MS")
+        .help(help::TICK)
+}
+
+/// Returns the option `--step MS`.
+fn step<'a>(alloc: Global) -> Arg<'a> {
+    number(alloc, STEP, LEAST_STEP, MOST_STEP)
+        .value_name("MS")
+        .help(help::STEP)
+}
+
 /// Returns the option `--log`, which may be followed by what is reported.
 fn log<'a>(alloc: Global) -> Arg<'a> {
     Arg::new(alloc, LOG)
@@ -284,12 +301,9 @@ fn page_port<'a>(alloc: Global) -> Arg<'a> {
         .help(help::PAGE_PORT)
 }
 
-/// Returns the word `operate`, with a port, and how often a tick and a step are sent.
+/// Returns the word `operate`, with a port.
 pub(crate) fn operating<'a>(alloc: Global) -> Result<Command<'a>, AllocError> {
-    with_help(Command::new(alloc, "operate"), help::OPERATE)
-        .arg(port(alloc))?
-        .arg(milliseconds(alloc, TICK, LEAST_TICK).help(help::TICK))?
-        .arg(milliseconds(alloc, STEP, LEAST_STEP).help(help::STEP))
+    with_help(Command::new(alloc, "operate"), help::OPERATE).arg(port(alloc))
 }
 
 /// Returns the argument for the port after `operate`.
@@ -298,9 +312,4 @@ fn port<'a>(alloc: Global) -> Arg<'a> {
         .required(true)
         .value_parser(ValueParser::unsigned(1, u64::from(u16::MAX)))
         .help(help::PORT)
-}
-
-/// Returns an option with a number of milliseconds, `least` or more.
-fn milliseconds<'a>(alloc: Global, name: &'a str, least: u64) -> Arg<'a> {
-    number(alloc, name, least, MOST_MILLISECONDS).value_name("MS")
 }

@@ -29,7 +29,7 @@ rackd < INPUT
        rackd explain RACK AUDIT.. [OPTIONS]
        rackd serve RACK [OPTIONS]
        rackd watch RACK FOLDER [--port N]
-       rackd operate PORT [OPTIONS]
+       rackd operate PORT
        rackd --help
        rackd WORD --help",
     details: "\
@@ -156,7 +156,7 @@ pub(crate) const SERVE: Help = Help {
     about: "Serve the lines of a rack to masters and operators at TCP ports of 127.0.0.1",
     usage: "\
 rackd serve RACK [--sessions N] [--audit FOLDER [--endless [--part MB]] [--page N]]
-             [--log [WHAT]]
+             [--tick MS] [--step MS] [--log [WHAT]]
        rackd serve --help",
     details: "\
 The rack file gives each line two ports: 'listen' for masters and 'operator' for its operator.
@@ -166,8 +166,14 @@ A master sends its address as one octet and gets E5. Then it sends telegrams and
 A master that sends no address for ten seconds is disconnected.
 
 An operator sends the commands of a script other than 'm', 'line' and 'journal' (see
-'rackd run --help'), and gets a line for each. Time passes only by the operator's 'tick';
-'rackd operate --tick' sends it by the clock.
+'rackd run --help'), and gets a line for each.
+
+Without --tick, time passes only by the operator's 'tick'. With it, each line gets 'tick N' by the
+clock, where N is the number of units of 10 ms that have passed: before each request of a master, so
+that watchdogs are right to the unit when it is taken, and at least every MS milliseconds. No tick
+has more than twice MS. If rackd itself was held up, the rest is cut off: it releases no slave, and
+a warning says how much it was. With --step, the devices of the rack update the inputs of their
+slaves every MS milliseconds, as by 'step'.
 
 With --sessions, rackd prints the audit text of each line, in the order of line numbers, when all
 connections have ended. Without --sessions, it does not end on its own.
@@ -177,7 +183,7 @@ K the first number that is free. 'check' reads such a file as it is. Of the outp
 give it the text of one line, from the header 'rack-audit ..' on.
 
 With --endless, memory has only the newest entries of each line: at least half as many as its
-capacity, and at least 8208. The files are line-N-K.000001.audit, line-N-K.000002.audit and so on,
+capacity, and at least 8288. The files are line-N-K.000001.audit, line-N-K.000002.audit and so on,
 and standard output gets only 'ready'.
 
 With --page, a page in a browser shows the rack, as 'watch' does. Standard output gets its address
@@ -186,8 +192,9 @@ before 'ready'.
 Standard error gets warnings, for example that a line is halted, also without --log.
 
 Examples:
+  rackd serve examples/serve/rack.toml --tick 100 --step 500
   rackd serve examples/serve/rack.toml --audit audit --log
-  rackd serve examples/serve/rack.toml --audit audit --endless --part 100
+  rackd serve examples/serve/rack.toml --audit audit --endless --part 100 --tick 20
   rackd serve examples/serve/rack.toml --sessions 1 > served.txt",
 };
 
@@ -211,21 +218,20 @@ Examples:
 
 /// The help of `operate`.
 pub(crate) const OPERATE: Help = Help {
-    about: "Operate a line that is served: send commands and time, and print the answers",
+    about: "Operate a line that is served: send commands, and print the answers",
     usage: "\
-rackd operate PORT [--tick MS] [--step MS]
+rackd operate PORT
        rackd operate --help",
     details: "\
 Each line of standard input goes to the port, and its answer to standard output. The commands are
-those of a script other than 'm', 'line' and 'journal' (see 'rackd run --help'). The answers to
---tick and --step are printed only if they report something.
+those of a script other than 'm', 'line' and 'journal' (see 'rackd run --help'). It ends when each
+line of standard input is answered.
 
-It ends when each line of standard input is answered. With --tick or --step, it continues until a
-signal ends it or the server closes the connection.
+Time and devices by the clock are options of 'rackd serve': --tick and --step.
 
 Examples:
   echo 'show 5' | rackd operate 7201
-  rackd operate 7201 --tick 100 --step 500",
+  rackd operate 7201",
 };
 
 /// The argument for the rack.
@@ -290,6 +296,14 @@ pub(crate) const PAGE: &str = "\
 Show the rack at port N of 127.0.0.1 in a browser: 0 to 65535, where 0
 lets the system choose; requires --audit [default: no page]";
 
+pub(crate) const TICK: &str = "\
+Let time pass by the clock, so that watchdogs run, with a tick at least
+every MS milliseconds: 10 to 60000 [default: only by operators]";
+
+pub(crate) const STEP: &str = "\
+Every MS milliseconds, the devices update the inputs of their slaves:
+1 to 86400000 [default: only by operators]";
+
 pub(crate) const LOG: &str = "\
 Log to standard error: 'sessions' for connections, ends of sessions and
 octets that are no telegram, 'requests' for each request and answer too
@@ -301,12 +315,3 @@ pub(crate) const WATCHED: &str =
 
 pub(crate) const PAGE_PORT: &str =
     "Port of the page, at 127.0.0.1: 0 to 65535 [default: 0, the system chooses]";
-
-/// The options of `operate`.
-pub(crate) const TICK: &str = "\
-Every MS milliseconds, send the time that has passed, so that watchdogs run:
-10 to 86400000 [default: send no time]";
-
-pub(crate) const STEP: &str = "\
-Every MS milliseconds, the devices update the inputs of their slaves:
-1 to 86400000 [default: no updates]";

@@ -5,7 +5,8 @@ use thiserror::Error;
 /// How much is reported on standard error while a rack is served.
 #[derive(Clone, Copy, PartialEq, Eq)]
 pub enum LogDetail {
-    /// Only warnings: that a line is halted, and that a connection waits because all workers are busy.
+    /// Only warnings: that a line is halted, that a connection waits because all workers are busy, and that time was cut
+    /// off because the program was held up.
     Warnings,
     /// Connections and sessions too.
     Sessions,
@@ -25,6 +26,11 @@ pub struct Service<'a> {
     pub endless: Option<u16>,
     /// The port of the page that shows the rack, 0 if the system chooses one; None if there is no page.
     pub page: Option<u16>,
+    /// The most milliseconds from tick to tick, 10 to 60,000, by which the time of each line passes; None if time passes
+    /// only by the ticks of operators.
+    pub tick: Option<u32>,
+    /// The milliseconds from step to step of the devices, 1 to 86,400,000; None if only operators have them step.
+    pub step: Option<u32>,
     /// How much is reported on standard error.
     pub log_detail: LogDetail,
 }
@@ -96,14 +102,10 @@ pub enum Invocation<'a> {
         /// The port of the page, 0 if the system chooses one.
         port: u16,
     },
-    /// `operate PORT`: operate a line that is served, by standard input and the clock.
+    /// `operate PORT`: operate a line that is served, by standard input.
     Operate {
         /// The operator port of the line, 1 to 65,535.
         port: u16,
-        /// The milliseconds from tick to tick, 10 to 86,400,000; None if no tick is sent.
-        tick: Option<u32>,
-        /// The milliseconds from step to step, 1 to 86,400,000; None if no step is sent.
-        step: Option<u32>,
     },
     /// `clap` answers: with help, with the version, or with what is wrong with the words.
     Answer(clap::Error),

@@ -181,8 +181,6 @@ fn invocation_of<'a>(
         }),
         "operate" => Ok(Invocation::Operate {
             port: words.get_one(PORT).unwrap_or(0),
-            tick: words.get_one(TICK),
-            step: words.get_one(STEP),
         }),
         _ => Ok(Invocation::Serve {
             rack: path_in(words, RACK),
@@ -230,6 +228,8 @@ fn service_of<'a>(words: &ArgMatches<'a>) -> Service<'a> {
         audit: words.get_str(FOLDER),
         endless: part_of(words),
         page: words.get_one(PAGE),
+        tick: words.get_one(TICK),
+        step: words.get_one(STEP),
         log_detail: log_detail_of(words.get_str(LOG)),
     }
 }
