@@ -21,6 +21,10 @@ pub(crate) struct ServerContext<'a, H> {
     pub(crate) notes: &'a Notes<'a, H>,
     /// How many connections each port accepts.
     pub(crate) sessions: u64,
+    /// The most milliseconds from tick to tick, or `None` if no line has a clock for its time.
+    pub(crate) tick: Option<u32>,
+    /// The milliseconds from step to step, or `None` if no clock has devices step.
+    pub(crate) step: Option<u32>,
     /// How many sessions of operators were served, over all lines.
     pub(crate) operators: AtomicU32,
 }

@@ -14,6 +14,7 @@ ghost use Rattle.rack_server.specs.ServeOutput.{AreOpened, AreServed, ServesConn
 
 use crate::accept_gate::AcceptGate;
 use crate::acceptors::Acceptors;
+use crate::clocks::{close_clocks, open_clocks, schedule_of};
 use crate::host::Host;
 use crate::listening::Listeners;
 use crate::recorder::{UnnamedRecorder, first_incomplete, name_trails, record_lines};
@@ -21,11 +22,12 @@ use crate::serve::{Served, sessions_of};
 use crate::serve_fault::{OutputFault, ServeFault};
 use crate::served_line::ServedLine;
 use crate::server_context::ServerContext;
-use crate::session_gate::SessionGate;
+use crate::session_gate::{KeepTime, SessionGate, TimedGate};
 use crate::threads::{accept_and_serve, can_start};
 use crossbeam_channel::bounded;
+use dp_clock::LineClock;
 use dp_notes::{LineNumbers, Notes};
-use dp_sessions::{Gate, Port};
+use dp_sessions::Port;
 use dp_shared::WorkerSeat;
 use dp_text::write_whole;
 use dp_trail::{Naming, NoTrail, RecordEntries};
@@ -37,6 +39,7 @@ use std::marker::Brand;
 use std::net::TcpListener;
 use std::sync::atomic::AtomicU32;
 use std::sync::atomic::Ordering::SeqCst;
+use std::time::Instant;
 
 /// The most sessions of masters that wait for a worker. Further connections wait to be accepted.
 const MOST_WAITING: usize = 64;
@@ -104,6 +107,8 @@ pub(crate) fn serve_connections<'a, 's, H: Host + Sync, W: Write>(
         gate,
         notes,
         sessions: sessions_of(service),
+        tick: service.tick,
+        step: service.step,
         operators: AtomicU32::new(0),
     };
     let Some(folder) = service.audit else {
@@ -214,9 +219,9 @@ fn serve_named<'a, 's, J: Naming + Send + Sync, H: Host + Sync, W: Write>(
     }
 }
 
-/// Writes `ready`, and then accepts and serves the connections of all lines, each with its recorder.
+/// Opens the clocks of the lines, and serves the connections of all lines, each with its recorder, while the clocks run.
 ///
-/// Returns as [`serve_at_gate`] does.
+/// Returns as [`serve_at_gate`] does, and `OutOfMemory` also if a line gives no pass for its clock.
 fn serve_with_recorders<'a, H: Host + Sync, C: RecordEntries + Sync, W: Write>(
     context: &'a ServerContext<'a, H>,
     lines: &'a [ServedLine],
@@ -233,8 +238,47 @@ fn serve_with_recorders<'a, H: Host + Sync, C: RecordEntries + Sync, W: Write>(
     requires seats { All (λ own. HasSeats ports.now own.items) seats.items }
     ensures { ServesConnections (W.contents writer.old) (W.contents writer.new) result }
 {
+    let Ok(clocks) = open_clocks(context, lines, ports) else {
+        return Err(OutputFault::OutOfMemory);
+    };
+    let served = serve_with_clocks::<H, C, LineClock<'a>, W>(
+        context, lines, listening, ports, seats, recorders, &clocks, writer,
+    );
+    close_clocks(context.rt, clocks);
+    served
+}
+
+/// Serves the connections of all lines, each with its recorder and its clock.
+///
+/// Returns as [`serve_at_gate`] does.
+fn serve_with_clocks<
+    'a,
+    H: Host + Sync,
+    C: RecordEntries + Sync,
+    D: KeepTime + Sync,
+    W: Write,
+>(
+    context: &'a ServerContext<'a, H>,
+    lines: &'a [ServedLine],
+    listening: Vec<Listeners<TcpListener>>,
+    ports: &'a [Port],
+    seats: Vec<Vec<WorkerSeat>>,
+    recorders: &'a [C],
+    clocks: &[D],
+    writer: &mut W,
+) -> Result<Option<Served>, OutputFault>
+    requires few { length lines.now ≤ 8 }
+    requires each { length listening.items ≡ length lines.now }
+    requires opened { AreOpened lines.now ports.now }
+    requires workers { (1 ≤ length seats.items) × (length seats.items ≤ 32) }
+    requires seats { All (λ own. HasSeats ports.now own.items) seats.items }
+    ensures { ServesConnections (W.contents writer.old) (W.contents writer.new) result }
+{
     let gate = SessionGate {
+        host: context.rt,
         notes: context.notes,
+        start: Instant::now(context.rt).ok(),
+        clocks,
         numbers: numbers_of(lines),
         recorders,
     };
@@ -246,7 +290,7 @@ fn serve_with_recorders<'a, H: Host + Sync, C: RecordEntries + Sync, W: Write>(
 /// Returns how many sessions were served, or `None` if a thread could not be started after that. Returns `OutOfMemory` if there
 /// is not enough memory or there are not enough threads for all sessions; nothing is written then. Returns `WriteFault` if
 /// `ready` is not written.
-fn serve_at_gate<'a, H: Host + Sync, G: Gate + Sync, W: Write>(
+fn serve_at_gate<'a, H: Host + Sync, G: TimedGate + Sync, W: Write>(
     context: &'a ServerContext<'a, H>,
     lines: &'a [ServedLine],
     listening: Vec<Listeners<TcpListener>>,
@@ -262,7 +306,9 @@ fn serve_at_gate<'a, H: Host + Sync, G: Gate + Sync, W: Write>(
     requires seats { All (λ own. HasSeats ports.now own.items) seats.items }
     ensures { ServesConnections (W.contents writer.old) (W.contents writer.new) result }
 {
-    if !can_start(context.rt, seats.len() + 2 * lines.len()) {
+    let schedule = schedule_of(context);
+    let keepers = if schedule.wait(0).is_none() { 0 } else { 1 };
+    if !can_start(context.rt, seats.len() + 2 * lines.len() + keepers) {
         return Err(OutputFault::OutOfMemory);
     }
     let Ok((sender, jobs)) = bounded(context.alloc, MOST_WAITING) else {
@@ -275,7 +321,7 @@ fn serve_at_gate<'a, H: Host + Sync, G: Gate + Sync, W: Write>(
     let Ok(()) = write_ready(writer) else {
         return Err(OutputFault::WriteFault);
     };
-    match accept_and_serve(context, gate, acceptors, ports, seats, jobs) {
+    match accept_and_serve(context, gate, acceptors, ports, seats, jobs, schedule) {
         Ok(masters) => Ok(Some(Served {
             masters,
             operators: context.operators.load(SeqCst),

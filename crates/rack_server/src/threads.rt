@@ -9,15 +9,18 @@ use crate::acceptors::Acceptors;
 use crate::host::Host;
 use crate::masters::MasterJob;
 use crate::server_context::{MAX_READS, ServerContext};
-use crossbeam_channel::Receiver;
+use crate::session_gate::TimedGate;
+use crossbeam_channel::{Receiver, RecvTimeoutError, bounded};
 use dp_sessions::{Gate, Job, PoolFault, Port, run_pool};
 use dp_shared::WorkerSeat;
+use dp_time::Schedule;
+use std::alloc::Global;
 use std::io::{Read, Write};
 use std::net::Net;
 use std::sync::{Mutex, Wait};
 use std::thread;
 use std::thread::{Scope, Threads};
-use std::time::Clock;
+use std::time::{Clock, Duration};
 
 /// Returns whether this number of threads can run at one time. It starts them, and they end.
 ///
@@ -39,11 +42,38 @@ pub(crate) fn can_start<H: Threads + Wait + Sync>(rt: &H, count: usize) -> bool 
 }
 
 /// Starts a thread for each acceptor, and then serves the sessions of masters by one worker for each list of seats. It ends when
-/// each acceptor has accepted its number of connections and their sessions have ended.
+/// each acceptor has accepted its number of connections and their sessions have ended. Meanwhile a thread keeps the time of the
+/// lines, if the schedule has ticks or steps.
 ///
-/// Returns how many sessions of masters were served. If the thread of an acceptor cannot be started, no connection is accepted.
-/// If the thread of a worker cannot be started, no connection is accepted once the workers that started have ended.
-pub(crate) fn accept_and_serve<'a, H: Host + Sync, G: Gate + Sync>(
+/// Returns how many sessions of masters were served. If the thread of the clocks or of an acceptor cannot be started, no
+/// connection is accepted. If the thread of a worker cannot be started, no connection is accepted once the workers that started
+/// have ended.
+pub(crate) fn accept_and_serve<'a, H: Host + Sync, G: TimedGate + Sync>(
+    context: &'a ServerContext<'a, H>,
+    session_gate: &'a G,
+    acceptors: Acceptors<'a, H, G>,
+    ports: &[Port],
+    seats: Vec<Vec<WorkerSeat>>,
+    jobs: Receiver<MasterJob<'a, H>>,
+    schedule: Schedule,
+) -> Result<u32, PoolFault>
+    requires workers { (1 ≤ length seats.items) × (length seats.items ≤ 32) }
+    requires seats { All (λ own. HasSeats ports.now own.items) seats.items }
+{
+    serve_while_keeping_time(
+        context.rt,
+        context.alloc,
+        session_gate,
+        schedule,
+        || -> Result<u32, PoolFault>
+            requires { (1 ≤ length seats.items) × (length seats.items ≤ 32)
+                × All (λ own. HasSeats ports.now own.items) seats.items }
+        { serve_all(context, session_gate, acceptors, ports, seats, jobs) },
+    )
+}
+
+/// Starts a thread for each acceptor, and then serves the sessions of masters, as [`accept_and_serve`] does.
+fn serve_all<'a, H: Host + Sync, G: Gate + Sync>(
     context: &'a ServerContext<'a, H>,
     session_gate: &'a G,
     acceptors: Acceptors<'a, H, G>,
@@ -92,6 +122,66 @@ fn serve_masters<
         gate.stop(rt, rt);
     }
     served
+}
+
+/// Runs `serve` while a thread of its own keeps the time of the lines, if the schedule has ticks or steps.
+///
+/// Returns `OutOfMemory` or `NoThread` if memory or the thread is refused; `serve` is not run then.
+fn serve_while_keeping_time<
+    G: TimedGate + Sync,
+    H: Threads + Wait + Clock + Sync,
+    S: FnOnce() -> Result<u32, PoolFault>,
+>(rt: &H, alloc: Global, session_gate: &G, schedule: Schedule, serve: S) -> Result<u32, PoolFault>
+    requires { S.pre serve }
+{
+    if schedule.wait(0).is_none() {
+        return serve();
+    }
+    let Ok((ending, ended)) = bounded(alloc, 1) else {
+        return Err(PoolFault::OutOfMemory);
+    };
+    thread::scope(
+        thread::scope_env(),
+        rt,
+        |scope| -> Result<u32, PoolFault>
+            requires { S.pre serve }
+        {
+            let keeping = move || keep_time(rt, session_gate, schedule, ended);
+            if scope.spawn(keeping).is_err() {
+                return Err(PoolFault::NoThread);
+            }
+            let served = serve();
+            drop(ending);
+            served
+        },
+    )
+}
+
+/// Advances the time of the lines and has their devices step, whenever that is due, until the sender of `ended` is dropped.
+fn keep_time<G: TimedGate, H: Wait + Clock>(
+    rt: &H,
+    session_gate: &G,
+    mut schedule: Schedule,
+    ended: Receiver<()>,
+) {
+    for _ in rt.forever() {
+        let due = schedule.take(session_gate.moment());
+        if due.tick {
+            session_gate.tick_all(rt);
+        }
+        if due.step {
+            session_gate.step_all(rt);
+        }
+        let Some(milliseconds) = schedule.wait(session_gate.moment()) else {
+            return;
+        };
+        match ended.recv_timeout(rt, Duration::from_millis(milliseconds)) {
+            Err(RecvTimeoutError::Timeout) => {}
+            Ok(()) => return,
+            Err(RecvTimeoutError::Disconnected) => return,
+        }
+    }
+    unreachable!()
 }
 
 /// Runs `serve` while acceptors accept this number of connections each, in threads of their own. Connections are accepted once

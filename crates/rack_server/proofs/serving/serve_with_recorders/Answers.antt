@@ -1,7 +1,7 @@
 use denote.Param.Send.{sendable}
 use Rattle.std.proofs.Crossing.{crosses}
-use Rattle.rack_server.proofs.session_gate.SessionGate.TheSendSync as gate
+use Rattle.dp_clock.proofs.Crossings.{clock_sync}
 use Rattle.rack_server.proofs.serving.serve_with_recorders.Goals as goal
 
-pub serve_at_gate-requires-sync-G : goal.serve_at_gate-requires-sync-G
-serve_at_gate-requires-sync-G g c κs within = search (sendable, crosses, gate.the_sync) depth 80 fits 200000
+pub serve_with_clocks-served-requires-sync-D : goal.serve_with_clocks-served-requires-sync-D
+serve_with_clocks-served-requires-sync-D g c κs within = search (sendable, crosses, clock_sync) depth 40 fits 100000
