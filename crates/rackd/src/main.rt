@@ -30,7 +30,7 @@ use ending::Fault;
 use files::read_file;
 use follow::follow_files;
 use log::{Level, Log, Logged, info};
-use operator_client::{Operation, operate};
+use operator_client::operate;
 use output::{buffered, flushed};
 use rack_server::{Host, Served, serve_text};
 use rack_watch::WatchHost;
@@ -115,10 +115,7 @@ fn main(rt: HostRuntime) -> ExitCode {
             }
             Err(fault) => report(&rt, fault),
         },
-        Ok(Invocation::Operate { port, tick, step }) => {
-            let operation = Operation { port, tick, step };
-            ended(&rt, operate_line(&rt, operation, rt.stdin()))
-        }
+        Ok(Invocation::Operate { port }) => ended(&rt, operate_line(&rt, port, rt.stdin())),
         Ok(Invocation::Answer(answer)) => ended(&rt, answer_words(&rt, &words, answer)),
         Err(fault) => report(&rt, Fault::from(fault)),
     }
@@ -192,12 +189,12 @@ fn operate_line<
     'a,
     H: Runtime + AllocGlobal + Host + Copy + Send + 'static,
     I: Read + Send + Drop + 'static,
->(rt: &H, operation: Operation, input: I) -> Result<ExitCode, Fault<'a>> {
+>(rt: &H, port: u16, input: I) -> Result<ExitCode, Fault<'a>> {
     let _held = stand_ins(rt);
     let mut output = io::writer(rt);
-    match operate(*rt, rt.alloc(), operation, input, &mut output) {
+    match operate(*rt, rt.alloc(), port, input, &mut output) {
         Ok(()) => Ok(ExitCode::SUCCESS),
-        Err(fault) => Err(Fault::of_client(operation.port, fault)),
+        Err(fault) => Err(Fault::of_client(port, fault)),
     }
 }
 
