@@ -1,9 +1,12 @@
 //! Clients that send requests over sockets, to a session with a line or to an answerer without one.
 
-ghost use Rattle.std.specs.Prelude.{Contains};
+ghost use Rattle.std.specs.Prelude.{◌≡◌, Contains};
 ghost use Rattle.dp_trail.specs.Named.{name_of};
 ghost use Rattle.dp_sessions.specs.Pools.{IsSeatAt};
+ghost use Rattle.dp_shared.specs.Passes.{line_of};
 
+use dp_clock::LineClock;
+use dp_line::LineSpec;
 use dp_sessions::{Gate, NotRecorded, OpenGate, Port, serve};
 use dp_shared::WorkerSeat;
 use dp_trail::{Naming, RecordEntries, Tail, Trail};
@@ -15,6 +18,7 @@ use std::sync::atomic::AtomicU32;
 use std::sync::atomic::Ordering::SeqCst;
 use std::thread;
 use std::thread::Threads;
+use std::time::{Clock, Instant};
 
 /// The address that the client sends: master 1.
 const MASTER: [u8; 1] = [1];
@@ -32,6 +36,9 @@ const DIAGNOSIS: [u8; 17] = [
     0x68, 0x0B, 0x0B, 0x68, 0x81, 0x85, 0x08, 0x3E, 0x3C, 0x02, 0x05, 0x00, 0xFF, 0x80, 0xA1, 0xAF,
     0x16,
 ];
+
+/// The milliseconds from tick to tick.
+const TICK: u32 = 10;
 
 /// A client's end of a connection, and the answerer at the other end.
 #[derive(Drop)]
@@ -89,6 +96,76 @@ impl Answers for Served {
             &port,
             &mut seat,
             &OpenGate,
+            u32::MAX,
+        );
+    }
+}
+
+/// A session with a line of its own that gets a tick each 10 ms.
+#[derive(Drop)]
+pub(crate) struct Timed<'h, H> {
+    /// The session.
+    pub(crate) session: Served,
+    /// The description of the line.
+    pub(crate) line: LineSpec,
+    /// The host, for its clock.
+    pub(crate) host: &'h H,
+    ghost described: { line_of session.port.line ≡ line },
+}
+
+/// A gate that advances the time of a line before each exchange.
+#[derive(Drop)]
+struct ClockGate<'a, 'l, H> {
+    host: &'a H,
+    start: Option<Instant>,
+    clock: &'a LineClock<'l>,
+}
+
+impl<H: Clock> Gate for ClockGate<'_, '_, H> {
+    ghost recorded = { λ gate line place. Unit {0} };
+
+    fn enter<W: Wait>(&self, rt: &W, _line: u8, _master: u8) {
+        let Some(start) = self.start else {
+            return;
+        };
+        if let Ok(passed) = start.elapsed(self.host) {
+            let moment = u64::try_from(passed.as_millis()).unwrap_or(u64::MAX);
+            let _advance = self.clock.advance(rt, &OpenGate, moment);
+        }
+    }
+
+    fn record<W: Wait>(&self, rt: &W, line: u8, place: Option<u32>) -> Result<(), NotRecorded> {
+        OpenGate.record(rt, line, place)
+    }
+}
+
+impl<H: Clock> Answers for Timed<'_, H> {
+    fn answer<R: Wait>(self, rt: &R) {
+        let Timed {
+            session,
+            line,
+            host,
+        } = self;
+        let Served {
+            stream,
+            port,
+            mut seat,
+        } = session;
+        let Some(clock) = LineClock::open(rt, &port, &line, Some(TICK)) else {
+            return;
+        };
+        let gate = ClockGate {
+            host,
+            start: Instant::now(host).ok(),
+            clock: &clock,
+        };
+        serve(
+            rt,
+            &mut &stream,
+            &mut &stream,
+            &port,
+            &mut seat,
+            &gate,
             u32::MAX,
         );
     }
