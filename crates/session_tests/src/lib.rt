@@ -1,10 +1,12 @@
-//! Tests of sessions with a line (`dp_sessions`), of trails (`dp_trail`), also of endless lines, and of the log
-//! (`dp_notes`). This crate has only tests.
+//! Tests of sessions with a line (`dp_sessions`), of clocks (`dp_clock`), of trails (`dp_trail`), also of endless lines,
+//! and of the log (`dp_notes`). This crate has only tests.
 //!
 //! Most tests are a transcript: rows, each with its result after an arrow, and the state at the end. A helper, proved
 //! once, carries out the rows and writes the transcript that is compared.
 #![tactic(auto)]
 
+#[cfg(test)]
+mod clocks;
 #[cfg(test)]
 mod endless;
 #[cfg(test)]

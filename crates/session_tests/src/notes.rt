@@ -224,6 +224,15 @@ fn waiting_connection_names_its_line(rt: HostRuntime) -> Result<(), Fail> {
 }
 
 #[test]
+fn time_that_is_cut_off_is_always_reported(rt: HostRuntime) -> Result<(), Fail> {
+    let rows = ["line 3: 390 ms not told, the rack was held up"];
+    let log = Expecting::new(&rows);
+    let notes = Notes::new(&log, LogDetail::Warnings, two_lines(), 1);
+    notes.held_up(&rt, 3, 390);
+    log.is_met(rt.alloc())
+}
+
+#[test]
 fn busy_workers_are_reported_once_until_one_is_free(rt: HostRuntime) -> Result<(), Fail> {
     let rows = [
         "line 7: a connection waits, all 1 workers are busy",
