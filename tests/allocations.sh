@@ -106,7 +106,7 @@ sweep 'eight lines' 4 "$work/lines"
 sweep 'many comments' 64 "$work/comments"
 sweep 'noise' 16 "$work/noise"
 sweep 'two files' 4 /dev/null run "$work/rack" "$work/script"
-sweep 'an operator and nobody' 4 /dev/null operate 1 --tick 10
+sweep 'an operator and nobody' 4 /dev/null operate 1
 sweep 'a check' 4 /dev/null check "$work/rack" "$work/audit"
 sweep 'an explanation' 4 /dev/null explain "$work/rack" "$work/audit"
 
@@ -191,6 +191,7 @@ else
   mapfile -t knocked < <("$top/tests/serve_client.py" ports 2)
   sed "s/^number = 1$/&\nlisten = ${knocked[0]}\noperator = ${knocked[1]}/" "$work/rack" >"$work/served"
   in_turn 'a rack that is served' /dev/null serve "$work/served" --sessions 1
+  in_turn 'a rack that is served by the clock' /dev/null serve "$work/served" --sessions 1 --tick 60000 --step 86400000
 fi
 
 echo "$passed passed, $failed failed"

@@ -142,7 +142,7 @@ declare -A does=(
   [explain]="Explain an audit text in words, and check it as 'check' does"
   [serve]='Serve the lines of a rack to masters and operators at TCP ports of 127.0.0.1'
   [watch]='Show a rack that is served in a browser: who may change which slave, and why not'
-  [operate]='Operate a line that is served: send commands and time, and print the answers'
+  [operate]='Operate a line that is served: send commands, and print the answers'
 )
 known=(run check explain serve watch operate)
 
@@ -183,7 +183,7 @@ hold 'the help of the program has at most 45 lines' [ "$(wc -l <"$work/rackd.hel
 hold 'no line of the help has more than 100 characters' eval '! grep -n ".\{101\}" "$work"/*.help'
 hold 'the help of the program: usage, words, options, exit statuses, an example' has rackd.help 'Usage: rackd < INPUT' \
   'rackd run RACK SCRIPT' 'rackd check RACK AUDIT..' 'rackd explain RACK AUDIT.. [OPTIONS]' 'rackd serve RACK [OPTIONS]' \
-  'rackd watch RACK FOLDER [--port N]' 'rackd operate PORT [OPTIONS]' 'rackd WORD --help' '-h, --help' '-V, --version' 'Exit statuses:' \
+  'rackd watch RACK FOLDER [--port N]' 'rackd operate PORT' 'rackd WORD --help' '-h, --help' '-V, --version' 'Exit statuses:' \
   '  0  ' '  1  ' '  2  ' '  3  ' '  4  ' '  5  ' $'\nExample:\n  rackd '
 hold 'the help of run: usage, arguments, the commands of a script' has run.help 'Usage: rackd run RACK SCRIPT' 'rackd < INPUT' \
   '<RACK>' '<SCRIPT>' 'exactly %%' '  line N ' '  m M HEX.. ' '  in A HEX ' '  diag A FLAGS HEX ' '  busy A POINT on ' \
@@ -195,15 +195,16 @@ hold 'the help of explain: usage, options, ranges' has explain.help \
   '--from <N>' '1 to 4294967295 [default: 1]' '--to <N>' '1 to 4294967295' '--slave <A>' '0 to 255' '--master <M>' '0 to 255' \
   '--faults' '--refused' '--summary' '--json' '--follow' $'\nExamples:\n  rackd '
 hold 'the help of serve: usage, options, ranges' has serve.help \
-  'Usage: rackd serve RACK [--sessions N] [--audit FOLDER [--endless [--part MB]] [--page N]]' '[--log [WHAT]]' \
+  'Usage: rackd serve RACK [--sessions N] [--audit FOLDER [--endless [--part MB]] [--page N]]' '[--tick MS] [--step MS] [--log [WHAT]]' \
   '--sessions <N>' '1 to 1000000 [default: no limit]' '--audit <FOLDER>' '--endless' '4294967295; requires --audit' \
   '--part <MB>' '1 to 4096' 'requires --endless [default: 16]' '--page <N>' '0 to 65535' 'requires --audit [default: no page]' \
-  '--log [<WHAT>]' "'sessions'" "'requests'" "'ready'" E5 8208 \
+  '--tick <MS>' '10 to 60000' '--step <MS>' '1 to 86400000' '--log [<WHAT>]' "'sessions'" "'requests'" "'ready'" E5 8288 \
   $'\nExamples:\n  rackd '
 hold 'the help of watch: usage, arguments, ranges' has watch.help 'Usage: rackd watch RACK FOLDER [--port N]' \
   '<RACK>' '<FOLDER>' '--port <N>' '127.0.0.1: 0 to 65535' 'default: 0' $'\nExamples:\n  rackd '
-hold 'the help of operate: usage, options, ranges' has operate.help 'Usage: rackd operate PORT [--tick MS] [--step MS]' \
-  '<PORT>' '1 to 65535' '--tick <MS>' '10 to 86400000' '--step <MS>' '1 to 86400000' 'rackd operate 7201'
+hold 'the help of operate: usage, argument, range' has operate.help 'Usage: rackd operate PORT' '<PORT>' '1 to 65535' \
+  'rackd operate 7201'
+hold 'the help of operate has no options of its own' eval '! grep -qE -- "^ +--(tick|step)" "$work/operate.help"'
 
 # the examples of the help, at the top of the repository
 examples=0
@@ -251,6 +252,10 @@ refused 'explain rack audit --json --summary' "the argument '--json' cannot be u
 refused 'serve rack --session 1' "unexpected argument '--session' found" 'Usage: rackd serve RACK' 'rackd serve --help' "$try"
 refused 'serve rack --sessions 0' "invalid value '0' for '--sessions <N>': 0 is not in 1..=1000000" "$try"
 refused 'serve rack --log loud' "invalid value 'loud' for '--log [<WHAT>]'" '[possible values: sessions, requests]' "$try"
+refused 'serve rack --tick 9' "invalid value '9' for '--tick <MS>': 9 is not in 10..=60000" "$try"
+refused 'serve rack --step 05' "invalid value '05' for '--step <MS>': a number has no sign and no leading zero" \
+  'Usage: rackd serve RACK' 'rackd serve --help' "$try"
+refused 'operate 7 --tick 10' "unexpected argument '--tick' found" 'Usage: rackd operate PORT' 'rackd operate --help' "$try"
 refused operate 'the following required arguments were not provided:' 'Usage: rackd operate PORT' 'rackd operate --help' "$try"
 for word in localhost:7201 127.0.0.1:7201 [::1]:7201 :7201; do
   refused "operate $word" "invalid value '$word' for '<PORT>': it is the number of a port alone, of this machine (127.0.0.1)" \
@@ -273,7 +278,9 @@ for words in word -x --hel --help=1 --version=1 '' '--line 1' 'help word' 'help 
   'serve rack --audit a --endless --part 0' 'serve rack --audit a --endless --part 4097' \
   'serve rack --audit a --endless --part 05' 'serve rack --audit a --endless --part +5' \
   'serve rack --audit' 'serve rack --audit a --audit b' 'serve --audit a' 'serve --log' 'serve rack --log loud' \
-  'serve rack --log --log'; do
+  'serve rack --log --log' 'serve rack --tick' 'serve rack --tick 9' 'serve rack --tick 60001' 'serve rack --tick 010' \
+  'serve rack --tick +10' 'serve rack --tick x' 'serve rack --tick 10 --tick 10' 'serve rack --step' 'serve rack --step 0' \
+  'serve rack --step 01' 'serve rack --step 86400001' 'serve rack --step 1 --step 1' 'serve --tick 10'; do
   if [ "$words" ]; then read -ra list <<<"$words"; else list=(''); fi
   run "$rack%%%%\n$slave_diag\n" "${list[@]}"
   hold "wrong words: $words" eval '[ "$status" = 2 ] && [ ! -s "$work/out" ] && [ -s "$work/err" ]'
@@ -418,6 +425,11 @@ cd "$OLDPWD" || exit 1
 ports() { printf 'masters = [1, 2]\\nlisten = %s\\noperator = %s' "$1" "$2"; }
 line_2=${rack/number = 1/number = 2}
 run '' serve "$work/none"; expect 'serve: no rack file' 2 '' "rackd: cannot read $work/none"$'\n  nothing is there'
+for words in '--tick 10' '--tick 60000' '--step 1' '--step 86400000 --tick 10'; do
+  read -ra list <<<"$words"
+  run '' serve "$work/none" "${list[@]}"
+  expect "serve: $words, and no rack file" 2 '' "rackd: cannot read $work/none"$'\n  nothing is there'
+done
 run '' serve "$work/none" --sessions 1000000; expect 'serve: a million sessions, and no rack file' 2 '' "rackd: cannot read $work/none"$'\n  nothing is there'
 for part in 1 4096; do
   run '' serve "$work/none" --audit "$work/made" --endless --part "$part"; expect "serve: parts of $part megabytes, and no rack file" 2 '' "rackd: cannot read $work/none"$'\n  nothing is there'
@@ -445,18 +457,13 @@ run '' serve "$work/same"; expect 'serve: ports in the order of line numbers' 2 
 
 # ---- operate: words, and a port that nobody listens at
 
-for words in '' x 0 65536 07 +7 -7 '7 8' '7 --tick 9' '7 --tick 010' '7 --tick +10' '7 --tick 86400001' '7 --tick' '7 --step 0' \
-  '7 --step 01' '7 --step x' '7 --step 86400001' '7 --tick 10 --tick 10' '7 --step 1 --step 1' '7 --sessions 1'; do
+for words in '' x 0 65536 07 +7 -7 '7 8' '7 --tick 10' '7 --tick' '7 --step 10' '7 --step' '7 --sessions 1'; do
   read -ra list <<<"$words"
   run '' operate "${list[@]}"
   hold "wrong words: operate $words" eval \
     '[ "$status" = 2 ] && [ ! -s "$work/out" ] && [ -s "$work/err" ] && ! grep -q "cannot connect" "$work/err"'
 done
-for words in 1 '1 --tick 10' '--step 1 1' '1 --step 86400000 --tick 86400000'; do
-  read -ra list <<<"$words"
-  run '' operate "${list[@]}"
-  expect "operate $words: nobody listens" 2 '' $'rackd: cannot connect to 1\n  nobody listens there'
-done
+run '' operate 1; expect 'operate 1: nobody listens' 2 '' $'rackd: cannot connect to 1\n  nobody listens there'
 
 # ---- standard error closed or full: no status changes
 # silent NAME STATUS INPUT WORD..

@@ -7,13 +7,11 @@ CASE is a function of this file, in the list CASES at its end. What the case nee
 and empty. Where the case holds nothing or one row is written, and the status is 0; else it is told what doesn't hold,
 and the status is 1.
 
-No case wants anything within less than PATIENCE. When the program sends a line is known but as between two moments (see
-Line), and of the clock a case wants what is so on a machine that is slow at any moment too.
+No case wants anything within less than PATIENCE.
 """
 import contextlib
 import itertools
 import os
-import re
 import select
 import signal
 import socket
@@ -23,7 +21,6 @@ import sys
 import termios
 import threading
 import time
-from typing import NamedTuple
 
 sys.dont_write_bytecode = True
 from refuse_threads import libc
@@ -36,16 +33,14 @@ PATIENCE, LONG_PATIENCE = 8, 40
 PIECE, SETTLED, LATE = 0.02, 0.3, 0.3
 # Seconds after which the operator is told that others are served before, and in which that might be told again.
 TOLD_AFTER, TOLD_AGAIN = 2, 2.3
-# Seconds of a unit of a tick, and those that two clocks may differ by.
-UNIT, SLACK = 0.01, 0.005
 # How often ports are chosen for a rack, since another program may take one of them before it is listened at.
 TRIES = 5
 # The most octets that are read at once, and the lines that are very many.
 CHUNK, VERY_MANY = 65536, 20000
 # The status of a program that a signal ends.
 BY_SIGNAL = -signal.SIGTERM
-# How many ticks or steps come behind the end of the input.
-OUTLASTING = 15
+# How often what may go wrong by chance is tried.
+MANY = 15
 # At the begin of a line it ends the input that a terminal hands on; within a line it hands on the line so far.
 END_OF_INPUT = b"\x04"
 
@@ -173,14 +168,6 @@ class Operate:
         if output is not None:
             expect("what is written at the end", output, self.output.rest())
 
-    def ends_with_note(self, words, output=""):
-        """The same with status 0 and one row on standard error that has these words."""
-        got = self.status()
-        rows = self.errors.rest().splitlines()
-        hold(f"it ends with {got} and tells {rows}; wanted are 0 and a row with '{words}'",
-             got == 0 and len(rows) == 1 and words in rows[0])
-        expect("what is written at the end", output, self.output.rest())
-
 
 class AtTerminal(Operate):
     """The program at a terminal, which hands on what is typed line by line, and shows what is written alone."""
@@ -208,15 +195,6 @@ class AtTerminal(Operate):
 # ---- ports
 
 
-class Line(NamedTuple):
-    """A line that has come. It was sent between two moments: `free`, when the answer before it was sent, or a moment
-    before the program was started; and `came`."""
-
-    text: str
-    free: float
-    came: float
-
-
 class Port:
     """A port of operators that a case plays, for one connection. It has all lines that have come."""
 
@@ -224,7 +202,6 @@ class Port:
         self.listener = socket.create_server(("127.0.0.1", 0))
         self.number = self.listener.getsockname()[1]
         self.connection, self.octets, self.lines = None, b"", []
-        self.free = time.monotonic()
 
     def __enter__(self):
         return self
@@ -261,8 +238,8 @@ class Port:
         text = ""
         while not text or text.startswith("#"):
             text = self.row().decode(errors="replace")
-        self.lines.append(Line(text, self.free, time.monotonic()))
-        return self.lines[-1]
+        self.lines.append(text)
+        return text
 
     def row(self):
         """The octets of the next line that comes."""
@@ -274,7 +251,6 @@ class Port:
         return octets
 
     def answer(self, row):
-        self.free = time.monotonic()
         self.connection.sendall(row.encode() + b"\n")
 
     def is_left(self):
@@ -293,67 +269,6 @@ class Port:
         """Answers after so many seconds, in which nothing comes."""
         self.is_silent(seconds)
         self.answer(row)
-
-    def play(self, count):
-        """Answers so many lines as a line does where nothing happens."""
-        for _ in range(count):
-            self.answer(usual(self.line()))
-
-    def wait_for(self, text):
-        """Answers what comes by the clock, until this line has come."""
-        until = time.monotonic() + PATIENCE
-        while (line := self.line()).text != text:
-            hold(f"{line.text} comes in place of {text}", is_by_clock(line) and time.monotonic() < until)
-            self.answer(usual(line))
-
-
-def is_tick(line):
-    return re.fullmatch("tick (0|[1-9][0-9]*)", line.text)
-
-
-def is_step(line):
-    return line.text == "step"
-
-
-def is_by_clock(line):
-    return is_tick(line) or is_step(line)
-
-
-def usual(line):
-    """The answer of a line where nothing happens."""
-    return "released" if is_tick(line) else "stepped 2" if is_step(line) else "done"
-
-
-class Start(NamedTuple):
-    """When the clock was started, as ticks tell it: after one moment, and before the other one. `told` is how many
-    seconds they have told in all."""
-
-    after: float
-    before: float
-    told: float
-
-
-def start_of_clock(lines, every):
-    """When the clock was started. Ends the case where no moment agrees with each tick: the units that it and those
-    before it tell have passed when it is sent, and one more hasn't."""
-    ticks = list(filter(is_tick, lines))
-    start = Start(lines[0].free, ticks[0].came - every, 0)
-    for number, tick in enumerate(ticks, 1):
-        told = start.told + int(tick.text.split()[1]) * UNIT
-        start = Start(max(start.after, tick.free - told - UNIT), min(start.before, tick.came - told), told)
-        hold(f"{number} ticks of {every:.3f} s tell {told:.2f} s, by which the clock starts after {start.after:.3f} "
-             f"and before {start.before:.3f}", start.after <= start.before + SLACK)
-    return start
-
-
-def expect_beat(lines, every):
-    """Ends the case where one of these lines is sent though its time didn't come again: from any of them to the next
-    but one there is more than once that time, to the one behind it more than twice, and so on."""
-    bound = 0
-    for number, line in enumerate(lines):
-        hold(f"line {number + 1}, {line.text}, comes {bound - line.came:.3f} s too early", line.came >= bound - SLACK)
-        bound = max(bound + every, line.free)
-
 
 # ---- lines that are served
 
@@ -580,224 +495,11 @@ def one_line_at_a_time(trial):
         operate.ends(0)
 
 
-# ---- cases: the clock
-
-
-# Milliseconds of tick and step. The odd one is no multiple of a unit, and of the longest none comes within a test.
-TICK, STEP = 10, 10
-ODD_TICK, LONGEST = 25, 86400000
-
-
-def watchdog_by_the_clock(trial):
-    """The watchdog of a slave runs out by ticks alone: this is written once, and nothing else."""
-    with served(trial, 1) as (rack, _), Operate(trial, rack.operators[1], "--tick", TICK) as operate:
-        with locked(rack).connection:
-            expect("what is written", "released 5", operate.output.row())
-            time.sleep(SETTLED)
-            operate.signal(signal.SIGTERM)
-            operate.ends(BY_SIGNAL)
-
-
-def devices_by_the_clock(trial):
-    """The device of a slave counts by steps alone, no more often than the clock lets it; nothing is written of it."""
-    seen, enough = [0], 5
-    with served(trial, 1) as (rack, _), Operate(trial, rack.operators[1], "--step", STEP) as operate:
-        until = time.monotonic() + PATIENCE
-        while len(set(seen)) < enough and time.monotonic() < until:
-            row = operate.ask("show 7")
-            shown = re.fullmatch("show 7 WaitPrm none in ([0-9a-f]{4}) out 0000 wd off", row)
-            hold(f"what is written is '{row}'", shown)
-            seen.append(int(shown[1], 16))
-            most = (time.monotonic() - operate.begun) * 1000 // STEP
-            hold(f"the inputs count {seen}, which is at most {most} at the end",
-                 seen == sorted(seen) and seen[-1] <= most)
-            time.sleep(SETTLED / enough)
-        hold(f"the inputs count {seen}", len(set(seen)) >= enough)
-        operate.signal(signal.SIGTERM)
-        operate.ends(BY_SIGNAL)
-
-
-def halt_by_hand(trial):
-    """On a halted line it is written once that ticks are refused, and once that steps do nothing."""
-    with served(trial, 1) as (rack, _):
-        with Operate(trial, rack.operators[1], "--tick", TICK, "--step", STEP) as operate:
-            expect("the answer to an input", "done", operate.ask("in 5 aa55"))
-            time.sleep(SETTLED)
-            expect("the answer to the halt", "released", operate.ask("halt"))
-            rows = [operate.output.row(), operate.output.row()]
-            expect("what is written behind the halt", ["refused Halted", "stepped 0"], sorted(rows))
-            time.sleep(SETTLED)
-            expect("the answer behind it", "refused Halted", operate.ask("tick 1"))
-            operate.signal(signal.SIGTERM)
-            operate.ends(BY_SIGNAL)
-
-
-def time_is_told_once(trial):
-    """Ticks tell all time that has passed, and none twice, also where answers are late and the program stands still."""
-    rounds, late_each = 24, 8
-    for every in TICK, ODD_TICK:
-        with Port() as port, Operate(trial, port.number, "--tick", every) as operate:
-            port.accept()
-            operate.type(b"owned 1\nowned 2\n")
-            for number in range(rounds):
-                line = port.line()
-                port.answer_late(usual(line), 0 if number % late_each else LATE)
-            with operate.stopped():
-                time.sleep(LATE)
-            port.play(rounds // 2)
-            start_of_clock(port.lines, every / 1000)
-            expect_beat(list(filter(is_tick, port.lines)), every / 1000)
-
-
-STEP_APART, PAUSE = 20, 0.5
-
-
-def steps_are_not_made_up_for(trial):
-    """Behind a pause one step comes at once, before a line that waits, and those that were missed don't."""
-    rounds, steps = 2, 10
-    with Port() as port, Operate(trial, port.number, "--step", STEP_APART) as operate:
-        port.accept()
-        for number in range(rounds):
-            port.play(steps)
-            step = port.line()
-            operate.type(f"owned {number}\n".encode())
-            port.answer_late(usual(step), PAUSE)
-            hold("a line comes before the step that is due", is_step(port.line()))
-            port.answer("stepped 2")
-            port.wait_for(f"owned {number}")
-            port.answer("owned")
-        with operate.stopped():
-            time.sleep(PAUSE)
-        port.play(2 * steps)
-        expect_beat(list(filter(is_step, port.lines)), STEP_APART / 1000)
-
-
-# Milliseconds of tick and step; the seconds that an answer takes, so that a tick is late; and those after which one is
-# due for sure.
-FAR_APART, MUCH_LATER, SURELY = 400, 0.7, 0.02
-
-
-def order_by_the_clock(trial):
-    """A tick goes before a step, and both before a line that waits. They are due at multiples of their time, however
-    late those before were."""
-    every = FAR_APART / 1000
-    with Port() as port, Operate(trial, port.number, "--tick", FAR_APART, "--step", FAR_APART) as operate:
-        port.accept()
-        expect_tick_and_step(port)
-        operate.type(b"owned 1\n")
-        port.wait_for("owned 1")
-        port.answer_late("owned", MUCH_LATER)
-        expect_tick_and_step(port)
-        operate.type(b"owned 2\nowned 3\n")
-        port.wait_for("owned 2")
-        start = start_of_clock(port.lines, every)
-        passed = (int(start.told / UNIT + 0.5) // (FAR_APART // 10) + 1) * every
-        port.answer_late("owned", start.before + passed + SURELY - time.monotonic())
-        step = list(filter(is_step, port.lines))[-1]
-        # but for a machine so slow that the step was sent in the next round
-        expect_tick_and_step(port, has_step=step.came < start.after + passed)
-        port.wait_for("owned 3")
-        port.answer("owned")
-        expect_beat(list(filter(is_tick, port.lines)), every)
-        expect_beat(list(filter(is_step, port.lines)), every)
-
-
-def expect_tick_and_step(port, has_step=True):
-    """Ends the case where the lines that come next aren't a tick and, where that is wanted, a step; answers them."""
-    tick = port.line()
-    hold(f"{tick.text} comes in place of a tick", is_tick(tick))
-    port.answer(usual(tick))
-    if has_step:
-        # on a machine so slow that a tick is due again that goes first
-        while is_tick(line := port.line()) and line.came > tick.free + FAR_APART / 1000:
-            port.answer(usual(line))
-        hold(f"{line.text} comes in place of a step", is_step(line))
-        port.answer(usual(line))
-
-
-# Answers in their order, and whether each is written.
-ANSWERS_TO_TICKS = (("released", False), ("released 5", True), ("released 5", False), ("released", False),
-                    ("released 5", True), ("released 5 6", True), ("released 6", True), ("released", False),
-                    ("refused Halted", True), ("refused Halted", False), ("released", False), ("refused Halted", True))
-ANSWERS_TO_STEPS = (("stepped 2", False), ("stepped 0", True), ("stepped 0", False), ("stepped 0", False),
-                    ("stepped 10", False), ("stepped 0", True), ("stepped 1", False), ("stepped 64", False),
-                    ("stepped 0", True), ("stepped 0", False))
-
-
-def what_tells_something(trial):
-    """Answers to ticks and steps are written where they tell something and aren't those of the time before; answers to
-    lines always are."""
-    ticks, steps, wanted, line_each = list(ANSWERS_TO_TICKS), list(ANSWERS_TO_STEPS), [], 7
-    with Port() as port, Operate(trial, port.number, "--tick", STEP_APART, "--step", STEP_APART) as operate:
-        port.accept()
-        for number in itertools.count():
-            if number % line_each == 0:
-                operate.type(b"owned 1\n")
-            wanted += answer_next(port, ticks, steps)
-            if not ticks and not steps:
-                break
-        operate.end_input()
-        for _ in range(OUTLASTING):
-            wanted += answer_next(port, ticks, steps)
-        port.end()
-        operate.ends_with_note(f"port {port.number} has ended", output="".join(row + "\n" for row in wanted))
-    return f"{len(wanted)} rows"
-
-
-def answer_next(port, ticks, steps):
-    """Answers the next line with the first of these answers, or as is usual: a list of what is to be written of it."""
-    line = port.line()
-    left = ticks if is_tick(line) else steps if is_step(line) else None
-    answer, is_written = left.pop(0) if left else (usual(line), left is None)
-    port.answer(answer)
-    return [answer] if is_written else []
-
-
 # ---- cases: ends
 
 
-def clock_outlasts_input(trial):
-    """With ticks or steps the end of the input ends nothing; that of the port does, with status 0 and a note."""
-    for words in ("--tick", TICK), ("--step", STEP), ("--tick", TICK, "--step", STEP):
-        for text, output in (b"", ""), (b"owned 1\n", "done\n"), (b"# owned 1\nowned 1", "done\n"):
-            with Port() as port, Operate(trial, port.number, *words) as operate:
-                port.accept()
-                operate.type_all(text)
-                port.play(OUTLASTING)
-                port.end()
-                operate.ends_with_note(f"port {port.number} has ended", output)
-
-
-def clock_ends_with_serve(trial):
-    """The same at a real line, whose program is killed, and with an input that was empty from the start."""
-    with served(trial, 1) as (rack, server), locked(rack).connection:
-        port = rack.operators[1]
-        with Operate(trial, port, "--tick", TICK, stdin=subprocess.DEVNULL) as operate:
-            expect("what is written", "released 5", operate.output.row())
-            server.kill()
-            operate.ends_with_note(f"port {port} has ended")
-
-
-def port_ends_behind_the_input(trial):
-    """The same where nothing is sent for long, and where a tick is sent that is never answered: it is no line."""
-    for every in LONGEST, TICK:
-        with Port() as port, Operate(trial, port.number, "--tick", every) as operate:
-            port.accept()
-            operate.type_all(b"owned 1")
-            port.wait_for("owned 1")
-            port.answer("owned")
-            expect("the answer", "owned", operate.output.row())
-            if every == TICK:
-                port.play(OUTLASTING)
-                port.line()
-            else:
-                port.is_silent(SETTLED)
-            port.end()
-            operate.ends_with_note(f"port {port.number} has ended")
-
-
 def input_ends(trial):
-    """Without ticks and steps the end of the input ends it with status 0, once all is answered, and the connection."""
+    """The end of the input ends it with status 0, once all is answered, and the connection."""
     inputs = (b"", ()), (b"# owned 1\n\n", ()), (b"owned 1\n", ("owned",)), (b"owned 1\nowned 2", ("owned", "owned 3"))
     for text, answers in inputs:
         with Port() as port, Operate(trial, port.number) as operate:
@@ -820,7 +522,7 @@ def ended(port):
 def port_ends_right_behind_an_answer(trial):
     """Where the port ends right behind the answer to the last line of a file the status is 0: that no more comes is
     read behind that answer."""
-    for number in range(OUTLASTING):
+    for number in range(MANY):
         with Port() as port, script_in(trial, "owned 1\nowned 2") as script:
             with Operate(trial, port.number, stdin=script) as operate:
                 port.accept()
@@ -844,13 +546,13 @@ def script_in(trial, text):
 
 def port_ends_with_input_open(trial):
     """Where the port ends before the input the program ends with status 2 at once, also where nobody types anything."""
-    kinds = (Operate, ()), (AtTerminal, ()), (Operate, ("--tick", LONGEST)), (AtTerminal, ("--step", LONGEST))
-    for (kind, words), end, text in itertools.product(kinds, (Port.end, Port.reset), (b"", b"owned 1\n", b"# own")):
-        with Port() as port, kind(trial, port.number, *words) as operate:
+    kinds, ends = (Operate, AtTerminal), (Port.end, Port.reset)
+    for kind, end, text in itertools.product(kinds, ends, (b"", b"owned 1\n", b"# own")):
+        with Port() as port, kind(trial, port.number) as operate:
             port.accept()
             operate.type(text)
             if text.endswith(b"\n"):
-                port.wait_for("owned 1")
+                expect("the line", "owned 1", port.line())
                 port.answer("owned")
                 expect("the answer", "owned", operate.output.row())
             time.sleep(PIECE)
@@ -860,8 +562,8 @@ def port_ends_with_input_open(trial):
 
 def serve_ends_with_input_open(trial):
     """The same at a real line, whose program is killed."""
-    for kind, words in (Operate, ()), (AtTerminal, ("--tick", TICK)):
-        with served(trial, 1) as (rack, server), kind(trial, rack.operators[1], *words) as operate:
+    for kind in Operate, AtTerminal:
+        with served(trial, 1) as (rack, server), kind(trial, rack.operators[1]) as operate:
             expect("an answer", "owned", operate.ask("owned 1"))
             server.kill()
             operate.ends(2, ended(rack.operators[1]))
@@ -870,7 +572,7 @@ def serve_ends_with_input_open(trial):
 def port_ends_while_lines_come(trial):
     """Where lines come in the moment in which the port ends the program ends in no other way."""
     for end in Port.end, Port.reset:
-        for text in b"# one\n# two\n# three\nowned 1\n", b"owned 1\n" * OUTLASTING:
+        for text in b"# one\n# two\n# three\nowned 1\n", b"owned 1\n" * MANY:
             with Port() as port, Operate(trial, port.number) as operate:
                 port.accept()
                 with operate.stopped():
@@ -882,35 +584,20 @@ def port_ends_while_lines_come(trial):
 def port_ends_before_an_answer(trial):
     """Where the port ends before a line is answered, or before all of the answer has come, the status is 2, also where
     the input has ended."""
-    for words in (), ("--tick", TICK):
-        for is_open, end, half in itertools.product((False, True), (Port.end, Port.reset), (b"", b"own")):
-            with Port() as port, Operate(trial, port.number, *words) as operate:
-                port.accept()
-                operate.type(b"owned 1\nowned 2" + b"\n" * is_open)
-                if not is_open:
-                    operate.end_input()
-                port.wait_for("owned 1")
-                port.answer("owned")
-                expect("the first answer", "owned", operate.output.row())
-                port.wait_for("owned 2")
-                port.connection.sendall(half)
-                time.sleep(PIECE)
-                end(port)
-                operate.ends(2, ended(port.number), output=None)
-
-
-def port_ends_before_a_line_is_sent(trial):
-    """A line that was read while a tick or a step waits for its answer is lost if the port ends then: the status is 2,
-    also when the input has ended."""
-    for words in ("--tick", TICK), ("--step", STEP):
-        for text in b"owned 1\n", b"owned 1":
-            with Port() as port, Operate(trial, port.number, *words) as operate:
-                port.accept()
-                hold("the first line is not by the clock", is_by_clock(port.line()))
-                operate.type_all(text)
-                time.sleep(PIECE)
-                port.end()
-                operate.ends(2, ended(port.number))
+    for is_open, end, half in itertools.product((False, True), (Port.end, Port.reset), (b"", b"own")):
+        with Port() as port, Operate(trial, port.number) as operate:
+            port.accept()
+            operate.type(b"owned 1\nowned 2" + b"\n" * is_open)
+            if not is_open:
+                operate.end_input()
+            expect("the line", "owned 1", port.line())
+            port.answer("owned")
+            expect("the first answer", "owned", operate.output.row())
+            expect("the line", "owned 2", port.line())
+            port.connection.sendall(half)
+            time.sleep(PIECE)
+            end(port)
+            operate.ends(2, ended(port.number), output=None)
 
 
 def nobody_listens(trial):
@@ -919,8 +606,8 @@ def nobody_listens(trial):
         nobody.bind(("127.0.0.1", 0))
         port = nobody.getsockname()[1]
         rows = [f"rackd: cannot connect to {port}", "  nobody listens there"]
-        for words, streams in ((), {}), ((), {"stdin": subprocess.DEVNULL}), (("--tick", TICK), {}):
-            with Operate(trial, port, *words, **streams) as operate:
+        for streams in {}, {"stdin": subprocess.DEVNULL}:
+            with Operate(trial, port, **streams) as operate:
                 operate.ends(2, *rows)
         with open("/dev/full", "wb") as full, Operate(trial, port, stderr=full) as operate:
             operate.ends(2)
@@ -928,11 +615,10 @@ def nobody_listens(trial):
 
 def input_is_a_folder(trial):
     """An input that can't be read has two rows and status 2."""
-    for words in (), ("--tick", TICK), ("--step", STEP):
-        folder = os.open(trial.folder, os.O_RDONLY)
-        with Port() as port, Operate(trial, port.number, *words, stdin=folder) as operate:
-            os.close(folder)
-            operate.ends(2, "rackd: cannot read -", "  a folder")
+    folder = os.open(trial.folder, os.O_RDONLY)
+    with Port() as port, Operate(trial, port.number, stdin=folder) as operate:
+        os.close(folder)
+        operate.ends(2, "rackd: cannot read -", "  a folder")
 
 
 def output_is_full(trial):
@@ -942,16 +628,12 @@ def output_is_full(trial):
     reader, closed = os.pipe()
     os.close(reader)
     for output in full, closed:
-        for words, answer in ((), "owned"), (("--tick", TICK), "refused Halted"), (("--step", STEP), "stepped 0"):
-            with Port() as port, Operate(trial, port.number, *words, stdout=output) as operate:
-                port.accept()
-                if words:
-                    port.play(OUTLASTING)
-                else:
-                    operate.type(b"owned 1\n")
-                port.line()
-                port.answer(answer)
-                operate.ends(4, "rackd: cannot write")
+        with Port() as port, Operate(trial, port.number, stdout=output) as operate:
+            port.accept()
+            operate.type(b"owned 1\n")
+            port.line()
+            port.answer("owned")
+            operate.ends(4, "rackd: cannot write")
         with Port() as port, Operate(trial, port.number, stdout=output) as operate:
             operate.type_all(b"# owned 1\n")
             operate.ends(0)
@@ -962,14 +644,13 @@ def output_is_full(trial):
 def streams_are_closed(trial):
     """Where a standard stream is closed from the start, what is for it doesn't go to the port, nor does it come from
     there."""
-    for words in (), ("--tick", LONGEST):
-        with Port() as port, Operate(trial, port.number, *words, closed=1) as operate:
-            port.accept()
-            operate.type(b"owned 1\n")
-            port.line()
-            port.answer("owned")
-            port.is_left()
-            operate.ends(4, "rackd: cannot write", output=None)
+    with Port() as port, Operate(trial, port.number, closed=1) as operate:
+        port.accept()
+        operate.type(b"owned 1\n")
+        port.line()
+        port.answer("owned")
+        port.is_left()
+        operate.ends(4, "rackd: cannot write", output=None)
     with Port() as port, Operate(trial, port.number, closed=2) as operate:
         port.accept()
         operate.type(b"owned 1\n")
@@ -995,35 +676,29 @@ TOLD = "one operator after another"
 
 
 def second_operator(trial):
-    """An operator that comes second is told so once, and is served when the first one has left: one who types, and one
-    for whom the clock sends. One who was answered, or who has sent nothing, isn't told."""
-    with served(trial, 1, 2) as (rack, _), Port() as port:
-        first = [Operator(rack.operators[line]) for line in (1, 2)]
-        expect("the answers to those who are first", ["owned", "owned"], [one.ask("owned 1") for one in first])
-        with Operate(trial, rack.operators[1]) as types, Operate(trial, rack.operators[2], "--tick", TICK) as ticks, \
-             Operate(trial, port.number) as served_late:
+    """An operator that comes second is told so once, and is served when the first one has left. One who was answered, or
+    who has sent nothing, isn't told."""
+    with served(trial, 1) as (rack, _), Port() as port:
+        first = Operator(rack.operators[1])
+        expect("the answer to the first one", "owned", first.ask("owned 1"))
+        with Operate(trial, rack.operators[1]) as types, Operate(trial, port.number) as served_late:
             port.accept()
             time.sleep(SETTLED)
             typed = time.monotonic()
             types.type(b"in 5 aa55\nshow 5\n")
             is_told(types, typed)
-            is_told(ticks, ticks.begun)
             port.is_silent(typed + TOLD_AFTER - time.monotonic())
             served_late.type(b"owned 1\nowned 2\n")
             port.line()
             port.answer("owned")
             port.line()
             port.answer_late("owned", TOLD_AGAIN)
-            for one, answers in (types, ["done", "show 5 WaitPrm none in aa55 out 0000 wd off"]), (ticks, ["owned"]):
-                expect("what is written before", "", one.output.so_far())
-                first.pop(0).hang_up()
-                if one is ticks:
-                    one.type(b"owned 1\n")
-                expect("what is written then", answers, [one.output.row() for _ in answers])
+            expect("what is written before", "", types.output.so_far())
+            first.hang_up()
+            answers = ["done", "show 5 WaitPrm none in aa55 out 0000 wd off"]
+            expect("what is written then", answers, [types.output.row() for _ in answers])
             types.end_input()
             types.ends(0)
-            ticks.signal(signal.SIGTERM)
-            ticks.ends(BY_SIGNAL)
             served_late.end_input()
             served_late.ends(0, output="owned\nowned\n")
 
@@ -1037,14 +712,13 @@ def is_told(operate, begun):
 
 
 def ended_by_a_signal(trial):
-    """A signal ends it, with a clock and without one; the line goes on, and serves the next operator."""
+    """A signal ends it; the line goes on, and serves the next operator."""
     with served(trial, 1) as (rack, server):
-        for words in ("--tick", TICK), ("--step", STEP), ():
-            with Operate(trial, rack.operators[1], *words) as operate:
-                expect("an answer", "owned", operate.ask("owned 1"))
-                time.sleep(PIECE)
-                operate.signal(signal.SIGTERM)
-                operate.ends(BY_SIGNAL)
+        with Operate(trial, rack.operators[1]) as operate:
+            expect("an answer", "owned", operate.ask("owned 1"))
+            time.sleep(PIECE)
+            operate.signal(signal.SIGTERM)
+            operate.ends(BY_SIGNAL)
         with Operate(trial, rack.operators[1]) as operate:
             expect("an answer to the next one", "done", operate.ask("in 5 aa55"))
             operate.end_input()
@@ -1053,11 +727,9 @@ def ended_by_a_signal(trial):
 
 
 CASES = (script_of_a_file, typed_at_a_terminal, last_line_at_a_terminal, input_in_pieces, very_many_lines,
-         one_line_at_a_time, watchdog_by_the_clock, devices_by_the_clock, halt_by_hand, time_is_told_once,
-         steps_are_not_made_up_for, order_by_the_clock, what_tells_something, clock_outlasts_input,
-         clock_ends_with_serve, port_ends_behind_the_input, input_ends, port_ends_right_behind_an_answer,
-         port_ends_with_input_open, serve_ends_with_input_open, port_ends_while_lines_come,
-         port_ends_before_an_answer, port_ends_before_a_line_is_sent, nobody_listens, input_is_a_folder, output_is_full, streams_are_closed, second_operator, ended_by_a_signal)
+         one_line_at_a_time, input_ends, port_ends_right_behind_an_answer, port_ends_with_input_open,
+         serve_ends_with_input_open, port_ends_while_lines_come, port_ends_before_an_answer, nobody_listens,
+         input_is_a_folder, output_is_full, streams_are_closed, second_operator, ended_by_a_signal)
 
 
 def main(words):
