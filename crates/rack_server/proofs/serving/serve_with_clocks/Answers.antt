@@ -1,8 +1,7 @@
-use Rattle.std.proofs.Common.{arith}
+use denote.Param.Send.{sendable}
+use Rattle.std.proofs.Crossing.{crosses}
+use Rattle.rack_server.proofs.session_gate.SessionGate.TheSendSync as gate
 use Rattle.rack_server.proofs.serving.serve_with_clocks.Goals as goal
 
-pub overflow_mul-lines : goal.overflow_mul-lines
-overflow_mul-lines g c = omega arith
-
-pub overflow_add-len : goal.overflow_add-len
-overflow_add-len g c = omega arith
+pub serve_at_gate-requires-sync-G : goal.serve_at_gate-requires-sync-G
+serve_at_gate-requires-sync-G g c κs within = search (sendable, crosses, gate.the_sync) depth 80 fits 200000
