@@ -198,7 +198,7 @@ hold 'the help of serve: usage, options, ranges' has serve.help \
   'Usage: rackd serve RACK [--sessions N] [--audit FOLDER [--endless [--part MB]] [--page N]]' '[--tick MS] [--step MS] [--log [WHAT]]' \
   '--sessions <N>' '1 to 1000000 [default: no limit]' '--audit <FOLDER>' '--endless' '4294967295; requires --audit' \
   '--part <MB>' '1 to 4096' 'requires --endless [default: 16]' '--page <N>' '0 to 65535' 'requires --audit [default: no page]' \
-  '--tick <MS>' '10 to 60000' '--step <MS>' '1 to 86400000' '--log [<WHAT>]' "'sessions'" "'requests'" "'ready'" E5 8288 \
+  '--tick <MS>' '10 to 60000' '--step <MS>' '1 to 86400000' '--log [<WHAT>]' "'sessions'" "'requests'" "'ready'" E5 8208 \
   $'\nExamples:\n  rackd '
 hold 'the help of watch: usage, arguments, ranges' has watch.help 'Usage: rackd watch RACK FOLDER [--port N]' \
   '<RACK>' '<FOLDER>' '--port <N>' '127.0.0.1: 0 to 65535' 'default: 0' $'\nExamples:\n  rackd '

@@ -20,8 +20,8 @@ use std::sync::Wait;
 use std::thread::Threads;
 use std::time::{Clock, Instant};
 
-/// The least places of an endless line that is served, 16,576, without the two that [`described`] adds.
-const LEAST_WINDOW: u32 = 16_574;
+/// The least places of an endless line that is served, 16,416, without the two that [`described`] adds.
+const LEAST_WINDOW: u32 = 16_414;
 
 /// The places for the ticks of a measurement, one each 10 ms.
 const TICKS: u32 = 2_000;

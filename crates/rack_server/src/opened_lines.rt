@@ -14,11 +14,10 @@ use std::alloc::{AllocError, Global};
 
 /// The minimum number of entries that an endless line stores.
 ///
-/// Between two looks of a trail, each of 16 masters may have the octets of one read answered, and those that its cutter held.
-/// These are at most 255 and 254 octets, and at most as many requests. An operator may have one `step` of 64 inputs answered,
-/// and the thread of the clock another one. After a tick the session that had it taken lets the trail look, so each master may
-/// have one. The sum is 8,288 entries. An endless line always keeps at least half of its entries, so its trail is not overtaken.
-const LEAST_WINDOW: u32 = 16_576;
+/// An endless line always keeps at least half of its entries, 8,208. Each session has its entry recorded before it takes the
+/// next event, so between two looks of a trail come at most a tick and a request of each of 16 masters, and an event each of
+/// the operator and of the clock. So the trail is not overtaken.
+const LEAST_WINDOW: u32 = 16_416;
 
 /// Lines that threads share, and for each worker a seat at each of them, in the same order.
 #[derive(Drop)]

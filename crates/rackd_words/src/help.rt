@@ -183,7 +183,7 @@ K the first number that is free. 'check' reads such a file as it is. Of the outp
 give it the text of one line, from the header 'rack-audit ..' on.
 
 With --endless, memory has only the newest entries of each line: at least half as many as its
-capacity, and at least 8288. The files are line-N-K.000001.audit, line-N-K.000002.audit and so on,
+capacity, and at least 8208. The files are line-N-K.000001.audit, line-N-K.000002.audit and so on,
 and standard output gets only 'ready'.
 
 With --page, a page in a browser shows the rack, as 'watch' does. Standard output gets its address
