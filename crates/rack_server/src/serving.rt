@@ -251,13 +251,7 @@ fn serve_with_recorders<'a, H: Host + Sync, C: RecordEntries + Sync, W: Write>(
 /// Serves the connections of all lines, each with its recorder and its clock.
 ///
 /// Returns as [`serve_at_gate`] does.
-fn serve_with_clocks<
-    'a,
-    H: Host + Sync,
-    C: RecordEntries + Sync,
-    D: KeepTime + Sync,
-    W: Write,
->(
+fn serve_with_clocks<'a, H: Host + Sync, C: RecordEntries + Sync, D: KeepTime + Sync, W: Write>(
     context: &'a ServerContext<'a, H>,
     lines: &'a [ServedLine],
     listening: Vec<Listeners<TcpListener>>,
