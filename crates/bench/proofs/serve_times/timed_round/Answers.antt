@@ -5,9 +5,8 @@ use Rattle.dp_shared.proofs.claims.Claims.TheSendSync as claims
 use Rattle.dp_shared.proofs.one_slot.OneSlot.TheSendSync as slot
 use Rattle.dp_shared.proofs.worker_seat.WorkerSeat.TheSendSync as seat
 use Rattle.bench.proofs.sockets.Connection.TheSendSync as connection
-use Rattle.bench.proofs.sockets.Served.TheSendSync as served
-use Rattle.bench.proofs.sockets.Timed.TheSendSync as timed
+use Rattle.bench.proofs.Sharing.{timed_send}
 use Rattle.bench.proofs.serve_times.timed_round.Goals as goal
 
 pub ask_all-replies-requires-send-A : goal.ask_all-replies-requires-send-A
-ask_all-replies-requires-send-A g c κs within = search (sendable, crosses, connection.the_send, timed.the_send, served.the_send, claims.the_send, slot.the_send, seat.the_send, numbered_book_send) depth 80 fits 200000
+ask_all-replies-requires-send-A g c κs within = search (sendable, crosses, connection.the_send, timed_send, claims.the_send, slot.the_send, seat.the_send, numbered_book_send) depth 80 fits 200000
