@@ -23,7 +23,7 @@ from watch_client import Folder, Watched, polls, tick_rack, ticks
 RATE, WRITES, SECONDS, REQUESTS, PATIENCE = 5_000, 50, 20, 20, 10
 TEXT = "line-1-1.000001.audit"
 # Sessions, the requests of all sessions of a round, the rounds of which the best counts, and the requests that are sent at once.
-SESSIONS, ROUND, ROUNDS, AT_ONCE = (1, 2, 4, 8), 96_000, 5, 16
+SESSIONS, ROUND, ROUNDS, AT_ONCE = (1, 2, 4, 8), 384_000, 5, 16
 
 
 def used(process):
