@@ -5,9 +5,11 @@ usage: watch_speed.py PROGRAM
 
 The first row: what it takes of a processor while a text grows by 5,000 ticks a second. The second: how long a refused request
 takes from its row in the text to the screen, in the middle and at the most of 20. Then, for so many sessions of masters with
-lines of their own: how many requests a second are answered without a page and with one, and the ratio.
+lines of their own: how many requests a second are answered without a page, and the ratios with one that a program asks for as
+the page does, and with one that is open in the browser, which takes processors itself.
 """
 import os
+import signal
 import socket
 import subprocess
 import sys
@@ -17,7 +19,7 @@ import time
 sys.dont_write_bytecode = True
 from browser import Browser, chromium
 from trail_client import ACCEPTED, Rack, diag, fresh
-from watch_client import Folder, Watched, polls, tick_rack, ticks
+from watch_client import Folder, Watched, polls, state_at, tick_rack, ticks
 
 # Events and writes a second, for how many seconds; how many requests are waited for, each for how long.
 RATE, WRITES, SECONDS, REQUESTS, PATIENCE = 5_000, 50, 20, 20, 10
@@ -100,32 +102,51 @@ def rate(rack, sessions):
     return ROUND / took
 
 
-def served_rate(program, folder, sessions, tab):
-    """Returns the rate of a rack that is served, with its page in a tab if there is one."""
+def ask_for_state(port):
+    """Asks for the whole state four times a second, in a process of its own. Returns its number."""
+    process = os.fork()
+    if process:
+        return process
+    while True:
+        state_at(port)
+        time.sleep(0.25)
+
+
+def served_rate(program, folder, sessions, tab, asks=False):
+    """Returns the rate of a rack that is served: with its page in a tab if there is one, or asked for by a program."""
     rack = Rack(os.path.join(folder, "rack.toml"), *range(1, 9), workers=8)
     with tempfile.TemporaryDirectory(dir=folder) as audit:
-        page = ["--page", "0"] if tab else []
+        page = ["--page", "0"] if tab or asks else []
         words = [program, "serve", rack.path, "--audit", audit, "--endless", *page]
         with subprocess.Popen(words, stdin=subprocess.DEVNULL, stdout=subprocess.PIPE) as process:
+            asker = None
             try:
-                if tab:
-                    tab.open(process.stdout.readline().decode().split()[-1])
+                url = process.stdout.readline().decode().split()[-1] if page else None
                 process.stdout.readline()
+                if tab:
+                    tab.open(url)
+                if asks:
+                    asker = ask_for_state(int(url.rstrip("/").rpartition(":")[2]))
                 return rate(rack, sessions)
             finally:
                 if tab:
                     tab.open("about:blank")
+                if asker:
+                    os.kill(asker, signal.SIGKILL)
+                    os.waitpid(asker, 0)
                 process.kill()
 
 
 def serve(program, folder, tab):
     """Writes what an open page costs the masters."""
     for sessions in SESSIONS:
-        without, beside = 0, 0
+        without, asked, beside = 0, 0, 0
         for _ in range(ROUNDS):
             without = max(without, served_rate(program, folder, sessions, None))
+            asked = max(asked, served_rate(program, folder, sessions, None, asks=True))
             beside = max(beside, served_rate(program, folder, sessions, tab))
-        print(f"{sessions} sessions: {without:,.0f} requests a second, with a page {beside:,.0f}: {beside / without:.2f}")
+        print(f"{sessions} sessions: {without:,.0f} requests a second; {asked / without:.2f} with a page that is asked for, "
+              f"{beside / without:.2f} with a browser")
 
 
 def main():
