@@ -11,7 +11,7 @@ work=$(mktemp -d)
 rack='[[line]]\nnumber = 1\ncapacity = 65536\nmasters = [1, 2]\n'
 rack+='[[line.slave]]\naddress = 5\nident = 0x80A1\ncfg = "2111"\n'
 
-# count LINES: the instructions of a script of so many lines
+# count LINES: the instructions of a script of this number of lines
 count() {
   { printf "$rack%%%%\n"; yes "$row" | head -n "$1"; } >"$work/script"
   valgrind --tool=callgrind --callgrind-out-file="$work/events" "$program" <"$work/script" 2>&1 >/dev/null |

@@ -1,5 +1,5 @@
 #!/usr/bin/env bash
-# Tries 'rackd operate' (tests/operate_client.py): answers to lines of files, pipes and terminals; what is told; and how
+# Tries 'rackd operate' (tests/operate_client.py): answers to lines of files, pipes and terminals; what is reported; and how
 # it ends. Each case has a row. Nothing but bash, the tools of the system and python3 is needed, and no port is fixed.
 #
 # usage: operate.sh [PROGRAM]

@@ -4,10 +4,10 @@
 usage: operate_client.py CASE PROGRAM FOLDER
 
 CASE is a function of this file, in the list CASES at its end. What the case needs is written to FOLDER, which is there
-and empty. Where the case holds nothing or one row is written, and the status is 0; else it is told what doesn't hold,
+and empty. Where the case holds nothing or one row is written, and the status is 0; else it is written what doesn't hold,
 and the status is 1.
 
-No case wants anything within less than PATIENCE.
+No case requires anything within less than PATIENCE.
 """
 import contextlib
 import itertools
@@ -31,8 +31,8 @@ PATIENCE, LONG_PATIENCE = 8, 40
 # Seconds between two pieces of input, in which what must not come would come, and that a late answer or a stopped
 # program takes.
 PIECE, SETTLED, LATE = 0.02, 0.3, 0.3
-# Seconds after which the operator is told that others are served before, and in which that might be told again.
-TOLD_AFTER, TOLD_AGAIN = 2, 2.3
+# Seconds after which the operator is notified that others are served before, and in which that might be repeated.
+NOTED_AFTER, NOTE_AGAIN = 2, 2.3
 # How often ports are chosen for a rack, since another program may take one of them before it is listened at.
 TRIES = 5
 # The most octets that are read at once, and the lines that are very many.
@@ -158,7 +158,7 @@ class Operate:
         try:
             return self.process.wait(within)
         except subprocess.TimeoutExpired:
-            raise Wrong(f"it doesn't end within {within} seconds; it told {self.errors.so_far()!r}") from None
+            raise Wrong(f"it doesn't end within {within} seconds; it wrote {self.errors.so_far()!r}") from None
 
     def ends(self, status, *rows, output=""):
         """Ends the case where it doesn't end with this status and these rows on standard error, or this isn't what it
@@ -261,12 +261,12 @@ class Port:
             expect("what comes before the connection is closed", [], left)
 
     def is_silent(self, seconds):
-        """Ends the case where anything comes within so many seconds, or the connection ends."""
+        """Ends the case where anything comes within these seconds, or the connection ends."""
         come = self.octets or select.select([self.connection], [], [], max(0, seconds))[0]
         hold(f"something comes before the answer to {self.lines[-1:]}", not come)
 
     def answer_late(self, row, seconds=LATE):
-        """Answers after so many seconds, in which nothing comes."""
+        """Answers after these seconds, in which nothing comes."""
         self.is_silent(seconds)
         self.answer(row)
 
@@ -299,7 +299,7 @@ def locked(rack):
 
 
 def comment(count, character="x"):
-    """A comment of so many octets."""
+    """A comment of this number of octets."""
     return b"# " + character.encode() * ((count - 2) // len(character.encode()))
 
 
@@ -515,7 +515,7 @@ def input_ends(trial):
 
 
 def ended(port):
-    """The row that tells that a port has ended."""
+    """The row about a port that has ended."""
     return f"rackd: port {port} has ended"
 
 
@@ -533,7 +533,7 @@ def port_ends_right_behind_an_answer(trial):
                 port.end()
                 expect("the status", 0, operate.status())
                 expect("what is written", f"owned\nowned {number}\n", operate.output.rest())
-                hold("more than a note is told", len(operate.errors.rest().splitlines()) <= 1)
+                hold("more than a note is written", len(operate.errors.rest().splitlines()) <= 1)
 
 
 def script_in(trial, text):
@@ -655,7 +655,7 @@ def streams_are_closed(trial):
         port.accept()
         operate.type(b"owned 1\n")
         port.line()
-        port.is_silent(TOLD_AGAIN)
+        port.is_silent(NOTE_AGAIN)
         port.answer("owned")
         expect("the answer", "owned", operate.output.row())
         operate.end_input()
@@ -672,12 +672,12 @@ def streams_are_closed(trial):
             operate.ends(2, f"rackd: cannot connect to {number}", "  nobody listens there")
 
 
-TOLD = "one operator after another"
+NOTE = "one operator after another"
 
 
 def second_operator(trial):
-    """An operator that comes second is told so once, and is served when the first one has left. One who was answered, or
-    who has sent nothing, isn't told."""
+    """An operator that comes second is notified once, and is served when the first one has left. One who was answered, or
+    who has sent nothing, isn't notified."""
     with served(trial, 1) as (rack, _), Port() as port:
         first = Operator(rack.operators[1])
         expect("the answer to the first one", "owned", first.ask("owned 1"))
@@ -687,12 +687,12 @@ def second_operator(trial):
             typed = time.monotonic()
             types.type(b"in 5 aa55\nshow 5\n")
             is_told(types, typed)
-            port.is_silent(typed + TOLD_AFTER - time.monotonic())
+            port.is_silent(typed + NOTED_AFTER - time.monotonic())
             served_late.type(b"owned 1\nowned 2\n")
             port.line()
             port.answer("owned")
             port.line()
-            port.answer_late("owned", TOLD_AGAIN)
+            port.answer_late("owned", NOTE_AGAIN)
             expect("what is written before", "", types.output.so_far())
             first.hang_up()
             answers = ["done", "show 5 WaitPrm none in aa55 out 0000 wd off"]
@@ -704,11 +704,11 @@ def second_operator(trial):
 
 
 def is_told(operate, begun):
-    """Ends the case where an operator isn't told that others are served, or is told too early, from a moment at which
+    """Ends the case where an operator isn't notified that others are served, or too early, from a moment at which
     it had sent nothing."""
     row, after = operate.errors.row(), time.monotonic() - begun
-    hold(f"what is told is '{row}'", TOLD in row)
-    hold(f"it is told after {after:.2f} s", after >= TOLD_AFTER)
+    hold(f"the note is '{row}'", NOTE in row)
+    hold(f"the note comes after {after:.2f} s", after >= NOTED_AFTER)
 
 
 def ended_by_a_signal(trial):

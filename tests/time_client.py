@@ -4,11 +4,11 @@
 usage: time_client.py CASE PROGRAM FOLDER
 
 CASE is a function of this file, in the list CASES at its end. What the case needs is written to FOLDER, which is there
-and empty. Where the case holds nothing or one row is written, and the status is 0; else it is told what doesn't hold,
+and empty. Where the case holds nothing or one row is written, and the status is 0; else it is written what doesn't hold,
 and the status is 1.
 
 When a slave was released is read from the rows of '--log requests', which have the time of day. A request is taken after
-it was sent and before its reply has come, so what a case wants of the clock is so on a machine that is slow at any moment
+it was sent and before its reply has come, so what a case requires of the clock is so on a machine that is slow at any moment
 too, but for the bounds on how late a release may be, which are for the median.
 """
 import contextlib
@@ -66,10 +66,10 @@ class Rack:
 
 
 class Log(threading.Thread):
-    """The rows of a program on standard error, as they come: when slaves were released, and what was not told."""
+    """The rows of a program on standard error, as they come: when slaves were released, and which time was cut off."""
 
     RELEASED = re.compile(r"(\d\d):(\d\d):(\d\d)\.(\d\d\d) line (\d+): tick \d+ -> released (.+)")
-    NOT_TOLD = re.compile(r"\[WARN  rackd\] [0-9:.]{12} line (\d+): (\d+) ms not told, the rack was held up$")
+    CUT_OFF = re.compile(r"\[WARN  rackd\] [0-9:.]{12} line (\d+): (\d+) ms not told, the rack was held up$")
 
     def __init__(self, file):
         super().__init__(daemon=True)
@@ -93,7 +93,7 @@ class Log(threading.Thread):
                 moment = hours * 3600 + minutes * 60 + seconds + milliseconds / 1000
                 for address in found[6].split():
                     self.released.setdefault((line, int(address)), []).append(moment)
-            elif found := self.NOT_TOLD.search(row):
+            elif found := self.CUT_OFF.search(row):
                 self.not_told.append((int(found[1]), int(found[2])))
             self.news.notify_all()
 
@@ -127,7 +127,7 @@ def since(moment, then):
 
 
 def lock(master, address, count, milliseconds):
-    """Set_Prm with a watchdog of so many milliseconds: 10 times two factors."""
+    """Set_Prm with a watchdog of these milliseconds: 10 times two factors."""
     units = milliseconds // 10
     factor = next(factor for factor in range(1, 256) if units % factor == 0 and units // factor < 256)
     return telegram(0x80 | address, 0x80 | master, count, 0x3D, 0x3E, 0x88, factor, units // factor, 0x0B, 0x80, 0xA1, 0x01)
@@ -163,7 +163,7 @@ class Poller:
 
 
 def polled(poller, seconds, every):
-    """Polls for so many seconds: the longest time between two requests, and how many replies had no inputs."""
+    """Polls for these seconds: the longest time between two requests, and how many replies had no inputs."""
     until, longest, before, without = time.monotonic() + seconds, 0, time.monotonic(), 0
     while time.monotonic() < until:
         without += not poller.poll()
@@ -307,9 +307,9 @@ def sixteen_masters(trial):
 
 
 def held_up(trial):
-    """A rack that is stopped for 0.4 s releases no slave whose master polls it: what is cut off is told. The same where a
+    """A rack that is stopped for 0.4 s releases no slave whose master polls it: what is cut off is reported. The same where a
     tick is due each 10 ms. A stop during which the client was slow too is not counted."""
-    rack, told = Rack(trial.path("rack")), []
+    rack, cuts = Rack(trial.path("rack")), []
     for tick, most in (100, 200), (10, 20):
         with served(trial, rack, "--tick", str(tick)) as (server, log):
             poller = Poller(rack.masters[1], 1, 5).exchanges(300)
@@ -328,9 +328,9 @@ def held_up(trial):
                 cut = sum(milliseconds for _, milliseconds in rows)
                 hold(f"a stop of {STOPPED} s with ticks of {tick} ms cuts {rows} off",
                      cut >= STOPPED * 1000 - most - 20 and cut % 10 == 0 and all(line == 1 for line, _ in rows))
-                told.append(cut)
-    hold("each stop was spoilt by a machine that is too slow", told)
-    return f"{len(told)} stops, {sum(told) // len(told)} ms cut off on average"
+                cuts.append(cut)
+    hold("each stop was spoilt by a machine that is too slow", cuts)
+    return f"{len(cuts)} stops, {sum(cuts) // len(cuts)} ms cut off on average"
 
 
 def stopped(process):

@@ -4,7 +4,7 @@
 usage: watch_speed.py PROGRAM
 
 The first row: what it takes of a processor while a text grows by 5,000 ticks a second. The second: how long a refused request
-takes from its row in the text to the screen, in the middle and at the most of 20. Then, for so many sessions of masters with
+takes from its row in the text to the screen, in the middle and at the most of 20. Then, for some numbers of sessions of masters with
 lines of their own: how many requests a second are answered without a page, and the ratios with one that a program asks for as
 the page does, and with one that is open in the browser, which takes processors itself.
 """
@@ -85,7 +85,7 @@ def ask(port, count, connected, start):
 
 
 def rate(rack, sessions):
-    """Returns how many requests a second are answered to so many masters."""
+    """Returns how many requests a second are answered to this number of masters."""
     connected, ready = os.pipe()
     start, go = os.pipe()
     masters = [ask(rack.masters[line], ROUND // sessions, ready, start) for line in range(1, sessions + 1)]
