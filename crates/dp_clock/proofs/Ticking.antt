@@ -1,5 +1,5 @@
 -- The units of the ticks of a pass.
-use Rattle.std.proofs.Common.{◌≡◌, ℕ, ◌+◌, ◌≤◌, List, [], ◌∷◌, ◌++◌, Option, Some, None, ap, subst, sym, arith}
+use Rattle.std.proofs.Common.{◌≡◌, ℕ, ◌+◌, ◌≤◌, List, [], ◌∷◌, ◌++◌, Option, Some, None, ap, arith}
 use Rattle.dp_line.specs.declared.event.Event.TheVariants.{Operator}
 use Rattle.dp_line.specs.declared.event.Op.TheVariants as ops
 use Rattle.dp_audit.specs.declared.entry.Receipt.{Receipt}

@@ -1,6 +1,6 @@
 -- The receipts that a pass gains, while the gate records their places and their replies are written.
 use Rattle.std.proofs.Common.{◌≡◌, ℕ, List, [], ◌∷◌, ◌++◌, map, Option, Some, None, Result, Ok, Err, OnOk, OnErr, inl, inr, refl, sym, ap, subst, ◌∙◌, append_assoc}
-use Rattle.std.specs.Prelude.{◌⊎◌, IfNone, IfSome}
+use Rattle.std.specs.Prelude.{IfNone, IfSome}
 use Rattle.std.specs.List.{concat}
 use Rattle.std.specs.Io.KnownBytes.{Appends}
 use Rattle.std.proofs.lemmas.List.{append-nil, map-append}
@@ -13,7 +13,7 @@ use Rattle.dp_shared.specs.Passes.{with_receipt}
 use Rattle.dp_sessions.specs.declared.session_end.SessionEnd.{SessionEnd}
 use Rattle.dp_sessions.specs.declared.session_end.SessionEnd.TheVariants as ends
 use Rattle.dp_sessions.specs.Recorded.{AreRecorded, WritesRecorded}
-use Rattle.dp_sessions.specs.Recording.{Gains, GainsRecorded, RepliesRecorded, StopsRecorded}
+use Rattle.dp_sessions.specs.Recording.{RepliesRecorded, StopsRecorded}
 use Rattle.dp_sessions.specs.Sessions.{IsCutOff, acceptance, octets_of, reply_in}
 use Rattle.dp_sessions.proofs.Exchanging.{appends_more, appends_none, concat_append}
 

@@ -1,8 +1,8 @@
 -- The receipts that an operator's lines gain, while the gate records their places and the answers are written.
-use Rattle.std.proofs.Common.{◌≡◌, ℕ, ◌≤◌, List, [], ◌∷◌, ◌++◌, map, length, Option, Some, None, Result, Ok, Err, OnOk, OnErr, inl, inr, refl, sym, ap, subst, ◌∙◌, append_assoc}
-use Rattle.std.specs.Prelude.{◌⊎◌, IfSome}
+use Rattle.std.proofs.Common.{◌≡◌, ℕ, List, [], ◌∷◌, ◌++◌, map, Option, Some, None, Result, Ok, Err, OnOk, OnErr, inl, inr, refl, sym, ap, subst, ◌∙◌, append_assoc}
+use Rattle.std.specs.Prelude.{IfSome}
 use Rattle.std.specs.List.{concat}
-use Rattle.std.specs.Io.KnownBytes.{Appends, Consumes, IsAtEnd, Keeps}
+use Rattle.std.specs.Io.KnownBytes.{Appends, Consumes, Keeps}
 use Rattle.std.specs.Result.{result_and}
 use Rattle.std.proofs.lemmas.List.{append-nil}
 use Rattle.dp_text.specs.Writes.{WritesPrefix}
@@ -14,9 +14,9 @@ use Rattle.dp_sessions.specs.declared.session_end.SessionEnd.{SessionEnd}
 use Rattle.dp_sessions.specs.declared.session_end.SessionEnd.TheVariants as ends
 use Rattle.dp_sessions.specs.Operators.{IsAnswered, ended, line_feed}
 use Rattle.dp_sessions.specs.Operating.{AreServedTo, GoesOn}
-use Rattle.dp_sessions.specs.Recorded.{AnswersRecorded, AreRecorded, HasOperatedRecorded}
+use Rattle.dp_sessions.specs.Recorded.{AnswersRecorded, HasOperatedRecorded}
 use Rattle.dp_sessions.specs.Recording.{Gains, GainsRecorded, StopsAnswer, StopsOff}
-use Rattle.dp_sessions.proofs.Exchanging.{concat_append, consumed_none, consumes_kept, consumes_more}
+use Rattle.dp_sessions.proofs.Exchanging.{concat_append, consumes_kept, consumes_more}
 use Rattle.dp_sessions.proofs.Operating.{answered_kept, answered_then, line_ends}
 use Rattle.dp_sessions.proofs.Listening.{IsListening}
 use Rattle.dp_sessions.proofs.Recording.{each_and, gained_then, prefix_behind, whole_prefix}

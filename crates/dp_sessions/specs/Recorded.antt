@@ -1,7 +1,7 @@
 -- What the gate of a session has recorded of the events whose answers are written (own). `recorded` says which places are recorded.
 use Rattle.std.specs.Prelude.{◌≡◌, ◌⊎◌, ℕ, List, [], ◌++◌, map, Option, IfSome, ⊤}
 use Rattle.std.specs.List.{AllByRecursion, concat}
-use Rattle.std.specs.Io.KnownBytes.{Appends, Consumes}
+use Rattle.std.specs.Io.KnownBytes.{Consumes}
 use Rattle.atomic_table.specs.Seated.{TableId}
 use Rattle.dp_text.specs.Writes.{WritesPrefix}
 use Rattle.dp_audit.specs.declared.entry.Receipt.{Receipt}

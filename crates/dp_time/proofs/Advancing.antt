@@ -1,5 +1,5 @@
 -- How far the time of a line advances over lists of moments.
-use Rattle.std.proofs.Common.{◌≡◌, ℕ, ◌+◌, ◌-◌, ◌*◌, ◌/◌, ◌<◌, ◌≤◌, min, List, [], ◌∷◌, ◌++◌, All, refl, ap, arith}
+use Rattle.std.proofs.Common.{◌≡◌, ℕ, ◌+◌, ◌-◌, ◌*◌, ◌<◌, ◌≤◌, min, List, [], ◌∷◌, ◌++◌, All, refl, ap, arith}
 use Rattle.std.proofs.lemmas.List.Elements.{All-head, All-tail}
 use Rattle.dp_time.specs.declared.line_time.LineTime.{LineTime}
 use Rattle.dp_time.specs.Moments.{advance_at, advances_at_each, cut_off_in_all, first_time, time_after, time_after_all, units_in_all, units_passed}

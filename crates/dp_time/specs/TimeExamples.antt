@@ -1,11 +1,8 @@
 -- Examples of moments.
 use Rattle.std.specs.Prelude.{◌≡◌, ℕ, true, false, List, [], ◌∷◌, Some, None, map, refl}
-use Rattle.dp_time.specs.declared.line_time.Advance.{Advance}
-use Rattle.dp_time.specs.declared.line_time.LineTime.{LineTime}
-use Rattle.dp_time.specs.declared.schedule.Due.{Due}
 use Rattle.dp_time.specs.Moments.{advances_at_each, due_at, first_beat, first_schedule, first_time, schedule_after, times_due, wait_at, wait_for_both}
 
--- the units that pass on a line at each moment, by ticks at least each so many milliseconds
+-- the units that pass on a line at each moment, if a tick comes at least once in this number of milliseconds
 abbrev units_by : ℕ → List ℕ → List ℕ
 units_by tick moments = map (λ advance. advance.units) (advances_at_each (first_time tick) moments)
 

@@ -137,7 +137,7 @@ impl<'a> WatchedLine<'a> {
         }
     }
 
-    /// Begins the next text of the line in the file of this name: the line is opened anew. A note of it is stored under
+    /// Begins the next text of the line in the file of this name: the line is opened again. A note of it is stored under
     /// this number, if there is one. `AllocError` if memory runs out.
     pub(crate) fn begin_text(
         &mut self,
