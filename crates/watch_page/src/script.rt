@@ -2,13 +2,15 @@
 
 /// The text of `page/page.js`.
 pub const SCRIPT: &str = r##""use strict";
-// The page of `rackd watch`. It asks the watch for /state.json four times a second, and draws one line of the rack.
+// The page of `rackd watch`. It asks the watch for /state.json up to four times a second, and draws one line of the rack.
 // Text of the watch is put into the page as text nodes and attributes only, so none of it is read as HTML.
 
 // ---- Constants
 
-// Milliseconds between two requests, until the next one after a failure, and until a request fails.
-const PERIOD = 250, RETRY = 1000, TIMEOUT = 2500;
+// Milliseconds between two requests, at the least and at the most; until the next one after a failure; until a request fails.
+const PERIOD = 250, LONGEST_PERIOD = 1000, RETRY = 1000, TIMEOUT = 2500;
+// How many times as long as it took to draw an answer the page waits, so that it leaves the processors to the rack.
+const REST = 20;
 // Milliseconds between two drawings of a line that does not change, and for which a changed octet is marked.
 const REDRAW = 1000, FRESH = 1000;
 // Milliseconds over which the rate of entries is taken, and between two announcements to a screen reader.
@@ -887,15 +889,26 @@ async function fetchAnswer() {
   }
 }
 
-// Asks the watch repeatedly, and draws what changed.
-async function follow() {
-  const answer = await fetchAnswer();
-  setTimeout(follow, answer === null ? RETRY : PERIOD);
+// Takes an answer, null if there is none, and draws what changed.
+function drawAnswer(answer) {
   state.lost = answer === null;
   const isChanged = answer !== null && takeAnswer(answer);
   const isDue = isChanged || state.marked || performance.now() - state.drawnAt > REDRAW;
   if (state.frozen === null && !state.lost && isDue) draw(false);
   else drawStatus();
+}
+
+// Asks the watch repeatedly, and less often if it takes long to draw what changed.
+async function follow() {
+  const answer = await fetchAnswer(), start = performance.now();
+  try {
+    drawAnswer(answer);
+    // The browser lays the page out now, so that the time for it counts.
+    document.body.getBoundingClientRect();
+  } finally {
+    const rest = Math.min(Math.max(PERIOD, REST * (performance.now() - start)), LONGEST_PERIOD);
+    setTimeout(follow, answer === null ? RETRY : rest);
+  }
 }
 
 listen();
