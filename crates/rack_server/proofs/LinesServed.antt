@@ -156,6 +156,7 @@ lines_break_off lines line later a b c outputs.OutOfMemory w same = record {
   each = w.each;
   written = (flat_map text_of w.journals, [], sym (append-nil (flat_map text_of w.journals)), keeps_more a b c (flat_map text_of w.journals) w.written same);
 }
+lines_break_off lines line later a b c (outputs.CannotMakePorts cause) w never = absurd never
 
 -- the writing of the audit texts of lines at ports ends early, after some ports
 pub ports_break_off : {P : Type 0} (f : P → LineSpec) (done : List P) (port : P) (later rest all : List P) (a b c : Option (List ℕ)) (fault : OutputFault)
@@ -196,6 +197,7 @@ pub served_in_part : (folder : Option (Bor (List ℕ))) (lines : List ServedLine
     → WritesAudits specs b c (Err fault) → ServesLines folder false lines a c (Err (of_output_fault fault))
 served_in_part folder lines specs a b c outputs.WriteFault same said w = inr (b, said, subst (λ ls. AreBrokenOff ls b c) same w)
 served_in_part folder lines specs a b c outputs.OutOfMemory same said w = inr (b, said, subst (λ ls. AreBrokenOff ls b c) same w)
+served_in_part folder lines specs a b c (outputs.CannotMakePorts cause) same said never = absurd never
 
 -- a prefix of `ready` is a part of the output, also for endless lines
 pub some_of_ready : (endless : Bool) (lines : List ServedLine) (a b : Option (List ℕ)) → WritesPrefix a b ready → AreServedInPart endless lines a b
@@ -207,6 +209,7 @@ pub served_not_at_all : (folder : Option (Bor (List ℕ))) (endless : Bool) (lin
     → ServesLines folder endless lines a b (Err (of_output_fault fault))
 served_not_at_all folder endless lines a b outputs.WriteFault cut = some_of_ready endless lines a b cut
 served_not_at_all folder endless lines a b outputs.OutOfMemory same = some_of_ready endless lines a b ([], ready, refl, keeps_nothing a b same)
+served_not_at_all folder endless lines a b (outputs.CannotMakePorts cause) same = same
 
 -- no audit text is begun for some line
 pub served_unopened : (folder : Option (Bor (List ℕ))) (endless : Bool) (lines : List ServedLine) (old : Option (List ℕ)) (fault : FileFault) → IsRecordingFault folder (line_numbers lines) fault
@@ -227,6 +230,7 @@ same_numbers : (folder : Option (Bor (List ℕ))) (lines others : List ServedLin
 same_numbers folder lines others a b (Ok served) same is = is
 same_numbers folder lines others a b (Err (faults.CannotMake path cause)) same is = subst (λ ns. IsFolderOrFileIn folder ns path × Keeps a b) same is
 same_numbers folder lines others a b (Err (faults.CannotWrite path cause)) same is = subst (λ ns. IsIncomplete folder true ns path cause × Appends a b ready) same is
+same_numbers folder lines others a b (Err (faults.CannotMakePorts cause)) same is = is
 same_numbers folder lines others a b (Err faults.WriteFault) same is = is
 same_numbers folder lines others a b (Err faults.OutOfMemory) same is = is
 same_numbers folder lines others a b (Err (faults.Rack fault)) same never = absurd never

@@ -143,6 +143,7 @@ refused_ports folder endless rack lines old (faults.CannotListen port cause) of_
 refused_ports folder endless rack lines old faults.OutOfMemory of_rack is = inl (keeps_same old)
 refused_ports folder endless rack lines old (faults.Rack fault) of_rack never = absurd never
 refused_ports folder endless rack lines old faults.WriteFault of_rack never = absurd never
+refused_ports folder endless rack lines old (faults.CannotMakePorts cause) of_rack never = absurd never
 refused_ports folder endless rack lines old (faults.CannotMake path cause) of_rack never = absurd never
 refused_ports folder endless rack lines old (faults.CannotWrite path cause) of_rack never = absurd never
 
@@ -151,6 +152,7 @@ stopped : (folder : Option (Bor (List ℕ))) (endless : Bool) (rack : RackDescri
     → ServesRack folder endless rack old new (Err fault)
 stopped folder endless rack lines old new (faults.CannotMake path cause) of_rack (at, same) = (path_of_rack folder rack lines path of_rack at, same)
 stopped folder endless rack lines old new (faults.CannotWrite path cause) of_rack (incomplete, served) = ((file_of_rack folder rack lines path of_rack incomplete.0, incomplete.1), (lines, of_rack, served))
+stopped folder endless rack lines old new (faults.CannotMakePorts cause) of_rack same = same
 stopped folder endless rack lines old new faults.OutOfMemory of_rack part = inr (lines, of_rack, part)
 stopped folder endless rack lines old new faults.WriteFault of_rack part = inr (lines, of_rack, part)
 stopped folder endless rack lines old new (faults.Rack fault) of_rack never = absurd never

@@ -12,10 +12,11 @@ use Rattle.rack_server.specs.declared.serve_fault.OutputFault.TheVariants as out
 use Rattle.rack_server.specs.declared.serve_fault.ServeFault.{ServeFault}
 use Rattle.rack_server.specs.declared.serve_fault.ServeFault.TheVariants as faults
 
--- the output is not written whole
+-- the output, or the file that names the ports, is not written whole
 abbrev pub of_output_fault : OutputFault → ServeFault
 of_output_fault outputs.OutOfMemory = faults.OutOfMemory
 of_output_fault outputs.WriteFault = faults.WriteFault
+of_output_fault (outputs.CannotMakePorts cause) = faults.CannotMakePorts cause
 
 -- the rack is not accepted
 abbrev pub of_rack_fault : RackFault → ServeFault
@@ -34,4 +35,5 @@ serve_fault_text (faults.Rack fault) = rack_fault_text fault
 serve_fault_text (faults.CannotListen port cause) = codes "cannot listen on " ++ decimal port
 serve_fault_text (faults.CannotMake path cause) = codes "cannot make " ++ audit_path_text path
 serve_fault_text (faults.CannotWrite path cause) = codes "cannot write " ++ audit_path_text path
+serve_fault_text (faults.CannotMakePorts cause) = codes "cannot make the file of ports"
 serve_fault_text faults.WriteFault = codes "cannot write"

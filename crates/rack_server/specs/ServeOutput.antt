@@ -67,6 +67,7 @@ abbrev pub WritesAudit : LineSpec → Option (List ℕ) → Option (List ℕ) �
 WritesAudit line old new (Ok done) = (content : Content) × IsJournalOf line content × Appends old new (text_of content)
 WritesAudit line old new (Err outputs.WriteFault) = (content : Content) × IsJournalOf line content × WritesPrefix old new (text_of content)
 WritesAudit line old new (Err outputs.OutOfMemory) = Keeps old new
+WritesAudit line old new (Err (outputs.CannotMakePorts cause)) = ⊥
 
 -- the audit texts of these lines are written, in their order
 pub record AreWritten (lines : List LineSpec) (old new : Option (List ℕ)) : Type 0 where
@@ -89,6 +90,7 @@ line_at port = line_of port.line
 -- the audit texts of these lines are written, or a part of them
 abbrev pub WritesAudits : List LineSpec → Option (List ℕ) → Option (List ℕ) → Result (Unit {0}) OutputFault → Type 0
 WritesAudits lines old new (Ok done) = AreWritten lines old new
+WritesAudits lines old new (Err (outputs.CannotMakePorts cause)) = ⊥
 WritesAudits lines old new (Err fault) = AreBrokenOff lines old new
 
 -- ---- serving
@@ -111,11 +113,18 @@ AreServedInPart true lines old new = WritesPrefix old new ready
 AreServedInPart false lines old new = WritesPrefix old new ready
     ⊎ ((between : Option (List ℕ)) × Appends old between ready × AreBrokenOff (specs_of lines) between new)
 
--- `ready` is written; if a write fails, a prefix of it; if memory or a thread is refused, nothing
+-- `ready` is written; if a write fails, a prefix of it; if memory, a thread or the file that names the ports is refused, nothing
 abbrev pub ServesConnections : Option (List ℕ) → Option (List ℕ) → Result (Option Served) OutputFault → Type 0
 ServesConnections old new (Ok served) = Appends old new ready
 ServesConnections old new (Err outputs.WriteFault) = WritesPrefix old new ready
 ServesConnections old new (Err outputs.OutOfMemory) = Keeps old new
+ServesConnections old new (Err (outputs.CannotMakePorts cause)) = Keeps old new
+
+-- the file that names the ports cannot be made, or memory is refused
+abbrev pub IsPortsFault : OutputFault → Type 0
+IsPortsFault (outputs.CannotMakePorts cause) = Unit {0}
+IsPortsFault outputs.OutOfMemory = Unit {0}
+IsPortsFault outputs.WriteFault = ⊥
 
 -- why a file lacks an entry; the file of an ordinary line did not take the whole row
 abbrev pub IsCauseOfBreak : Bool → Cause → Type 0
@@ -132,12 +141,13 @@ serving_result endless (Some file) served = Err (faults.CannotWrite file.path (c
 serving_result endless None (Some served) = Ok served
 serving_result endless None None = Err faults.OutOfMemory
 
--- if the folder of audit texts or a file in it for one of these lines cannot be made, nothing is written; if such a file lacks an entry, everything is
--- written
+-- if the folder of audit texts, a file in it for one of these lines, or the file that names the ports cannot be made, nothing is written; if an audit
+-- file lacks an entry, everything is written
 abbrev pub ServesLines : Option (Bor (List ℕ)) → Bool → List ServedLine → Option (List ℕ) → Option (List ℕ) → Result Served ServeFault → Type 0
 ServesLines folder endless lines old new (Ok served) = AreServed endless lines old new
 ServesLines folder endless lines old new (Err (faults.CannotMake path cause)) = IsFolderOrFileIn folder (line_numbers lines) path × Keeps old new
 ServesLines folder endless lines old new (Err (faults.CannotWrite path cause)) = IsIncomplete folder endless (line_numbers lines) path cause × AreServed endless lines old new
+ServesLines folder endless lines old new (Err (faults.CannotMakePorts cause)) = Keeps old new
 ServesLines folder endless lines old new (Err faults.WriteFault) = AreServedInPart endless lines old new
 ServesLines folder endless lines old new (Err faults.OutOfMemory) = AreServedInPart endless lines old new
 ServesLines folder endless lines old new (Err other) = ⊥
@@ -167,8 +177,8 @@ abbrev pub IsServedInPart : Bool → RackDescription → Option (List ℕ) → O
 IsServedInPart endless rack old new = Keeps old new ⊎ ((lines : List ServedLine) × AreLinesOf rack lines × AreServedInPart endless lines old new)
 
 -- a rack that is accepted is served. Nothing is written if a line has no port, which is a bad key, if a port of the rack cannot be listened at, or if
--- the folder of audit texts or a file in it for a line of the rack cannot be made. If such a file lacks an entry, everything is written. If memory, a
--- thread or a write is refused, a part is written
+-- the folder of audit texts, a file in it for a line of the rack, or the file that names the ports cannot be made. If an audit file lacks an entry,
+-- everything is written. If memory, a thread or a write is refused, a part is written
 abbrev pub ServesRack : Option (Bor (List ℕ)) → Bool → RackDescription → Option (List ℕ) → Option (List ℕ) → Result Served ServeFault → Type 0
 ServesRack folder endless rack old new (Ok served) = IsServed endless rack old new
 ServesRack folder endless rack old new (Err (faults.Rack racks.BadKey)) = (list_all has_ports rack.lines ≡ false) × Keeps old new
@@ -176,6 +186,7 @@ ServesRack folder endless rack old new (Err (faults.CannotListen port cause)) =
     (lines : List ServedLine) × AreLinesOf rack lines × Contains (ports_of lines) port × Keeps old new
 ServesRack folder endless rack old new (Err (faults.CannotMake path cause)) = IsFolderOrFileIn folder (rack_numbers rack) path × Keeps old new
 ServesRack folder endless rack old new (Err (faults.CannotWrite path cause)) = IsIncomplete folder endless (rack_numbers rack) path cause × IsServed endless rack old new
+ServesRack folder endless rack old new (Err (faults.CannotMakePorts cause)) = Keeps old new
 ServesRack folder endless rack old new (Err faults.OutOfMemory) = IsServedInPart endless rack old new
 ServesRack folder endless rack old new (Err faults.WriteFault) = IsServedInPart endless rack old new
 ServesRack folder endless rack old new (Err other) = ⊥

@@ -33,7 +33,7 @@ pub(crate) fn open_clocks<'l, H: Wait>(
     }
     for line in lines {
         let port = &ports[clocks.len()];
-        let Some(clock) = LineClock::open(context.rt, port, &line.spec, context.tick) else {
+        let Some(clock) = LineClock::open(context.sockets.rt, port, &line.spec, context.tick) else {
             return Err(AllocError);
         };
         clocks.push(clock)?;

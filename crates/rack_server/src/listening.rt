@@ -1,11 +1,13 @@
 //! Listening at the ports of lines.
 
-ghost use Rattle.std.specs.Prelude.{◌≡◌, IfErr, IfOk, length};
+ghost use Rattle.std.specs.Prelude.{◌≡◌, ◌≤◌, IfErr, IfOk, length, map};
+ghost use Rattle.rack_server.specs.ServedLines.{line_numbers};
 ghost use Rattle.rack_server.specs.ServeOutput.{IsListeningFault};
 
 use crate::serve_fault::ServeFault;
 use crate::served_line::ServedLine;
 use dp_cause::Cause;
+use rack_sockets::{LinePorts, RackPorts};
 use std::alloc::Global;
 use std::net::{Ipv4Addr, Net, TcpListener};
 
@@ -52,6 +54,33 @@ fn listen_at<N: Net>(net: &N, lines: &[ServedLine], port: u16) -> Result<N::List
             Cause::InUse if is_twice(lines, port) => Err(Cause::TwiceInRack),
             cause => Err(cause),
         },
+    }
+}
+
+/// Returns the ports of each line that is listened at, in their order. If the rack file names port 0, it is the port that the
+/// system chose.
+pub(crate) fn ports_of(lines: &[ServedLine], listening: &[Listeners<TcpListener>]) -> RackPorts
+    requires few { length lines.now ≤ 8 }
+    requires each { length listening.now ≡ length lines.now }
+    ensures { map (λ ports. ports.line) result ≡ line_numbers lines.now }
+{
+    let mut all = RackPorts::new();
+    for line in lines {
+        let here = &listening[all.len()];
+        all.push(LinePorts {
+            line: line.spec.number,
+            listen: port_of(&here.masters, line.listen),
+            operator: port_of(&here.operators, line.operator),
+        });
+    }
+    all
+}
+
+/// Returns the port of a listener, or the one that the rack file names if the system does not tell.
+fn port_of(listener: &TcpListener, named: u16) -> u16 {
+    match listener.local_addr() {
+        Ok(address) => address.port(),
+        Err(_) => named,
     }
 }
 

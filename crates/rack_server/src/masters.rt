@@ -1,11 +1,10 @@
 //! Accepting the masters of a line, and passing their sessions to the workers.
 
-use crate::accept::Accept;
-use crate::connection::{ADDRESS_POLLS, ConnectionReader, ConnectionWriter, open_connection};
 use crate::server_context::ServerContext;
 use crossbeam_channel::Sender;
 use dp_sessions::Job;
 use log::Log;
+use rack_sockets::{ADDRESS_POLLS, Accept, ConnectionReader, ConnectionWriter, open_connection};
 use std::io;
 use std::net::{TcpListener, TcpStream};
 use std::sync::Wait;
@@ -30,7 +29,7 @@ impl<'a, H: Wait + Log + Clock> MasterAcceptor<'a, H> {
     /// Returns the session of a master on a connection.
     fn job_of(&self, stream: TcpStream) -> io::Result<MasterJob<'a, H>> {
         let (reader, writer) = open_connection(
-            self.context,
+            &self.context.sockets,
             self.line,
             stream,
             Some(ADDRESS_POLLS),
@@ -51,7 +50,7 @@ impl<L: Wait + Log + Clock> Accept for MasterAcceptor<'_, L> {
     fn take<H: Wait>(&self, rt: &H, stream: TcpStream) -> bool {
         match self.job_of(stream) {
             Ok(job) => {
-                self.context.notes.waits(rt, self.port);
+                self.context.sockets.notes.waits(rt, self.port);
                 self.jobs.send(rt, job).is_ok()
             }
             Err(error) => {
@@ -62,6 +61,9 @@ impl<L: Wait + Log + Clock> Accept for MasterAcceptor<'_, L> {
     }
 
     fn report<H: Wait>(&self, rt: &H, error: io::Error) {
-        self.context.notes.cannot_accept(rt, self.line, error);
+        self.context
+            .sockets
+            .notes
+            .cannot_accept(rt, self.line, error);
     }
 }

@@ -3,12 +3,11 @@
 ghost use Rattle.std.specs.Prelude.{◌≡◌};
 ghost use Rattle.dp_shared.specs.Passes.{line_of};
 
-use crate::accept::Accept;
-use crate::connection::open_connection;
 use crate::server_context::{MAX_READS, ServerContext};
 use dp_line::LineSpec;
 use dp_sessions::{Gate, Port, serve_operator_at};
 use log::Log;
+use rack_sockets::{Accept, open_connection};
 use std::io;
 use std::net::{TcpListener, TcpStream};
 use std::sync::Wait;
@@ -43,8 +42,8 @@ impl<L: Wait + Log + Clock, G: Gate> OperatorAcceptor<'_, OperatedLine<'_>, L, G
     /// Serves an operator on a connection.
     fn serve(&self, stream: TcpStream) -> io::Result<()> {
         let (context, line) = (self.context, self.target.spec.number);
-        let (mut reader, mut writer) = open_connection(context, line, stream, None)?;
-        let (rt, notes) = (context.rt, context.notes);
+        let (mut reader, mut writer) = open_connection(&context.sockets, line, stream, None)?;
+        let (rt, notes) = (context.sockets.rt, context.sockets.notes);
         notes.operator_connected(rt, line);
         let end = serve_operator_at(
             rt,
@@ -75,6 +74,7 @@ impl<L: Wait + Log + Clock, G: Gate> Accept for OperatorAcceptor<'_, OperatedLin
 
     fn report<H: Wait>(&self, rt: &H, error: io::Error) {
         self.context
+            .sockets
             .notes
             .cannot_accept(rt, self.target.spec.number, error);
     }

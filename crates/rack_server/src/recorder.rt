@@ -11,7 +11,6 @@ ghost use Rattle.rack_server.specs.Recordings.{AreRecordedIn, IsPartOfOne, paths
 ghost use Rattle.rack_server.specs.ServedLines.{line_numbers};
 ghost use Rattle.rack_server.specs.ServeOutput.{AreOpened};
 
-use crate::accept_gate::AcceptGate;
 use crate::host::Host;
 use crate::served_line::ServedLine;
 use dp_notes::Notes;
@@ -21,6 +20,7 @@ use rack_files::{
     AuditFile, FileFault, FileTail, FileTrail, IncompleteFile, begin_text, complete_text,
     make_folder,
 };
+use rack_sockets::AcceptGate;
 use std::alloc::Global;
 use std::net::Net;
 use std::sync::Wait;

@@ -7,10 +7,9 @@ ghost use Rattle.rack_file.specs.Rack.{rack_described};
 ghost use Rattle.rack_file.specs.RackFile.{rack_in};
 ghost use Rattle.rack_server.specs.ServeOutput.{AreOpened, Serves, ServesLines, ServesRack};
 
-use crate::accept_gate::AcceptGate;
 use crate::audits::write_audits;
 use crate::host::Host;
-use crate::listening::{Listeners, check_descriptors, listen_at_lines};
+use crate::listening::{Listeners, check_descriptors, listen_at_lines, ports_of};
 use crate::opened_lines::{OpenedLines, open_lines};
 use crate::serve_fault::ServeFault;
 use crate::served_line::{ServedLine, lines_to_serve};
@@ -21,6 +20,7 @@ use rack_file::laws::{
     accepted_racks_have_1_to_32_workers,
 };
 use rack_file::{Rack, read_rack};
+use rack_sockets::{AcceptGate, InputEnd};
 use rackd_words::Service;
 use std::alloc::Global;
 use std::io::Write;
@@ -41,9 +41,12 @@ pub struct Served {
 /// It writes `ready` once all ports are listened at. When all sessions have ended it writes the audit text of each line, in
 /// ascending order of their numbers. For endless lines it writes only `ready`.
 ///
+/// If `service` names a file for the ports, it is there before `ready` is written. If there is an input, no connection is accepted
+/// after its end, and each session ends within 200 ms; that is no fault.
+///
 /// Nothing is written with these faults: `Rack` if the rack is not accepted or a line has no port, `CannotListen` if a port
-/// cannot be listened at or there are too few descriptors for its connections, and `CannotMake` if the folder of audit texts or a
-/// file in it for a line of the rack cannot be made.
+/// cannot be listened at or there are too few descriptors for its connections, `CannotMake` if the folder of audit texts or a
+/// file in it for a line of the rack cannot be made, and `CannotMakePorts` if the file that names the ports cannot be made.
 ///
 /// Returns `WriteFault` if a write fails, and `OutOfMemory` if memory or a thread is refused. If a thread is refused after
 /// `ready`, the audit texts are written nevertheless. Returns `CannotWrite` if a file of an audit text lacks an entry. Serving
@@ -53,6 +56,7 @@ pub fn serve_text<'a, H: Host + Sync, W: Write>(
     alloc: Global,
     rack: &str,
     service: Service<'a>,
+    input: Option<&InputEnd>,
     writer: &mut W,
 ) -> Result<Served, ServeFault<'a>>
     ensures { Serves service.entry.audit (is_some service.entry.endless) (rack_in rack.now) (W.contents writer.old) (W.contents writer.new) result }
@@ -61,7 +65,7 @@ pub fn serve_text<'a, H: Host + Sync, W: Write>(
     accepted_racks_have_1_to_32_workers();
     accepted_lines_can_be_opened();
     match read_rack(alloc, rack) {
-        Ok(rack) => serve_rack(rt, alloc, rack, service, writer),
+        Ok(rack) => serve_rack(rt, alloc, rack, service, input, writer),
         Err(fault) => Err(ServeFault::from(fault)),
     }
 }
@@ -72,6 +76,7 @@ fn serve_rack<'a, H: Host + Sync, W: Write>(
     alloc: Global,
     rack: Rack,
     service: Service<'a>,
+    input: Option<&InputEnd>,
     writer: &mut W,
 ) -> Result<Served, ServeFault<'a>>
     requires few { length (rack_described rack).lines ≤ 8 }
@@ -92,7 +97,7 @@ fn serve_rack<'a, H: Host + Sync, W: Write>(
         Ok(()) => {}
         Err(fault) => return Err(fault),
     }
-    open_and_serve(rt, alloc, lines, listening, workers, service, writer)
+    open_and_serve(rt, alloc, lines, listening, workers, service, input, writer)
 }
 
 /// Opens lines that are listened at, and serves them.
@@ -103,6 +108,7 @@ fn open_and_serve<'a, H: Host + Sync, W: Write>(
     listening: Vec<Listeners<TcpListener>>,
     workers: u8,
     service: Service<'a>,
+    input: Option<&InputEnd>,
     writer: &mut W,
 ) -> Result<Served, ServeFault<'a>>
     requires few { length lines.items ≤ 8 }
@@ -114,7 +120,7 @@ fn open_and_serve<'a, H: Host + Sync, W: Write>(
     let Ok(opened) = open_lines(alloc, lines, service.endless.is_some(), workers) else {
         return Err(ServeFault::OutOfMemory);
     };
-    serve_lines(rt, alloc, listening, opened, service, writer)
+    serve_lines(rt, alloc, listening, opened, service, input, writer)
 }
 
 /// Returns how many connections each port accepts. Without a limit it is a number that is never reached.
@@ -131,6 +137,7 @@ fn serve_lines<'a, 's, H: Host + Sync, W: Write>(
     listening: Vec<Listeners<TcpListener>>,
     opened: OpenedLines,
     service: Service<'a>,
+    input: Option<&'s InputEnd>,
     writer: &mut W,
 ) -> Result<Served, ServeFault<'a>>
     requires few { length opened.lines.items ≤ 8 }
@@ -145,7 +152,7 @@ fn serve_lines<'a, 's, H: Host + Sync, W: Write>(
         ports,
         seats,
     } = opened;
-    let gate = AcceptGate::new(&listening);
+    let gate = AcceptGate::new(ports_of(&lines, &listening));
     let notes = Notes::new(
         rt,
         service.log_detail,
@@ -153,7 +160,7 @@ fn serve_lines<'a, 's, H: Host + Sync, W: Write>(
         seats.len() as u32,
     );
     let outcome = serve_connections(
-        rt, alloc, &gate, &notes, service, &lines, listening, &ports, seats, writer,
+        rt, alloc, &gate, &notes, service, input, &lines, listening, &ports, seats, writer,
     );
     let outcome = match outcome {
         Ok(outcome) => outcome,

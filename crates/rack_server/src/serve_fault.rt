@@ -22,6 +22,8 @@ pub enum ServeFault<'a> {
     CannotMake(AuditPath<'a>, Cause),
     /// An entry cannot be written to this audit file.
     CannotWrite(AuditPath<'a>, Cause),
+    /// The file that names the ports cannot be made.
+    CannotMakePorts(Cause),
     /// A write to standard output failed.
     WriteFault,
 }
@@ -39,6 +41,7 @@ impl<'a> fmt::Display for ServeFault<'a> {
             ServeFault::CannotListen(port, _) => write!(f, "cannot listen on {port}"),
             ServeFault::CannotMake(path, _) => write!(f, "cannot make {path}"),
             ServeFault::CannotWrite(path, _) => write!(f, "cannot write {path}"),
+            ServeFault::CannotMakePorts(_) => f.write_str("cannot make the file of ports"),
             ServeFault::WriteFault => f.write_str("cannot write"),
         }
     }
@@ -46,13 +49,15 @@ impl<'a> fmt::Display for ServeFault<'a> {
 
 impl<'a> Error for ServeFault<'a> {}
 
-/// Why output is not written whole.
+/// Why output, or the file that names the ports, is not written whole.
 #[derive(Clone, Copy)]
 pub(crate) enum OutputFault {
     /// Memory or a thread was refused.
     OutOfMemory,
     /// A write failed.
     WriteFault,
+    /// The file that names the ports cannot be made.
+    CannotMakePorts(Cause),
 }
 
 impl<'a> From<OutputFault> for ServeFault<'a> {
@@ -62,6 +67,7 @@ impl<'a> From<OutputFault> for ServeFault<'a> {
         match fault {
             OutputFault::OutOfMemory => ServeFault::OutOfMemory,
             OutputFault::WriteFault => ServeFault::WriteFault,
+            OutputFault::CannotMakePorts(cause) => ServeFault::CannotMakePorts(cause),
         }
     }
 }

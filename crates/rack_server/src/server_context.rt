@@ -1,7 +1,6 @@
 //! What the threads that serve a rack share.
 
-use crate::accept_gate::AcceptGate;
-use dp_notes::Notes;
+use rack_sockets::{InputEnd, SocketContext};
 use std::alloc::Global;
 use std::sync::atomic::AtomicU32;
 
@@ -11,14 +10,14 @@ pub(crate) const MAX_READS: u32 = u32::MAX;
 /// What the threads that serve a rack share.
 #[derive(Drop)]
 pub(crate) struct ServerContext<'a, H> {
-    /// The host.
-    pub(crate) rt: &'a H,
+    /// What the connections share: the host, the gate and the reports.
+    pub(crate) sockets: SocketContext<'a, H>,
     /// The allocator.
     pub(crate) alloc: Global,
-    /// Whether connections are accepted.
-    pub(crate) gate: &'a AcceptGate,
-    /// Reports on standard error.
-    pub(crate) notes: &'a Notes<'a, H>,
+    /// The file that names the ports, if there is one.
+    pub(crate) ports: Option<&'a str>,
+    /// The input with whose end serving stops, if there is one.
+    pub(crate) input: Option<&'a InputEnd>,
     /// How many connections each port accepts.
     pub(crate) sessions: u64,
     /// The most milliseconds from tick to tick, or `None` if no line has a clock for its time.

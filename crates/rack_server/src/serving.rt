@@ -10,9 +10,8 @@ ghost use Rattle.rack_files.specs.AuditPaths.{IsFileIn};
 ghost use Rattle.rack_server.specs.Recordings.{IsPartOfOne, paths_of};
 ghost use Rattle.rack_server.specs.declared.served_line.ServedLine.{ServedLine};
 ghost use Rattle.rack_server.specs.ServedLines.{line_numbers};
-ghost use Rattle.rack_server.specs.ServeOutput.{AreOpened, AreServed, ServesConnections, ServesLines, ready, serving_result};
+ghost use Rattle.rack_server.specs.ServeOutput.{AreOpened, AreServed, IsPortsFault, ServesConnections, ServesLines, ready, serving_result};
 
-use crate::accept_gate::AcceptGate;
 use crate::acceptors::Acceptors;
 use crate::clocks::{close_clocks, open_clocks, schedule_of};
 use crate::host::Host;
@@ -25,6 +24,7 @@ use crate::server_context::ServerContext;
 use crate::session_gate::{KeepTime, SessionGate, TimedGate};
 use crate::threads::{accept_and_serve, can_start};
 use crossbeam_channel::bounded;
+use dp_cause::Cause;
 use dp_clock::LineClock;
 use dp_notes::{LineNumbers, Notes};
 use dp_sessions::Port;
@@ -32,9 +32,10 @@ use dp_shared::WorkerSeat;
 use dp_text::write_whole;
 use dp_trail::{Naming, NoTrail, RecordEntries};
 use rack_files::IncompleteFile;
+use rack_sockets::{AcceptGate, InputEnd, SocketContext, report_ports};
 use rackd_words::Service;
 use std::alloc::Global;
-use std::io::Write;
+use std::io::{ErrorKind, Write};
 use std::marker::Brand;
 use std::net::TcpListener;
 use std::sync::atomic::AtomicU32;
@@ -77,15 +78,17 @@ impl<'a> ServingOutcome<'a> {
     }
 }
 
-/// Accepts and serves the connections of all lines, and records each line in the audit folder, if one is named.
+/// Accepts and serves the connections of all lines, and records each line in the audit folder, if one is named. If there is an
+/// input, serving stops when it ends.
 ///
-/// Returns `CannotMake` if an audit text cannot be begun, `OutOfMemory` or `WriteFault`.
+/// Returns `CannotMake` if an audit text cannot be begun, `CannotMakePorts`, `OutOfMemory` or `WriteFault`.
 pub(crate) fn serve_connections<'a, 's, H: Host + Sync, W: Write>(
     rt: &'s H,
     alloc: Global,
     gate: &'s AcceptGate,
     notes: &'s Notes<'s, H>,
     service: Service<'a>,
+    input: Option<&'s InputEnd>,
     lines: &'s [ServedLine],
     listening: Vec<Listeners<TcpListener>>,
     ports: &'s [Port],
@@ -102,10 +105,10 @@ pub(crate) fn serve_connections<'a, 's, H: Host + Sync, W: Write>(
     ensures err { IfErr result (λ fault. (endless : Bool) → ServesLines service.entry.audit endless lines.now (W.contents writer.old) (W.contents writer.new) (Err fault)) }
 {
     let context = ServerContext {
-        rt,
+        sockets: SocketContext { rt, gate, notes },
         alloc,
-        gate,
-        notes,
+        ports: service.ports,
+        input,
         sessions: sessions_of(service),
         tick: service.tick,
         step: service.step,
@@ -170,8 +173,8 @@ fn serve_recorded<'a, 's, H: Host + Sync, W: Write>(
     ensures incomplete { IfOk result (λ outcome. IfSome outcome.incomplete (λ file. IsFileIn (Some folder.entry) (line_numbers lines.now) file.path)) }
     ensures err { IfErr result (λ fault. (endless : Bool) → ServesLines (Some folder.entry) endless lines.now (W.contents writer.old) (W.contents writer.new) (Err fault)) }
 {
-    let (rt, alloc) = (context.rt, context.alloc);
-    let (gate, notes) = (context.gate, context.notes);
+    let (rt, alloc) = (context.sockets.rt, context.alloc);
+    let (gate, notes) = (context.sockets.gate, context.sockets.notes);
     let recorders = match record_lines(rt, notes, alloc, gate, folder, megabytes, lines, ports) {
         Ok(recorders) => recorders,
         Err(fault) => return Err(ServeFault::from(fault)),
@@ -205,7 +208,7 @@ fn serve_named<'a, 's, J: Naming + Send + Sync, H: Host + Sync, W: Write>(
     ensures incomplete { IfOk result (λ outcome. IfSome outcome.incomplete (λ file. IsPartOfOne (paths_of recorders.entry.items) file.path)) }
     ensures err { IfErr result (λ fault. ServesConnections (W.contents writer.old) (W.contents writer.new) (Err fault)) }
 {
-    let (rt, alloc) = (context.rt, context.alloc);
+    let (rt, alloc) = (context.sockets.rt, context.alloc);
     let Some(recorders) = name_trails::<H, J>(alloc, recorders) else {
         return Err(OutputFault::OutOfMemory);
     };
@@ -244,7 +247,7 @@ fn serve_with_recorders<'a, H: Host + Sync, C: RecordEntries + Sync, W: Write>(
     let served = serve_with_clocks::<H, C, LineClock<'a>, W>(
         context, lines, listening, ports, seats, recorders, &clocks, writer,
     );
-    close_clocks(context.rt, clocks);
+    close_clocks(context.sockets.rt, clocks);
     served
 }
 
@@ -269,9 +272,9 @@ fn serve_with_clocks<'a, H: Host + Sync, C: RecordEntries + Sync, D: KeepTime + 
     ensures { ServesConnections (W.contents writer.old) (W.contents writer.new) result }
 {
     let gate = SessionGate {
-        host: context.rt,
-        notes: context.notes,
-        start: Instant::now(context.rt).ok(),
+        host: context.sockets.rt,
+        notes: context.sockets.notes,
+        start: Instant::now(context.sockets.rt).ok(),
         clocks,
         numbers: numbers_of(lines),
         recorders,
@@ -279,11 +282,11 @@ fn serve_with_clocks<'a, H: Host + Sync, C: RecordEntries + Sync, D: KeepTime + 
     serve_at_gate(context, lines, listening, ports, seats, &gate, writer)
 }
 
-/// Writes `ready`, and then accepts and serves the connections of all lines, with this gate of their sessions.
+/// Writes the file that names the ports, if there is one, and `ready`, and then accepts and serves the connections of all lines, with this gate of their sessions.
 ///
 /// Returns how many sessions were served, or `None` if a thread could not be started after that. Returns `OutOfMemory` if there
-/// is not enough memory or there are not enough threads for all sessions; nothing is written then. Returns `WriteFault` if
-/// `ready` is not written.
+/// is not enough memory or there are not enough threads for all sessions, and `CannotMakePorts` if the file that names the ports
+/// cannot be made; nothing is written then. Returns `WriteFault` if `ready` is not written.
 fn serve_at_gate<'a, H: Host + Sync, G: TimedGate + Sync, W: Write>(
     context: &'a ServerContext<'a, H>,
     lines: &'a [ServedLine],
@@ -302,7 +305,9 @@ fn serve_at_gate<'a, H: Host + Sync, G: TimedGate + Sync, W: Write>(
 {
     let schedule = schedule_of(context);
     let keepers = if schedule.wait(0).is_none() { 0 } else { 1 };
-    if !can_start(context.rt, seats.len() + 2 * lines.len() + keepers) {
+    let waiting = if context.input.is_none() { 0 } else { 1 };
+    let threads = seats.len() + 2 * lines.len() + keepers + waiting;
+    if !can_start(context.sockets.rt, threads) {
         return Err(OutputFault::OutOfMemory);
     }
     let Ok((sender, jobs)) = bounded(context.alloc, MOST_WAITING) else {
@@ -312,6 +317,10 @@ fn serve_at_gate<'a, H: Host + Sync, G: TimedGate + Sync, W: Write>(
     let Ok(acceptors) = opened else {
         return Err(OutputFault::OutOfMemory);
     };
+    match name_ports(context) {
+        Ok(()) => {}
+        Err(fault) => return Err(fault),
+    }
     let Ok(()) = write_ready(writer) else {
         return Err(OutputFault::WriteFault);
     };
@@ -321,6 +330,23 @@ fn serve_at_gate<'a, H: Host + Sync, G: TimedGate + Sync, W: Write>(
             operators: context.operators.load(SeqCst),
         })),
         Err(_) => Ok(None),
+    }
+}
+
+/// Writes the ports of all lines to the file that names them, if there is one.
+fn name_ports<H: Host>(context: &ServerContext<'_, H>) -> Result<(), OutputFault>
+    ensures { IfErr result IsPortsFault }
+{
+    let Some(path) = context.ports else {
+        return Ok(());
+    };
+    let SocketContext { rt, gate, .. } = &context.sockets;
+    match report_ports(*rt, context.alloc, path, gate.ports()) {
+        Ok(()) => Ok(()),
+        Err(error) => match error.kind() {
+            ErrorKind::OutOfMemory => Err(OutputFault::OutOfMemory),
+            _ => Err(OutputFault::CannotMakePorts(Cause::from_error(&error))),
+        },
     }
 }
 

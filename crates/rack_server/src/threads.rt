@@ -3,8 +3,6 @@
 ghost use Rattle.std.specs.Prelude.{◌≡◌, ◌≤◌, All, length};
 ghost use Rattle.dp_sessions.specs.Pools.{HasSeats};
 
-use crate::accept::Accept;
-use crate::accept_gate::{AcceptGate, Phase};
 use crate::acceptors::Acceptors;
 use crate::host::Host;
 use crate::masters::MasterJob;
@@ -14,6 +12,7 @@ use crossbeam_channel::{Receiver, RecvTimeoutError, bounded};
 use dp_sessions::{Gate, Job, PoolFault, Port, run_pool};
 use dp_shared::WorkerSeat;
 use dp_time::Schedule;
+use rack_sockets::{Accept, AcceptGate, Phase, stop_with_input};
 use std::alloc::Global;
 use std::io::{Read, Write};
 use std::net::Net;
@@ -45,7 +44,9 @@ pub(crate) fn can_start<H: Threads + Wait + Sync>(rt: &H, count: usize) -> bool 
 /// each acceptor has accepted its number of connections and their sessions have ended. Meanwhile a thread keeps the time of the
 /// lines, if the schedule has ticks or steps.
 ///
-/// Returns how many sessions of masters were served. If the thread of the clocks or of an acceptor cannot be started, no
+/// If there is an input, another thread waits for its end and stops serving then.
+///
+/// Returns how many sessions of masters were served. If the thread of the clocks, of the input or of an acceptor cannot be started, no
 /// connection is accepted. If the thread of a worker cannot be started, no connection is accepted once the workers that started
 /// have ended.
 pub(crate) fn accept_and_serve<'a, H: Host + Sync, G: TimedGate + Sync>(
@@ -60,8 +61,55 @@ pub(crate) fn accept_and_serve<'a, H: Host + Sync, G: TimedGate + Sync>(
     requires workers { (1 ≤ length seats.items) × (length seats.items ≤ 32) }
     requires seats { All (λ own. HasSeats ports.now own.items) seats.items }
 {
+    let (rt, gate) = (context.sockets.rt, context.sockets.gate);
+    let Some(input) = context.input else {
+        return serve_timed(
+            context,
+            session_gate,
+            acceptors,
+            ports,
+            seats,
+            jobs,
+            schedule,
+        );
+    };
+    let served = stop_with_input(
+        rt,
+        gate,
+        input,
+        || -> Result<u32, PoolFault>
+            requires { (1 ≤ length seats.items) × (length seats.items ≤ 32)
+                × All (λ own. HasSeats ports.now own.items) seats.items }
+        {
+            serve_timed(
+                context,
+                session_gate,
+                acceptors,
+                ports,
+                seats,
+                jobs,
+                schedule,
+            )
+        },
+    );
+    served.unwrap_or(Err(PoolFault::NoThread))
+}
+
+/// Serves the sessions of masters while the time of the lines is kept, as [`accept_and_serve`] does.
+fn serve_timed<'a, H: Host + Sync, G: TimedGate + Sync>(
+    context: &'a ServerContext<'a, H>,
+    session_gate: &'a G,
+    acceptors: Acceptors<'a, H, G>,
+    ports: &[Port],
+    seats: Vec<Vec<WorkerSeat>>,
+    jobs: Receiver<MasterJob<'a, H>>,
+    schedule: Schedule,
+) -> Result<u32, PoolFault>
+    requires workers { (1 ≤ length seats.items) × (length seats.items ≤ 32) }
+    requires seats { All (λ own. HasSeats ports.now own.items) seats.items }
+{
     serve_while_keeping_time(
-        context.rt,
+        context.sockets.rt,
         context.alloc,
         session_gate,
         schedule,
@@ -85,7 +133,7 @@ fn serve_all<'a, H: Host + Sync, G: Gate + Sync>(
     requires seats { All (λ own. HasSeats ports.now own.items) seats.items }
 {
     let Acceptors { masters, operators } = acceptors;
-    let (rt, gate) = (context.rt, context.gate);
+    let (rt, gate) = (context.sockets.rt, context.sockets.gate);
     serve_while_accepting(
         rt,
         gate,
@@ -213,7 +261,10 @@ fn serve_while_accepting<
             {
                 return Err(PoolFault::NoThread);
             }
-            *phase = Phase::Accepting;
+            // Serving may have stopped before.
+            if *phase == Phase::Starting {
+                *phase = Phase::Accepting;
+            }
             drop(phase);
             serve()
         },

@@ -14,7 +14,7 @@ const RETRY_DELAY_MS: u64 = 10;
 ///
 /// Functions that start threads are generic over this trait, since the check derives from such a bound that an acceptor may be
 /// sent to a thread.
-pub(crate) trait Accept: Sized + Drop {
+pub trait Accept: Sized + Drop {
     /// Returns the listener.
     fn listener(&self) -> &TcpListener;
 

@@ -1,6 +1,7 @@
 //! The connection of a session.
 
-use crate::server_context::ServerContext;
+use crate::accept_gate::AcceptGate;
+use dp_notes::Notes;
 use log::Log;
 use std::io::{Error, ErrorKind, Read, Result, Write};
 use std::net::TcpStream;
@@ -15,18 +16,29 @@ const POLL_INTERVAL_MS: u64 = 100;
 ///
 /// Without this limit as many silent clients as there are workers would keep the masters of all lines waiting. A master that has
 /// its `E5` may stay silent without limit.
-pub(crate) const ADDRESS_POLLS: u32 = 100;
+pub const ADDRESS_POLLS: u32 = 100;
+
+/// What the connections of a rack share.
+#[derive(Drop)]
+pub struct SocketContext<'a, H> {
+    /// The host.
+    pub rt: &'a H,
+    /// Whether serving has stopped.
+    pub gate: &'a AcceptGate,
+    /// Reports on standard error.
+    pub notes: &'a Notes<'a, H>,
+}
 
 /// Reads from a connection.
-pub(crate) type ConnectionReader<'a, H> = PollingStream<'a, H, Screened<TcpStream>>;
+pub type ConnectionReader<'a, H> = PollingStream<'a, H, Screened<TcpStream>>;
 
 /// Writes to a connection.
-pub(crate) type ConnectionWriter<'a, H> = PollingStream<'a, H, TcpStream>;
+pub type ConnectionWriter<'a, H> = PollingStream<'a, H, TcpStream>;
 
 /// Returns the reader and the writer of an accepted connection. `polls` is the number of poll intervals that the first read may
 /// take, or `None` if it has no limit.
-pub(crate) fn open_connection<'a, H: Wait + Log + Clock>(
-    context: &'a ServerContext<'a, H>,
+pub fn open_connection<'a, H: Wait + Log + Clock>(
+    context: &'a SocketContext<'a, H>,
     line: u8,
     stream: TcpStream,
     polls: Option<u32>,
@@ -55,12 +67,14 @@ fn set_options(stream: &TcpStream) -> Result<()> {
     stream.set_write_timeout(interval)
 }
 
-/// A stream whose reads and writes are repeated after each poll interval. They fail with `TimedOut` once serving has stopped.
+/// A stream whose reads and writes are repeated after each poll interval. Once serving has stopped, a read fails with
+/// `TimedOut`, and so does a write that has waited for a poll interval: an answer that is ready is still sent.
+///
 /// A call that a signal interrupts is repeated at once and doesn't count as waiting, because for dp_sessions a read that fails
 /// ends the session.
 #[derive(Drop)]
-pub(crate) struct PollingStream<'a, H, S: Drop> {
-    context: &'a ServerContext<'a, H>,
+pub struct PollingStream<'a, H, S: Drop> {
+    context: &'a SocketContext<'a, H>,
     /// The number of the line.
     line: u8,
     stream: S,
@@ -77,7 +91,7 @@ impl<H: Wait + Log + Clock, S: Drop> PollingStream<'_, H, S> {
                 return false;
             }
         }
-        !self.context.gate.has_stopped(self.context.rt)
+        !self.context.gate.has_stopped()
     }
 
     /// Returns `Ok` if a failed read or write is to be repeated, otherwise the error that it fails with.
@@ -103,6 +117,9 @@ impl<H: Wait + Log + Clock, S: Drop> PollingStream<'_, H, S> {
 impl<H: Wait + Log + Clock, R: Read + Drop> Read for PollingStream<'_, H, R> {
     fn read(&mut self, buf: &mut [u8]) -> Result<usize> {
         for _ in self.context.rt.forever() {
+            if self.context.gate.has_stopped() {
+                return Err(Error::from(ErrorKind::TimedOut));
+            }
             match self.stream.read(buf) {
                 Ok(count) => {
                     self.polls_left = None;

@@ -20,6 +20,7 @@ serve_status (serves.Rack other) = 2
 serve_status (serves.CannotListen port cause) = 2
 serve_status (serves.CannotMake path cause) = 2
 serve_status (serves.CannotWrite path cause) = 5
+serve_status (serves.CannotMakePorts cause) = 2
 serve_status serves.WriteFault = 4
 
 -- 2 for words, files, input, ports and addresses that cannot be used, 3 if memory is refused, 4 if standard output cannot be written, 5 if an entry cannot be
@@ -27,6 +28,7 @@ serve_status serves.WriteFault = 4
 abbrev pub status_of : Fault → ℕ
 status_of faults.BadWord = 2
 status_of (faults.CannotRead path cause) = 2
+status_of (faults.CannotMake path cause) = 2
 status_of (faults.CannotConnect port cause) = 2
 status_of (faults.PortEnded port) = 2
 status_of (faults.NoSlave address) = 2
@@ -44,6 +46,7 @@ status_of (faults.Serve fault) = serve_status fault
 abbrev pub fault_text : Fault → List ℕ
 fault_text faults.BadWord = codes "rackd: a word is not UTF-8"
 fault_text (faults.CannotRead path cause) = codes "rackd: cannot read " ++ path.now
+fault_text (faults.CannotMake path cause) = codes "rackd: cannot make " ++ path.now
 fault_text (faults.CannotConnect port cause) = codes "rackd: cannot connect to " ++ decimal port
 fault_text (faults.PortEnded port) = codes "rackd: port " ++ decimal port ++ codes " has ended"
 fault_text (faults.NoSlave address) = codes "rackd: the line has no slave " ++ decimal address
@@ -58,12 +61,14 @@ serve_cause (serves.Rack fault) = None
 serve_cause (serves.CannotListen port cause) = Some cause
 serve_cause (serves.CannotMake path cause) = Some cause
 serve_cause (serves.CannotWrite path cause) = Some cause
+serve_cause (serves.CannotMakePorts cause) = Some cause
 serve_cause serves.WriteFault = None
 
 -- why a file or a port cannot be used, if that is the fault
 abbrev pub cause_of : Fault → Option Cause
 cause_of faults.BadWord = None
 cause_of (faults.CannotRead path cause) = Some cause
+cause_of (faults.CannotMake path cause) = Some cause
 cause_of (faults.CannotConnect port cause) = Some cause
 cause_of (faults.PortEnded port) = None
 cause_of (faults.NoSlave address) = None

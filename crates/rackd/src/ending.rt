@@ -19,6 +19,8 @@ pub enum Fault<'a> {
     BadWord,
     /// The file at this path, or standard input for `-`, cannot be read or is not UTF-8.
     CannotRead(&'a str, Cause),
+    /// The file at this path, which names ports, cannot be made.
+    CannotMake(&'a str, Cause),
     /// The program cannot connect to this port.
     CannotConnect(u16, Cause),
     /// The connection to this port ended before standard input did, or before a line of standard input was answered.
@@ -75,7 +77,7 @@ pub fn status(fault: Fault<'_>) -> u8
     match fault {
         Fault::Run(RunFault::OutOfMemory | RunFault::Rack(RackFault::OutOfMemory)) => 3,
         Fault::Run(RunFault::WriteFault) => 4,
-        Fault::BadWord | Fault::CannotRead(_, _) => 2,
+        Fault::BadWord | Fault::CannotRead(_, _) | Fault::CannotMake(_, _) => 2,
         Fault::CannotConnect(_, _) | Fault::PortEnded(_) => 2,
         Fault::NoSlave(_) | Fault::NoMaster(_) => 2,
         Fault::Run(RunFault::Rack(_) | RunFault::Script(_)) => 2,
@@ -93,6 +95,7 @@ fn status_of_serving(fault: ServeFault<'_>) -> u8
         ServeFault::WriteFault => 4,
         ServeFault::Rack(_) => 2,
         ServeFault::CannotListen(_, _) | ServeFault::CannotMake(_, _) => 2,
+        ServeFault::CannotMakePorts(_) => 2,
         ServeFault::CannotWrite(_, _) => 5,
     }
 }
@@ -102,7 +105,8 @@ pub fn cause(fault: Fault<'_>) -> Option<Cause>
     ensures { result ≡ cause_of fault.entry }
 {
     match fault {
-        Fault::CannotRead(_, cause) | Fault::CannotConnect(_, cause) => Some(cause),
+        Fault::CannotRead(_, cause) | Fault::CannotMake(_, cause) => Some(cause),
+        Fault::CannotConnect(_, cause) => Some(cause),
         Fault::BadWord | Fault::PortEnded(_) | Fault::Run(_) => None,
         Fault::NoSlave(_) | Fault::NoMaster(_) => None,
         Fault::Serve(fault) => cause_of_serving(fault),
@@ -114,7 +118,7 @@ fn cause_of_serving(fault: ServeFault<'_>) -> Option<Cause>
     ensures { result ≡ serve_cause fault.entry }
 {
     match fault {
-        ServeFault::CannotListen(_, cause) => Some(cause),
+        ServeFault::CannotListen(_, cause) | ServeFault::CannotMakePorts(cause) => Some(cause),
         ServeFault::CannotMake(_, cause) | ServeFault::CannotWrite(_, cause) => Some(cause),
         ServeFault::OutOfMemory | ServeFault::Rack(_) | ServeFault::WriteFault => None,
     }
@@ -127,6 +131,7 @@ impl<'a> fmt::Display for Fault<'a> {
         match self {
             Fault::BadWord => f.write_str("rackd: a word is not UTF-8"),
             Fault::CannotRead(path, _) => write!(f, "rackd: cannot read {path}"),
+            Fault::CannotMake(path, _) => write!(f, "rackd: cannot make {path}"),
             Fault::CannotConnect(port, _) => write!(f, "rackd: cannot connect to {port}"),
             Fault::PortEnded(port) => write!(f, "rackd: port {port} has ended"),
             Fault::NoSlave(address) => write!(f, "rackd: the line has no slave {address}"),

@@ -32,7 +32,7 @@ use follow::follow_files;
 use log::{Level, Log, Logged, info};
 use operator_client::operate;
 use output::{buffered, flushed};
-use rack_server::{Host, Served, serve_text};
+use rack_server::{Host, InputEnd, ServeFault, Served, serve_text};
 use rack_watch::WatchHost;
 use rackd_words::{Entries, Invocation, Service, read_words, words_of};
 use reporting::{ended, report, reported};
@@ -94,8 +94,13 @@ fn main(rt: HostRuntime) -> ExitCode {
         Ok(Invocation::Watch { rack, folder, port }) => {
             ended(&rt, watch_folder(&rt, rack, folder, port))
         }
-        Ok(Invocation::Serve { rack, service }) => match before_serving(&rt, rack, service) {
-            Ok((rack, page, queue, written)) => {
+        Ok(Invocation::Serve { rack, service }) => match before_serving(
+            &rt,
+            rack,
+            service,
+            rt.stdin(),
+        ) {
+            Ok((rack, page, input, queue, written)) => {
                 if let Some(page) = page {
                     let showing = move || {
                         let _named: (Option<TcpListener>, Option<TcpStream>, Option<File>) = (
@@ -108,7 +113,14 @@ fn main(rt: HostRuntime) -> ExitCode {
                     }
                 }
                 let host = Logged::new(rt, Level::Info, queue);
-                let code = serve_rack(&host, host.sink(), rt.alloc(), rack.as_str(), service);
+                let code = serve_rack(
+                    &host,
+                    host.sink(),
+                    rt.alloc(),
+                    rack.as_str(),
+                    service,
+                    input,
+                );
                 let (_, queue) = host.into_parts();
                 queue.end(written);
                 code
@@ -134,18 +146,48 @@ fn shows_progress((output, errors): (bool, bool), entries: Entries) -> bool {
     errors && (entries.only_summary || !output)
 }
 
-/// Reads the rack file, opens the page if there is one, and starts the queue of rows for standard error. With the queue,
-/// serving never waits until these rows are read.
-fn before_serving<'a, H: WatchHost + Print + Copy + Send + 'static>(
+/// Reads the rack file, opens the page if there is one, watches the input if serving ends with it, and starts the queue of rows
+/// for standard error. With the queue, serving never waits until these rows are read.
+fn before_serving<
+    'a,
+    H: WatchHost + Print + Copy + Send + 'static,
+    I: Read + Send + Drop + 'static,
+>(
     rt: &H,
     rack: &'a str,
     service: Service<'_>,
-) -> Result<(String, Option<ServedPage>, RowQueue<H>, Written), Fault<'a>> {
+    input: I,
+) -> Result<
+    (
+        String,
+        Option<ServedPage>,
+        Option<InputEnd>,
+        RowQueue<H>,
+        Written,
+    ),
+    Fault<'a>,
+> {
     let text = read_file(rt, rack)?;
     let page = ServedPage::open(rt, text.as_str(), rack, service)?;
+    let input = watch_input(rt, service, input)?;
     match row_queue::start(*rt, rt.alloc()) {
-        Ok((queue, written)) => Ok((text, page, queue, written)),
+        Ok((queue, written)) => Ok((text, page, input, queue, written)),
         Err(_) => Err(Fault::Run(RunFault::OutOfMemory)),
+    }
+}
+
+/// Reads the input until it ends, if serving ends with it.
+fn watch_input<
+    'a,
+    H: Threads + Wait + AllocGlobal + Copy + Send + 'static,
+    I: Read + Send + Drop + 'static,
+>(rt: &H, service: Service<'_>, input: I) -> Result<Option<InputEnd>, Fault<'a>> {
+    if !service.until_input_ends {
+        return Ok(None);
+    }
+    match InputEnd::watch(rt, rt.alloc(), input) {
+        Some(watched) => Ok(Some(watched)),
+        None => Err(Fault::Run(RunFault::OutOfMemory)),
     }
 }
 
@@ -156,8 +198,9 @@ fn serve_rack<H: Print + Host + Sync>(
     alloc: Global,
     rack: &str,
     service: Service<'_>,
+    input: Option<InputEnd>,
 ) -> ExitCode {
-    let served = serve_out(rt, alloc, rack, service);
+    let served = serve_out(rt, alloc, rack, service, input.as_ref());
     ended(errors, reported(errors, alloc, rack, served))
 }
 
@@ -167,12 +210,17 @@ fn serve_out<'a, H: Print + Host + Sync>(
     alloc: Global,
     rack: &str,
     service: Service<'a>,
+    input: Option<&InputEnd>,
 ) -> Result<ExitCode, Fault<'a>> {
     let mut output = buffered(rt, alloc)?;
-    let served = serve_text(rt, alloc, rack, service, &mut output);
+    let served = serve_text(rt, alloc, rack, service, input, &mut output);
     flushed(output)?;
     match served {
         Ok(served) => Ok(note_served(rt, served)),
+        Err(ServeFault::CannotMakePorts(cause)) => {
+            let path = service.ports.unwrap_or("");
+            Err(Fault::CannotMake(path, cause))
+        }
         Err(fault) => Err(Fault::from(fault)),
     }
 }

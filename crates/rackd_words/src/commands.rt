@@ -50,6 +50,10 @@ const MOST_PART: u64 = 4_096;
 
 pub(crate) const PAGE: &str = "page";
 
+pub(crate) const PORTS: &str = "ports";
+
+pub(crate) const UNTIL_INPUT_ENDS: &str = "until-input-ends";
+
 pub(crate) const TICK: &str = "tick";
 
 pub(crate) const STEP: &str = "step";
@@ -199,8 +203,8 @@ fn number<'a>(alloc: Global, name: &'a str, least: u64, most: u64) -> Arg<'a> {
         .value_parser(ValueParser::unsigned(least, most))
 }
 
-/// Returns the word `serve`, with a rack, the number of sessions of each port, the folder of its audit texts, how time
-/// passes and devices step, and what is reported.
+/// Returns the word `serve`, with a rack, the number of sessions of each port, the folder of its audit texts, the file of
+/// its ports, when it ends, how time passes and devices step, and what is reported.
 pub(crate) fn serving<'a>(alloc: Global) -> Result<Command<'a>, AllocError> {
     let words = with_rack(alloc, "serve", help::SERVE)?
         .arg(sessions(alloc))?
@@ -210,7 +214,9 @@ pub(crate) fn serving<'a>(alloc: Global) -> Result<Command<'a>, AllocError> {
     let part = part(alloc)?;
     let words = words.arg(part)?;
     let page = page(alloc)?;
-    let words = words.arg(page)?.arg(tick(alloc))?;
+    let words = words.arg(page)?.arg(ports(alloc))?;
+    let words = words.arg(flag(alloc, UNTIL_INPUT_ENDS).help(help::UNTIL_INPUT_ENDS))?;
+    let words = words.arg(tick(alloc))?;
     words.arg(step(alloc))?.arg(log(alloc))
 }
 
@@ -251,6 +257,15 @@ fn page<'a>(alloc: Global) -> Result<Arg<'a>, AllocError> {
         .value_name("N")
         .help(help::PAGE)
         .requires_arg(FOLDER)
+}
+
+/// Returns the option `--ports FILE`.
+fn ports<'a>(alloc: Global) -> Arg<'a> {
+    Arg::new(alloc, PORTS)
+        .long(PORTS)
+        .value_name("FILE")
+        .value_parser(ValueParser::NonEmptyString)
+        .help(help::PORTS)
 }
 
 /// Returns the option `--tick MS`.

@@ -155,12 +155,13 @@ Examples:
 pub(crate) const SERVE: Help = Help {
     about: "Serve the lines of a rack to masters and operators at TCP ports of 127.0.0.1",
     usage: "\
-rackd serve RACK [--sessions N] [--audit FOLDER [--endless [--part MB]] [--page N]]
-             [--tick MS] [--step MS] [--log [WHAT]]
+rackd serve RACK [--sessions N] [--until-input-ends] [--ports FILE]
+             [--audit FOLDER [--endless [--part MB]] [--page N]] [--tick MS] [--step MS] [--log [WHAT]]
        rackd serve --help",
     details: "\
 The rack file gives each line two ports: 'listen' for masters and 'operator' for its operator.
-When rackd listens at all ports, it prints 'ready'. It does not read standard input.
+When rackd listens at all ports, it prints 'ready'. Port 0 lets the system choose; with --ports,
+FILE names the ports of each line before 'ready' is printed: 'line 1 listen 7101 operator 7201'.
 
 A master sends its address as one octet and gets E5. Then it sends telegrams and gets the replies.
 A master that sends no address for ten seconds is disconnected.
@@ -176,7 +177,9 @@ a warning says how much it was. With --step, the devices of the rack update the 
 slaves every MS milliseconds, as by 'step'.
 
 With --sessions, rackd prints the audit text of each line, in the order of line numbers, when all
-connections have ended. Without --sessions, it does not end on its own.
+connections have ended. With --until-input-ends, it does the same when standard input ends, for
+example because the program that started it has ended: it accepts no connection any more, and each
+session ends within 200 ms. Without these two, it does not end on its own, and reads no input.
 
 With --audit, an event is in the file before its answer is sent. N is the number of the line, and
 K the first number that is free. 'check' reads such a file as it is. Of the output of --sessions,
@@ -195,7 +198,8 @@ Examples:
   rackd serve examples/serve/rack.toml --tick 100 --step 500
   rackd serve examples/serve/rack.toml --audit audit --log
   rackd serve examples/serve/rack.toml --audit audit --endless --part 100 --tick 20
-  rackd serve examples/serve/rack.toml --sessions 1 > served.txt",
+  rackd serve examples/serve/rack.toml --sessions 1 > served.txt
+  rackd serve examples/serve/rack.toml --ports ports.txt --until-input-ends --audit audit",
 };
 
 /// The help of `watch`.
@@ -295,6 +299,13 @@ requires --endless [default: 16]";
 pub(crate) const PAGE: &str = "\
 Show the rack at port N of 127.0.0.1 in a browser: 0 to 65535, where 0
 lets the system choose; requires --audit [default: no page]";
+
+pub(crate) const PORTS: &str = "\
+Write the ports of each line to FILE before 'ready' is printed
+[default: no file]";
+
+pub(crate) const UNTIL_INPUT_ENDS: &str = "\
+End when standard input ends";
 
 pub(crate) const TICK: &str = "\
 Let time pass by the clock, so that watchdogs run, with a tick at least

@@ -31,6 +31,10 @@ pub struct Service<'a> {
     pub tick: Option<u32>,
     /// The milliseconds from step to step of the devices, 1 to 86,400,000; None if only operators have them step.
     pub step: Option<u32>,
+    /// The file that names the ports of each line once they are listened at; None if there is no such file.
+    pub ports: Option<&'a str>,
+    /// Whether serving ends when standard input ends.
+    pub until_input_ends: bool,
     /// How much is reported on standard error.
     pub log_detail: LogDetail,
 }

@@ -2,8 +2,8 @@
 
 use crate::commands::{
     AUDIT, ENDLESS, FAULTS, FOLDER, FOLLOW, FROM, JSON, LOG, MASTER, PAGE, PAGE_PORT, PART, PORT,
-    RACK, REFUSED, SCRIPT, SESSIONS, SLAVE, STEP, SUMMARY, TICK, TO, WATCHED, explaining, known,
-    operating, serving, watching,
+    PORTS, RACK, REFUSED, SCRIPT, SESSIONS, SLAVE, STEP, SUMMARY, TICK, TO, UNTIL_INPUT_ENDS,
+    WATCHED, explaining, known, operating, serving, watching,
 };
 use crate::invocation::{Entries, Invocation, LogDetail, Service, WordsFault};
 use clap::error::ErrorKind as Refused;
@@ -228,6 +228,8 @@ fn service_of<'a>(words: &ArgMatches<'a>) -> Service<'a> {
         audit: words.get_str(FOLDER),
         endless: part_of(words),
         page: words.get_one(PAGE),
+        ports: words.get_str(PORTS),
+        until_input_ends: words.get_flag(UNTIL_INPUT_ENDS),
         tick: words.get_one(TICK),
         step: words.get_one(STEP),
         log_detail: log_detail_of(words.get_str(LOG)),
