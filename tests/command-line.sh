@@ -195,7 +195,9 @@ hold 'the help of explain: usage, options, ranges' has explain.help \
   '--from <N>' '1 to 4294967295 [default: 1]' '--to <N>' '1 to 4294967295' '--slave <A>' '0 to 255' '--master <M>' '0 to 255' \
   '--faults' '--refused' '--summary' '--json' '--follow' $'\nExamples:\n  rackd '
 hold 'the help of serve: usage, options, ranges' has serve.help \
-  'Usage: rackd serve RACK [--sessions N] [--audit FOLDER [--endless [--part MB]] [--page N]]' '[--tick MS] [--step MS] [--log [WHAT]]' \
+  'Usage: rackd serve RACK [--sessions N] [--until-input-ends] [--ports FILE]' \
+  '[--audit FOLDER [--endless [--part MB]] [--page N]] [--tick MS] [--step MS] [--log [WHAT]]' \
+  '--ports <FILE>' '--until-input-ends' 'line 1 listen 7101 operator 7201' \
   '--sessions <N>' '1 to 1000000 [default: no limit]' '--audit <FOLDER>' '--endless' '4294967295; requires --audit' \
   '--part <MB>' '1 to 4096' 'requires --endless [default: 16]' '--page <N>' '0 to 65535' 'requires --audit [default: no page]' \
   '--tick <MS>' '10 to 60000' '--step <MS>' '1 to 86400000' '--log [<WHAT>]' "'sessions'" "'requests'" "'ready'" E5 8208 \
