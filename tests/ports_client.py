@@ -115,6 +115,14 @@ def operate(port, line):
     return connection, connection.recv(200)
 
 
+def octets_of(connection, count):
+    """Returns the next octets of a connection, fewer if it ends."""
+    octets = b""
+    while len(octets) < count and (more := connection.recv(count - len(octets))):
+        octets += more
+    return octets
+
+
 def ends_by(connection, moment):
     """Checks that a connection ends by a moment."""
     connection.settimeout(PATIENCE)
@@ -140,7 +148,7 @@ def rows_of_all_lines(program, folder):
         for number, (listen, operator) in ports.items():
             connection = master(listen, 1)
             connection.sendall(diag(1, 5) * number)
-            expect(f"the replies of line {number}", fresh(1, 5) * number, connection.recv(len(fresh(1, 5)) * number, socket.MSG_WAITALL))
+            expect(f"the replies of line {number}", fresh(1, 5) * number, octets_of(connection, len(fresh(1, 5)) * number))
             connection, _ = operate(operator, b"tick %d\n" % number)
         served.end_input()
         texts = served.end().decode().split("rack-audit 2 line ")
