@@ -56,7 +56,7 @@ pub fn write_ports<W: Write>(alloc: Global, ports: &[LinePorts], writer: &mut W)
 }
 
 /// Returns the rows of all lines, in this order. Returns an error if memory is refused.
-fn text_of(alloc: Global, ports: &[LinePorts]) -> core::result::Result<String, AllocError>
+fn text_of(alloc: Global, ports: &[LinePorts]) -> std::result::Result<String, AllocError>
     ensures { IfOk result (λ text. text ≡ ports_text ports.now) }
 {
     let mut text = String::new(alloc);
