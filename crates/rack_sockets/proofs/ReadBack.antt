@@ -1,11 +1,11 @@
 -- The text that names ports is read back.
-use Rattle.std.proofs.Common.{◌≡◌, ℕ, ◌<◌, ◌==◌, Bool, false, List, [], ◌∷◌, ◌++◌, get_or, Option, Some, None, refl, sym, ap, ◌∙◌, append_assoc, codes, arith}
-use Rattle.std.specs.Prelude.{All, option_and_then, option_map}
+use Rattle.std.proofs.Common.{◌≡◌, ℕ, ◌<◌, ◌^◌, ◌==◌, false, List, [], ◌∷◌, ◌++◌, get_or, Some, refl, sym, ap, ◌∙◌, append_assoc, codes, arith}
+use Rattle.std.specs.Prelude.{All}
 use Rattle.std.specs.Fmt.{decimal}
 use Rattle.std.specs.List.{AllByRecursion}
 use Rattle.std.proofs.lemmas.Bool.{ne_eqb}
 use Rattle.std.proofs.lemmas.Fmt.{digits_decimal}
-use Rattle.std.proofs.lemmas.List.{append-nil, get_or_default}
+use Rattle.std.proofs.lemmas.List.{get_or_default}
 use Rattle.std.proofs.lemmas.List.Elements.{All-append, All-cons, All-from_recursion, recursion_from_All}
 use Rattle.std.proofs.lemmas.List.Splits.{slice_split_at}
 use Rattle.std.proofs.lemmas.Str.Parse.{not_in_digits}
@@ -14,9 +14,17 @@ use Rattle.dp_text.proofs.ReadBack.{last_word, next_word, number_is_word, number
 use Rattle.rack_sockets.specs.Ports.{AreNumbers, ports_in, ports_row, ports_text, read_ports, read_rows}
 use Rattle.rack_sockets.specs.declared.line_ports.LinePorts.{LinePorts}
 
--- a row up to its last number, and what follows
-abbrev row_before : LinePorts → List ℕ → List ℕ
-row_before ports rest = codes "line" ++ 32 ∷ (decimal ports.line ++ 32 ∷ (codes "listen" ++ 32 ∷ (decimal ports.listen ++ 32 ∷ (codes "operator" ++ 32 ∷ (decimal ports.operator ++ rest)))))
+-- a row without its LF
+abbrev row_of : LinePorts → List ℕ
+row_of ports = codes "line" ++ 32 ∷ (decimal ports.line ++ 32 ∷ (codes "listen" ++ 32 ∷ (decimal ports.listen ++ 32 ∷ (codes "operator" ++ 32 ∷ decimal ports.operator))))
+
+-- ---- texts that are joined
+
+-- seven texts and a rest, from the first one on
+flat : (a b c d e f g rest : List ℕ) → (a ++ b ++ c ++ d ++ e ++ f ++ g) ++ rest ≡ a ++ (b ++ (c ++ (d ++ (e ++ (f ++ (g ++ rest))))))
+flat a b c d e f g rest =
+    append_assoc (a ++ b ++ c ++ d ++ e ++ f) g rest ∙ append_assoc (a ++ b ++ c ++ d ++ e) f (g ++ rest) ∙ append_assoc (a ++ b ++ c ++ d) e (f ++ (g ++ rest))
+    ∙ append_assoc (a ++ b ++ c) d (e ++ (f ++ (g ++ rest))) ∙ append_assoc (a ++ b) c (d ++ (e ++ (f ++ (g ++ rest)))) ∙ append_assoc a b (c ++ (d ++ (e ++ (f ++ (g ++ rest)))))
 
 joined : (a b c rest : List ℕ)
     → (codes "line" ++ 32 ∷ (a ++ 32 ∷ (codes "listen" ++ 32 ∷ (b ++ 32 ∷ (codes "operator" ++ 32 ∷ c))))) ++ rest
@@ -39,37 +47,42 @@ number_in_line number small = λ k d within.
 word_in_line : (word rest : List ℕ) → All IsNoEnd word → All IsNoEnd rest → All IsNoEnd (word ++ 32 ∷ rest)
 word_in_line word rest first others = All-append IsNoEnd word (32 ∷ rest) first (All-cons IsNoEnd 32 rest refl others)
 
-row_in_line : (ports : LinePorts) → AreNumbers ports → All IsNoEnd (row_before ports [])
+row_in_line : (ports : LinePorts) → AreNumbers ports → All IsNoEnd (row_of ports)
 row_in_line ports are =
-    word_in_line (codes "line") _ (All-from_recursion IsNoEnd (codes "line") (refl, refl, refl, refl, tt))
-    (word_in_line (decimal ports.line) _ (number_in_line ports.line (omega (arith, are.0)))
-    (word_in_line (codes "listen") _ (All-from_recursion IsNoEnd (codes "listen") (refl, refl, refl, refl, refl, refl, tt))
-    (word_in_line (decimal ports.listen) _ (number_in_line ports.listen (omega (arith, are.1)))
-    (word_in_line (codes "operator") _ (All-from_recursion IsNoEnd (codes "operator") (refl, refl, refl, refl, refl, refl, refl, refl, tt))
-    (All-append IsNoEnd (decimal ports.operator) [] (number_in_line ports.operator (omega (arith, are.2))) (All-from_recursion IsNoEnd [] tt))))))
+    let last = word_in_line (codes "operator") (decimal ports.operator) (All-from_recursion IsNoEnd (codes "operator") (refl, (refl, (refl, (refl, (refl, (refl, (refl, (refl, tt)))))))))
+    (number_in_line ports.operator (omega (arith, are.2))) in
+    let listen = word_in_line (decimal ports.listen) (codes "operator" ++ 32 ∷ decimal ports.operator) (number_in_line ports.listen (omega (arith, are.1))) last in
+    let third = word_in_line (codes "listen") (decimal ports.listen ++ 32 ∷ (codes "operator" ++ 32 ∷ decimal ports.operator))
+    (All-from_recursion IsNoEnd (codes "listen") (refl, (refl, (refl, (refl, (refl, (refl, tt))))))) listen in
+    let line = word_in_line (decimal ports.line) (codes "listen" ++ 32 ∷ (decimal ports.listen ++ 32 ∷ (codes "operator" ++ 32 ∷ decimal ports.operator)))
+    (number_in_line ports.line (omega (arith, are.0))) third in
+    word_in_line (codes "line") (decimal ports.line ++ 32 ∷ (codes "listen" ++ 32 ∷ (decimal ports.listen ++ 32 ∷ (codes "operator" ++ 32 ∷ decimal ports.operator))))
+    (All-from_recursion IsNoEnd (codes "line") (refl, (refl, (refl, (refl, tt))))) line
 
-row_is_line : (ports : LinePorts) (rest : List ℕ) → AreNumbers ports → lines_of (ports_row ports ++ rest) ≡ row_before ports [] ∷ lines_of rest
+row_is_line : (ports : LinePorts) (rest : List ℕ) → AreNumbers ports → lines_of (ports_row ports ++ rest) ≡ row_of ports ∷ lines_of rest
 row_is_line ports rest are =
     ap lines_of
-    (joined (decimal ports.line) (decimal ports.listen) (decimal ports.operator ++ 10 ∷ []) rest
-    ∙ ap (λ t. codes "line" ++ 32 ∷ (decimal ports.line ++ 32 ∷ (codes "listen" ++ 32 ∷ (decimal ports.listen ++ 32 ∷ (codes "operator" ++ 32 ∷ t)))))
-      (append_assoc (decimal ports.operator) (10 ∷ []) rest ∙ sym (append_assoc (decimal ports.operator) [] (10 ∷ rest)))
-    ∙ sym (joined (decimal ports.line) (decimal ports.listen) (decimal ports.operator ++ []) (10 ∷ rest)))
-    ∙ slice_split_at (λ octet. octet == 10) (row_before ports []) 10 rest (row_in_line ports are) refl
+    (flat (codes "line ") (decimal ports.line) (codes " listen ") (decimal ports.listen) (codes " operator ") (decimal ports.operator) (10 ∷ []) rest
+    ∙ sym (joined (decimal ports.line) (decimal ports.listen) (decimal ports.operator) (10 ∷ rest)))
+    ∙ slice_split_at (λ octet. octet == 10) (row_of ports) 10 rest (row_in_line ports are) refl
 
 -- ---- words
 
 row_words : (ports : LinePorts) → AreNumbers ports
-    → words_of (row_before ports []) ≡ codes "line" ∷ decimal ports.line ∷ codes "listen" ∷ decimal ports.listen ∷ codes "operator" ∷ decimal ports.operator ∷ []
+    → words_of (row_of ports) ≡ codes "line" ∷ decimal ports.line ∷ codes "listen" ∷ decimal ports.listen ∷ codes "operator" ∷ decimal ports.operator ∷ []
 row_words ports are =
-    next_word (codes "line") _ (written_is_word (codes "line") refl)
-    ∙ ap (λ ws. codes "line" ∷ ws) (next_word (decimal ports.line) _ (number_is_word ports.line (omega (arith, are.0)))
-    ∙ ap (λ ws. decimal ports.line ∷ ws) (next_word (codes "listen") _ (written_is_word (codes "listen") refl)
-    ∙ ap (λ ws. codes "listen" ∷ ws) (next_word (decimal ports.listen) _ (number_is_word ports.listen (omega (arith, are.1)))
-    ∙ ap (λ ws. decimal ports.listen ∷ ws) (next_word (codes "operator") _ (written_is_word (codes "operator") refl)
-    ∙ ap (λ ws. codes "operator" ∷ ws) (ap words_of (append-nil (decimal ports.operator)) ∙ last_word (decimal ports.operator) (number_is_word ports.operator (omega (arith, are.2))))))))
+    next_word (codes "line") (decimal ports.line ++ 32 ∷ (codes "listen" ++ 32 ∷ (decimal ports.listen ++ 32 ∷ (codes "operator" ++ 32 ∷ decimal ports.operator)))) (written_is_word (codes "line") refl)
+    ∙ ap (λ ws. codes "line" ∷ ws)
+    (next_word (decimal ports.line) (codes "listen" ++ 32 ∷ (decimal ports.listen ++ 32 ∷ (codes "operator" ++ 32 ∷ decimal ports.operator))) (number_is_word ports.line (omega (arith, are.0)))
+    ∙ ap (λ ws. decimal ports.line ∷ ws)
+    (next_word (codes "listen") (decimal ports.listen ++ 32 ∷ (codes "operator" ++ 32 ∷ decimal ports.operator)) (written_is_word (codes "listen") refl)
+    ∙ ap (λ ws. codes "listen" ∷ ws)
+    (next_word (decimal ports.listen) (codes "operator" ++ 32 ∷ decimal ports.operator) (number_is_word ports.listen (omega (arith, are.1)))
+    ∙ ap (λ ws. decimal ports.listen ∷ ws)
+    (next_word (codes "operator") (decimal ports.operator) (written_is_word (codes "operator") refl)
+    ∙ ap (λ ws. codes "operator" ∷ ws) (last_word (decimal ports.operator) (number_is_word ports.operator (omega (arith, are.2))))))))
 
-row_read : (ports : LinePorts) → AreNumbers ports → ports_in (words_of (row_before ports [])) ≡ Some ports
+row_read : (ports : LinePorts) → AreNumbers ports → ports_in (words_of (row_of ports)) ≡ Some ports
 row_read ports are =
     ap ports_in (row_words ports are)
     ∙ rw (

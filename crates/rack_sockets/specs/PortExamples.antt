@@ -1,5 +1,6 @@
 -- Examples of a text that names ports.
 use Rattle.std.specs.Prelude.{◌≡◌, codes, List, [], ◌∷◌, Some, None, refl}
+use Rattle.std.specs.Fmt.{digits}
 use Rattle.rack_sockets.specs.Ports.{ports_text, read_ports}
 use Rattle.rack_sockets.specs.declared.line_ports.LinePorts.{LinePorts}
 
@@ -7,6 +8,7 @@ abbrev two_lines : List LinePorts
 two_lines = record { line = 1; listen = 43117; operator = 43118 } ∷ record { line = 12; listen = 7200; operator = 7 } ∷ []
 
 pub rows_of_two_lines : ports_text two_lines ≡ codes "line 1 listen 43117 operator 43118\nline 12 listen 7200 operator 7\n"
+unfolding digits
 rows_of_two_lines = refl
 
 pub two_lines_are_read : read_ports (codes "line 1 listen 43117 operator 43118\nline 12 listen 7200 operator 7\n") ≡ Some two_lines

@@ -6,7 +6,7 @@ use crate::accept_gate::AcceptGate;
 use crossbeam_channel::{Receiver, Sender, bounded};
 use std::alloc::Global;
 use std::io::{self, Read};
-use std::net::Net;
+use std::net::{Net, TcpListener, TcpStream};
 use std::sync::Wait;
 use std::thread;
 use std::thread::Threads;
@@ -66,12 +66,11 @@ fn read_to_end<H: Wait + Drop, R: Read + Drop>(rt: H, mut input: R, ended: Sende
 /// Runs `serve` while a thread of its own stops serving if the input ends.
 ///
 /// Returns None if the thread is refused; `serve` is not run then.
-pub fn stop_with_input<H: Net + Threads + Wait + Sync, T, S: FnOnce() -> T>(
-    rt: &H,
-    gate: &AcceptGate,
-    input: &InputEnd,
-    serve: S,
-) -> Option<T>
+pub fn stop_with_input<
+    H: Net<Listener = TcpListener, Stream = TcpStream> + Threads + Wait + Sync,
+    T,
+    S: FnOnce() -> T,
+>(rt: &H, gate: &AcceptGate, input: &InputEnd, serve: S) -> Option<T>
     requires { S.pre serve }
 {
     thread::scope(

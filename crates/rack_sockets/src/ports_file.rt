@@ -1,8 +1,8 @@
 //! The file that names the ports of a rack that is served.
 
-ghost use Rattle.std.specs.Prelude.{◌≡◌, IfOk, OnOk};
+ghost use Rattle.std.specs.Prelude.{◌≡◌, ◌++◌, IfOk, OnOk};
 ghost use Rattle.std.specs.Io.KnownBytes.{Appends};
-ghost use Rattle.rack_sockets.specs.Ports.{ports_text};
+ghost use Rattle.rack_sockets.specs.Ports.{ports_row, ports_text};
 
 use crate::line_ports::LinePorts;
 use std::alloc::{AllocError, Global};
@@ -57,13 +57,21 @@ pub fn write_ports<W: Write>(alloc: Global, ports: &[LinePorts], writer: &mut W)
 
 /// Returns the rows of all lines, in this order. Returns an error if memory is refused.
 fn text_of(alloc: Global, ports: &[LinePorts]) -> std::result::Result<String, AllocError>
-    ensures { IfOk result (λ text. text ≡ ports_text ports.now) }
+    ensures { IfOk result (λ text. text.bytes.items ≡ ports_text ports.now) }
 {
     let mut text = String::new(alloc);
     for line in ports {
-        if write!(text, "{line}").is_err() {
-            return Err(AllocError);
-        }
+        push_row(&mut text, line)?;
     }
     Ok(text)
+}
+
+/// Appends the row of a line. Returns an error if memory is refused.
+fn push_row(text: &mut String, ports: &LinePorts) -> std::result::Result<(), AllocError>
+    ensures { OnOk result (text.new.bytes.items ≡ text.old.bytes.items ++ ports_row ports.now) }
+{
+    match write!(text, "{ports}") {
+        Ok(()) => Ok(()),
+        Err(_) => Err(AllocError),
+    }
 }
