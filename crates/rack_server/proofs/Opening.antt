@@ -1,5 +1,6 @@
 -- Opened lines, and the seats of workers at them.
-use Rattle.std.proofs.Common.{◌≡◌, map, Bool, true, false, refl, List, [], ◌∷◌, ◌++◌, All, sym, ap, subst}
+use Rattle.std.proofs.Common.{◌≡◌, ℕ, ◌+◌, ◌<◌, length, take, slice_index_or, ◌∙◌, map, Bool, true, false, refl, List, [], ◌∷◌, ◌++◌, All, sym, ap, subst}
+use Rattle.std.proofs.lemmas.List.{map-append, take_more}
 use Rattle.std.proofs.lemmas.List.Elements.{All-weaker}
 use Rattle.std.proofs.lemmas.Slice.Zip.{all_zipped_more}
 use Rattle.dp_line.specs.declared.description.LineSpec.{LineSpec}
@@ -8,6 +9,7 @@ use Rattle.dp_shared.specs.declared.one_slot.OneSlot.{OneSlot}
 use Rattle.dp_shared.specs.Claims.{Claiming, IsNewSeat, Seated}
 use Rattle.dp_sessions.specs.Pools.{HasSeats, IsSeatAt}
 use Rattle.dp_sessions.specs.declared.port.LineAndClaims.{LineAndClaims}
+use Rattle.rack_sockets.specs.declared.line_ports.LinePorts.{LinePorts}
 use Rattle.rack_server.specs.declared.served_line.ServedLine.{ServedLine}
 use Rattle.rack_server.specs.ServedLines.{as_opened, line_numbers}
 use Rattle.rack_server.specs.ServeOutput.{AreOpened, IsOneMore, line_at, specs_of}
@@ -51,3 +53,12 @@ opened_numbers false (line ∷ lines) = ap (λ ns. line.spec.number ∷ ns) (ope
 pub opened_as_they_are : (lines : List ServedLine) → map (as_opened false) lines ≡ lines
 opened_as_they_are [] = refl
 opened_as_they_are (line ∷ lines) = ap (λ ls. line ∷ ls) (opened_as_they_are lines)
+
+-- the ports of one line more have its number
+pub one_more_number : (lines : List ServedLine) (i : ℕ) (line : ServedLine) (before after : List LinePorts) (ports : LinePorts)
+    → map (λ p. p.line) before ≡ line_numbers (take i lines) → after ≡ before ++ ports ∷ [] → ports.line ≡ line.spec.number → i < length lines
+    → line ≡ slice_index_or lines i line → map (λ p. p.line) after ≡ line_numbers (take (i + 1) lines)
+one_more_number lines i line before after ports so_far more same within here =
+    ap (λ ps. map (λ (p : LinePorts). p.line) ps) more ∙ map-append (λ (p : LinePorts). p.line) before (ports ∷ [])
+    ∙ rw (so_far, same) (sym (ap line_numbers (take_more lines i line within ∙ ap (λ l. take i lines ++ l ∷ []) (sym here))
+    ∙ map-append (λ (l : ServedLine). l.spec.number) (take i lines) (line ∷ [])))

@@ -62,7 +62,7 @@ fn listen_at<N: Net>(net: &N, lines: &[ServedLine], port: u16) -> Result<N::List
 pub(crate) fn ports_of(lines: &[ServedLine], listening: &[Listeners<TcpListener>]) -> RackPorts
     requires few { length lines.now ≤ 8 }
     requires each { length listening.now ≡ length lines.now }
-    ensures { map (λ ports. ports.line) result ≡ line_numbers lines.now }
+    ensures { map (λ ports. ports.line) result.items ≡ line_numbers lines.now }
 {
     let mut all = RackPorts::new();
     for line in lines {

@@ -50,7 +50,8 @@ impl<L: Wait + Log + Clock> Accept for MasterAcceptor<'_, L> {
     fn take<H: Wait>(&self, rt: &H, stream: TcpStream) -> bool {
         match self.job_of(stream) {
             Ok(job) => {
-                self.context.sockets.notes.waits(rt, self.port);
+                let context = self.context;
+                context.sockets.notes.waits(rt, self.port);
                 self.jobs.send(rt, job).is_ok()
             }
             Err(error) => {
@@ -61,9 +62,7 @@ impl<L: Wait + Log + Clock> Accept for MasterAcceptor<'_, L> {
     }
 
     fn report<H: Wait>(&self, rt: &H, error: io::Error) {
-        self.context
-            .sockets
-            .notes
-            .cannot_accept(rt, self.line, error);
+        let context = self.context;
+        context.sockets.notes.cannot_accept(rt, self.line, error);
     }
 }

@@ -73,9 +73,7 @@ impl<L: Wait + Log + Clock, G: Gate> Accept for OperatorAcceptor<'_, OperatedLin
     }
 
     fn report<H: Wait>(&self, rt: &H, error: io::Error) {
-        self.context
-            .sockets
-            .notes
-            .cannot_accept(rt, self.target.spec.number, error);
+        let (context, line) = (self.context, self.target.spec.number);
+        context.sockets.notes.cannot_accept(rt, line, error);
     }
 }
