@@ -143,8 +143,9 @@ declare -A does=(
   [serve]='Serve the lines of a rack to masters and operators at TCP ports of 127.0.0.1'
   [watch]='Show a rack that is served in a browser: who may change which slave, and why not'
   [operate]='Operate a line that is served: send commands, and print the answers'
+  [cable]='Put a cable with faults between masters and a line that is served'
 )
-known=(run check explain serve watch operate)
+known=(run check explain serve watch operate cable)
 
 # helped NAME FIRST WORD..: the words print the help with this first line, always the same text, which is left in NAME.help
 helped() {
@@ -178,12 +179,13 @@ done
 helped check "${does[check]}" check rack --help
 helped serve "${does[serve]}" serve rack --sessions 1 -h
 helped operate "${does[operate]}" operate 7 --help
-hold 'each word has a help of its own' [ "$(sha256sum "$work"/*.help | cut -d ' ' -f 1 | sort -u | wc -l)" = 7 ]
+hold 'each word has a help of its own' [ "$(sha256sum "$work"/*.help | cut -d ' ' -f 1 | sort -u | wc -l)" = 8 ]
 hold 'the help of the program has at most 45 lines' [ "$(wc -l <"$work/rackd.help")" -le 45 ]
 hold 'no line of the help has more than 100 characters' eval '! grep -n ".\{101\}" "$work"/*.help'
 hold 'the help of the program: usage, words, options, exit statuses, an example' has rackd.help 'Usage: rackd < INPUT' \
   'rackd run RACK SCRIPT' 'rackd check RACK AUDIT..' 'rackd explain RACK AUDIT.. [OPTIONS]' 'rackd serve RACK [OPTIONS]' \
-  'rackd watch RACK FOLDER [--port N]' 'rackd operate PORT' 'rackd WORD --help' '-h, --help' '-V, --version' 'Exit statuses:' \
+  'rackd watch RACK FOLDER [--port N]' 'rackd operate PORT' 'rackd cable PORT --listen PORT2 [OPTIONS]' \
+  'rackd WORD --help' '-h, --help' '-V, --version' 'Exit statuses:' \
   '  0  ' '  1  ' '  2  ' '  3  ' '  4  ' '  5  ' $'\nExample:\n  rackd '
 hold 'the help of run: usage, arguments, the commands of a script' has run.help 'Usage: rackd run RACK SCRIPT' 'rackd < INPUT' \
   '<RACK>' '<SCRIPT>' 'exactly %%' '  line N ' '  m M HEX.. ' '  in A HEX ' '  diag A FLAGS HEX ' '  busy A POINT on ' \
@@ -206,6 +208,12 @@ hold 'the help of watch: usage, arguments, ranges' has watch.help 'Usage: rackd 
   '<RACK>' '<FOLDER>' '--port <N>' '127.0.0.1: 0 to 65535' 'default: 0' $'\nExamples:\n  rackd '
 hold 'the help of operate: usage, argument, range' has operate.help 'Usage: rackd operate PORT' '<PORT>' '1 to 65535' \
   'rackd operate 7201'
+hold 'the help of cable: usage, options, ranges, lines' has cable.help \
+  'Usage: rackd cable PORT --listen PORT2 [--lose P] [--spoil P] [--cut P] [--late P MS] [--delay MS]' \
+  '[--requests | --replies] [--seed N] [--resync MS] [--drop-tokens] [--log]' '<PORT>' '1 to 65535' '--listen <PORT2>' \
+  '0 to 65535' '--lose <P>' '--spoil <P>' '--cut <P>' '--late <P> <MS>' '0 to 60000' '--delay <MS>' '--requests' '--replies' \
+  '--seed <N>' '0 to 18446744073709551615' '--resync <MS>' '1 to 60000' '--drop-tokens' '--log' '--ports <FILE>' '  off A ' '  on A ' \
+  '  lose A N ' '  spoil A N ' '  cut A N ' '  late A N MS ' '  clear ' $'\nExamples:\n  rackd '
 hold 'the help of operate has no options of its own' eval '! grep -qE -- "^ +--(tick|step)" "$work/operate.help"'
 
 # the examples of the help, at the top of the repository
@@ -240,8 +248,8 @@ refused() {
 }
 
 try="For more information, try '--help'."
-each_word=('Usage: rackd < INPUT' 'rackd run ' 'rackd check ' 'rackd explain ' 'rackd serve ' 'rackd watch ' 'rackd operate ' 'rackd --help'
-  "$try")
+each_word=('Usage: rackd < INPUT' 'rackd run ' 'rackd check ' 'rackd explain ' 'rackd serve ' 'rackd watch ' 'rackd operate ' 'rackd cable '
+  'rackd --help' "$try")
 refused word "unrecognized subcommand 'word'" "${each_word[@]}"
 refused 'help word' "unrecognized subcommand 'word'" "${each_word[@]}"
 refused --hel "unexpected argument '--hel' found" "${each_word[@]}"

@@ -20,4 +20,4 @@ pub use connection::{
 };
 pub use input_end::{InputEnd, stop_with_input};
 pub use line_ports::LinePorts;
-pub use ports_file::{report_ports, write_ports};
+pub use ports_file::{replace_file, report_ports, text_of_ports};

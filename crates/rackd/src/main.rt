@@ -3,12 +3,14 @@
 //! Without words it reads a rack text, a line `%%` and a script from standard input, and writes the answers of the
 //! script. `run` reads the rack and the script from two files. `check` reads a rack and an audit text, and checks the
 //! text. `explain` reads a rack and an audit text, and explains the text. `serve` reads a rack, and serves its lines at
-//! sockets. `operate` is a client of the operator port of a line that is served. `--help` and `--version` are answered
-//! on standard output.
+//! sockets. `watch` shows a rack in a browser. `operate` is a client of the operator port of a line that is served.
+//! `cable` serves a cable with faults between masters and a line. `--help` and `--version` are answered on standard
+//! output.
 #![tactic(auto)]
 
 mod answers;
 mod audit_files;
+mod cable;
 mod differences;
 mod ending;
 mod files;
@@ -25,6 +27,7 @@ mod texts;
 mod watching;
 
 use answers::answer_words;
+use cable::run_cable;
 use dp_script::RunFault;
 use ending::Fault;
 use files::read_file;
@@ -128,6 +131,15 @@ fn main(rt: HostRuntime) -> ExitCode {
             Err(fault) => report(&rt, fault),
         },
         Ok(Invocation::Operate { port }) => ended(&rt, operate_line(&rt, port, rt.stdin())),
+        Ok(Invocation::Cable { port, cable }) => match row_queue::start(rt, rt.alloc()) {
+            Ok((queue, written)) => {
+                let ended_with = run_cable(&rt, &queue, port, cable, rt.stdin());
+                let code = ended(&queue, ended_with);
+                queue.end(written);
+                code
+            }
+            Err(_) => report(&rt, Fault::Run(RunFault::OutOfMemory)),
+        },
         Ok(Invocation::Answer(answer)) => ended(&rt, answer_words(&rt, &words, answer)),
         Err(fault) => report(&rt, Fault::from(fault)),
     }
@@ -250,7 +262,7 @@ fn operate_line<
 /// descriptor, so no connection does.
 ///
 /// `serve` doesn't need them: it listens first, and a write to a socket that listens fails.
-fn stand_ins<F: Files>(files: &F) -> [Option<F::File>; 3] {
+pub(crate) fn stand_ins<F: Files>(files: &F) -> [Option<F::File>; 3] {
     [stand_in(files), stand_in(files), stand_in(files)]
 }
 

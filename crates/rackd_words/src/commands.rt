@@ -1,5 +1,6 @@
 //! The words that are known, in the form that `clap` requires.
 
+use crate::cable::cabling;
 use crate::help::{self, Help};
 use clap::builder::ValueParser;
 use clap::{Arg, ArgAction, Command};
@@ -74,7 +75,7 @@ pub(crate) const WATCHED: &str = "FOLDER";
 
 pub(crate) const PAGE_PORT: &str = "port";
 
-/// The argument of `operate`.
+/// The argument of `operate` and `cable`.
 pub(crate) const PORT: &str = "PORT";
 
 /// What may follow `--log`. The first one is meant if nothing follows.
@@ -83,8 +84,8 @@ const TOLD: [&str; 2] = ["sessions", "requests"];
 /// What `--version` prints after the program's name: the version, and the toolchain that proves and builds the program.
 const VERSION: &str = "0.1.0 (rattle-kit-13f logic dac8208d650f15bf)";
 
-/// Returns the words that are known: `run`, `check`, `explain`, `serve`, `watch` and `operate`. `clap` adds `help`, and
-/// the options `--help` and `--version`.
+/// Returns the words that are known: `run`, `check`, `explain`, `serve`, `watch`, `operate` and `cable`. `clap` adds
+/// `help`, and the options `--help` and `--version`.
 pub(crate) fn known<'a>(alloc: Global) -> Result<Command<'a>, AllocError> {
     let words = with_help(Command::new(alloc, "rackd"), help::PROGRAM)
         .version(VERSION)
@@ -94,7 +95,7 @@ pub(crate) fn known<'a>(alloc: Global) -> Result<Command<'a>, AllocError> {
 }
 
 /// Adds the texts that `--help` prints.
-fn with_help<'a>(words: Command<'a>, help: Help) -> Command<'a> {
+pub(crate) fn with_help<'a>(words: Command<'a>, help: Help) -> Command<'a> {
     words
         .about(help.about)
         .override_usage(help.usage)
@@ -129,7 +130,9 @@ fn with_ports<'a>(alloc: Global, words: Command<'a>) -> Result<Command<'a>, Allo
     let watch = watching(alloc)?;
     let words = words.subcommand(watch)?;
     let operate = operating(alloc)?;
-    words.subcommand(operate)
+    let words = words.subcommand(operate)?;
+    let cable = cabling(alloc)?;
+    words.subcommand(cable)
 }
 
 /// Returns a word that the file of a rack follows.
@@ -192,12 +195,12 @@ fn address<'a>(alloc: Global, name: &'a str, shown: &'a str, help: &'a str) -> A
 }
 
 /// Returns an option without a value.
-fn flag<'a>(alloc: Global, name: &'a str) -> Arg<'a> {
+pub(crate) fn flag<'a>(alloc: Global, name: &'a str) -> Arg<'a> {
     Arg::new(alloc, name).long(name).action(ArgAction::SetTrue)
 }
 
 /// Returns an option with a number within limits.
-fn number<'a>(alloc: Global, name: &'a str, least: u64, most: u64) -> Arg<'a> {
+pub(crate) fn number<'a>(alloc: Global, name: &'a str, least: u64, most: u64) -> Arg<'a> {
     Arg::new(alloc, name)
         .long(name)
         .value_parser(ValueParser::unsigned(least, most))
@@ -321,8 +324,8 @@ pub(crate) fn operating<'a>(alloc: Global) -> Result<Command<'a>, AllocError> {
     with_help(Command::new(alloc, "operate"), help::OPERATE).arg(port(alloc))
 }
 
-/// Returns the argument for the port after `operate`.
-fn port<'a>(alloc: Global) -> Arg<'a> {
+/// Returns the argument for the port after `operate` and `cable`.
+pub(crate) fn port<'a>(alloc: Global) -> Arg<'a> {
     Arg::new(alloc, PORT)
         .required(true)
         .value_parser(ValueParser::unsigned(1, u64::from(u16::MAX)))

@@ -30,6 +30,7 @@ rackd < INPUT
        rackd serve RACK [OPTIONS]
        rackd watch RACK FOLDER [--port N]
        rackd operate PORT
+       rackd cable PORT --listen PORT2 [OPTIONS]
        rackd --help
        rackd WORD --help",
     details: "\

@@ -1,5 +1,6 @@
 //! What words may ask for.
 
+use crate::cable::CableWords;
 use thiserror::Error;
 
 /// How much is reported on standard error while a rack is served.
@@ -110,6 +111,13 @@ pub enum Invocation<'a> {
     Operate {
         /// The operator port of the line, 1 to 65,535.
         port: u16,
+    },
+    /// `cable PORT --listen PORT2`: put a cable with faults between masters and a line.
+    Cable {
+        /// The port of the line for masters, 1 to 65,535.
+        port: u16,
+        /// How the cable is served.
+        cable: CableWords<'a>,
     },
     /// `clap` answers: with help, with the version, or with what is wrong with the words.
     Answer(clap::Error),

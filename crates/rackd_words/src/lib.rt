@@ -1,12 +1,15 @@
 //! The words of the command line of `rackd`, and what they ask for.
 #![tactic(auto)]
 
+mod cable;
+mod cable_help;
 mod commands;
 mod forms;
 mod help;
 mod invocation;
 mod reading;
 
+pub use cable::{CableWords, FaultyTelegrams};
 pub use forms::{operator_form, script_form};
 pub use invocation::{Entries, Invocation, LogDetail, Service, WordsFault};
 pub use reading::{read_words, words_of};

@@ -1,5 +1,6 @@
 //! Reads what the words of the command line ask for.
 
+use crate::cable::{BadValue, DELAY, LISTEN, RESYNC, SEED, cable_of, cabling};
 use crate::commands::{
     AUDIT, ENDLESS, FAULTS, FOLDER, FOLLOW, FROM, JSON, LOG, MASTER, PAGE, PAGE_PORT, PART, PORT,
     PORTS, RACK, REFUSED, SCRIPT, SESSIONS, SLAVE, STEP, SUMMARY, TICK, TO, UNTIL_INPUT_ENDS,
@@ -13,7 +14,7 @@ use std::env::{self, Env};
 use std::io::ErrorKind;
 
 /// The arguments that are numbers, and their names in messages.
-const NUMBERS: [(&str, &str); 11] = [
+const NUMBERS: [(&str, &str); 15] = [
     (FROM, "--from <N>"),
     (TO, "--to <N>"),
     (SLAVE, "--slave <A>"),
@@ -25,6 +26,10 @@ const NUMBERS: [(&str, &str); 11] = [
     (PORT, "<PORT>"),
     (TICK, "--tick <MS>"),
     (STEP, "--step <MS>"),
+    (LISTEN, "--listen <PORT2>"),
+    (DELAY, "--delay <MS>"),
+    (SEED, "--seed <N>"),
+    (RESYNC, "--resync <MS>"),
 ];
 
 /// The least megabytes of a part of an audit text, if the words name none.
@@ -146,6 +151,7 @@ fn refuse_number<'a>(alloc: Global, odd: OddNumber<'_>) -> Result<Invocation<'a>
         "operate" => operating(alloc),
         "explain" => explaining(alloc),
         "watch" => watching(alloc),
+        "cable" => cabling(alloc),
         _ => serving(alloc),
     };
     refuse_value(command, message.as_str())
@@ -182,11 +188,28 @@ fn invocation_of<'a>(
         "operate" => Ok(Invocation::Operate {
             port: words.get_one(PORT).unwrap_or(0),
         }),
+        "cable" => match cable_of(words) {
+            Ok((port, cable)) => Ok(Invocation::Cable { port, cable }),
+            Err(bad) => refuse_bad(alloc, bad),
+        },
         _ => Ok(Invocation::Serve {
             rack: path_in(words, RACK),
             service: service_of(words),
         }),
     }
+}
+
+/// Returns the answer to a value that `cable` does not accept.
+fn refuse_bad<'a>(alloc: Global, bad: BadValue<'_>) -> Result<Invocation<'a>, WordsFault> {
+    let BadValue {
+        shown,
+        value,
+        accepts,
+    } = bad;
+    let Ok(message) = format!(in alloc; "invalid value '{value}' for '{shown}': {accepts}") else {
+        return Err(WordsFault::OutOfMemory);
+    };
+    refuse_value(cabling(alloc), message.as_str())
 }
 
 /// Returns the paths of this name, in their order. Returns `OutOfMemory` if memory is refused.

@@ -2,7 +2,7 @@ use Rattle.std.proofs.Common.{◌∙◌, ap}
 use Rattle.std.proofs.lemmas.List.{take_all}
 use Rattle.rack_sockets.specs.Ports.{ports_text}
 use Rattle.rack_sockets.proofs.Rows.{one_more_row}
-use Rattle.rack_sockets.proofs.ports_file.text_of.Goals as goal
+use Rattle.rack_sockets.proofs.ports_file.text_of_ports.Goals as goal
 
 pub loop-line-preserved : goal.loop-line-preserved
 loop-line-preserved c =

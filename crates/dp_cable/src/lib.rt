@@ -1,0 +1,30 @@
+//! What a faulty cable between a master and a line does to telegrams.
+//!
+//! Telegrams, moments and lines of text are values. Nothing here reads a clock, uses a socket, waits or allocates
+//! memory.
+#![tactic(auto)]
+
+mod cable;
+mod chance;
+mod dice;
+mod fate;
+pub mod laws;
+mod line_text;
+mod obeying;
+mod options;
+mod order;
+mod pace;
+mod passing;
+mod rows;
+mod spoiling;
+
+pub use cable::{Cable, Decision};
+pub use chance::{CERTAIN, Chance};
+pub use dice::{Dice, Draw};
+pub use fate::Fate;
+pub use line_text::{MOST_MILLISECONDS, read_line};
+pub use options::{Covered, Direction, Options};
+pub use order::{Answer, Line, Order, OrderKind};
+pub use pace::Pace;
+pub use passing::Passage;
+pub use rows::{NOT_A_COMMAND, push_answer, push_done, push_fault};
