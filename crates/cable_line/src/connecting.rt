@@ -5,7 +5,7 @@ use crate::link::{Link, Received, receive, send};
 use crate::shared::Shared;
 use crate::way::{Way, pass_all};
 use crossbeam_channel::unbounded;
-use dp_cable::{Dice, Direction, Pace};
+use dp_cable::{Direction, Pace, RandomWords};
 use dp_telegram::Cutter;
 use std::alloc::{AllocError, Global};
 use std::io::{self, ErrorKind};
@@ -109,7 +109,7 @@ fn pass_both<H: Threads + Wait + Clock + Copy + Send + 'static>(
     link: &Arc<Link, Global>,
     shared: Arc<Shared, Global>,
 ) -> Result<(), AllocError> {
-    let (requests, replies) = shared.dice(&rt, link.address);
+    let (requests, replies) = shared.random_words(&rt, link.address);
     let of_replies = Arc::try_clone(&shared)?;
     let replies = open_way(rt, alloc, link, of_replies, Direction::Reply, replies)?;
     let requests = open_way(rt, alloc, link, shared, Direction::Request, requests)?;
@@ -128,7 +128,7 @@ fn open_way<H: Threads + Wait + Clock + Copy + Send + 'static>(
     link: &Arc<Link, Global>,
     shared: Arc<Shared, Global>,
     direction: Direction,
-    dice: Dice,
+    random_words: RandomWords,
 ) -> Result<Way, AllocError> {
     let Ok(start) = Instant::now(&rt) else {
         return Err(AllocError);
@@ -147,7 +147,7 @@ fn open_way<H: Threads + Wait + Clock + Copy + Send + 'static>(
         shared,
         link: Arc::try_clone(link)?,
         direction,
-        dice,
+        random_words,
         delayed: DelayedSender::new(sender, left),
         start,
         pace: Pace::new(),

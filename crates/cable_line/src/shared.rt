@@ -2,7 +2,7 @@
 
 use crate::output::Row;
 use crossbeam_channel::Sender;
-use dp_cable::{Cable, Dice, Direction};
+use dp_cable::{Cable, Direction, RandomWords};
 use dp_text::Text;
 use std::sync::{Mutex, Wait};
 
@@ -73,12 +73,12 @@ impl Shared {
 
     /// Returns the random words of both directions of the next connection of a master. Each connection of one master has
     /// other words, and they do not depend on the other masters.
-    pub(crate) fn dice(&self, rt: &impl Wait, master: u8) -> (Dice, Dice) {
+    pub(crate) fn random_words(&self, rt: &impl Wait, master: u8) -> (RandomWords, RandomWords) {
         let mut state = self.state.lock(rt);
         let connection = state.next_connection(master);
         (
-            Dice::new(self.seed, stream_of(connection, Direction::Request)),
-            Dice::new(self.seed, stream_of(connection, Direction::Reply)),
+            RandomWords::new(self.seed, stream_of(connection, Direction::Request)),
+            RandomWords::new(self.seed, stream_of(connection, Direction::Reply)),
         )
     }
 }

@@ -4,7 +4,7 @@ use crate::delayed::{Delayed, DelayedSender, microseconds};
 use crate::link::{Link, Received, receive, send};
 use crate::output::Row;
 use crate::shared::Shared;
-use dp_cable::{Dice, Direction, Fate, Line, Pace, Passage, push_done, push_fault};
+use dp_cable::{Direction, Line, Pace, Passage, RandomWords, Treatment, push_done, push_fault};
 use dp_telegram::Cutter;
 use dp_text::Text;
 use std::alloc::Global;
@@ -20,7 +20,7 @@ pub(crate) struct Way {
     pub(crate) shared: Arc<Shared, Global>,
     pub(crate) link: Arc<Link, Global>,
     pub(crate) direction: Direction,
-    pub(crate) dice: Dice,
+    pub(crate) random_words: RandomWords,
     pub(crate) delayed: DelayedSender,
     /// The moment from which microseconds are counted.
     pub(crate) start: Instant,
@@ -105,10 +105,13 @@ impl Way {
     fn decide<H: Wait>(&mut self, rt: &H) -> Option<Passage> {
         let asked = self.link.asked();
         let mut state = self.shared.state.lock(rt);
-        let passage = state
-            .cable
-            .take_piece(&mut self.cutter, self.direction, asked, &mut self.dice)?;
-        if self.shared.logs && passage.decision.fate.is_fault() {
+        let passage = state.cable.take_piece(
+            &mut self.cutter,
+            self.direction,
+            asked,
+            &mut self.random_words,
+        )?;
+        if self.shared.logs && passage.decision.treatment.is_fault() {
             let row = fault_row(self.link.address, self.direction, &passage);
             self.shared.write(rt, row);
         }
@@ -140,7 +143,7 @@ impl Way {
 
     /// Drops the octets that are held, which are no whole telegram. Always returns true: the connection goes on.
     fn drop_held<H: Wait>(&mut self, rt: &H) -> bool {
-        let lost = Passage::of_rest(&mut self.cutter, Fate::Lost);
+        let lost = Passage::of_rest(&mut self.cutter, Treatment::Lost);
         if self.shared.logs {
             let row = fault_row(self.link.address, self.direction, &lost);
             self.shared.write(rt, row);
@@ -150,7 +153,7 @@ impl Way {
 
     /// Passes on the octets that are held at the end of a connection, which are no whole telegram.
     fn pass_held<H: Wait + Clock>(&mut self, rt: &H) {
-        let rest = Passage::of_rest(&mut self.cutter, Fate::Passed);
+        let rest = Passage::of_rest(&mut self.cutter, Treatment::Passed);
         self.pass(rt, &rest);
     }
 }

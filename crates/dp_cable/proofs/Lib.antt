@@ -1,4 +1,4 @@
 pub mod Whole
 mod SpoiltTelegrams
 mod InOrder
-mod Kindness
+mod FaultlessCables

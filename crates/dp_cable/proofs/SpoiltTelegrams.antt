@@ -12,7 +12,7 @@ use Rattle.dp_telegram.specs.declared.fault.FrameFault.{FrameFault}
 use Rattle.dp_telegram.specs.declared.fault.FrameFault.TheVariants.{NoStart, BadHead, BadEnd, Short, Long}
 use Rattle.dp_telegram.specs.FrameText.{sd1, sd2, sd3, sd4, sc, ed, body_at, check_sequence, delimiter, end_is_right, fault_of, first_fault, frame_length, head_is_right, head_length, is_checked, is_start}
 use Rattle.dp_cable.specs.Whole.{HasNoFault}
-use Rattle.dp_cable.specs.Fates.{changed, no_start, sent_of, spoilt_fate, spoilt_octet, spoilt_place}
+use Rattle.dp_cable.specs.Treatments.{changed, no_start, sent_of, spoilt_treatment, spoilt_octet, spoilt_place}
 use Rattle.dp_cable.proofs.Whole.{has_room, is_one_of_five, no_fault}
 
 abbrev Rows : Bool → Bool → Bool → Bool → Bool → Bool → Bool → Option FrameFault
@@ -176,7 +176,7 @@ changed_small : (octet word : ℕ) → changed octet word < 256
 changed_small octet word = omega arith
 
 pub spoilt_checked : (octets : List ℕ) (place change : ℕ) → fault_of octets ≡ None → All (λ octet. octet < 256) octets
-    → is_checked octets ≡ true → fault_of (sent_of (spoilt_fate octets place change) octets) ≡ Some BadEnd
+    → is_checked octets ≡ true → fault_of (sent_of (spoilt_treatment octets place change) octets) ≡ Some BadEnd
 spoilt_checked octets place change none all checked =
     let whole = no_fault octets none in
     let room = has_room octets whole checked in
@@ -213,7 +213,7 @@ starts_no_frame : (octets : List ℕ) → 1 ≤ length octets → is_start (deli
 starts_no_frame octets some start = rw (le-ltb (length octets) 1 some, start) refl
 
 pub spoilt_unchecked : (octets : List ℕ) (place change : ℕ) → fault_of octets ≡ None → All (λ octet. octet < 256) octets
-    → is_checked octets ≡ false → fault_of (sent_of (spoilt_fate octets place change) octets) ≡ Some NoStart
+    → is_checked octets ≡ false → fault_of (sent_of (spoilt_treatment octets place change) octets) ≡ Some NoStart
 spoilt_unchecked octets place change none all unchecked =
     let whole = no_fault octets none in
     let place_is : spoilt_place octets place ≡ 0 = rw unchecked refl in

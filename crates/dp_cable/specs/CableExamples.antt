@@ -2,8 +2,8 @@
 use Rattle.std.specs.Prelude.{◌≡◌, codes, ℕ, true, false, List, [], ◌∷◌, Option, Some, None, refl}
 use Rattle.dp_cable.specs.declared.cable.Cable.{Cable}
 use Rattle.dp_cable.specs.declared.chance.Chance.{Chance}
-use Rattle.dp_cable.specs.declared.dice.Draw.{Draw}
-use Rattle.dp_cable.specs.declared.fate.Fate.TheVariants.{Passed, Withheld, Lost, Spoilt, Cut, Late}
+use Rattle.dp_cable.specs.declared.random_words.Draw.{Draw}
+use Rattle.dp_cable.specs.declared.treatment.Treatment.TheVariants.{Passed, Withheld, Lost, Spoilt, Cut, Late}
 use Rattle.dp_cable.specs.declared.options.Covered.TheVariants.{Replies}
 use Rattle.dp_cable.specs.declared.options.Direction.TheVariants.{Request, Reply}
 use Rattle.dp_cable.specs.declared.options.Options.{Options}
@@ -11,9 +11,9 @@ use Rattle.dp_cable.specs.declared.order.Line.TheVariants.{Off, Clear, Faults}
 use Rattle.dp_cable.specs.declared.order.Order.{Order}
 use Rattle.dp_cable.specs.declared.order.OrderKind.{OrderKind}
 use Rattle.dp_cable.specs.declared.order.OrderKind.TheVariants as ordered
-use Rattle.dp_cable.specs.Chances.{first_dice, hits, word_of}
+use Rattle.dp_cable.specs.Chances.{first_random_words, hits, word_of}
 use Rattle.dp_cable.specs.Decisions.{decision_of, waiting_after}
-use Rattle.dp_cable.specs.Fates.{changed, cut_count, sent_of, spoilt_fate}
+use Rattle.dp_cable.specs.Treatments.{changed, cut_count, sent_of, spoilt_treatment}
 use Rattle.dp_cable.specs.LineTexts.{line_of}
 use Rattle.dp_cable.specs.Obeying.{off_after, orders_after}
 use Rattle.dp_cable.specs.Paces.{Coming, dues, first_pace}
@@ -30,8 +30,8 @@ pub first_miss : hits (record { millionths = 15000 }) 64424510 ≡ false
 first_miss = refl
 
 -- the first word of the reference generator of PCG's C code
-pub reference_word : word_of (first_dice 42 54) ≡ 0xa15c02b7
-unfolding word_of first_dice
+pub reference_word : word_of (first_random_words 42 54) ≡ 0xa15c02b7
+unfolding word_of first_random_words
 reference_word = refl
 
 -- ---- telegrams
@@ -56,17 +56,17 @@ pub the_octet_before : changed 0x05 254 ≡ 0x04
 the_octet_before = refl
 
 -- place 1 + 2, of the four octets DA, SA, FC and FCS
-pub a_spoilt_octet : sent_of (spoilt_fate poll 2 0) poll ≡ 0x10 ∷ 0x05 ∷ 0x01 ∷ 0x4A ∷ 0x4F ∷ 0x16 ∷ []
+pub a_spoilt_octet : sent_of (spoilt_treatment poll 2 0) poll ≡ 0x10 ∷ 0x05 ∷ 0x01 ∷ 0x4A ∷ 0x4F ∷ 0x16 ∷ []
 a_spoilt_octet = refl
 
-pub a_spoilt_check_sequence : sent_of (spoilt_fate poll 7 0) poll ≡ 0x10 ∷ 0x05 ∷ 0x01 ∷ 0x49 ∷ 0x50 ∷ 0x16 ∷ []
+pub a_spoilt_check_sequence : sent_of (spoilt_treatment poll 7 0) poll ≡ 0x10 ∷ 0x05 ∷ 0x01 ∷ 0x49 ∷ 0x50 ∷ 0x16 ∷ []
 a_spoilt_check_sequence = refl
 
-pub a_spoilt_acknowledgement : spoilt_fate ack 9 0 ≡ Spoilt 0 0xE6
+pub a_spoilt_acknowledgement : spoilt_treatment ack 9 0 ≡ Spoilt 0 0xE6
 a_spoilt_acknowledgement = refl
 
 -- E5 + 2B is 10, a start delimiter
-pub no_other_start : spoilt_fate ack 0 42 ≡ Spoilt 0 0x11
+pub no_other_start : spoilt_treatment ack 0 42 ≡ Spoilt 0 0x11
 no_other_start = refl
 
 pub a_cut : cut_count poll 4 ≡ 5
@@ -110,33 +110,33 @@ abbrev draw : ℕ → Draw
 draw late = record { lose = 0; spoil = 0; cut = 0; late = late; place = 0; change = 0 }
 
 -- the first order for slave 5, of whose two replies this is the first; the delay comes on top
-pub an_order : decision_of cable Reply answer None (draw 0) ≡ record { fate = Late 300; wait = 305; slave = Some 5; done = None }
+pub an_order : decision_of cable Reply answer None (draw 0) ≡ record { treatment = Late 300; wait = 305; slave = Some 5; done = None }
 an_order = refl
 
 pub one_less : waiting_after cable Reply answer None ≡ order ordered.Lose 6 1 1 ∷ order (ordered.Late 300) 5 2 1 ∷ order ordered.Lose 5 1 1 ∷ []
 one_less = refl
 
 -- a short acknowledgement belongs to the slave of the last request, here the last reply of its order
-pub an_acknowledgement : decision_of cable Reply ack (Some 6) (draw 0) ≡ record { fate = Lost; wait = 5; slave = Some 6; done = Some (order ordered.Lose 6 1 1) }
+pub an_acknowledgement : decision_of cable Reply ack (Some 6) (draw 0) ≡ record { treatment = Lost; wait = 5; slave = Some 6; done = Some (order ordered.Lose 6 1 1) }
 an_acknowledgement = refl
 
 pub its_order_goes : waiting_after cable Reply ack (Some 6) ≡ order (ordered.Late 300) 5 2 2 ∷ order ordered.Lose 5 1 1 ∷ []
 its_order_goes = refl
 
 -- without an order chance decides, for replies only
-pub by_chance : decision_of cable Reply ack (Some 9) (draw 2147483647) ≡ record { fate = Late 20; wait = 25; slave = Some 9; done = None }
+pub by_chance : decision_of cable Reply ack (Some 9) (draw 2147483647) ≡ record { treatment = Late 20; wait = 25; slave = Some 9; done = None }
 by_chance = refl
 
-pub not_by_chance : decision_of cable Reply ack (Some 9) (draw 2147483648) ≡ record { fate = Passed; wait = 5; slave = Some 9; done = None }
+pub not_by_chance : decision_of cable Reply ack (Some 9) (draw 2147483648) ≡ record { treatment = Passed; wait = 5; slave = Some 9; done = None }
 not_by_chance = refl
 
-pub a_request : decision_of cable Request poll None (draw 0) ≡ record { fate = Passed; wait = 0; slave = Some 5; done = None }
+pub a_request : decision_of cable Request poll None (draw 0) ≡ record { treatment = Passed; wait = 0; slave = Some 5; done = None }
 a_request = refl
 
-pub a_slave_off_the_bus : decision_of cable Reply ack (Some 7) (draw 0) ≡ record { fate = Lost; wait = 5; slave = Some 7; done = None }
+pub a_slave_off_the_bus : decision_of cable Reply ack (Some 7) (draw 0) ≡ record { treatment = Lost; wait = 5; slave = Some 7; done = None }
 a_slave_off_the_bus = refl
 
-pub a_withheld_token : decision_of cable Request own_token None (draw 0) ≡ record { fate = Withheld; wait = 0; slave = None; done = None }
+pub a_withheld_token : decision_of cable Request own_token None (draw 0) ≡ record { treatment = Withheld; wait = 0; slave = None; done = None }
 a_withheld_token = refl
 
 -- ---- lines
@@ -165,12 +165,12 @@ pub a_done_line : done_row (Faults (order (ordered.Late 300) 5 2 0)) ≡ codes "
 unfolding text_on_literals
 a_done_line = refl
 
-pub a_cut_row : fault_row 2 Request (record { before = record { items = poll }; decision = record { fate = Cut 2; wait = 0; slave = Some 5; done = None } })
+pub a_cut_row : fault_row 2 Request (record { before = record { items = poll }; decision = record { treatment = Cut 2; wait = 0; slave = Some 5; done = None } })
     ≡ codes "master 2 request 5: cut 100501494f16 -> 1005"
 unfolding text_on_literals
 a_cut_row = refl
 
-pub a_lost_row : fault_row 2 Reply (record { before = record { items = ack }; decision = record { fate = Lost; wait = 0; slave = None; done = None } })
+pub a_lost_row : fault_row 2 Reply (record { before = record { items = ack }; decision = record { treatment = Lost; wait = 0; slave = None; done = None } })
     ≡ codes "master 2 reply -: lost e5 -> -"
 unfolding text_on_literals
 a_lost_row = refl

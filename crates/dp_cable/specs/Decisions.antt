@@ -7,10 +7,10 @@ use Rattle.dp_telegram.specs.declared.frame.Frame.{Frame}
 use Rattle.dp_telegram.specs.declared.frame.Frame.TheVariants as frames
 use Rattle.dp_cable.specs.declared.cable.Cable.{Cable}
 use Rattle.dp_cable.specs.declared.cable.Decision.{Decision}
-use Rattle.dp_cable.specs.declared.dice.Dice.{Dice}
-use Rattle.dp_cable.specs.declared.dice.Draw.{Draw}
-use Rattle.dp_cable.specs.declared.fate.Fate.{Fate}
-use Rattle.dp_cable.specs.declared.fate.Fate.TheVariants.{Passed, Withheld, Lost, Late}
+use Rattle.dp_cable.specs.declared.random_words.RandomWords.{RandomWords}
+use Rattle.dp_cable.specs.declared.random_words.Draw.{Draw}
+use Rattle.dp_cable.specs.declared.treatment.Treatment.{Treatment}
+use Rattle.dp_cable.specs.declared.treatment.Treatment.TheVariants.{Passed, Withheld, Lost, Late}
 use Rattle.dp_cable.specs.declared.options.Covered.{Covered}
 use Rattle.dp_cable.specs.declared.options.Covered.TheVariants.{Both, Requests, Replies}
 use Rattle.dp_cable.specs.declared.options.Direction.{Direction}
@@ -20,7 +20,7 @@ use Rattle.dp_cable.specs.declared.order.Order.{Order}
 use Rattle.dp_cable.specs.declared.order.OrderKind.{OrderKind}
 use Rattle.dp_cable.specs.declared.order.OrderKind.TheVariants as ordered
 use Rattle.dp_cable.specs.Chances.{draw_of, hits}
-use Rattle.dp_cable.specs.Fates.{cut_fate, lateness, spoilt_fate}
+use Rattle.dp_cable.specs.Treatments.{cut_treatment, lateness, spoilt_treatment}
 
 abbrev pub are_covered : Covered → Direction → Bool
 are_covered Both direction = true
@@ -96,19 +96,19 @@ done_by (Some order) = if is_last order then Some order else None
 -- ---- what becomes of a telegram
 
 -- by chance, at most one fault: the first one of lost, spoilt, cut and late whose chance comes true
-abbrev pub chance_fate : Options → List ℕ → Draw → Fate
-chance_fate options octets draw =
+abbrev pub chance_treatment : Options → List ℕ → Draw → Treatment
+chance_treatment options octets draw =
     if hits options.lose draw.lose then Lost
-    else if hits options.spoil draw.spoil then spoilt_fate octets draw.place draw.change
-    else if hits options.cut draw.cut then cut_fate octets draw.place
+    else if hits options.spoil draw.spoil then spoilt_treatment octets draw.place draw.change
+    else if hits options.cut draw.cut then cut_treatment octets draw.place
     else if hits options.late draw.late then Late options.late_milliseconds
     else Passed
 
-abbrev pub order_fate : OrderKind → List ℕ → Draw → Fate
-order_fate ordered.Lose octets draw = Lost
-order_fate ordered.Spoil octets draw = spoilt_fate octets draw.place draw.change
-order_fate ordered.Cut octets draw = cut_fate octets draw.place
-order_fate (ordered.Late milliseconds) octets draw = Late milliseconds
+abbrev pub order_treatment : OrderKind → List ℕ → Draw → Treatment
+order_treatment ordered.Lose octets draw = Lost
+order_treatment ordered.Spoil octets draw = spoilt_treatment octets draw.place draw.change
+order_treatment ordered.Cut octets draw = cut_treatment octets draw.place
+order_treatment (ordered.Late milliseconds) octets draw = Late milliseconds
 
 -- a token that a master sends to itself: it is the only master of its ring
 abbrev pub is_own_token : Frame → Bool
@@ -117,16 +117,16 @@ is_own_token frames.Ack = false
 is_own_token (frames.Telegram telegram) = false
 
 -- an order comes before chance
-abbrev pub ordered_fate : Option Order → Options → Direction → List ℕ → Draw → Fate
-ordered_fate (Some order) options direction octets draw = order_fate order.kind octets draw
-ordered_fate None options direction octets draw = if are_covered options.covered direction then chance_fate options octets draw else Passed
+abbrev pub ordered_treatment : Option Order → Options → Direction → List ℕ → Draw → Treatment
+ordered_treatment (Some order) options direction octets draw = order_treatment order.kind octets draw
+ordered_treatment None options direction octets draw = if are_covered options.covered direction then chance_treatment options octets draw else Passed
 
 -- a token that is withheld and a slave that is off the bus come before all faults
-abbrev pub fate_by : Options → Direction → Bool → Option Order → List ℕ → Draw → Fate
-fate_by options direction off order octets draw =
+abbrev pub treatment_by : Options → Direction → Bool → Option Order → List ℕ → Draw → Treatment
+treatment_by options direction off order octets draw =
     if options.drops_tokens && is_own_token (frame_at octets) then Withheld
     else if off then Lost
-    else ordered_fate order options direction octets draw
+    else ordered_treatment order options direction octets draw
 
 -- each reply is delayed
 abbrev pub delay_of : Options → Direction → ℕ
@@ -136,8 +136,8 @@ delay_of options Reply = options.delay
 -- the decision, with the slave of the telegram, whether it is off, and the place of the order for it
 abbrev pub decision_by : Options → Direction → Option ℕ → Bool → Option Order → List ℕ → Draw → Decision
 decision_by options direction slave off order octets draw =
-    let fate = fate_by options direction off order octets draw in
-    record { fate = fate; wait = delay_of options direction + lateness fate; slave = slave; done = done_by order }
+    let treatment = treatment_by options direction off order octets draw in
+    record { treatment = treatment; wait = delay_of options direction + lateness treatment; slave = slave; done = done_by order }
 
 -- the decision on a telegram of this direction, after a request to the slave `asked`
 abbrev pub decision_of : Cable → Direction → List ℕ → Option ℕ → Draw → Decision

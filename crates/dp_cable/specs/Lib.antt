@@ -1,11 +1,11 @@
 pub mod Whole
 pub mod Chances
-pub mod Fates
+pub mod Treatments
 pub mod Decisions
 pub mod Obeying
 pub mod Paces
 pub mod Passing
-pub mod Kind
+pub mod Faultless
 pub mod LineTexts
 pub mod Rows
 pub mod CableExamples

@@ -5,47 +5,47 @@ use Rattle.dp_telegram.specs.declared.cutter.Cut.TheVariants as pieces
 use Rattle.dp_telegram.specs.Stream.{cut_length, left_of, piece_of}
 use Rattle.dp_cable.specs.declared.cable.Cable.{Cable}
 use Rattle.dp_cable.specs.declared.cable.Decision.{Decision}
-use Rattle.dp_cable.specs.declared.dice.Dice.{Dice}
-use Rattle.dp_cable.specs.declared.fate.Fate.{Fate}
-use Rattle.dp_cable.specs.declared.fate.Fate.TheVariants.{Passed}
+use Rattle.dp_cable.specs.declared.random_words.RandomWords.{RandomWords}
+use Rattle.dp_cable.specs.declared.treatment.Treatment.{Treatment}
+use Rattle.dp_cable.specs.declared.treatment.Treatment.TheVariants.{Passed}
 use Rattle.dp_cable.specs.declared.options.Direction.{Direction}
 use Rattle.dp_cable.specs.declared.options.Options.{Options}
 use Rattle.dp_cable.specs.declared.order.Order.{Order}
 use Rattle.dp_cable.specs.declared.passing.Passage.{Passage}
-use Rattle.dp_cable.specs.Chances.{dice_after_draw, draw_of}
+use Rattle.dp_cable.specs.Chances.{random_words_after_draw, draw_of}
 use Rattle.dp_cable.specs.Decisions.{decision_of, delay_of, waiting_after}
-use Rattle.dp_cable.specs.Fates.{sent_of}
+use Rattle.dp_cable.specs.Treatments.{sent_of}
 
 -- octets that are no telegram
 abbrev pub passed_on : Options → Direction → Decision
-passed_on options direction = record { fate = Passed; wait = delay_of options direction; slave = None; done = None }
+passed_on options direction = record { treatment = Passed; wait = delay_of options direction; slave = None; done = None }
 
 -- octets that are no whole telegram, and what becomes of them
-abbrev pub rest_with : Fate → List ℕ → Passage
-rest_with fate octets = record {
+abbrev pub rest_with : Treatment → List ℕ → Passage
+rest_with treatment octets = record {
   before = record { items = octets };
-  decision = record { fate = fate; wait = 0; slave = None; done = None };
+  decision = record { treatment = treatment; wait = 0; slave = None; done = None };
 }
 
-abbrev pub decision_on : Cable → Direction → Option ℕ → Dice → Cut → Decision
-decision_on cable direction asked dice (pieces.Frame frame octets) = decision_of cable direction octets.items asked (draw_of dice)
-decision_on cable direction asked dice (pieces.Dropped fault count) = passed_on cable.options direction
+abbrev pub decision_on : Cable → Direction → Option ℕ → RandomWords → Cut → Decision
+decision_on cable direction asked random_words (pieces.Frame frame octets) = decision_of cable direction octets.items asked (draw_of random_words)
+decision_on cable direction asked random_words (pieces.Dropped fault count) = passed_on cable.options direction
 
-abbrev pub passage_by : Cable → Direction → Option ℕ → Dice → List ℕ → Cut → Passage
-passage_by cable direction asked dice stream cut = record {
+abbrev pub passage_by : Cable → Direction → Option ℕ → RandomWords → List ℕ → Cut → Passage
+passage_by cable direction asked random_words stream cut = record {
   before = record { items = take (cut_length cut) stream };
-  decision = decision_on cable direction asked dice cut;
+  decision = decision_on cable direction asked random_words cut;
 }
 
 -- the first piece of a stream, and what becomes of it
-abbrev pub passage_of : Cable → Direction → Option ℕ → Dice → List ℕ → Option Passage
-passage_of cable direction asked dice stream = option_map (passage_by cable direction asked dice stream) (piece_of stream)
+abbrev pub passage_of : Cable → Direction → Option ℕ → RandomWords → List ℕ → Option Passage
+passage_of cable direction asked random_words stream = option_map (passage_by cable direction asked random_words stream) (piece_of stream)
 
 -- only a telegram takes random words and is counted by an order
-abbrev pub dice_after_piece : Dice → Option Cut → Dice
-dice_after_piece dice None = dice
-dice_after_piece dice (Some (pieces.Frame frame octets)) = dice_after_draw dice
-dice_after_piece dice (Some (pieces.Dropped fault count)) = dice
+abbrev pub random_words_after_piece : RandomWords → Option Cut → RandomWords
+random_words_after_piece random_words None = random_words
+random_words_after_piece random_words (Some (pieces.Frame frame octets)) = random_words_after_draw random_words
+random_words_after_piece random_words (Some (pieces.Dropped fault count)) = random_words
 
 abbrev pub waiting_after_piece : Cable → Direction → Option ℕ → Option Cut → List Order
 waiting_after_piece cable direction asked None = cable.waiting.items
@@ -61,12 +61,12 @@ pub data IsCutInto : List ℕ → List (List ℕ) → List ℕ → Type 0 where
       → IsCutInto (left_of stream) others rest → IsCutInto stream (take (cut_length cut) stream ∷ others) rest
 
 -- what goes out for pieces, each with what becomes of it
-abbrev pub sent_for : List Fate → List (List ℕ) → List ℕ
+abbrev pub sent_for : List Treatment → List (List ℕ) → List ℕ
 sent_for [] parts = []
-sent_for (fate ∷ fates) [] = []
-sent_for (fate ∷ fates) (part ∷ parts) = sent_of fate part ++ sent_for fates parts
+sent_for (treatment ∷ treatments) [] = []
+sent_for (treatment ∷ treatments) (part ∷ parts) = sent_of treatment part ++ sent_for treatments parts
 
 -- all are passed on
-abbrev pub all_passed : List (List ℕ) → List Fate
+abbrev pub all_passed : List (List ℕ) → List Treatment
 all_passed [] = []
 all_passed (part ∷ parts) = Passed ∷ all_passed parts

@@ -2,15 +2,15 @@
 use Rattle.std.specs.Prelude.{codes, ℕ, List, [], ◌∷◌, ◌++◌, Option, Some, None}
 use Rattle.std.specs.Fmt.{decimal}
 use Rattle.dp_text.specs.Texts.{octets_text}
-use Rattle.dp_cable.specs.declared.fate.Fate.{Fate}
-use Rattle.dp_cable.specs.declared.fate.Fate.TheVariants.{Passed, Withheld, Lost, Spoilt, Cut, Late}
+use Rattle.dp_cable.specs.declared.treatment.Treatment.{Treatment}
+use Rattle.dp_cable.specs.declared.treatment.Treatment.TheVariants.{Passed, Withheld, Lost, Spoilt, Cut, Late}
 use Rattle.dp_cable.specs.declared.options.Direction.{Direction}
 use Rattle.dp_cable.specs.declared.options.Direction.TheVariants.{Request, Reply}
 use Rattle.dp_cable.specs.declared.order.Answer.{Answer}
 use Rattle.dp_cable.specs.declared.order.Answer.TheVariants.{Done, Waits, TooMany}
 use Rattle.dp_cable.specs.declared.order.Line.{Line}
 use Rattle.dp_cable.specs.declared.passing.Passage.{Passage}
-use Rattle.dp_cable.specs.Fates.{sent_of}
+use Rattle.dp_cable.specs.Treatments.{sent_of}
 use Rattle.dp_cable.specs.LineTexts.{line_text}
 
 -- ---- the rows that answer lines; each ends in LF
@@ -36,16 +36,16 @@ slave_text (Some address) = decimal address
 abbrev pub who_text : ℕ → Direction → Option ℕ → List ℕ
 who_text master direction slave = codes "master " ++ decimal master ++ direction_text direction ++ slave_text slave ++ codes ": "
 
-abbrev pub fate_text : Fate → List ℕ
-fate_text Passed = []
-fate_text Withheld = []
-fate_text Lost = codes "lost "
-fate_text (Spoilt place octet) = codes "spoilt "
-fate_text (Cut count) = codes "cut "
-fate_text (Late milliseconds) = codes "late " ++ decimal milliseconds ++ codes " "
+abbrev pub treatment_text : Treatment → List ℕ
+treatment_text Passed = []
+treatment_text Withheld = []
+treatment_text Lost = codes "lost "
+treatment_text (Spoilt place octet) = codes "spoilt "
+treatment_text (Cut count) = codes "cut "
+treatment_text (Late milliseconds) = codes "late " ++ decimal milliseconds ++ codes " "
 
 -- whose telegram it is, what becomes of it, and the octets before and after
 abbrev pub fault_row : ℕ → Direction → Passage → List ℕ
 fault_row master direction passage =
-    who_text master direction passage.decision.slave ++ fate_text passage.decision.fate ++ octets_text passage.before.items ++ codes " -> "
-    ++ octets_text (sent_of passage.decision.fate passage.before.items)
+    who_text master direction passage.decision.slave ++ treatment_text passage.decision.treatment ++ octets_text passage.before.items ++ codes " -> "
+    ++ octets_text (sent_of passage.decision.treatment passage.before.items)

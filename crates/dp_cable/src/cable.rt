@@ -2,14 +2,14 @@
 
 ghost use Rattle.std.specs.Prelude.{◌≡◌, ◌<◌, length, slice_set, IfSome, None, []};
 ghost use Rattle.dp_telegram.specs.FrameText.{frame_at};
-ghost use Rattle.dp_cable.specs.Chances.{dice_after_draw, draw_of};
-ghost use Rattle.dp_cable.specs.Decisions.{decision_of, delay_of as delay_by, done_by, fate_by, first_for, is_among, is_last as is_last_of, is_off as is_off_at, is_own_token as is_own_token_of, order_at, order_fate, ordered_fate, slave_of as slave_by, turn_of, used, waiting_after, with_one_less};
+ghost use Rattle.dp_cable.specs.Chances.{random_words_after_draw, draw_of};
+ghost use Rattle.dp_cable.specs.Decisions.{decision_of, delay_of as delay_by, done_by, treatment_by, first_for, is_among, is_last as is_last_of, is_off as is_off_at, is_own_token as is_own_token_of, order_at, order_treatment, ordered_treatment, slave_of as slave_by, turn_of, used, waiting_after, with_one_less};
 
-use crate::dice::{Dice, Draw};
-use crate::fate::Fate;
 use crate::options::{Direction, Options};
 use crate::order::{Order, OrderKind};
+use crate::random_words::{Draw, RandomWords};
 use crate::spoiling::{cut, spoil};
+use crate::treatment::Treatment;
 use arrayvec::ArrayVec;
 use dp_telegram::{FrameLent, WholeFrame};
 
@@ -33,7 +33,7 @@ pub struct Cable {
 #[derive(Clone, Copy, Debug, PartialEq, Eq)]
 pub struct Decision {
     /// What becomes of the telegram.
-    pub fate: Fate,
+    pub treatment: Treatment,
     /// The milliseconds after which it goes out.
     pub wait: u64,
     /// The slave that the telegram belongs to, if it belongs to one.
@@ -56,30 +56,30 @@ impl Cable {
         }
     }
 
-    /// Decides what becomes of a telegram of this direction. `dice` are those of the direction, and `asked` is the
+    /// Decides what becomes of a telegram of this direction. `random_words` are those of the direction, and `asked` is the
     /// slave of the last request, to which a short acknowledgement belongs.
     pub fn take(
         &mut self,
         direction: Direction,
         frame: &WholeFrame<'_>,
         asked: Option<u8>,
-        dice: &mut Dice,
+        random_words: &mut RandomWords,
     ) -> Decision
-        ensures decision { result ≡ decision_of self.old direction frame.now asked (draw_of dice.old) }
+        ensures decision { result ≡ decision_of self.old direction frame.now asked (draw_of random_words.old) }
         ensures waiting { (self.new).waiting.items ≡ waiting_after self.old direction frame.now asked }
         ensures off { (self.new).off ≡ (self.old).off }
         ensures options { (self.new).options ≡ (self.old).options }
-        ensures dice { dice.new ≡ dice_after_draw dice.old }
+        ensures random_words { random_words.new ≡ random_words_after_draw random_words.old }
     {
-        let draw = dice.draw();
+        let draw = random_words.draw();
         let slave = slave_of(frame, direction, asked);
         let off = is_off(&self.off, slave);
         let turn = turn_in(&self.waiting, direction, off, slave);
         let order = use_order(&mut self.waiting, turn);
-        let fate = fate(&self.options, direction, off, order, frame, &draw);
+        let treatment = treatment(&self.options, direction, off, order, frame, &draw);
         Decision {
-            fate,
-            wait: u64::from(delay_of(&self.options, direction)) + u64::from(fate.lateness()),
+            treatment,
+            wait: u64::from(delay_of(&self.options, direction)) + u64::from(treatment.lateness()),
             slave,
             done: done_with(order),
         }
@@ -223,21 +223,21 @@ pub(crate) fn delay_of(options: &Options, direction: Direction) -> u32
 
 /// Returns what becomes of a telegram: a token that is withheld and a slave that is off the bus come first, then an
 /// order, and last chance.
-fn fate(
+fn treatment(
     options: &Options,
     direction: Direction,
     off: bool,
     order: Option<Order>,
     frame: &WholeFrame<'_>,
     draw: &Draw,
-) -> Fate
-    ensures { result ≡ fate_by options.now direction off order frame.now draw.now }
+) -> Treatment
+    ensures { result ≡ treatment_by options.now direction off order frame.now draw.now }
 {
     if options.drops_tokens && is_own_token(frame) {
-        return Fate::Withheld;
+        return Treatment::Withheld;
     }
     if off {
-        return Fate::Lost;
+        return Treatment::Lost;
     }
     match order {
         Some(order) => by_order(order.kind, frame, draw),
@@ -246,26 +246,31 @@ fn fate(
 }
 
 /// Returns what becomes of a telegram by an order.
-fn by_order(kind: OrderKind, frame: &WholeFrame<'_>, draw: &Draw) -> Fate
-    ensures { result ≡ order_fate kind frame.now draw.now }
+fn by_order(kind: OrderKind, frame: &WholeFrame<'_>, draw: &Draw) -> Treatment
+    ensures { result ≡ order_treatment kind frame.now draw.now }
 {
     match kind {
-        OrderKind::Lose => Fate::Lost,
+        OrderKind::Lose => Treatment::Lost,
         OrderKind::Spoil => spoil(frame, draw.place, draw.change),
         OrderKind::Cut => cut(frame, draw.place),
-        OrderKind::Late { milliseconds } => Fate::Late { milliseconds },
+        OrderKind::Late { milliseconds } => Treatment::Late { milliseconds },
     }
 }
 
 /// Returns what becomes of a telegram by chance.
-fn by_chance(options: &Options, direction: Direction, frame: &WholeFrame<'_>, draw: &Draw) -> Fate
-    ensures { result ≡ ordered_fate None options.now direction frame.now draw.now }
+fn by_chance(
+    options: &Options,
+    direction: Direction,
+    frame: &WholeFrame<'_>,
+    draw: &Draw,
+) -> Treatment
+    ensures { result ≡ ordered_treatment None options.now direction frame.now draw.now }
 {
     if !options.covered.covers(direction) {
-        return Fate::Passed;
+        return Treatment::Passed;
     }
     if options.lose.hits(draw.lose) {
-        return Fate::Lost;
+        return Treatment::Lost;
     }
     if options.spoil.hits(draw.spoil) {
         return spoil(frame, draw.place, draw.change);
@@ -274,9 +279,9 @@ fn by_chance(options: &Options, direction: Direction, frame: &WholeFrame<'_>, dr
         return cut(frame, draw.place);
     }
     if options.late.hits(draw.late) {
-        return Fate::Late {
+        return Treatment::Late {
             milliseconds: options.late_milliseconds,
         };
     }
-    Fate::Passed
+    Treatment::Passed
 }

@@ -5,15 +5,15 @@ ghost use Rattle.dp_telegram.specs.FrameText.{fault_of, is_checked};
 ghost use Rattle.dp_telegram.specs.declared.fault.FrameFault.TheVariants.{BadEnd, NoStart};
 ghost use Rattle.dp_cable.specs.declared.cable.Cable.{Cable};
 ghost use Rattle.dp_cable.specs.declared.chance.Chance.{Chance};
-ghost use Rattle.dp_cable.specs.declared.dice.Draw.{Draw};
-ghost use Rattle.dp_cable.specs.declared.fate.Fate.{Fate};
-ghost use Rattle.dp_cable.specs.declared.fate.Fate.TheVariants.{Lost, Passed};
+ghost use Rattle.dp_cable.specs.declared.random_words.Draw.{Draw};
+ghost use Rattle.dp_cable.specs.declared.treatment.Treatment.{Treatment};
+ghost use Rattle.dp_cable.specs.declared.treatment.Treatment.TheVariants.{Lost, Passed};
 ghost use Rattle.dp_cable.specs.declared.options.Direction.{Direction};
 ghost use Rattle.dp_cable.specs.declared.pace.Pace.{Pace};
 ghost use Rattle.dp_cable.specs.Chances.{hits};
 ghost use Rattle.dp_cable.specs.Decisions.{decision_of, waiting_after};
-ghost use Rattle.dp_cable.specs.Fates.{sent_of, spoilt_fate};
-ghost use Rattle.dp_cable.specs.Kind.{IsFree};
+ghost use Rattle.dp_cable.specs.Treatments.{sent_of, spoilt_treatment};
+ghost use Rattle.dp_cable.specs.Faultless.{IsFree};
 ghost use Rattle.dp_cable.specs.Paces.{AreAtOnce, Coming, IsAscendingFrom, due_at, dues, first_pace, moment_after, moments_of};
 ghost use Rattle.dp_cable.specs.Passing.{IsCutInto, all_passed, sent_for};
 
@@ -21,9 +21,9 @@ ghost use Rattle.dp_cable.specs.Passing.{IsCutInto, all_passed, sent_for};
 /// token or a short acknowledgement has no start delimiter.
 pub fn a_spoilt_telegram_is_none()
     ensures checked { (octets : List ℕ) (place change : ℕ) → fault_of octets ≡ None → All (λ octet. octet < 256) octets
-        → is_checked octets ≡ true → fault_of (sent_of (spoilt_fate octets place change) octets) ≡ Some BadEnd }
+        → is_checked octets ≡ true → fault_of (sent_of (spoilt_treatment octets place change) octets) ≡ Some BadEnd }
     ensures unchecked { (octets : List ℕ) (place change : ℕ) → fault_of octets ≡ None → All (λ octet. octet < 256) octets
-        → is_checked octets ≡ false → fault_of (sent_of (spoilt_fate octets place change) octets) ≡ Some NoStart }
+        → is_checked octets ≡ false → fault_of (sent_of (spoilt_treatment octets place change) octets) ≡ Some NoStart }
 {}
 
 /// A chance of 0 never comes true, and one of 1,000,000 millionths always does.
@@ -34,9 +34,9 @@ pub fn chances_have_their_ends()
 
 /// Without faults each telegram is passed on, and what goes out for the pieces of a stream, with the rest of it, is the
 /// stream: each octet, in order.
-pub fn a_kind_cable_changes_nothing()
-    ensures fate { (cable : Cable) (direction : Direction) (octets : List ℕ) (asked : Option ℕ) (draw : Draw) → IsFree cable
-        → (decision_of cable direction octets asked draw).fate ≡ Passed }
+pub fn a_cable_without_faults_changes_nothing()
+    ensures treatment { (cable : Cable) (direction : Direction) (octets : List ℕ) (asked : Option ℕ) (draw : Draw) → IsFree cable
+        → (decision_of cable direction octets asked draw).treatment ≡ Passed }
     ensures waiting { (cable : Cable) (direction : Direction) (octets : List ℕ) (asked : Option ℕ) → IsFree cable
         → waiting_after cable direction octets asked ≡ [] }
     ensures stream { (stream : List ℕ) (parts : List (List ℕ)) (rest : List ℕ) → IsCutInto stream parts rest
@@ -45,8 +45,8 @@ pub fn a_kind_cable_changes_nothing()
 
 /// A lost telegram is left out, and nothing else is: whatever becomes of the other pieces, the same goes out for them.
 pub fn a_lost_telegram_is_left_out()
-    ensures { (fates others : List Fate) (parts : List (List ℕ)) (part : List ℕ) (more : List (List ℕ)) → length fates ≡ length parts
-        → sent_for (fates ++ Lost ∷ others) (parts ++ part ∷ more) ≡ sent_for (fates ++ others) (parts ++ more) }
+    ensures { (treatments others : List Treatment) (parts : List (List ℕ)) (part : List ℕ) (more : List (List ℕ)) → length treatments ≡ length parts
+        → sent_for (treatments ++ Lost ∷ others) (parts ++ part ∷ more) ≡ sent_for (treatments ++ others) (parts ++ more) }
 {}
 
 /// Telegrams of one direction go out in the order in which they came.

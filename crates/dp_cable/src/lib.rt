@@ -6,8 +6,6 @@
 
 mod cable;
 mod chance;
-mod dice;
-mod fate;
 pub mod laws;
 mod line_text;
 mod obeying;
@@ -15,16 +13,18 @@ mod options;
 mod order;
 mod pace;
 mod passing;
+mod random_words;
 mod rows;
 mod spoiling;
+mod treatment;
 
 pub use cable::{Cable, Decision};
 pub use chance::{CERTAIN, Chance};
-pub use dice::{Dice, Draw};
-pub use fate::Fate;
 pub use line_text::{MOST_MILLISECONDS, read_line};
 pub use options::{Covered, Direction, Options};
 pub use order::{Answer, Line, Order, OrderKind};
 pub use pace::Pace;
 pub use passing::Passage;
+pub use random_words::{Draw, RandomWords};
 pub use rows::{NOT_A_COMMAND, push_answer, push_done, push_fault};
+pub use treatment::Treatment;

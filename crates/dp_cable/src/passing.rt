@@ -2,13 +2,13 @@
 
 ghost use Rattle.std.specs.Prelude.{◌≡◌, []};
 ghost use Rattle.dp_telegram.specs.Stream.{left_of, piece_of};
-ghost use Rattle.dp_cable.specs.Passing.{dice_after_piece, passage_of, passed_on, rest_with, waiting_after_piece};
-ghost use Rattle.dp_cable.specs.Fates.{sent_of};
+ghost use Rattle.dp_cable.specs.Passing.{random_words_after_piece, passage_of, passed_on, rest_with, waiting_after_piece};
+ghost use Rattle.dp_cable.specs.Treatments.{sent_of};
 
 use crate::cable::{Cable, Decision, delay_of};
-use crate::dice::Dice;
-use crate::fate::{Fate, copied};
 use crate::options::{Direction, Options};
+use crate::random_words::RandomWords;
+use crate::treatment::{Treatment, copied};
 use dp_telegram::{Cutter, Octets, Piece};
 
 /// A piece of a stream that has come to the cable: a telegram, or octets that are none.
@@ -22,7 +22,7 @@ pub struct Passage {
 
 impl Cable {
     /// Removes the first piece of a direction from the octets that a cutter holds, and decides what becomes of it.
-    /// `dice` are those of the direction, and `asked` is the slave of the last request.
+    /// `random_words` are those of the direction, and `asked` is the slave of the last request.
     ///
     /// Returns None if the octets begin with no piece; then nothing changes.
     pub fn take_piece(
@@ -30,11 +30,11 @@ impl Cable {
         cutter: &mut Cutter,
         direction: Direction,
         asked: Option<u8>,
-        dice: &mut Dice,
+        random_words: &mut RandomWords,
     ) -> Option<Passage>
-        ensures passage { result ≡ passage_of self.old direction asked dice.old cutter.old }
+        ensures passage { result ≡ passage_of self.old direction asked random_words.old cutter.old }
         ensures left { cutter.new ≡ left_of cutter.old }
-        ensures dice { dice.new ≡ dice_after_piece dice.old (piece_of cutter.old) }
+        ensures random_words { random_words.new ≡ random_words_after_piece random_words.old (piece_of cutter.old) }
         ensures waiting { (self.new).waiting.items ≡ waiting_after_piece self.old direction asked (piece_of cutter.old) }
         ensures off { (self.new).off ≡ (self.old).off }
         ensures options { (self.new).options ≡ (self.old).options }
@@ -46,7 +46,7 @@ impl Cable {
             let size = piece.size();
             let before = copied(&cutter.held()[..size]);
             let decision = match &piece {
-                Piece::Frame(frame) => self.take(direction, frame, asked, dice),
+                Piece::Frame(frame) => self.take(direction, frame, asked, random_words),
                 Piece::Dropped { .. } => pass_on(&self.options, direction),
             };
             (before, decision)
@@ -58,8 +58,8 @@ impl Cable {
 
 impl Passage {
     /// Removes all octets that a cutter holds, as octets that are no whole telegram and of which this becomes.
-    pub fn of_rest(cutter: &mut Cutter, fate: Fate) -> Passage
-        ensures rest { result ≡ rest_with fate cutter.old }
+    pub fn of_rest(cutter: &mut Cutter, treatment: Treatment) -> Passage
+        ensures rest { result ≡ rest_with treatment cutter.old }
         ensures held { cutter.new ≡ [] }
     {
         cutter.feed(&[]);
@@ -68,7 +68,7 @@ impl Passage {
         Passage {
             before,
             decision: Decision {
-                fate,
+                treatment,
                 wait: 0,
                 slave: None,
                 done: None,
@@ -78,9 +78,9 @@ impl Passage {
 
     /// Returns the octets that go out.
     pub fn sent(&self) -> Octets
-        ensures { result.items ≡ sent_of (self.now).decision.fate (self.now).before.items }
+        ensures { result.items ≡ sent_of (self.now).decision.treatment (self.now).before.items }
     {
-        self.decision.fate.sent(self.before.as_slice())
+        self.decision.treatment.sent(self.before.as_slice())
     }
 }
 
@@ -89,7 +89,7 @@ fn pass_on(options: &Options, direction: Direction) -> Decision
     ensures { result ≡ passed_on options.now direction }
 {
     Decision {
-        fate: Fate::Passed,
+        treatment: Treatment::Passed,
         wait: u64::from(delay_of(options, direction)),
         slave: None,
         done: None,

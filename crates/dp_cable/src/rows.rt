@@ -2,13 +2,13 @@
 
 ghost use Rattle.std.specs.Prelude.{◌≡◌, ◌+◌, ◌*◌, ◌≤◌, ◌++◌, length};
 ghost use Rattle.dp_text.specs.Texts.{octets_text};
-ghost use Rattle.dp_cable.specs.Rows.{answer_row, direction_text, done_row, fate_text, fault_row, who_text};
+ghost use Rattle.dp_cable.specs.Rows.{answer_row, direction_text, done_row, treatment_text, fault_row, who_text};
 
-use crate::fate::Fate;
 use crate::line_text::push_line;
 use crate::options::Direction;
 use crate::order::{Answer, Line};
 use crate::passing::Passage;
+use crate::treatment::Treatment;
 use dp_text::Text;
 
 /// The row that answers a line that asks for nothing, with its LF.
@@ -45,7 +45,7 @@ pub fn push_fault(text: &mut Text, master: u8, direction: Direction, passage: &P
     ensures { text.new ≡ text.old ++ fault_row master direction passage.now }
 {
     push_who(text, master, direction, passage.decision.slave);
-    push_fate(text, passage.decision.fate);
+    push_treatment(text, passage.decision.treatment);
     push_octets(text, passage.before.as_slice());
     text.push_str(" -> ");
     push_octets(text, passage.sent().as_slice());
@@ -79,18 +79,18 @@ fn direction_word(direction: Direction) -> &'static str
 }
 
 /// Appends the word of a fault, and a space; nothing if it is none.
-fn push_fate(text: &mut Text, fate: Fate)
+fn push_treatment(text: &mut Text, treatment: Treatment)
     requires { length text.old + 20 ≤ 1800 }
-    ensures text { text.new ≡ text.old ++ fate_text fate }
+    ensures text { text.new ≡ text.old ++ treatment_text treatment }
     ensures most { length text.new ≤ length text.old + 20 }
 {
-    match fate {
-        Fate::Passed => {}
-        Fate::Withheld => {}
-        Fate::Lost => text.push_str("lost "),
-        Fate::Spoilt { .. } => text.push_str("spoilt "),
-        Fate::Cut { .. } => text.push_str("cut "),
-        Fate::Late { milliseconds } => {
+    match treatment {
+        Treatment::Passed => {}
+        Treatment::Withheld => {}
+        Treatment::Lost => text.push_str("lost "),
+        Treatment::Spoilt { .. } => text.push_str("spoilt "),
+        Treatment::Cut { .. } => text.push_str("cut "),
+        Treatment::Late { milliseconds } => {
             text.push_str("late ");
             text.push_number(milliseconds);
             text.push(b' ');

@@ -3,9 +3,9 @@
 ghost use Rattle.std.specs.Prelude.{◌≡◌, ◌+◌, ◌≤◌, ℕ, length, true, false, IfNone, IfSome};
 ghost use Rattle.dp_cable.specs.Whole.{HasNoFault};
 ghost use Rattle.dp_telegram.specs.FrameText.{head_length, is_checked};
-ghost use Rattle.dp_cable.specs.Fates.{changed, cut_fate, no_start, spoilt_fate};
+ghost use Rattle.dp_cable.specs.Treatments.{changed, cut_treatment, no_start, spoilt_treatment};
 
-use crate::fate::Fate;
+use crate::treatment::Treatment;
 use dp_telegram::WholeFrame;
 
 /// The start delimiters (IEC 61158-4-3, delimiters).
@@ -20,8 +20,8 @@ const SD4: u8 = 0xDC;
 const SC: u8 = 0xE5;
 
 /// Returns how a telegram is spoilt, by two random words: one chooses the place of an octet, the other what it becomes.
-pub(crate) fn spoil(frame: &WholeFrame<'_>, place: u32, change: u32) -> Fate
-    ensures { result ≡ spoilt_fate frame.now place change }
+pub(crate) fn spoil(frame: &WholeFrame<'_>, place: u32, change: u32) -> Treatment
+    ensures { result ≡ spoilt_treatment frame.now place change }
 {
     let octets = whole_octets(frame);
     match checked_from(octets) {
@@ -55,27 +55,27 @@ fn checked_from(octets: &[u8]) -> Option<usize>
 }
 
 /// Returns how a telegram is spoilt whose first octet is its start delimiter and that has no check sequence.
-fn spoil_start(octets: &[u8], change: u32) -> Fate
+fn spoil_start(octets: &[u8], change: u32) -> Treatment
     requires some { 1 ≤ length octets.now }
     requires start { is_checked octets.now ≡ false }
-    ensures { (place : ℕ) → result ≡ spoilt_fate octets.now place change }
+    ensures { (place : ℕ) → result ≡ spoilt_treatment octets.now place change }
 {
-    Fate::Spoilt {
+    Treatment::Spoilt {
         place: 0,
         octet: without_start(change_octet(octets[0], change)),
     }
 }
 
 /// Returns how a telegram is spoilt whose check sequence covers the octets from `head` on.
-fn spoil_body(octets: &[u8], head: usize, place: u32, change: u32) -> Fate
+fn spoil_body(octets: &[u8], head: usize, place: u32, change: u32) -> Treatment
     requires checked { is_checked octets.now ≡ true }
     requires head { head ≡ head_length octets.now }
     requires room { head + 2 ≤ length octets.now }
     requires most { length octets.now ≤ 255 }
-    ensures { result ≡ spoilt_fate octets.now place change }
+    ensures { result ≡ spoilt_treatment octets.now place change }
 {
     let place = head + place as usize % (octets.len() - 1 - head);
-    Fate::Spoilt {
+    Treatment::Spoilt {
         place: place as u8,
         octet: change_octet(octets[place], change),
     }
@@ -103,14 +103,14 @@ fn without_start(octet: u8) -> u8
 }
 
 /// Returns how a telegram is cut, by a random word.
-pub(crate) fn cut(frame: &WholeFrame<'_>, place: u32) -> Fate
-    ensures { result ≡ cut_fate frame.now place }
+pub(crate) fn cut(frame: &WholeFrame<'_>, place: u32) -> Treatment
+    ensures { result ≡ cut_treatment frame.now place }
 {
     let size = whole_octets(frame).len();
     if size == 1 {
-        return Fate::Cut { count: 0 };
+        return Treatment::Cut { count: 0 };
     }
-    Fate::Cut {
+    Treatment::Cut {
         count: 1 + (place as usize % (size - 1)) as u8,
     }
 }

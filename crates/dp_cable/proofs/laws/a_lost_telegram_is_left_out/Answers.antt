@@ -1,4 +1,4 @@
-use Rattle.dp_cable.proofs.Kindness.{left_out}
+use Rattle.dp_cable.proofs.FaultlessCables.{left_out}
 use Rattle.dp_cable.proofs.laws.a_lost_telegram_is_left_out.Goals as goal
 
 pub returns : goal.returns

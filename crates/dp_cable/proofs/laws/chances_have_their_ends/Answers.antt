@@ -1,4 +1,4 @@
-use Rattle.dp_cable.proofs.Kindness.{always, never}
+use Rattle.dp_cable.proofs.FaultlessCables.{always, never}
 use Rattle.dp_cable.proofs.laws.chances_have_their_ends.Goals as goal
 
 pub returns-clause-never : goal.returns-clause-never

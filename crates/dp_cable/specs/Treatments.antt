@@ -1,11 +1,11 @@
 -- What becomes of a telegram on the cable (own).
 use Rattle.std.specs.Prelude.{ℕ, Bool, true, false, ◌+◌, ◌-◌, ◌%◌, ◌==◌, if◌then◌else◌, List, [], length, slice_index, slice_set, take}
 use Rattle.dp_telegram.specs.FrameText.{head_length, is_checked, is_start}
-use Rattle.dp_cable.specs.declared.fate.Fate.{Fate}
-use Rattle.dp_cable.specs.declared.fate.Fate.TheVariants.{Passed, Withheld, Lost, Spoilt, Cut, Late}
+use Rattle.dp_cable.specs.declared.treatment.Treatment.{Treatment}
+use Rattle.dp_cable.specs.declared.treatment.Treatment.TheVariants.{Passed, Withheld, Lost, Spoilt, Cut, Late}
 
 -- the octets that go out
-abbrev pub sent_of : Fate → List ℕ → List ℕ
+abbrev pub sent_of : Treatment → List ℕ → List ℕ
 sent_of Passed octets = octets
 sent_of Withheld octets = []
 sent_of Lost octets = []
@@ -14,7 +14,7 @@ sent_of (Cut count) octets = take count octets
 sent_of (Late milliseconds) octets = octets
 
 -- a token that is withheld is none
-abbrev pub is_fault : Fate → Bool
+abbrev pub is_fault : Treatment → Bool
 is_fault Passed = false
 is_fault Withheld = false
 is_fault Lost = true
@@ -23,7 +23,7 @@ is_fault (Cut count) = true
 is_fault (Late milliseconds) = true
 
 -- the milliseconds for which a telegram is late
-abbrev pub lateness : Fate → ℕ
+abbrev pub lateness : Treatment → ℕ
 lateness Passed = 0
 lateness Withheld = 0
 lateness Lost = 0
@@ -51,8 +51,8 @@ abbrev pub spoilt_octet : List ℕ → ℕ → ℕ → ℕ
 spoilt_octet octets place word =
     if is_checked octets then changed (slice_index octets place) word else no_start (changed (slice_index octets place) word)
 
-abbrev pub spoilt_fate : List ℕ → ℕ → ℕ → Fate
-spoilt_fate octets place_word change_word =
+abbrev pub spoilt_treatment : List ℕ → ℕ → ℕ → Treatment
+spoilt_treatment octets place_word change_word =
     Spoilt (spoilt_place octets place_word) (spoilt_octet octets (spoilt_place octets place_word) change_word)
 
 -- ---- a cut
@@ -61,5 +61,5 @@ spoilt_fate octets place_word change_word =
 abbrev pub cut_count : List ℕ → ℕ → ℕ
 cut_count octets word = if length octets == 1 then 0 else 1 + word % (length octets - 1)
 
-abbrev pub cut_fate : List ℕ → ℕ → Fate
-cut_fate octets word = Cut (cut_count octets word)
+abbrev pub cut_treatment : List ℕ → ℕ → Treatment
+cut_treatment octets word = Cut (cut_count octets word)

@@ -8,17 +8,17 @@ use Rattle.dp_telegram.specs.Stream.{cut_length, left_behind, left_of, piece_of}
 use Rattle.dp_telegram.specs.FrameText.{frame_at}
 use Rattle.dp_cable.specs.declared.cable.Cable.{Cable}
 use Rattle.dp_cable.specs.declared.chance.Chance.{Chance}
-use Rattle.dp_cable.specs.declared.dice.Draw.{Draw}
-use Rattle.dp_cable.specs.declared.fate.Fate.{Fate}
-use Rattle.dp_cable.specs.declared.fate.Fate.TheVariants.{Lost, Passed}
+use Rattle.dp_cable.specs.declared.random_words.Draw.{Draw}
+use Rattle.dp_cable.specs.declared.treatment.Treatment.{Treatment}
+use Rattle.dp_cable.specs.declared.treatment.Treatment.TheVariants.{Lost, Passed}
 use Rattle.dp_cable.specs.declared.options.Direction.{Direction}
 use Rattle.dp_cable.specs.declared.options.Direction.TheVariants.{Request, Reply}
 use Rattle.dp_cable.specs.declared.options.Options.{Options}
 use Rattle.dp_cable.specs.declared.order.Order.{Order}
 use Rattle.dp_cable.specs.Chances.{hits}
-use Rattle.dp_cable.specs.Decisions.{are_covered, chance_fate, decision_of, fate_by, is_off, order_at, ordered_fate, slave_of, turn_of, used, waiting_after}
-use Rattle.dp_cable.specs.Fates.{sent_of}
-use Rattle.dp_cable.specs.Kind.{IsFree, IsKind}
+use Rattle.dp_cable.specs.Decisions.{are_covered, chance_treatment, decision_of, treatment_by, is_off, order_at, ordered_treatment, slave_of, turn_of, used, waiting_after}
+use Rattle.dp_cable.specs.Treatments.{sent_of}
+use Rattle.dp_cable.specs.Faultless.{IsFree, IsFaultless}
 use Rattle.dp_cable.specs.Passing.{IsCutInto, ended, begins, all_passed, sent_for}
 
 pub never : (chance : Chance) (word : ℕ) → chance.millionths ≡ 0 → hits chance word ≡ false
@@ -27,8 +27,8 @@ never chance word none = le-ltb (word * 1000000) (chance.millionths * 2 ^ 32) (r
 pub always : (chance : Chance) (word : ℕ) → chance.millionths ≡ 1000000 → word < 2 ^ 32 → hits chance word ≡ true
 always chance word all small = lt-ltb (word * 1000000) (chance.millionths * 2 ^ 32) (rw all (omega arith))
 
-kind_chance : (options : Options) (octets : List ℕ) (draw : Draw) → IsKind options → chance_fate options octets draw ≡ Passed
-kind_chance options octets draw kind =
+faultless_chance : (options : Options) (octets : List ℕ) (draw : Draw) → IsFaultless options → chance_treatment options octets draw ≡ Passed
+faultless_chance options octets draw kind =
     rw (
       never options.lose draw.lose kind.lose,
       never options.spoil draw.spoil kind.spoil,
@@ -36,10 +36,10 @@ kind_chance options octets draw kind =
       never options.late draw.late kind.late,
     ) refl
 
-kind_by : (options : Options) (direction : Direction) (covered : Bool) (octets : List ℕ) (draw : Draw) → IsKind options
-    → (if covered then chance_fate options octets draw else Passed) ≡ Passed
-kind_by options direction true octets draw kind = kind_chance options octets draw kind
-kind_by options direction false octets draw kind = refl
+faultless_by : (options : Options) (direction : Direction) (covered : Bool) (octets : List ℕ) (draw : Draw) → IsFaultless options
+    → (if covered then chance_treatment options octets draw else Passed) ≡ Passed
+faultless_by options direction true octets draw kind = faultless_chance options octets draw kind
+faultless_by options direction false octets draw kind = refl
 
 none_off : (slave : Option ℕ) → is_off [] slave ≡ false
 none_off None = refl
@@ -50,18 +50,18 @@ no_turn Request slave = refl
 no_turn Reply None = refl
 no_turn Reply (Some slave) = refl
 
-kind_free : (options : Options) (direction : Direction) (octets : List ℕ) (draw : Draw) → IsKind options
-    → fate_by options direction false None octets draw ≡ Passed
-kind_free options direction octets draw kind = rw kind.tokens (kind_by options direction (are_covered options.covered direction) octets draw kind)
+faultless_free : (options : Options) (direction : Direction) (octets : List ℕ) (draw : Draw) → IsFaultless options
+    → treatment_by options direction false None octets draw ≡ Passed
+faultless_free options direction octets draw kind = rw kind.tokens (faultless_by options direction (are_covered options.covered direction) octets draw kind)
 
-pub kind_fate : (cable : Cable) (direction : Direction) (octets : List ℕ) (asked : Option ℕ) (draw : Draw) → IsFree cable
-    → (decision_of cable direction octets asked draw).fate ≡ Passed
-kind_fate cable direction octets asked draw free =
+pub faultless_treatment : (cable : Cable) (direction : Direction) (octets : List ℕ) (asked : Option ℕ) (draw : Draw) → IsFree cable
+    → (decision_of cable direction octets asked draw).treatment ≡ Passed
+faultless_treatment cable direction octets asked draw free =
     let slave = slave_of direction (frame_at octets) asked in
     let P : List ℕ → List Order → Type 0 = λ off waiting.
-    fate_by cable.options direction (is_off off slave) (order_at waiting (turn_of direction (is_off off slave) waiting slave)) octets draw ≡ Passed in
+    treatment_by cable.options direction (is_off off slave) (order_at waiting (turn_of direction (is_off off slave) waiting slave)) octets draw ≡ Passed in
     let Q : List ℕ → Type 0 = λ off. P off cable.waiting.items in
-    let empty : P [] [] = rw (none_off slave, no_turn direction slave) (kind_free cable.options direction octets draw free.kind) in
+    let empty : P [] [] = rw (none_off slave, no_turn direction slave) (faultless_free cable.options direction octets draw free.faultless) in
     subst Q (sym free.off) (subst (P []) (sym free.waiting) empty)
 
 pub none_waits : (cable : Cable) (direction : Direction) (octets : List ℕ) (asked : Option ℕ) → IsFree cable
@@ -85,10 +85,10 @@ all_octets stream parts rest (begins {others = others} cut is more) =
     ∙ ap (λ (behind : List ℕ). take (cut_length cut) stream ++ behind) (all_octets (left_of stream) others rest more)
     ∙ piece_and_left stream cut is
 
-pub left_out : (fates others : List Fate) (parts : List (List ℕ)) (part : List ℕ) (more : List (List ℕ)) → length fates ≡ length parts
-    → sent_for (fates ++ Lost ∷ others) (parts ++ part ∷ more) ≡ sent_for (fates ++ others) (parts ++ more)
+pub left_out : (treatments others : List Treatment) (parts : List (List ℕ)) (part : List ℕ) (more : List (List ℕ)) → length treatments ≡ length parts
+    → sent_for (treatments ++ Lost ∷ others) (parts ++ part ∷ more) ≡ sent_for (treatments ++ others) (parts ++ more)
 left_out [] others [] part more same = refl
 left_out [] others (first ∷ parts) part more same = absurd (omega arith)
-left_out (fate ∷ fates) others [] part more same = absurd (omega arith)
-left_out (fate ∷ fates) others (first ∷ parts) part more same =
-    ap (λ (behind : List ℕ). sent_of fate first ++ behind) (left_out fates others parts part more (omega arith))
+left_out (treatment ∷ treatments) others [] part more same = absurd (omega arith)
+left_out (treatment ∷ treatments) others (first ∷ parts) part more same =
+    ap (λ (behind : List ℕ). sent_of treatment first ++ behind) (left_out treatments others parts part more (omega arith))

@@ -1,14 +1,14 @@
 //! Random words.
 
 ghost use Rattle.std.specs.Prelude.{◌≡◌};
-ghost use Rattle.dp_cable.specs.Chances.{dice_after, dice_after_draw, draw_of, first_dice, word_of};
+ghost use Rattle.dp_cable.specs.Chances.{random_words_after, random_words_after_draw, draw_of, first_random_words, word_of};
 
 use rand_core::utils::NextWord;
 use rand_pcg::Pcg32;
 
 /// A sequence of random words that a seed determines: a generator PCG32.
 #[derive(Clone, Copy, Debug, PartialEq, Eq)]
-pub struct Dice {
+pub struct RandomWords {
     state: u64,
     stream: u64,
 }
@@ -30,13 +30,13 @@ pub struct Draw {
     pub change: u32,
 }
 
-impl Dice {
+impl RandomWords {
     /// Returns the sequence with the number `stream`, below 2^63, among those of a seed.
-    #[tactic(auto, unfolding(crate::specs::Chances::first_dice))]
-    pub fn new(seed: u64, stream: u64) -> Dice
-        ensures { result ≡ first_dice seed stream }
+    #[tactic(auto, unfolding(crate::specs::Chances::first_random_words))]
+    pub fn new(seed: u64, stream: u64) -> RandomWords
+        ensures { result ≡ first_random_words seed stream }
     {
-        Dice {
+        RandomWords {
             state: Pcg32::new(seed, stream).state(),
             stream,
         }
@@ -45,7 +45,7 @@ impl Dice {
     /// Draws the words of one telegram, always the same number of them.
     pub fn draw(&mut self) -> Draw
         ensures draw { result ≡ draw_of self.old }
-        ensures after { self.new ≡ dice_after_draw self.old }
+        ensures after { self.new ≡ random_words_after_draw self.old }
     {
         Draw {
             lose: self.roll(),
@@ -58,10 +58,10 @@ impl Dice {
     }
 
     /// Returns the next word.
-    #[tactic(auto, unfolding(crate::specs::Chances::word_of, crate::specs::Chances::dice_after))]
+    #[tactic(auto, unfolding(crate::specs::Chances::word_of, crate::specs::Chances::random_words_after))]
     fn roll(&mut self) -> u32
         ensures word { result ≡ word_of self.old }
-        ensures after { self.new ≡ dice_after self.old }
+        ensures after { self.new ≡ random_words_after self.old }
     {
         let mut generator = Pcg32::from_state(self.state, self.stream);
         let word = generator.next_word();

@@ -4,7 +4,7 @@ use Rattle.dp_cable.specs.declared.cable.Cable.{Cable}
 use Rattle.dp_cable.specs.declared.options.Options.{Options}
 
 -- no telegram meets a fault by chance, and no token is withheld
-pub record IsKind (options : Options) : Type 0 where
+pub record IsFaultless (options : Options) : Type 0 where
   pub lose : options.lose.millionths ≡ 0
   pub spoil : options.spoil.millionths ≡ 0
   pub cut : options.cut.millionths ≡ 0
@@ -13,6 +13,6 @@ pub record IsKind (options : Options) : Type 0 where
 
 -- no slave is off the bus, and no order waits
 pub record IsFree (cable : Cable) : Type 0 where
-  pub kind : IsKind cable.options
+  pub faultless : IsFaultless cable.options
   pub off : cable.off.items ≡ []
   pub waiting : cable.waiting.items ≡ []

@@ -1,14 +1,14 @@
 //! What becomes of a telegram.
 
 ghost use Rattle.std.specs.Prelude.{◌≡◌, ◌≤◌, length, slice_set};
-ghost use Rattle.dp_cable.specs.Fates.{is_fault as is_fault_of, lateness as lateness_of, sent_of};
+ghost use Rattle.dp_cable.specs.Treatments.{is_fault as is_fault_of, lateness as lateness_of, sent_of};
 
 use arrayvec::ArrayVec;
 use dp_telegram::Octets;
 
 /// What becomes of a telegram on the cable (own).
 #[derive(Clone, Copy, Debug, PartialEq, Eq)]
-pub enum Fate {
+pub enum Treatment {
     /// It is passed on unchanged.
     Passed,
     /// It is a token that is not passed on, which is no fault.
@@ -34,19 +34,19 @@ pub enum Fate {
     },
 }
 
-impl Fate {
+impl Treatment {
     /// Returns the octets that go out in place of these, at most 255.
     pub fn sent(self, octets: &[u8]) -> Octets
         requires { length octets.now ≤ 255 }
         ensures { result.items ≡ sent_of self octets.now }
     {
         match self {
-            Fate::Passed => copied(octets),
-            Fate::Withheld => ArrayVec::new(),
-            Fate::Lost => ArrayVec::new(),
-            Fate::Spoilt { place, octet } => replaced(octets, usize::from(place), octet),
-            Fate::Cut { count } => copied(&octets[..octets.len().min(usize::from(count))]),
-            Fate::Late { .. } => copied(octets),
+            Treatment::Passed => copied(octets),
+            Treatment::Withheld => ArrayVec::new(),
+            Treatment::Lost => ArrayVec::new(),
+            Treatment::Spoilt { place, octet } => replaced(octets, usize::from(place), octet),
+            Treatment::Cut { count } => copied(&octets[..octets.len().min(usize::from(count))]),
+            Treatment::Late { .. } => copied(octets),
         }
     }
 
@@ -55,12 +55,12 @@ impl Fate {
         ensures { result ≡ is_fault_of self }
     {
         match self {
-            Fate::Passed => false,
-            Fate::Withheld => false,
-            Fate::Lost => true,
-            Fate::Spoilt { .. } => true,
-            Fate::Cut { .. } => true,
-            Fate::Late { .. } => true,
+            Treatment::Passed => false,
+            Treatment::Withheld => false,
+            Treatment::Lost => true,
+            Treatment::Spoilt { .. } => true,
+            Treatment::Cut { .. } => true,
+            Treatment::Late { .. } => true,
         }
     }
 
@@ -69,12 +69,12 @@ impl Fate {
         ensures { result ≡ lateness_of self }
     {
         match self {
-            Fate::Passed => 0,
-            Fate::Withheld => 0,
-            Fate::Lost => 0,
-            Fate::Spoilt { .. } => 0,
-            Fate::Cut { .. } => 0,
-            Fate::Late { milliseconds } => milliseconds,
+            Treatment::Passed => 0,
+            Treatment::Withheld => 0,
+            Treatment::Lost => 0,
+            Treatment::Spoilt { .. } => 0,
+            Treatment::Cut { .. } => 0,
+            Treatment::Late { milliseconds } => milliseconds,
         }
     }
 }
