@@ -19,7 +19,7 @@ LONGEST_LINE, LONGEST_CELL, LONGEST_PARAGRAPH, MOST_LINES = 120, 160, 5, 1800
 MOST = {"README.md": 110, "CONTRIBUTING.md": 80, "docs/DECISIONS.md": 60, "docs/SECURITY.md": 60, "docs/USING.md": 220}
 # Names that a user makes, or that are of another program.
 FOREIGN = {"line_N", "MODULE_WHAT_IT_DOES", "dp_trial", "start_lib", "callgrind_annotate"}
-FOLDERS = ("crates/", "docs/", "tests/", "examples/", "dist/", ".ci/")
+FOLDERS = ("crates/", "docs/", "tests/", "examples/", "python/", "dist/", ".ci/")
 PARTS = ("specs/", "src/", "proofs/", "must-fail/")
 ENDS = (".rt", ".antt", ".md", ".sh", ".py", ".toml", ".tsv", ".txt", ".service", ".audit", ".explained")
 ITEM = re.compile(r"\s*([-*]|\d+\.) ")
@@ -152,7 +152,7 @@ def faults_of(document, sources, words):
 
 def main():
     documents = sorted(name for name in listed("*.md") if "/" not in name or os.path.dirname(name) == "docs")
-    sources = {name: read(name) for name in listed("crates", "tests", "examples", "dist/*.sh", ".ci", "crates.txt", "test",
+    sources = {name: read(name) for name in listed("crates", "tests", "examples", "python", "dist/*.sh", ".ci", "crates.txt", "test",
                                                    "rackd", "README.md", "HANDLES", ".gitignore")}
     words = {word for name, text in sources.items() for word in WORD.findall(text) + WORD.findall(name)}
     failed, total = 0, 0

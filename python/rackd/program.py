@@ -1,0 +1,47 @@
+"""Finding and running the program rackd."""
+from __future__ import annotations
+
+import os
+import shutil
+import subprocess
+from pathlib import Path
+from typing import List, Optional, Sequence
+
+from .faults import NoProgram, RackFault, end_of
+
+# The carried program, if this package lies in a checkout.
+CARRIED = Path(__file__).resolve().parents[2] / "dist" / "x86_64-linux" / "rackd"
+
+
+def find_program(program: Optional[str] = None) -> str:
+    """Returns the path of rackd: the one named, or else that of the variable RACKD, of the checkout, of the PATH.
+
+    Raises NoProgram if there is none.
+    """
+    named = program or os.environ.get("RACKD")
+    if named:
+        if not os.access(named, os.X_OK) or os.path.isdir(named):
+            raise NoProgram(f"{named} is no program" + ("" if program else ", see the variable RACKD"))
+        return os.path.abspath(named)
+    if os.access(CARRIED, os.X_OK):
+        return str(CARRIED)
+    found = shutil.which("rackd")
+    if not found:
+        raise NoProgram(f"there is no rackd: not in the variable RACKD, not at {CARRIED}, and not on the PATH")
+    return found
+
+
+def run(program: str, words: Sequence[str]) -> "subprocess.CompletedProcess[bytes]":
+    """Runs `rackd check` or `rackd explain` to its end. Raises RackFault for a status other than 0 and 1."""
+    done = subprocess.run([program, *words], stdin=subprocess.DEVNULL, capture_output=True, check=False)
+    if done.returncode not in (0, 1):
+        raise RackFault(f"rackd {words[0]} {end_of(done.returncode)}", done.returncode, rows_of(done.stderr))
+    return done
+
+
+def rows_of(errors: bytes, log: bool = False) -> List[str]:
+    """Returns the rows of standard error that are of the log, or those that are not.
+
+    A row of the log begins with its level, as in `[WARN  rackd]`.
+    """
+    return [row for row in errors.decode(errors="replace").splitlines() if row.startswith("[") == log]
