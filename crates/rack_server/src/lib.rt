@@ -14,6 +14,7 @@ mod listening;
 mod masters;
 mod opened_lines;
 mod operators;
+mod ready;
 mod recorder;
 mod serve;
 mod serve_fault;

@@ -1,21 +1,21 @@
 //! Accepting and serving the connections of all lines, and recording what is served.
 
-ghost use Rattle.std.specs.Prelude.{◌≡◌, ◌≤◌, ℕ, Bool, List, Option, All, Contains, Err, IfErr, IfOk, IfSome, None, OnErr, OnOk, Some, length};
+ghost use Rattle.std.specs.Prelude.{◌≡◌, ◌≤◌, ℕ, Bool, List, Option, All, Contains, Err, IfErr, IfOk, IfSome, None, OnOk, Some, length};
 ghost use Rattle.std.specs.Borrow.{Bor};
 ghost use Rattle.std.specs.Io.KnownBytes.{Appends};
-ghost use Rattle.dp_text.specs.Writes.{WritesPrefix};
 ghost use Rattle.dp_sessions.specs.Pools.{HasSeats};
 ghost use Rattle.dp_trail.specs.Named.{name_of};
 ghost use Rattle.rack_files.specs.AuditPaths.{IsFileIn};
 ghost use Rattle.rack_server.specs.Recordings.{IsPartOfOne, paths_of};
 ghost use Rattle.rack_server.specs.declared.served_line.ServedLine.{ServedLine};
 ghost use Rattle.rack_server.specs.ServedLines.{line_numbers};
-ghost use Rattle.rack_server.specs.ServeOutput.{AreOpened, AreServed, IsPortsFault, ServesConnections, ServesLines, ready, serving_result};
+ghost use Rattle.rack_server.specs.ServeOutput.{AreOpened, AreServed, ServesConnections, ServesLines, ready, serving_result};
 
 use crate::acceptors::Acceptors;
 use crate::clocks::{close_clocks, open_clocks, schedule_of};
 use crate::host::Host;
 use crate::listening::Listeners;
+use crate::ready::{name_ports, write_ready};
 use crate::recorder::{UnnamedRecorder, first_incomplete, name_trails, record_lines};
 use crate::serve::{Served, sessions_of};
 use crate::serve_fault::{OutputFault, ServeFault};
@@ -24,18 +24,16 @@ use crate::server_context::ServerContext;
 use crate::session_gate::{KeepTime, SessionGate, TimedGate};
 use crate::threads::{accept_and_serve, can_start};
 use crossbeam_channel::bounded;
-use dp_cause::Cause;
 use dp_clock::LineClock;
 use dp_notes::{LineNumbers, Notes};
 use dp_sessions::Port;
 use dp_shared::WorkerSeat;
-use dp_text::write_whole;
 use dp_trail::{Naming, NoTrail, RecordEntries};
 use rack_files::IncompleteFile;
-use rack_sockets::{AcceptGate, InputEnd, SocketContext, report_ports};
+use rack_sockets::{AcceptGate, InputEnd, SocketContext};
 use rackd_words::Service;
 use std::alloc::Global;
-use std::io::{ErrorKind, Write};
+use std::io::Write;
 use std::marker::Brand;
 use std::net::TcpListener;
 use std::sync::atomic::AtomicU32;
@@ -47,9 +45,6 @@ const MOST_WAITING: usize = 64;
 
 /// The most lines of a rack.
 const MOST_LINES: usize = rack_file::MOST_LINES as usize;
-
-/// What is written once every port is listened at.
-const READY: &[u8] = b"ready\n";
 
 /// How serving the connections of all lines has ended.
 #[derive(Clone, Copy)]
@@ -333,23 +328,6 @@ fn serve_at_gate<'a, H: Host + Sync, G: TimedGate + Sync, W: Write>(
     }
 }
 
-/// Writes the ports of all lines to the file that names them, if there is one.
-fn name_ports<H: Host>(context: &ServerContext<'_, H>) -> Result<(), OutputFault>
-    ensures { IfErr result IsPortsFault }
-{
-    let Some(path) = context.ports else {
-        return Ok(());
-    };
-    let SocketContext { rt, gate, .. } = &context.sockets;
-    match report_ports(*rt, context.alloc, path, gate.ports()) {
-        Ok(()) => Ok(()),
-        Err(error) => match error.kind() {
-            ErrorKind::OutOfMemory => Err(OutputFault::OutOfMemory),
-            _ => Err(OutputFault::CannotMakePorts(Cause::from_error(&error))),
-        },
-    }
-}
-
 /// Returns the numbers of lines.
 pub(crate) fn numbers_of(lines: &[ServedLine]) -> LineNumbers {
     let mut numbers = LineNumbers::new();
@@ -357,16 +335,4 @@ pub(crate) fn numbers_of(lines: &[ServedLine]) -> LineNumbers {
         let _ = numbers.try_push(line.spec.number);
     }
     numbers
-}
-
-/// Writes `ready` and flushes the writer.
-fn write_ready<W: Write>(writer: &mut W) -> Result<(), OutputFault>
-    ensures ok { OnOk result (Appends (W.contents writer.old) (W.contents writer.new) ready) }
-    ensures err { OnErr result (WritesPrefix (W.contents writer.old) (W.contents writer.new) ready) }
-    ensures fault { IfErr result (λ fault. fault ≡ OutputFault.WriteFault) }
-{
-    if write_whole(writer, READY).is_err() || writer.flush().is_err() {
-        return Err(OutputFault::WriteFault);
-    }
-    Ok(())
 }
