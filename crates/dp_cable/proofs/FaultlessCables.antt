@@ -1,5 +1,5 @@
 -- A cable without faults, and a telegram that is lost.
-use Rattle.std.proofs.Common.{◌≡◌, ℕ, ◌+◌, ◌-◌, ◌*◌, ◌^◌, ◌<◌, ◌≤◌, Bool, true, false, ltb, List, [], ◌∷◌, ◌++◌, length, take, drop, refl, sym, ap, ◌∙◌, subst, Option, Some, None, append_assoc, arith}
+use Rattle.std.proofs.Common.{◌≡◌, ℕ, ◌+◌, ◌-◌, ◌*◌, ◌^◌, ◌<◌, Bool, true, false, ltb, List, [], ◌∷◌, ◌++◌, length, take, drop, refl, sym, ap, ◌∙◌, subst, Option, Some, None, append_assoc, arith}
 use Rattle.std.specs.Prelude.{if◌then◌else◌}
 use Rattle.std.proofs.lemmas.Bool.{le-ltb, lt-ltb}
 use Rattle.std.proofs.lemmas.List.{take-append-drop}
@@ -16,7 +16,7 @@ use Rattle.dp_cable.specs.declared.options.Direction.TheVariants.{Request, Reply
 use Rattle.dp_cable.specs.declared.options.Options.{Options}
 use Rattle.dp_cable.specs.declared.order.Order.{Order}
 use Rattle.dp_cable.specs.Chances.{hits}
-use Rattle.dp_cable.specs.Decisions.{are_covered, chance_treatment, decision_of, treatment_by, is_off, order_at, ordered_treatment, slave_of, turn_of, used, waiting_after}
+use Rattle.dp_cable.specs.Decisions.{are_covered, chance_treatment, decision_of, treatment_by, is_off, order_at, slave_of, turn_of, used, waiting_after}
 use Rattle.dp_cable.specs.Treatments.{sent_of}
 use Rattle.dp_cable.specs.Faultless.{IsFree, IsFaultless}
 use Rattle.dp_cable.specs.Passing.{IsCutInto, ended, begins, all_passed, sent_for}

@@ -1,5 +1,5 @@
 -- The moments at which telegrams go out.
-use Rattle.std.proofs.Common.{◌≡◌, ℕ, ◌+◌, ◌-◌, ◌*◌, ◌^◌, ◌<◌, ◌≤◌, min, max, List, [], ◌∷◌, refl, sym, ap, ◌∙◌, arith}
+use Rattle.std.proofs.Common.{◌≡◌, ℕ, ◌-◌, ◌^◌, ◌≤◌, max, List, [], ◌∷◌, refl, ap, ◌∙◌, arith}
 use Rattle.dp_cable.specs.declared.pace.Pace.{Pace}
 use Rattle.dp_cable.specs.Paces.{AreAtOnce, Coming, IsAscendingFrom, due_at, dues, first_pace, moment_after, moments_of, pace_after}
 

@@ -1,7 +1,7 @@
 -- A spoilt telegram is none.
-use Rattle.std.proofs.Common.{◌≡◌, ◌≢◌, ℕ, ◌+◌, ◌-◌, ◌%◌, ◌<◌, ◌≤◌, ◌⊎◌, inl, inr, Bool, true, false, not, ◌&&◌, ◌||◌, eqb, ltb, leb, List, [], ◌∷◌, length, take, drop, get_or, sum, All, refl, sym, ap, subst, ◌∙◌, Option, Some, None, arith}
-use Rattle.std.specs.Prelude.{slice_range, slice_set}
-use Rattle.std.proofs.lemmas.Bool.{eqb-true, ne_eqb, cases_eq, cases_lt, cases_Bool, le-ltb}
+use Rattle.std.proofs.Common.{◌≡◌, ◌≢◌, ℕ, ◌+◌, ◌-◌, ◌%◌, ◌<◌, ◌≤◌, ◌⊎◌, inl, inr, Bool, true, false, not, ◌&&◌, ◌||◌, eqb, ltb, List, [], ◌∷◌, length, take, drop, get_or, sum, All, refl, sym, ap, subst, ◌∙◌, Option, Some, None, arith}
+use Rattle.std.specs.Prelude.{slice_range}
+use Rattle.std.proofs.lemmas.Bool.{eqb-true, ne_eqb, cases_lt, cases_Bool, le-ltb}
 use Rattle.std.proofs.lemmas.Grind.{common_steps}
 use Rattle.std.proofs.lemmas.List.{length-set, get_or-set_same, get_or-set_other, drop-set-add, take-set, length-take, length-drop}
 use Rattle.std.proofs.lemmas.List.Elements.{All-get_or}
@@ -10,7 +10,7 @@ use Rattle.std.proofs.Math.Seq.{take-set-lt}
 use Rattle.std.proofs.Math.ListN.{set}
 use Rattle.dp_telegram.specs.declared.fault.FrameFault.{FrameFault}
 use Rattle.dp_telegram.specs.declared.fault.FrameFault.TheVariants.{NoStart, BadHead, BadEnd, Short, Long}
-use Rattle.dp_telegram.specs.FrameText.{sd1, sd2, sd3, sd4, sc, ed, body_at, check_sequence, delimiter, end_is_right, fault_of, first_fault, frame_length, head_is_right, head_length, is_checked, is_start}
+use Rattle.dp_telegram.specs.FrameText.{sd2, ed, body_at, check_sequence, delimiter, end_is_right, fault_of, first_fault, frame_length, head_is_right, head_length, is_checked, is_start}
 use Rattle.dp_cable.specs.Whole.{HasNoFault}
 use Rattle.dp_cable.specs.Treatments.{changed, no_start, sent_of, spoilt_treatment, spoilt_octet, spoilt_place}
 use Rattle.dp_cable.proofs.Whole.{has_room, is_one_of_five, no_fault}

@@ -1,5 +1,5 @@
 -- Examples of what becomes of telegrams.
-use Rattle.std.specs.Prelude.{◌≡◌, codes, ℕ, true, false, List, [], ◌∷◌, Option, Some, None, refl}
+use Rattle.std.specs.Prelude.{◌≡◌, codes, ℕ, true, false, List, [], ◌∷◌, Some, None, refl}
 use Rattle.dp_cable.specs.declared.cable.Cable.{Cable}
 use Rattle.dp_cable.specs.declared.chance.Chance.{Chance}
 use Rattle.dp_cable.specs.declared.random_words.Draw.{Draw}
@@ -16,7 +16,7 @@ use Rattle.dp_cable.specs.Decisions.{decision_of, waiting_after}
 use Rattle.dp_cable.specs.Treatments.{changed, cut_count, sent_of, spoilt_treatment}
 use Rattle.dp_cable.specs.LineTexts.{line_of}
 use Rattle.dp_cable.specs.Obeying.{off_after, orders_after}
-use Rattle.dp_cable.specs.Paces.{Coming, dues, first_pace}
+use Rattle.dp_cable.specs.Paces.{dues, first_pace}
 use Rattle.dp_cable.specs.Rows.{done_row, fault_row}
 use Rattle.dp_text.specs.TextExamples.{text_on_literals}
 

@@ -1,5 +1,5 @@
 -- What becomes of each telegram: a function of the options, the lines of text, the random words and the telegrams before it (own).
-use Rattle.std.specs.Prelude.{ℕ, ◌+◌, ◌-◌, ◌==◌, ◌&&◌, nat_le, Bool, true, false, not, if◌then◌else◌, List, [], ◌∷◌, ◌++◌, position, remove, slice_get, slice_set, Option, Some, None, option_map}
+use Rattle.std.specs.Prelude.{ℕ, ◌+◌, ◌-◌, ◌==◌, ◌&&◌, nat_le, Bool, true, false, if◌then◌else◌, List, position, remove, slice_get, slice_set, Option, Some, None}
 use Rattle.std.specs.List.{list_any}
 use Rattle.dp_telegram.specs.Access.{address_of}
 use Rattle.dp_telegram.specs.FrameText.{frame_at}
@@ -7,7 +7,6 @@ use Rattle.dp_telegram.specs.declared.frame.Frame.{Frame}
 use Rattle.dp_telegram.specs.declared.frame.Frame.TheVariants as frames
 use Rattle.dp_cable.specs.declared.cable.Cable.{Cable}
 use Rattle.dp_cable.specs.declared.cable.Decision.{Decision}
-use Rattle.dp_cable.specs.declared.random_words.RandomWords.{RandomWords}
 use Rattle.dp_cable.specs.declared.random_words.Draw.{Draw}
 use Rattle.dp_cable.specs.declared.treatment.Treatment.{Treatment}
 use Rattle.dp_cable.specs.declared.treatment.Treatment.TheVariants.{Passed, Withheld, Lost, Late}
@@ -19,7 +18,7 @@ use Rattle.dp_cable.specs.declared.options.Options.{Options}
 use Rattle.dp_cable.specs.declared.order.Order.{Order}
 use Rattle.dp_cable.specs.declared.order.OrderKind.{OrderKind}
 use Rattle.dp_cable.specs.declared.order.OrderKind.TheVariants as ordered
-use Rattle.dp_cable.specs.Chances.{draw_of, hits}
+use Rattle.dp_cable.specs.Chances.{hits}
 use Rattle.dp_cable.specs.Treatments.{cut_treatment, lateness, spoilt_treatment}
 
 abbrev pub are_covered : Covered → Direction → Bool

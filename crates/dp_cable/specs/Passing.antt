@@ -1,5 +1,5 @@
 -- The pieces of a stream on the cable (own).
-use Rattle.std.specs.Prelude.{◌≡◌, ℕ, List, [], ◌∷◌, ◌++◌, drop, take, Option, Some, None, option_map}
+use Rattle.std.specs.Prelude.{◌≡◌, ℕ, List, [], ◌∷◌, ◌++◌, take, Option, Some, None, option_map}
 use Rattle.dp_telegram.specs.declared.cutter.Cut.{Cut}
 use Rattle.dp_telegram.specs.declared.cutter.Cut.TheVariants as pieces
 use Rattle.dp_telegram.specs.Stream.{cut_length, left_of, piece_of}

@@ -1,5 +1,5 @@
 -- The rows that the cable writes (own).
-use Rattle.std.specs.Prelude.{codes, ℕ, List, [], ◌∷◌, ◌++◌, Option, Some, None}
+use Rattle.std.specs.Prelude.{codes, ℕ, List, [], ◌++◌, Option, Some, None}
 use Rattle.std.specs.Fmt.{decimal}
 use Rattle.dp_text.specs.Texts.{octets_text}
 use Rattle.dp_cable.specs.declared.treatment.Treatment.{Treatment}

@@ -1,6 +1,5 @@
-use Rattle.std.proofs.Common.{◌≡◌, sym, ap, Some, ◌∙◌}
+use Rattle.std.proofs.Common.{◌≡◌, sym, ap, Some}
 use Rattle.dp_telegram.specs.declared.frame.Frame.TheVariants as frames
-use Rattle.dp_telegram.specs.Lent.{frame_lent}
 use Rattle.dp_telegram.specs.FrameText.{frame_of}
 use Rattle.dp_cable.specs.Decisions.{is_own_token as is_own_token_of}
 use Rattle.dp_cable.proofs.Whole.{frame_is}
