@@ -12,5 +12,5 @@ client=$top/tests/cable_client.py
 limit=90
 
 try_beside kind
-try_all octets lost_reply spoilt_requests spoilt_in_the_log spoilt_replies cut_replies resync late_keeps_order delay off_and_on \
+try_all octets lost_reply spoilt_requests spoilt_in_the_log spoilt_replies cut_replies cut_requests resync late_keeps_order delay off_and_on \
   two_cables three_masters drop_tokens turned_away ends same_seed chances lines ports_file wrong_words

@@ -107,6 +107,16 @@ def port_in(path, port):
     return int(found[2])
 
 
+def accepted(port, address):
+    """A master that is accepted, once the line has seen the end of its session before."""
+    until = time.monotonic() + PATIENCE
+    while True:
+        try:
+            return Master(port, address)
+        except Wrong:
+            hold(f"master {address} is not accepted again", time.monotonic() < until)
+
+
 def is_silent(master, seconds=SILENT):
     """Whether nothing comes to a master for a while."""
     return not select.select([master.connection], [], [], seconds)[0]
@@ -249,15 +259,16 @@ def lines(trial):
         cable.does("clear")
         cable.order("lose 5 1")
         cable.order("late 5 1 1")
-        cable.orders("lose 5 1")
+        cable.orders("cut 5 1")
         master = Master(cable.port, 1)
         master.send(diag(1, 5))
         expect("the first answer", "done lose 5 1", cable.row())
         expect("the second reply", fresh(1, 5), master.ask(diag(1, 5)))
         expect("the second answer", "done late 5 1 1", cable.row())
         master.send(diag(1, 5, 0x5D))
-        expect("the third answer", "done lose 5 1", cable.row())
-        hold("the faults come in the order of their lines", [re.sub(r".*: (\w+) .*", r"\1", row) for row in cable.reports(3)] == ["lost", "late", "lost"])
+        expect("the third answer", "done cut 5 1", cable.row())
+        faults = [re.sub(r".*: (\w+) .*", r"\1", row) for row in cable.reports(3)]
+        expect("the faults, in the order of their lines", ["lost", "late", "cut"], faults)
 
 
 # ---- faults by chance
@@ -372,7 +383,7 @@ def logged(trial, seed):
     words = ["--lose", "10", "--spoil", "10.5", "--cut", "10.25", "--late", "10", "1", "--replies", "--seed", seed, "--log"]
     with server, cabled(trial, rack.masters[1], *words) as cable:
         for _ in range(2):
-            master = Master(cable.port, 1)
+            master = accepted(cable.port, 1)
             for _ in range(60):
                 master.send(telegram_poll(5))
                 time.sleep(0.001)
@@ -528,6 +539,21 @@ def resync(trial):
         nothing_comes("a telegram behind a part, without --resync", master)
 
 
+def cut_requests(trial):
+    """Behind a cable that cuts requests, one with --resync has the line get each request that is whole."""
+    rack, folder, server = served(trial)
+    with server, cabled(trial, rack.masters[1], "--resync", "30") as near:
+        with cabled(trial, near.port, "--cut", "50", "--requests", "--seed", "1", "--log") as far:
+            master = Master(far.port, 1)
+            for _ in range(20):
+                master.send(telegram_poll(5))
+                time.sleep(0.1)
+            cut = len(settled(far))
+            hold(f"{cut} of 20 requests are cut", 4 < cut < 16)
+            expect("the entries", 20 - cut, len(requests(folder, telegram_poll(5))))
+            expect("the replies", telegram_reply(5) * (20 - cut), read(master.connection, 6 * (20 - cut)))
+
+
 def drop_tokens(trial):
     """Tokens that a master sends to itself are withheld, and others are not."""
     rack, folder, server = served(trial)
@@ -562,15 +588,7 @@ def ends(trial):
     rack, _, server = served(trial)
     with server, cabled(trial, rack.masters[1], "--delay", "100") as cable:
         for _ in range(5):
-            # master 1 is accepted again only once the line has seen the end of its session
-            until = time.monotonic() + PATIENCE
-            while True:
-                connection = connected(cable.port)
-                connection.sendall(b"\x01")
-                if read(connection, 1) == ACCEPTED:
-                    break
-                hold("the line doesn't see that the master has left", time.monotonic() < until)
-            connection.close()
+            accepted(cable.port, 1).hang_up()
         half = Master(cable.port, 3)
         half.send(diag(3, 6))
         half.connection.shutdown(socket.SHUT_WR)
@@ -632,7 +650,7 @@ def wrong_words(trial):
     expect("--late without MS", 2, late.returncode)
 
 
-CASES = (kind, octets, lost_reply, spoilt_requests, spoilt_in_the_log, spoilt_replies, cut_replies, resync, late_keeps_order, delay, off_and_on,
+CASES = (kind, octets, lost_reply, spoilt_requests, spoilt_in_the_log, spoilt_replies, cut_replies, cut_requests, resync, late_keeps_order, delay, off_and_on,
          two_cables, three_masters, drop_tokens, turned_away, ends, same_seed, chances, lines, ports_file, wrong_words)
 
 
