@@ -387,7 +387,7 @@ def logged(trial, seed):
             for _ in range(60):
                 master.send(telegram_poll(5))
                 time.sleep(0.001)
-            time.sleep(SILENT)
+            time.sleep(4 * SILENT)
             master.hang_up()
         return settled(cable)
 
