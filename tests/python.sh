@@ -1,8 +1,8 @@
 #!/usr/bin/env bash
 # Tries the Python package of python/ with real racks (tests/python_client.py): its own tests by unittest, and again by
 # pytest if an interpreter here has it. Among them are fifty racks at once, runs that are killed, a rack that is killed
-# in a test, runs side by side in one folder, a stack for serial ports, the fixtures, and the test of docs/USING.md.
-# Nothing but bash, the tools of the system and python3 is needed, and no port is fixed.
+# in a test, cables with faults, runs side by side in one folder, a stack for serial ports, the fixtures, and the test
+# of docs/USING.md. Nothing but bash, the tools of the system and python3 is needed, and no port is fixed.
 #
 # usage: python.sh [PROGRAM]
 set -u
@@ -14,4 +14,4 @@ client=$top/tests/python_client.py
 limit=150
 
 try_beside by_pytest pytest
-try_all package frames master operator journal port start end.Closed end.Killed end.Many
+try_all package frames master cable operator journal port start end.Closed end.Killed end.Many

@@ -27,6 +27,11 @@ A rack is the program `rackd serve`, which ends with the `with` statement or wit
         master.srd(5, b"", dsap=60)                     # any other request
         master.raw(bytes.fromhex("100501494f16"))       # octets as they are; the next frame, or nothing
 
+        far = line.master(3, cable=rackd.Cable(lose=1.5, seed=7))   # behind a cable; also late=(10, 300) and so on
+        far.cable.lose(5, 1)                            # also spoil, cut, late(5, 1, 300), off, on, clear, wait_done
+        far.cable.log()                                 # the faults so far
+        line.cable(rackd.Cable()).listen                # the port of a cable for a stack of your own
+
         port = line.port(2)                             # read, write and so on as pyserial's Serial
 
         journal = line.journal()                        # a sequence of Entry: place, rule, sentence and so on
@@ -36,12 +41,14 @@ A rack is the program `rackd serve`, which ends with the `with` statement or wit
         operator.halt()                                 # permanent; the slaves that were released
 
 Exceptions are RackErrors. A slave that refuses raises UE, RR or RS; a line that refuses a command raises NoStation,
-WrongLength, UnknownPoint or Halted; silence raises NoReply. RackFault is a rack that cannot start or ends early,
-NotLegal a journal that `rackd check` refuses. For pytest there are the fixtures rack, rack_factory and rack_toml.
+WrongLength, UnknownPoint or Halted; silence raises NoReply; a cable that refuses an order raises NotACommand
+or TooMany. RackFault is a rack or a cable that cannot start or ends early, NotLegal a journal that `rackd check`
+refuses. For pytest there are the fixtures rack, rack_factory and rack_toml.
 """
+from .cable import Cable, RunningCable
 from .faults import (UE, RR, RS, BadEnd, BadFrame, BadHead, Halted, Long, NoProgram, NoReply, NoStart, NoStation,
                      NotACommand, NotAccepted, NotLegal, OperatorRefused, RackError, RackFault, Refused, SessionEnded,
-                     Short, SlaveRefused, TooLong, UnknownPoint, WrongLength)
+                     Short, SlaveRefused, TooLong, TooMany, UnknownPoint, WrongLength)
 from .frames import Frame
 from .journal import Change, Entry, Journal, Part
 from .master import Diagnosis, Master
@@ -50,8 +57,9 @@ from .port import Port
 from .rack import SAMPLE, Line, Rack
 
 __all__ = [
-    "UE", "RR", "RS", "BadEnd", "BadFrame", "BadHead", "Change", "Diagnosis", "Entry", "Frame", "Halted", "Journal",
-    "Line", "Long", "Master", "NoProgram", "NoReply", "NoStart", "NoStation", "NotACommand", "NotAccepted", "NotLegal",
-    "Operator", "OperatorRefused", "Part", "Port", "Rack", "RackError", "RackFault", "Refused", "SAMPLE",
-    "SessionEnded", "Short", "Show", "SlaveRefused", "State", "TooLong", "UnknownPoint", "WrongLength",
+    "UE", "RR", "RS", "BadEnd", "BadFrame", "BadHead", "Cable", "Change", "Diagnosis", "Entry", "Frame", "Halted",
+    "Journal", "Line", "Long", "Master", "NoProgram", "NoReply", "NoStart", "NoStation", "NotACommand", "NotAccepted",
+    "NotLegal", "Operator", "OperatorRefused", "Part", "Port", "Rack", "RackError", "RackFault", "Refused",
+    "RunningCable", "SAMPLE", "SessionEnded", "Short", "Show", "SlaveRefused", "State", "TooLong", "TooMany",
+    "UnknownPoint", "WrongLength",
 ]

@@ -95,5 +95,6 @@ def open_session(port: int, address: int, name: str, ended: Ended = still_there)
         if answer == b"":
             raise NotAccepted(f"{name}: no answer, all workers of the rack are busy")
         if time.monotonic() > until:
-            raise NotAccepted(f"{name}: it is no master of this line, or another session has its address")
+            # a cable accepts connections also after the end of the rack
+            raise ended() or NotAccepted(f"{name}: it is no master of this line, or another session has its address")
         time.sleep(0.02)

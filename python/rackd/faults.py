@@ -54,7 +54,7 @@ class NoReply(RackError):
 
 
 class Refused(RackError):
-    """The base of all refusals, by a slave or to an operator."""
+    """The base of all refusals, by a slave, to an operator, or by a cable."""
 
 
 class SlaveRefused(Refused):
@@ -101,6 +101,10 @@ class TooLong(OperatorRefused):
     """The line sent has more than 1,024 octets."""
 
 
+class TooMany(Refused):
+    """Too many lines of a cable wait for replies."""
+
+
 class BadFrame(RackError):
     """The base of what is wrong with octets that are no single frame."""
 
@@ -128,6 +132,7 @@ class Long(BadFrame):
 SLAVE_REFUSALS = {1: UE, 2: RR, 3: RS}
 OPERATOR_REFUSALS = {kind.__name__: kind
                      for kind in (NoStation, WrongLength, UnknownPoint, Halted, NotACommand, TooLong)}
+CABLE_REFUSALS = {kind.__name__: kind for kind in (NotACommand, TooMany)}
 
 
 def end_of(status: int) -> str:

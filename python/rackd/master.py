@@ -6,8 +6,9 @@ from dataclasses import dataclass
 from typing import Callable, Dict, Optional, Set
 
 from . import frames
+from .cable import RunningCable
 from .connection import Ended, open_session, still_there
-from .faults import SLAVE_REFUSALS, NoReply, SlaveRefused
+from .faults import SLAVE_REFUSALS, BadFrame, NoReply, RackError, SlaveRefused
 from .frames import Frame
 
 # function codes of requests: SRD and SDN with high priority, FDL status; bits FCB and FCV
@@ -116,13 +117,15 @@ class Master:
     the slaves whose last reply to Data_Exchange was of high priority: a diagnosis is due. Not for several threads.
     """
 
-    def __init__(self, port: int, address: int, ended: Ended = still_there) -> None:
-        """Connects to the port `listen` of a line. Raises NotAccepted if the line does not accept the master."""
+    def __init__(self, port: int, address: int, ended: Ended = still_there,
+                 cable: Optional[RunningCable] = None) -> None:
+        """Connects to the port `listen` of a line or a cable. Raises NotAccepted if the line does not accept it."""
         self.address = address
         self.timeout = 0.5
         self.retries = 1
         self.diagnosis_due: Set[int] = set()
         self.is_open = True
+        self._cable = cable
         self._fcb: Dict[int, bool] = {}
         self._buffer = b""
         self._name = f"master {address} of port {port}"
@@ -133,6 +136,13 @@ class Master:
 
     def __exit__(self, *_: object) -> None:
         self.close()
+
+    @property
+    def cable(self) -> RunningCable:
+        """The cable through which this master is connected. Raises RackError if there is none."""
+        if self._cable is None:
+            raise RackError(f"{self._name} has no cable")
+        return self._cable
 
     def close(self) -> None:
         """Ends the session. The master keeps the slaves that it holds."""
@@ -203,7 +213,8 @@ class Master:
     def srd(self, slave: int, data: bytes = b"", dsap: Optional[int] = None) -> bytes:
         """Sends data to an access point, None for the default one, and returns the data of the reply.
 
-        A request that gets no reply is sent again as it was. Raises NoReply, or UE, RR or RS if the slave refuses.
+        A request that gets no reply, or a spoilt one, is sent again as it was. Raises NoReply, or UE, RR or RS if the
+        slave refuses.
         """
         ssap = None if dsap is None else MASTER
         telegram = frames.request(slave, self.address, self._next_function(slave), data, dsap, ssap)
@@ -238,7 +249,11 @@ class Master:
     def _ask(self, slave: int, telegram: bytes, answers: Callable[[Frame], bool]) -> Frame:
         for _ in range(self.retries + 1):
             self._send(telegram)
-            reply = self._reply(answers)
+            try:
+                reply = self._reply(answers)
+            except BadFrame:
+                # a spoilt reply is none
+                continue
             if reply is not None:
                 return reply
         # the next request to this slave is a first one again

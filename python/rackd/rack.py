@@ -13,6 +13,7 @@ from pathlib import Path
 from types import TracebackType
 from typing import Dict, List, Optional, Sequence, Type, Union
 
+from .cable import Cable, RunningCable
 from .faults import NotLegal, RackError, RackFault, end_of
 from .journal import Journal
 from .master import Master
@@ -44,10 +45,11 @@ device = "{device}"
 
 
 class Line:
-    """A line of a rack. `listen` and `operator_port` are its TCP ports at 127.0.0.1."""
+    """A line of a rack. `listen` and `operator_port` are its TCP ports at 127.0.0.1, `cables` those of its masters."""
 
     def __init__(self, rack: Rack, number: int, listen: int, operator_port: int) -> None:
         self.number, self.listen, self.operator_port = number, listen, operator_port
+        self.cables: List[RunningCable] = []
         self._rack = rack
         self._operator: Optional[Operator] = None
         self._masters: Dict[int, Master] = {}
@@ -59,12 +61,29 @@ class Line:
             self._operator = Operator(self.operator_port, self._rack.fault)
         return self._operator
 
-    def master(self, address: int) -> Master:
-        """Returns the master with this address, the same one until it is closed."""
+    def master(self, address: int, cable: Optional[Cable] = None) -> Master:
+        """Returns the master with this address, the same one until it is closed.
+
+        With `cable` it is connected through a cable of its own. Raises RackError if it is open already.
+        """
         master = self._masters.get(address)
         if master is None or not master.is_open:
-            master = self._masters[address] = Master(self.listen, address, self._rack.fault)
+            master = self._masters[address] = self._connect(address, cable)
+        elif cable is not None:
+            raise RackError(f"master {address} is open already, close it before it gets a cable")
         return master
+
+    def _connect(self, address: int, options: Optional[Cable]) -> Master:
+        if options is None:
+            return Master(self.listen, address, self._rack.fault)
+        cable = self.cable(options)
+        return Master(cable.listen, address, lambda: cable.fault() or self._rack.fault(), cable)
+
+    def cable(self, options: Cable) -> RunningCable:
+        """Starts a cable to this line, for masters that connect to its port `listen`. It ends with the rack."""
+        cable = RunningCable(self._rack.program, self.listen, options, self._rack.folder)
+        self.cables.append(cable)
+        return cable
 
     def port(self, master: int) -> Port:
         """Opens a port for a stack of your own that is the master with this address."""
@@ -83,8 +102,8 @@ class Line:
         return sorted(files, key=lambda path: (len(path.name), path.name))
 
     def close(self) -> None:
-        """Ends all connections that were made by this object."""
-        for client in [self._operator, *self._masters.values(), *self._ports]:
+        """Ends all connections and cables that were made by this object."""
+        for client in [self._operator, *self._masters.values(), *self._ports, *self.cables]:
             if client is not None:
                 client.close()
 
@@ -163,18 +182,18 @@ class Rack:
     def close(self) -> None:
         """Ends the rack, and checks the journal of each line. A second call does nothing.
 
-        Raises RackFault if the rack had ended before or did not end well, NotLegal if a journal is not legal. The
-        files of a journal that is not legal stay.
+        Raises RackFault if the rack or a cable of it had ended before, or the rack did not end well, NotLegal if a
+        journal is not legal. The files of a journal that is not legal stay.
         """
         if self._closed:
             return
         self._closed = True
         for line in self.lines:
             line.close()
-        fault = self._end()
-        if fault is not None:
-            self._remove()
-            raise fault
+        for fault in (self._end(), *(cable.fault() for line in self.lines for cable in line.cables)):
+            if fault is not None:
+                self._remove()
+                raise fault
         for line in self.lines:
             self._check(line)
         self._remove()
@@ -270,10 +289,13 @@ class Rack:
             shutil.rmtree(self.folder, ignore_errors=True)
 
     def _leave_to_parent(self) -> None:
-        """Closes the standard input of the rack in a child of this process, which would keep the rack running."""
+        """Closes the pipes to the rack and its cables in a child of this process, which would keep them running."""
         self._closed = True
         if self._process.stdin is not None:
             self._process.stdin.close()
+        for line in self.lines:
+            for cable in line.cables:
+                cable.leave_to_parent()
 
 
 # The racks of this process that were started and not collected, oldest first.
