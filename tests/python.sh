@@ -11,7 +11,7 @@ client=$top/tests/python_client.py
 . "$top/tests/cases.sh"
 
 # By pytest all cases run one after another.
-limit=150
+limit=300
 
 try_beside by_pytest pytest
 try_all package frames master cable operator journal port start end.Closed end.Killed end.Many
