@@ -181,7 +181,7 @@ helped serve "${does[serve]}" serve rack --sessions 1 -h
 helped operate "${does[operate]}" operate 7 --help
 hold 'each word has a help of its own' [ "$(sha256sum "$work"/*.help | cut -d ' ' -f 1 | sort -u | wc -l)" = 8 ]
 hold 'the help of the program has at most 45 lines' [ "$(wc -l <"$work/rackd.help")" -le 45 ]
-hold 'no line of the help has more than 100 characters' eval '! grep -n ".\{101\}" "$work"/*.help'
+hold 'no line of the help has more than 103 characters' eval '! grep -n ".\{104\}" "$work"/*.help'
 hold 'the help of the program: usage, words, options, exit statuses, an example' has rackd.help 'Usage: rackd < INPUT' \
   'rackd run RACK SCRIPT' 'rackd check RACK AUDIT..' 'rackd explain RACK AUDIT.. [OPTIONS]' 'rackd serve RACK [OPTIONS]' \
   'rackd watch RACK FOLDER [--port N]' 'rackd operate PORT' 'rackd cable PORT --listen PORT2 [OPTIONS]' \
@@ -199,10 +199,10 @@ hold 'the help of explain: usage, options, ranges' has explain.help \
 hold 'the help of serve: usage, options, ranges' has serve.help \
   'Usage: rackd serve RACK [--sessions N] [--until-input-ends] [--ports FILE]' \
   '[--audit FOLDER [--endless [--part MB]] [--page N]] [--tick MS] [--step MS] [--log [WHAT]]' \
-  '--ports <FILE>' '--until-input-ends' 'line 1 listen 7101 operator 7201' \
   '--sessions <N>' '1 to 1000000 [default: no limit]' '--audit <FOLDER>' '--endless' '4294967295; requires --audit' \
   '--part <MB>' '1 to 4096' 'requires --endless [default: 16]' '--page <N>' '0 to 65535' 'requires --audit [default: no page]' \
-  '--tick <MS>' '10 to 60000' '--step <MS>' '1 to 86400000' '--log [<WHAT>]' "'sessions'" "'requests'" "'ready'" E5 8208 \
+  '--ports <FILE>' '--until-input-ends' \
+  '--tick <MS>' '10 to 60000' '--step <MS>' '1 to 86400000' '--log [<WHAT>]' "'sessions'" "'requests'" "'ready'" 'line 1 listen 7101 operator 7201' E5 8208 \
   $'\nExamples:\n  rackd '
 hold 'the help of watch: usage, arguments, ranges' has watch.help 'Usage: rackd watch RACK FOLDER [--port N]' \
   '<RACK>' '<FOLDER>' '--port <N>' '127.0.0.1: 0 to 65535' 'default: 0' $'\nExamples:\n  rackd '
