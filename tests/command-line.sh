@@ -140,12 +140,13 @@ declare -A does=(
   [run]="Run a script on a rack, from two files; 'rackd < INPUT' reads both from standard input"
   [check]='Check whether a line of the rack would have answered as an audit text says'
   [explain]="Explain an audit text in words, and check it as 'check' does"
+  [judge]='Judge the masters of an audit text: what each does that the standard rules out'
   [serve]='Serve the lines of a rack to masters and operators at TCP ports of 127.0.0.1'
   [watch]='Show a rack that is served in a browser: who may change which slave, and why not'
   [operate]='Operate a line that is served: send commands, and print the answers'
   [cable]='Put a cable with faults between masters and a line that is served'
 )
-known=(run check explain serve watch operate cable)
+known=(run check explain judge serve watch operate cable)
 
 # helped NAME FIRST WORD..: the words print the help with this first line, always the same text, which is left in NAME.help
 helped() {
@@ -183,8 +184,8 @@ hold 'each word has a help of its own' [ "$(sha256sum "$work"/*.help | cut -d ' 
 hold 'the help of the program has at most 45 lines' [ "$(wc -l <"$work/rackd.help")" -le 45 ]
 hold 'no line of the help has more than 103 characters' eval '! grep -n ".\{104\}" "$work"/*.help'
 hold 'the help of the program: usage, words, options, exit statuses, an example' has rackd.help 'Usage: rackd < INPUT' \
-  'rackd run RACK SCRIPT' 'rackd check RACK AUDIT..' 'rackd explain RACK AUDIT.. [OPTIONS]' 'rackd serve RACK [OPTIONS]' \
-  'rackd watch RACK FOLDER [--port N]' 'rackd operate PORT' 'rackd cable PORT --listen PORT2 [OPTIONS]' \
+  'rackd run RACK SCRIPT' 'rackd check RACK AUDIT..' 'rackd explain RACK AUDIT.. [OPTIONS]' 'rackd judge RACK AUDIT.. [OPTIONS]' \
+  'rackd serve RACK [OPTIONS]' 'rackd watch RACK FOLDER [--port N]' 'rackd operate PORT' 'rackd cable PORT --listen PORT2 [OPTIONS]' \
   'rackd WORD --help' '-h, --help' '-V, --version' 'Exit statuses:' \
   '  0  ' '  1  ' '  2  ' '  3  ' '  4  ' '  5  ' $'\nExample:\n  rackd '
 hold 'the help of run: usage, arguments, the commands of a script' has run.help 'Usage: rackd run RACK SCRIPT' 'rackd < INPUT' \
@@ -248,7 +249,7 @@ refused() {
 }
 
 try="For more information, try '--help'."
-each_word=('Usage: rackd < INPUT' 'rackd run ' 'rackd check ' 'rackd explain ' 'rackd serve ' 'rackd watch ' 'rackd operate ' 'rackd cable '
+each_word=('Usage: rackd < INPUT' 'rackd run ' 'rackd check ' 'rackd explain ' 'rackd judge ' 'rackd serve ' 'rackd watch ' 'rackd operate ' 'rackd cable '
   'rackd --help' "$try")
 refused word "unrecognized subcommand 'word'" "${each_word[@]}"
 refused 'help word' "unrecognized subcommand 'word'" "${each_word[@]}"

@@ -2,10 +2,10 @@
 //!
 //! Without words it reads a rack text, a line `%%` and a script from standard input, and writes the answers of the
 //! script. `run` reads the rack and the script from two files. `check` reads a rack and an audit text, and checks the
-//! text. `explain` reads a rack and an audit text, and explains the text. `serve` reads a rack, and serves its lines at
-//! sockets. `watch` shows a rack in a browser. `operate` is a client of the operator port of a line that is served.
-//! `cable` serves a cable with faults between masters and a line. `--help` and `--version` are answered on standard
-//! output.
+//! text. `explain` reads a rack and an audit text, and explains the text. `judge` judges the masters of one. `serve` reads
+//! a rack, and serves its lines at sockets. `watch` shows a rack in a browser. `operate` is a client of the operator port of
+//! a line that is served. `cable` serves a cable with faults between masters and a line. `--help` and `--version` are
+//! answered on standard output.
 #![tactic(auto)]
 
 mod answers;
@@ -15,6 +15,7 @@ mod differences;
 mod ending;
 mod files;
 mod follow;
+mod judge;
 mod missing_port;
 mod next_part;
 mod output;
@@ -32,6 +33,7 @@ use dp_script::RunFault;
 use ending::Fault;
 use files::read_file;
 use follow::follow_files;
+use judge::judge_files;
 use log::{Level, Log, Logged, info};
 use operator_client::operate;
 use output::{buffered, flushed};
@@ -93,6 +95,19 @@ fn main(rt: HostRuntime) -> ExitCode {
                     explain_files(&rt, rack, audit.as_slice(), entries, shows),
                 )
             }
+        }
+        Ok(
+            Invocation::Judge {
+                rack,
+                audit,
+                judging,
+            },
+        ) => {
+            let shows = rt.stderr().is_terminal() && !rt.stdout().is_terminal();
+            ended(
+                &rt,
+                judge_files(&rt, rack, audit.as_slice(), judging, shows),
+            )
         }
         Ok(Invocation::Watch { rack, folder, port }) => {
             ended(&rt, watch_folder(&rt, rack, folder, port))

@@ -156,7 +156,7 @@ fn explain_out<'a, H: Runtime + AllocGlobal + Files<File = R>, R: Read + Drop>(
 }
 
 /// Reads the first row of a text. Returns whether no audit text begins so.
-fn lacks_header<R: BufRead>(rows: &mut TextRows<R>) -> Result<bool, RunFault>
+pub(crate) fn lacks_header<R: BufRead>(rows: &mut TextRows<R>) -> Result<bool, RunFault>
     ensures { rows.new.text.past ≡ rows.old.text.past }
 {
     match rows.complete_row() {
@@ -185,7 +185,7 @@ pub(crate) fn choice_of(entries: Entries) -> Choice {
 }
 
 /// Returns the exit status of an audit text. If the text is not legal and lacks a header, reports that.
-fn noted_header(rt: &impl Eprint, is_headless: bool, status: u8) -> ExitCode {
+pub(crate) fn noted_header(rt: &impl Eprint, is_headless: bool, status: u8) -> ExitCode {
     if status != 0 && is_headless {
         let _ = rt.eprintln(NO_HEADER);
     }

@@ -2,6 +2,7 @@
 
 use crate::cable::cabling;
 use crate::help::{self, Help};
+use crate::judge::judge_word;
 use clap::builder::ValueParser;
 use clap::{Arg, ArgAction, Command};
 use std::alloc::{AllocError, Global};
@@ -84,8 +85,8 @@ const TOLD: [&str; 2] = ["sessions", "requests"];
 /// What `--version` prints after the program's name: the version, and the toolchain that proves and builds the program.
 const VERSION: &str = "0.1.0 (rattle-kit-13f logic dac8208d650f15bf)";
 
-/// Returns the words that are known: `run`, `check`, `explain`, `serve`, `watch`, `operate` and `cable`. `clap` adds
-/// `help`, and the options `--help` and `--version`.
+/// Returns the words that are known: `run`, `check`, `explain`, `judge`, `serve`, `watch`, `operate` and `cable`. `clap`
+/// adds `help`, and the options `--help` and `--version`.
 pub(crate) fn known<'a>(alloc: Global) -> Result<Command<'a>, AllocError> {
     let words = with_help(Command::new(alloc, "rackd"), help::PROGRAM)
         .version(VERSION)
@@ -109,7 +110,9 @@ fn with_racks<'a>(alloc: Global, words: Command<'a>) -> Result<Command<'a>, Allo
     let check = checking(alloc)?;
     let words = words.subcommand(check)?;
     let explain = explaining(alloc)?;
-    words.subcommand(explain)
+    let words = words.subcommand(explain)?;
+    let judge = judge_word(alloc)?;
+    words.subcommand(judge)
 }
 
 /// Returns the word `run`, with a rack and a script.
@@ -136,13 +139,17 @@ fn with_ports<'a>(alloc: Global, words: Command<'a>) -> Result<Command<'a>, Allo
 }
 
 /// Returns a word that the file of a rack follows.
-fn with_rack<'a>(alloc: Global, name: &'a str, help: Help) -> Result<Command<'a>, AllocError> {
+pub(crate) fn with_rack<'a>(
+    alloc: Global,
+    name: &'a str,
+    help: Help,
+) -> Result<Command<'a>, AllocError> {
     let rack = Arg::new(alloc, RACK).required(true).help(help::RACK);
     with_help(Command::new(alloc, name), help).arg(rack)
 }
 
 /// Returns the argument for the files of an audit text, one or more.
-fn audit<'a>(alloc: Global) -> Arg<'a> {
+pub(crate) fn audit<'a>(alloc: Global) -> Arg<'a> {
     Arg::new(alloc, AUDIT)
         .required(true)
         .num_args(1..)
@@ -188,7 +195,7 @@ fn json<'a>(alloc: Global) -> Result<Arg<'a>, AllocError> {
 }
 
 /// Returns an option with an address.
-fn address<'a>(alloc: Global, name: &'a str, shown: &'a str, help: &'a str) -> Arg<'a> {
+pub(crate) fn address<'a>(alloc: Global, name: &'a str, shown: &'a str, help: &'a str) -> Arg<'a> {
     number(alloc, name, 0, u64::from(u8::MAX))
         .value_name(shown)
         .help(help)

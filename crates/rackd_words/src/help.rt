@@ -27,6 +27,7 @@ rackd < INPUT
        rackd run RACK SCRIPT
        rackd check RACK AUDIT..
        rackd explain RACK AUDIT.. [OPTIONS]
+       rackd judge RACK AUDIT.. [OPTIONS]
        rackd serve RACK [OPTIONS]
        rackd watch RACK FOLDER [--port N]
        rackd operate PORT
@@ -36,7 +37,7 @@ rackd < INPUT
     details: "\
 Exit statuses:
   0  done
-  1  check, explain: the audit text is not legal
+  1  check, explain, judge: the audit text is not legal; judge: a master breaks a rule
   2  wrong words; input, a file, a rack or a script that is not accepted; a port that is in use,
      that nobody listens on or that is closed too early; or an audit file that cannot be made
   3  out of memory or threads

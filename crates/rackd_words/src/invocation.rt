@@ -1,6 +1,7 @@
 //! What words may ask for.
 
 use crate::cable::CableWords;
+use crate::judge::Judging;
 use thiserror::Error;
 
 /// How much is reported on standard error while a rack is served.
@@ -90,6 +91,15 @@ pub enum Invocation<'a> {
         entries: Entries,
         /// Whether the last file is still being written, so that its rows are explained as they come.
         follows: bool,
+    },
+    /// `judge RACK AUDIT..`: judge the masters of the audit text of one or more files, on the rack of another.
+    Judge {
+        /// The path of the rack.
+        rack: &'a str,
+        /// The paths of the files that contain the audit text, in their order.
+        audit: Vec<&'a str>,
+        /// What is judged.
+        judging: Judging<'a>,
     },
     /// `serve RACK`: serve the rack of a file at sockets.
     Serve {

@@ -7,6 +7,7 @@ use crate::commands::{
     WATCHED, explaining, known, operating, serving, watching,
 };
 use crate::invocation::{Entries, Invocation, LogDetail, Service, WordsFault};
+use crate::judge::{RETRIES, judge_word, judging_of, unknown_rule};
 use clap::error::ErrorKind as Refused;
 use clap::{ArgMatches, Command};
 use std::alloc::{AllocError, Global};
@@ -14,11 +15,12 @@ use std::env::{self, Env};
 use std::io::ErrorKind;
 
 /// The arguments that are numbers, and their names in messages.
-const NUMBERS: [(&str, &str); 15] = [
+const NUMBERS: [(&str, &str); 16] = [
     (FROM, "--from <N>"),
     (TO, "--to <N>"),
     (SLAVE, "--slave <A>"),
     (MASTER, "--master <M>"),
+    (RETRIES, "--retries <N>"),
     (SESSIONS, "--sessions <N>"),
     (PART, "--part <MB>"),
     (PAGE, "--page <N>"),
@@ -150,11 +152,22 @@ fn refuse_number<'a>(alloc: Global, odd: OddNumber<'_>) -> Result<Invocation<'a>
     let command = match command {
         "operate" => operating(alloc),
         "explain" => explaining(alloc),
+        "judge" => judge_word(alloc),
         "watch" => watching(alloc),
         "cable" => cabling(alloc),
         _ => serving(alloc),
     };
     refuse_value(command, message.as_str())
+}
+
+/// Returns the answer to a name of no rule.
+fn refuse_rule<'a>(alloc: Global, name: &str) -> Result<Invocation<'a>, WordsFault> {
+    let Ok(message) = format!(in alloc;
+        "invalid value '{name}' for '--rules <NAME,..>': there is no such rule"
+    ) else {
+        return Err(WordsFault::OutOfMemory);
+    };
+    refuse_value(judge_word(alloc), message.as_str())
 }
 
 /// Returns what accepted words ask for.
@@ -180,6 +193,14 @@ fn invocation_of<'a>(
             entries: entries_of(words),
             follows: words.get_flag(FOLLOW),
         }),
+        "judge" => match unknown_rule(words) {
+            Some(name) => refuse_rule(alloc, name),
+            None => Ok(Invocation::Judge {
+                rack: path_in(words, RACK),
+                audit: paths_in(alloc, words, AUDIT)?,
+                judging: judging_of(words),
+            }),
+        },
         "watch" => Ok(Invocation::Watch {
             rack: path_in(words, RACK),
             folder: path_in(words, WATCHED),

@@ -1,0 +1,4 @@
+pub mod Findings
+pub mod Counts
+pub mod Summary
+pub mod Lines

@@ -1,0 +1,19 @@
+use Rattle.std.proofs.Common.{Option, ap}
+use Rattle.dp_judge.specs.declared.station.Last.{Last}
+use Rattle.dp_judge.specs.Entries.{is_srd}
+use Rattle.dp_judge.specs.FcbRules.{may_be_counted, repeats_an_answered, repeats_with_another}
+use Rattle.std.specs.Prelude.{◌&&◌, not}
+use Rattle.dp_judge.proofs.LastRequests.{last_is}
+use Rattle.dp_judge.proofs.laws.an_srd_is_compared_with_the_last_one.Goals as goal
+
+pub returns-clause-repeated : goal.returns-clause-repeated
+returns-clause-repeated c limit front back before request here none =
+    ap (λ (last : Option Last). repeats_with_another last request) (last_is request.address front back before here none)
+
+pub returns-clause-alternated : goal.returns-clause-alternated
+returns-clause-alternated c limit front back before request here none =
+    ap (λ (last : Option Last). repeats_an_answered last request) (last_is request.address front back before here none)
+
+pub returns-clause-first : goal.returns-clause-first
+returns-clause-first c limit front back before request here none =
+    ap (λ (last : Option Last). is_srd request && request.fcv && not (may_be_counted last)) (last_is request.address front back before here none)

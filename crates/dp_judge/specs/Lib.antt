@@ -1,0 +1,15 @@
+pub mod Entries
+pub mod Stages
+pub mod Stations
+pub mod BusFacts
+pub mod FcbRules
+pub mod BringUpRules
+pub mod ExchangeRules
+pub mod ParameterRules
+pub mod TelegramRules
+pub mod RuleNames
+pub mod Rules
+pub mod Judges
+pub mod Reading
+pub mod Laws
+pub mod RuleExamples

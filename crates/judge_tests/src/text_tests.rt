@@ -1,0 +1,93 @@
+//! Findings as texts.
+
+use crate::rows::judge_rows;
+use dp_findings::{CountLines, CountRows, FindingLines, FindingRows, Judged, Junit, JunitVerdict};
+use dp_judge::{Entry, JudgeRule, Severity, entry_read};
+use dp_line::{Event, Outcome};
+use dp_responder::Rule;
+use dp_telegram::Octets;
+use dp_text::octets_in;
+use std::test::Fail;
+
+/// One Set_Prm to slave 5 without a Slave_Diag before it.
+const ONE_FINDING: &str = "680c0c6885816d3d3e8802050b80a101aa16 reply e5 Done => prm-before-diag";
+
+/// Returns the entry of these octets of master 1, which nobody answers.
+fn entry_of(word: &[u8]) -> Result<Entry, Fail> {
+    let octets: Octets = octets_in(word).ok_or("no octets")?;
+    let event = Event::Request { master: 1, octets };
+    let (_, entry) = entry_read(&event, &Outcome::Silence(Rule::NoStation), 0).ok_or("no entry")?;
+    Ok(entry)
+}
+
+/// A finding as a row with the octets, and as a line of JSON.
+#[test]
+fn one_finding(rt: HostRuntime) -> Result<(), Fail> {
+    let judge = judge_rows(rt.alloc(), "dc0201 silence Token =>")?;
+    let entry = entry_of(b"107f0149c916")?;
+    let seat = judge.seat_of(1).ok_or("no master")?;
+    assert_eq!(rt; seat.master(), 1);
+    let judged = Judged {
+        judge: seat.judge(),
+        entry: &entry,
+        place: 7,
+        master: 1,
+    };
+    let rules = &JudgeRule::ALL;
+    let row = format!(in rt.alloc(); "{}", FindingRows { judged, rules })?;
+    assert_eq!(rt;
+        row.as_str(),
+        "place 7 master 1 all slaves broadcast-needs-reply: a function with a reply, to all stations\n  10 7f 01 49 c9 16\n"
+    );
+    let line = format!(in rt.alloc(); "{}", FindingLines { judged, rules })?;
+    assert_eq!(rt;
+        line.as_str(),
+        "{\"place\":7,\"master\":1,\"slave\":127,\"rule\":\"broadcast-needs-reply\",\"severity\":\"error\",\"standard\":\"IEC 61158-4-3, function code of a request\",\"text\":\"a function with a reply, to all stations\",\"octets\":\"107f0149c916\"}\n"
+    );
+    Ok(())
+}
+
+/// The summary of one finding, as a row, as a line of JSON, and as JUnit XML.
+#[test]
+fn summary(rt: HostRuntime) -> Result<(), Fail> {
+    let judge = judge_rows(rt.alloc(), ONE_FINDING)?;
+    let seats = judge.seats();
+    let rules = &[JudgeRule::PrmBeforeDiag];
+    let rows = format!(in rt.alloc(); "{}", CountRows { seats, rules })?;
+    assert_eq!(rt;
+        rows.as_str(),
+        "  master 1 prm-before-diag error 1, first at place 1\n"
+    );
+    let lines = format!(in rt.alloc(); "{}", CountLines { seats, rules })?;
+    assert_eq!(rt;
+        lines.as_str(),
+        "{\"summary\":{\"master\":1,\"rule\":\"prm-before-diag\",\"severity\":\"error\",\"standard\":\"IEC 61158-6-3, bring-up of a slave\",\"text\":\"Set_Prm, though this slave never answered Slave_Diag\",\"count\":1,\"first\":1}}\n"
+    );
+    let junit = Junit {
+        seats,
+        rules,
+        verdict: JunitVerdict::Legal,
+    };
+    let xml = format!(in rt.alloc(); "{junit}")?;
+    assert_eq!(rt;
+        xml.as_str(),
+        "<?xml version=\"1.0\" encoding=\"UTF-8\"?>\n<testsuite name=\"rackd judge\" tests=\"3\" failures=\"1\">\n<testcase classname=\"text\" name=\"legal\"></testcase>\n<testcase classname=\"master 1\" name=\"prm-before-diag\"><failure type=\"error\" message=\"1, first at place 1\">Set_Prm, though this slave never answered Slave_Diag</failure></testcase>\n<testcase classname=\"master 2\" name=\"prm-before-diag\"></testcase>\n</testsuite>\n"
+    );
+    assert!(rt; judge.has_error(rules));
+    assert!(rt; !judge.has_error(&[JudgeRule::FcbFirst]));
+    Ok(())
+}
+
+/// The number of a rule is its index among all rules.
+#[test]
+fn numbers(rt: HostRuntime) -> Result<(), Fail> {
+    let mut number = 0;
+    for rule in JudgeRule::ALL {
+        assert_eq!(rt; rule.number(), number);
+        number += 1;
+    }
+    assert_eq!(rt; JudgeRule::RetryLimit.severity(), Severity::Warning);
+    assert_eq!(rt; JudgeRule::RetryLimit.severity().name(), "warning");
+    assert_eq!(rt; JudgeRule::RetryLimit.subject(), "IEC 61158-4-3, retry");
+    Ok(())
+}

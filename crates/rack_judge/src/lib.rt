@@ -1,0 +1,14 @@
+//! Judges the masters of an audit text: reads its rows, checks each on the way, and writes what the masters do wrong.
+//!
+//! [`run_judge`] reads the text row by row, so its memory does not grow with the text. What is written of an entry are the
+//! findings of `dp_findings`; the verdict on the text is that of a check.
+#![tactic(auto)]
+
+mod choice;
+mod ending;
+mod events;
+mod judging;
+mod output;
+
+pub use choice::{Form, JudgeChoice};
+pub use judging::run_judge;

@@ -1,0 +1,115 @@
+//! Judges the masters of audit texts.
+
+ghost use Rattle.std.specs.Prelude.{◌≡◌, []};
+
+use crate::audit_files::{FileRows, open_rows, reported_read};
+use crate::ending::Fault;
+use crate::files::read_file;
+use crate::output::{buffered, has_reader};
+use crate::reporting::reported;
+use crate::stations::check_stations;
+use crate::texts::{lacks_header, noted_header};
+use dp_judge::JudgeRule;
+use dp_script::RunFault;
+use rack_judge::{Form, JudgeChoice, run_judge};
+use rackd_words::{Entries, Findings, Judging};
+use std::alloc::{AllocError, Global};
+use std::fs::Files;
+use std::io::Read;
+use std::process::ExitCode;
+use std::rt::Runtime;
+
+/// Judges the masters of the audit text of these files on the rack of another. `shows` is whether the progress of a long
+/// text is shown.
+pub(crate) fn judge_files<'a, H: Runtime + AllocGlobal>(
+    rt: &H,
+    rack: &'a str,
+    audit: &[&'a str],
+    judging: Judging<'_>,
+    shows: bool,
+) -> Result<ExitCode, Fault<'a>> {
+    let rack = read_file(rt, rack)?;
+    let Ok(rules) = rules_of(rt.alloc(), judging.rules) else {
+        return Err(Fault::Run(RunFault::OutOfMemory));
+    };
+    let choice = JudgeChoice {
+        rules: rules.as_slice(),
+        master: judging.master,
+        retries: judging.retries,
+        form: form_of(judging.findings),
+    };
+    let mut rows = open_rows(rt, audit, shows)?;
+    let judged = judge_out(rt, rack.as_str(), &choice, &mut rows);
+    reported(
+        rt,
+        rt.alloc(),
+        rack.as_str(),
+        reported_read(rt, &rows, judged),
+    )
+}
+
+/// Judges an audit text on a rack, and writes the findings on standard output. If its reader ends before, the rest is not
+/// written, and that is no fault.
+fn judge_out<'a, H: Runtime + AllocGlobal + Files<File = R>, R: Read + Drop>(
+    rt: &H,
+    rack: &str,
+    choice: &JudgeChoice<'_>,
+    rows: &mut FileRows<'_, '_, '_, H, R>,
+) -> Result<ExitCode, Fault<'a>>
+    requires { rows.old.text.past ≡ [] }
+{
+    let is_headless = lacks_header(rows)?;
+    if rows.is_whole() {
+        check_stations(rt.alloc(), rack, rows.row(), only_master(choice.master))?;
+    }
+    let mut output = buffered(rt, rt.alloc())?;
+    let judged = run_judge(rt.alloc(), rack, rows, choice, &mut output);
+    rows.reader().get_ref().clear_progress();
+    if !has_reader(output)? {
+        return Ok(ExitCode::SUCCESS);
+    }
+    Ok(noted_header(rt, is_headless, judged?))
+}
+
+/// Returns the choice of all entries of this master, which has to be a master of the line.
+fn only_master(master: Option<u8>) -> Entries {
+    Entries {
+        from: None,
+        to: None,
+        slave: None,
+        master,
+        are_faults: false,
+        are_refused: false,
+        only_summary: false,
+        as_json: false,
+    }
+}
+
+/// Returns the rules of these names, separated by commas, in their order; all rules if no names are given. `AllocError` if
+/// memory runs out.
+fn rules_of(alloc: Global, names: Option<&str>) -> Result<Vec<JudgeRule>, AllocError> {
+    let mut rules = Vec::new(alloc);
+    for rule in JudgeRule::ALL {
+        if is_named(names, rule) {
+            rules.push(rule)?;
+        }
+    }
+    Ok(rules)
+}
+
+/// Returns whether a rule is among these names.
+fn is_named(names: Option<&str>, rule: JudgeRule) -> bool {
+    match names {
+        Some(names) => names.split(',').any(|name| name == rule.name()),
+        None => true,
+    }
+}
+
+/// Returns how findings are written.
+fn form_of(findings: Findings) -> Form {
+    match findings {
+        Findings::Rows => Form::Rows,
+        Findings::Json => Form::Json,
+        Findings::Junit => Form::Junit,
+    }
+}
