@@ -9,7 +9,7 @@ use dp_sessions::{DroppedOctets, Gate, NotRecorded, SessionEnd};
 use dp_telegram::WholeFrame;
 use dp_text::{LONGEST_LINE, LineFault, Text};
 use log::{Log, info, warn};
-use rackd_words::{LogDetail, operator_form};
+use rack_service::{LogDetail, operator_form};
 use std::fmt::Display;
 use std::io::Error;
 use std::sync::atomic::AtomicU32;

@@ -20,8 +20,8 @@ use rack_file::laws::{
     accepted_racks_have_1_to_32_workers,
 };
 use rack_file::{Rack, read_rack};
+use rack_service::Service;
 use rack_sockets::{AcceptGate, InputEnd};
-use rackd_words::Service;
 use std::alloc::Global;
 use std::io::Write;
 use std::net::TcpListener;

@@ -1,6 +1,7 @@
 //! The words that are known, in the form that `clap` requires.
 
 use crate::cable::cabling;
+use crate::gsd::{describing, plugging};
 use crate::help::{self, Help};
 use crate::judge::judge_word;
 use clap::builder::ValueParser;
@@ -85,13 +86,14 @@ const TOLD: [&str; 2] = ["sessions", "requests"];
 /// What `--version` prints after the program's name: the version, and the toolchain that proves and builds the program.
 const VERSION: &str = "0.1.0 (rattle-kit-13f logic dac8208d650f15bf)";
 
-/// Returns the words that are known: `run`, `check`, `explain`, `judge`, `serve`, `watch`, `operate` and `cable`. `clap`
-/// adds `help`, and the options `--help` and `--version`.
+/// Returns the words that are known: `run`, `check`, `explain`, `judge`, `capture`, `gsd`, `slave`, `serve`, `watch`,
+/// `operate` and `cable`. `clap` adds `help`, and the options `--help` and `--version`.
 pub(crate) fn known<'a>(alloc: Global) -> Result<Command<'a>, AllocError> {
     let words = with_help(Command::new(alloc, "rackd"), help::PROGRAM)
         .version(VERSION)
         .subcommand_help_heading(help::WORDS);
     let words = with_racks(alloc, words)?;
+    let words = with_gsd(alloc, words)?;
     with_ports(alloc, words)
 }
 
@@ -112,7 +114,17 @@ fn with_racks<'a>(alloc: Global, words: Command<'a>) -> Result<Command<'a>, Allo
     let explain = explaining(alloc)?;
     let words = words.subcommand(explain)?;
     let judge = judge_word(alloc)?;
-    words.subcommand(judge)
+    let words = words.subcommand(judge)?;
+    let capture = capturing(alloc)?;
+    words.subcommand(capture)
+}
+
+/// Adds the words that write and read GSD files.
+fn with_gsd<'a>(alloc: Global, words: Command<'a>) -> Result<Command<'a>, AllocError> {
+    let gsd = describing(alloc)?;
+    let words = words.subcommand(gsd)?;
+    let slave = plugging(alloc)?;
+    words.subcommand(slave)
 }
 
 /// Returns the word `run`, with a rack and a script.
@@ -124,6 +136,11 @@ fn running<'a>(alloc: Global) -> Result<Command<'a>, AllocError> {
 /// Returns the word `check`, with a rack and an audit text.
 fn checking<'a>(alloc: Global) -> Result<Command<'a>, AllocError> {
     with_rack(alloc, "check", help::CHECK)?.arg(audit(alloc))
+}
+
+/// Returns the word `capture`, with a rack and an audit text.
+fn capturing<'a>(alloc: Global) -> Result<Command<'a>, AllocError> {
+    with_rack(alloc, "capture", help::CAPTURE)?.arg(audit(alloc))
 }
 
 /// Adds the words that use ports.

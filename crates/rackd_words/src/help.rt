@@ -28,6 +28,9 @@ rackd < INPUT
        rackd check RACK AUDIT..
        rackd explain RACK AUDIT.. [OPTIONS]
        rackd judge RACK AUDIT.. [OPTIONS]
+       rackd capture RACK AUDIT..
+       rackd gsd RACK LINE ADDRESS [--vendor T] [--model T]
+       rackd slave GSD [--module NAME..]
        rackd serve RACK [OPTIONS]
        rackd watch RACK FOLDER [--port N]
        rackd operate PORT
@@ -37,7 +40,7 @@ rackd < INPUT
     details: "\
 Exit statuses:
   0  done
-  1  check, explain, judge: the audit text is not legal; judge: a master breaks a rule
+  1  check, explain, judge, capture: the audit text is not legal; judge: a master broke a rule
   2  wrong words; input, a file, a rack or a script that is not accepted; a port that is in use,
      that nobody listens on or that is closed too early; or an audit file that cannot be made
   3  out of memory or threads
@@ -153,12 +156,32 @@ Examples:
   rackd explain rack.toml audit/line-1-1.audit --faults --follow",
 };
 
+/// The help of `capture`.
+pub(crate) const CAPTURE: Help = Help {
+    about: "Write the telegrams of an audit text as a capture for Wireshark (pcapng)",
+    usage: "\
+rackd capture RACK AUDIT.. > FILE.pcapng
+       rackd capture --help",
+    details: "\
+Standard output, which must not be a terminal, gets a packet for each request, reply and event of
+the operator. The comment of a packet has its place, its rule and the sentence of 'explain'. The
+text is checked on the way, and captured to its first wrong line; the exit status is that of
+'check'.
+
+The file share/fdl.lua has Wireshark show telegrams field by field.
+
+Examples:
+  rackd capture examples/audit-rack.toml examples/audit.txt > audit.pcapng
+  tshark -r audit.pcapng -Y 'frame.comment contains \"NotHolder\"'",
+};
+
 /// The help of `serve`.
 pub(crate) const SERVE: Help = Help {
     about: "Serve the lines of a rack to masters and operators at TCP ports of 127.0.0.1",
     usage: "\
 rackd serve RACK [--sessions N] [--until-input-ends] [--ports FILE]
-             [--audit FOLDER [--endless [--part MB]] [--page N]] [--tick MS] [--step MS] [--log [WHAT]]
+             [--audit FOLDER [--endless [--part MB]] [--page N]] [--tick MS] [--step MS]
+             [--log [WHAT]]
        rackd serve --help",
     details: "\
 The rack file gives each line two ports: 'listen' for masters and 'operator' for its operator.

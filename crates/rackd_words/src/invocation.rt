@@ -2,44 +2,8 @@
 
 use crate::cable::CableWords;
 use crate::judge::Judging;
+use rack_service::Service;
 use thiserror::Error;
-
-/// How much is reported on standard error while a rack is served.
-#[derive(Clone, Copy, PartialEq, Eq)]
-pub enum LogDetail {
-    /// Only warnings: that a line is halted, that a connection waits because all workers are busy, and that time was cut
-    /// off because the program was held up.
-    Warnings,
-    /// Connections and sessions too.
-    Sessions,
-    /// Each request and its answer too.
-    Requests,
-}
-
-/// How a rack is served.
-#[derive(Clone, Copy)]
-pub struct Service<'a> {
-    /// The number of connections that each port accepts, 1 to 1,000,000; None if it accepts them without limit.
-    pub sessions: Option<u32>,
-    /// The folder in which each line has a file for its audit text while it is served; None if there is no such file.
-    pub audit: Option<&'a str>,
-    /// The least megabytes of a part of an audit text, 1 to 4,096, if the lines are endless; None if each line has the
-    /// places of the rack file.
-    pub endless: Option<u16>,
-    /// The port of the page that shows the rack, 0 if the system chooses one; None if there is no page.
-    pub page: Option<u16>,
-    /// The most milliseconds from tick to tick, 10 to 60,000, by which the time of each line passes; None if time passes
-    /// only by the ticks of operators.
-    pub tick: Option<u32>,
-    /// The milliseconds from step to step of the devices, 1 to 86,400,000; None if only operators have them step.
-    pub step: Option<u32>,
-    /// The file that names the ports of each line once they are listened at; None if there is no such file.
-    pub ports: Option<&'a str>,
-    /// Whether serving ends when standard input ends.
-    pub until_input_ends: bool,
-    /// How much is reported on standard error.
-    pub log_detail: LogDetail,
-}
 
 /// Which entries of an audit text are explained, those that meet each condition that is given, and in which form.
 #[derive(Clone, Copy)]
@@ -60,6 +24,19 @@ pub struct Entries {
     pub only_summary: bool,
     /// Each as a line of JSON in place of rows of text.
     pub as_json: bool,
+}
+
+/// The slave that a GSD file is written for.
+#[derive(Clone, Copy)]
+pub struct DescribedSlave<'a> {
+    /// The number of its line, 0 to 255.
+    pub line: u8,
+    /// Its address, 0 to 255.
+    pub address: u8,
+    /// The name of its vendor; None if the file has the usual one.
+    pub vendor: Option<&'a str>,
+    /// The name of its model; None if the file has the usual one.
+    pub model: Option<&'a str>,
 }
 
 /// What the words ask for.
@@ -100,6 +77,27 @@ pub enum Invocation<'a> {
         audit: Vec<&'a str>,
         /// What is judged.
         judging: Judging<'a>,
+    },
+    /// `capture RACK AUDIT..`: write the telegrams of an audit text as a capture for Wireshark.
+    Capture {
+        /// The path of the rack.
+        rack: &'a str,
+        /// The paths of the files that contain the audit text, in their order.
+        audit: Vec<&'a str>,
+    },
+    /// `gsd RACK LINE ADDRESS`: write a GSD file for a slave of a rack.
+    Gsd {
+        /// The path of the rack.
+        rack: &'a str,
+        /// The slave, and the names that the file gives it.
+        described: DescribedSlave<'a>,
+    },
+    /// `slave GSD --module NAME..`: write the slave of a GSD file for a rack file.
+    Slave {
+        /// The path of the GSD file.
+        gsd: &'a str,
+        /// The names of the plugged modules, in the order of their slots.
+        modules: Vec<&'a str>,
     },
     /// `serve RACK`: serve the rack of a file at sockets.
     Serve {

@@ -4,14 +4,13 @@
 mod cable;
 mod cable_help;
 mod commands;
-mod forms;
+mod gsd;
 mod help;
 mod invocation;
 mod judge;
 mod reading;
 
 pub use cable::{CableWords, FaultyTelegrams};
-pub use forms::{operator_form, script_form};
-pub use invocation::{Entries, Invocation, LogDetail, Service, WordsFault};
+pub use invocation::{DescribedSlave, Entries, Invocation, WordsFault};
 pub use judge::{Findings, Judging};
 pub use reading::{read_words, words_of};

@@ -6,16 +6,18 @@ use crate::commands::{
     PORTS, RACK, REFUSED, SCRIPT, SESSIONS, SLAVE, STEP, SUMMARY, TICK, TO, UNTIL_INPUT_ENDS,
     WATCHED, explaining, known, operating, serving, watching,
 };
-use crate::invocation::{Entries, Invocation, LogDetail, Service, WordsFault};
+use crate::gsd::{ADDRESS, GSD, LINE, MODULE, described_slave_of, describing};
+use crate::invocation::{Entries, Invocation, WordsFault};
 use crate::judge::{RETRIES, judge_word, judging_of, unknown_rule};
 use clap::error::ErrorKind as Refused;
 use clap::{ArgMatches, Command};
+use rack_service::{LogDetail, Service};
 use std::alloc::{AllocError, Global};
 use std::env::{self, Env};
 use std::io::ErrorKind;
 
 /// The arguments that are numbers, and their names in messages.
-const NUMBERS: [(&str, &str); 16] = [
+const NUMBERS: [(&str, &str); 18] = [
     (FROM, "--from <N>"),
     (TO, "--to <N>"),
     (SLAVE, "--slave <A>"),
@@ -32,6 +34,8 @@ const NUMBERS: [(&str, &str); 16] = [
     (DELAY, "--delay <MS>"),
     (SEED, "--seed <N>"),
     (RESYNC, "--resync <MS>"),
+    (LINE, "<LINE>"),
+    (ADDRESS, "<ADDRESS>"),
 ];
 
 /// The least megabytes of a part of an audit text, if the words name none.
@@ -153,6 +157,7 @@ fn refuse_number<'a>(alloc: Global, odd: OddNumber<'_>) -> Result<Invocation<'a>
         "operate" => operating(alloc),
         "explain" => explaining(alloc),
         "judge" => judge_word(alloc),
+        "gsd" => describing(alloc),
         "watch" => watching(alloc),
         "cable" => cabling(alloc),
         _ => serving(alloc),
@@ -183,24 +188,56 @@ fn invocation_of<'a>(
             rack: path_in(words, RACK),
             script: path_in(words, SCRIPT),
         }),
-        "check" => Ok(Invocation::Check {
+        "check" | "explain" | "judge" | "capture" => of_audit(alloc, command, words),
+        "gsd" => Ok(Invocation::Gsd {
             rack: path_in(words, RACK),
-            audit: paths_in(alloc, words, AUDIT)?,
+            described: described_slave_of(words),
         }),
-        "explain" => Ok(Invocation::Explain {
-            rack: path_in(words, RACK),
-            audit: paths_in(alloc, words, AUDIT)?,
+        "slave" => Ok(Invocation::Slave {
+            gsd: path_in(words, GSD),
+            modules: texts_in(alloc, words, MODULE)?,
+        }),
+        _ => of_ports(alloc, command, words),
+    }
+}
+
+/// Returns what the words ask for that name an audit text: `check`, `explain`, `judge` and `capture`.
+fn of_audit<'a>(
+    alloc: Global,
+    command: &str,
+    words: &ArgMatches<'a>,
+) -> Result<Invocation<'a>, WordsFault> {
+    if command == "judge"
+        && let Some(name) = unknown_rule(words)
+    {
+        return refuse_rule(alloc, name);
+    }
+    let rack = path_in(words, RACK);
+    let audit = texts_in(alloc, words, AUDIT)?;
+    Ok(match command {
+        "explain" => Invocation::Explain {
+            rack,
+            audit,
             entries: entries_of(words),
             follows: words.get_flag(FOLLOW),
-        }),
-        "judge" => match unknown_rule(words) {
-            Some(name) => refuse_rule(alloc, name),
-            None => Ok(Invocation::Judge {
-                rack: path_in(words, RACK),
-                audit: paths_in(alloc, words, AUDIT)?,
-                judging: judging_of(words),
-            }),
         },
+        "judge" => Invocation::Judge {
+            rack,
+            audit,
+            judging: judging_of(words),
+        },
+        "capture" => Invocation::Capture { rack, audit },
+        _ => Invocation::Check { rack, audit },
+    })
+}
+
+/// Returns what the words ask for that use ports: `watch`, `operate`, `cable` and `serve`.
+fn of_ports<'a>(
+    alloc: Global,
+    command: &str,
+    words: &ArgMatches<'a>,
+) -> Result<Invocation<'a>, WordsFault> {
+    match command {
         "watch" => Ok(Invocation::Watch {
             rack: path_in(words, RACK),
             folder: path_in(words, WATCHED),
@@ -233,22 +270,22 @@ fn refuse_bad<'a>(alloc: Global, bad: BadValue<'_>) -> Result<Invocation<'a>, Wo
     refuse_value(cabling(alloc), message.as_str())
 }
 
-/// Returns the paths of this name, in their order. Returns `OutOfMemory` if memory is refused.
-fn paths_in<'a>(
+/// Returns the words of the argument or option of this name, in their order. Returns `OutOfMemory` if memory is refused.
+fn texts_in<'a>(
     alloc: Global,
     words: &ArgMatches<'a>,
     name: &str,
 ) -> Result<Vec<&'a str>, WordsFault> {
-    let mut paths = Vec::new(alloc);
+    let mut texts = Vec::new(alloc);
     let Some(named) = words.get_strs(name) else {
-        return Ok(paths);
+        return Ok(texts);
     };
-    for path in named {
-        if paths.push(*path).is_err() {
+    for text in named {
+        if texts.push(*text).is_err() {
             return Err(WordsFault::OutOfMemory);
         }
     }
-    Ok(paths)
+    Ok(texts)
 }
 
 /// Returns which entries are explained, by the options of `explain`.

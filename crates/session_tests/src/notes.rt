@@ -13,7 +13,7 @@ use fixtures::place::{Place, fresh_place};
 use log::kv::Source;
 use log::span::Spans;
 use log::{Log, Metadata, Record};
-use rackd_words::LogDetail;
+use rack_service::LogDetail;
 use std::alloc::Global;
 use std::fmt::{Display, Write};
 use std::io;

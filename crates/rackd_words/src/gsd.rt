@@ -1,0 +1,115 @@
+//! The words `gsd` and `slave`: their arguments, and what they ask for.
+
+use crate::commands::{with_help, with_rack};
+use crate::help::Help;
+use crate::invocation::DescribedSlave;
+use clap::builder::ValueParser;
+use clap::{Arg, ArgMatches, Command};
+use std::alloc::{AllocError, Global};
+
+/// The arguments and options of `gsd`.
+pub(crate) const LINE: &str = "LINE";
+
+pub(crate) const ADDRESS: &str = "ADDRESS";
+
+const VENDOR: &str = "vendor";
+
+const MODEL: &str = "model";
+
+/// The argument and the option of `slave`.
+pub(crate) const GSD: &str = "GSD";
+
+pub(crate) const MODULE: &str = "module";
+
+/// The help of `gsd`.
+const GSD_HELP: Help = Help {
+    about: "Write a GSD file for a slave of a rack, for tools and masters that need one",
+    usage: "\
+rackd gsd RACK LINE ADDRESS [--vendor T] [--model T]
+       rackd gsd --help",
+    details: "\
+Standard output gets the file: GSD revision 3 in ISO 8859-1, with a module for each configuration of
+the slave. docs/FORMATS.md lists what stands for the facts that a rack file does not have.
+
+Examples:
+  rackd gsd examples/serve/rack.toml 1 5 > slave.gsd
+  rackd gsd examples/serve/rack.toml 1 5 --vendor Example --model 'Slave 5' > slave.gsd",
+};
+
+/// The help of `slave`.
+const SLAVE_HELP: Help = Help {
+    about: "Write the slave of a GSD file, with plugged modules, as a part of a rack file",
+    usage: "\
+rackd slave GSD [--module NAME..]
+       rackd slave --help",
+    details: "\
+Standard output gets a [[line.slave]] for a rack file, with what a rack simulates, and a comment for
+each part of the GSD file that is left out. Modules are plugged in the order of their names. A slave
+that is not modular needs none.
+
+Examples:
+  rackd slave slave.gsd --module 'Configuration 1' >> rack.toml",
+};
+
+const LINE_HELP: &str = "Number of the line in the rack file: 0 to 255";
+
+const ADDRESS_HELP: &str = "Address of the slave: 0 to 255";
+
+const VENDOR_HELP: &str = "Name of the vendor in the file, at most 32 characters [default: rackd]";
+
+const MODEL_HELP: &str = "\
+Name of the model in the file, at most 32 characters
+[default: Slave, with the ident number]";
+
+const FILE_HELP: &str = "GSD file of a slave, in ISO 8859-1";
+
+const MODULE_HELP: &str = "Plug the modules of these names, in the order of their slots";
+
+/// Returns the word `gsd`, with a rack, a slave of it, and the names that the file gives it.
+pub(crate) fn describing<'a>(alloc: Global) -> Result<Command<'a>, AllocError> {
+    let words = with_rack(alloc, "gsd", GSD_HELP)?
+        .arg(octet(alloc, LINE).help(LINE_HELP))?
+        .arg(octet(alloc, ADDRESS).help(ADDRESS_HELP))?;
+    words
+        .arg(name(alloc, VENDOR).help(VENDOR_HELP))?
+        .arg(name(alloc, MODEL).help(MODEL_HELP))
+}
+
+/// Returns an argument with a number from 0 to 255.
+fn octet<'a>(alloc: Global, name: &'a str) -> Arg<'a> {
+    Arg::new(alloc, name)
+        .required(true)
+        .value_parser(ValueParser::unsigned(0, u64::from(u8::MAX)))
+}
+
+/// Returns an option with a name.
+fn name<'a>(alloc: Global, name: &'a str) -> Arg<'a> {
+    Arg::new(alloc, name).long(name).value_name("T")
+}
+
+/// Returns the word `slave`, with a GSD file and the plugged modules.
+pub(crate) fn plugging<'a>(alloc: Global) -> Result<Command<'a>, AllocError> {
+    let gsd = Arg::new(alloc, GSD).required(true).help(FILE_HELP);
+    with_help(Command::new(alloc, "slave"), SLAVE_HELP)
+        .arg(gsd)?
+        .arg(modules(alloc))
+}
+
+/// Returns the option `--module NAME..`.
+fn modules<'a>(alloc: Global) -> Arg<'a> {
+    Arg::new(alloc, MODULE)
+        .long(MODULE)
+        .value_name("NAME")
+        .num_args(1..)
+        .help(MODULE_HELP)
+}
+
+/// Returns the slave that a GSD file is written for, by the words behind `gsd`.
+pub(crate) fn described_slave_of<'a>(words: &ArgMatches<'a>) -> DescribedSlave<'a> {
+    DescribedSlave {
+        line: words.get_one(LINE).unwrap_or(0),
+        address: words.get_one(ADDRESS).unwrap_or(0),
+        vendor: words.get_str(VENDOR),
+        model: words.get_str(MODEL),
+    }
+}
