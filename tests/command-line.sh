@@ -141,12 +141,15 @@ declare -A does=(
   [check]='Check whether a line of the rack would have answered as an audit text says'
   [explain]="Explain an audit text in words, and check it as 'check' does"
   [judge]='Judge the masters of an audit text: what each does that the standard rules out'
+  [capture]='Write the telegrams of an audit text as a capture for Wireshark (pcapng)'
+  [gsd]='Write a GSD file for a slave of a rack, for tools and masters that need one'
+  [slave]='Write the slave of a GSD file, with plugged modules, as a part of a rack file'
   [serve]='Serve the lines of a rack to masters and operators at TCP ports of 127.0.0.1'
   [watch]='Show a rack that is served in a browser: who may change which slave, and why not'
   [operate]='Operate a line that is served: send commands, and print the answers'
   [cable]='Put a cable with faults between masters and a line that is served'
 )
-known=(run check explain judge serve watch operate cable)
+known=(run check explain judge capture gsd slave serve watch operate cable)
 
 # helped NAME FIRST WORD..: the words print the help with this first line, always the same text, which is left in NAME.help
 helped() {
@@ -180,11 +183,12 @@ done
 helped check "${does[check]}" check rack --help
 helped serve "${does[serve]}" serve rack --sessions 1 -h
 helped operate "${does[operate]}" operate 7 --help
-hold 'each word has a help of its own' [ "$(sha256sum "$work"/*.help | cut -d ' ' -f 1 | sort -u | wc -l)" = 8 ]
-hold 'the help of the program has at most 45 lines' [ "$(wc -l <"$work/rackd.help")" -le 45 ]
-hold 'no line of the help has more than 103 characters' eval '! grep -n ".\{104\}" "$work"/*.help'
+hold 'each word has a help of its own' [ "$(sha256sum "$work"/*.help | cut -d ' ' -f 1 | sort -u | wc -l)" = ${#known[@]} ]
+hold 'the help of the program has at most 50 lines' [ "$(wc -l <"$work/rackd.help")" -le 50 ]
+hold 'no line of the help has more than 100 characters' eval '! grep -n ".\{101\}" "$work"/*.help'
 hold 'the help of the program: usage, words, options, exit statuses, an example' has rackd.help 'Usage: rackd < INPUT' \
   'rackd run RACK SCRIPT' 'rackd check RACK AUDIT..' 'rackd explain RACK AUDIT.. [OPTIONS]' 'rackd judge RACK AUDIT.. [OPTIONS]' \
+  'rackd capture RACK AUDIT..' 'rackd gsd RACK LINE ADDRESS [--vendor T] [--model T]' 'rackd slave GSD [--module NAME..]' \
   'rackd serve RACK [OPTIONS]' 'rackd watch RACK FOLDER [--port N]' 'rackd operate PORT' 'rackd cable PORT --listen PORT2 [OPTIONS]' \
   'rackd WORD --help' '-h, --help' '-V, --version' 'Exit statuses:' \
   '  0  ' '  1  ' '  2  ' '  3  ' '  4  ' '  5  ' $'\nExample:\n  rackd '
@@ -197,9 +201,18 @@ hold 'the help of explain: usage, options, ranges' has explain.help \
   'Usage: rackd explain RACK AUDIT.. [--faults] [--from N] [--to N] [--slave A] [--master M]' '[--refused] [--summary | --json] [--follow]' \
   '--from <N>' '1 to 4294967295 [default: 1]' '--to <N>' '1 to 4294967295' '--slave <A>' '0 to 255' '--master <M>' '0 to 255' \
   '--faults' '--refused' '--summary' '--json' '--follow' $'\nExamples:\n  rackd '
+hold 'the help of judge: usage, options, ranges' has judge.help \
+  'Usage: rackd judge RACK AUDIT.. [--master M] [--rules NAME,..] [--retries N] [--json | --junit]' '--master <M>' '0 to 255' \
+  '--rules <NAME,..>' '--retries <N>' '0 to 15 [default: 3]' '--json' '--junit' $'\nExamples:\n  rackd '
+hold 'the help of capture: usage, arguments' has capture.help 'Usage: rackd capture RACK AUDIT.. > FILE.pcapng' 'share/fdl.lua' \
+  '<RACK>' '<AUDIT>...' $'\nExamples:\n  rackd '
+hold 'the help of gsd: usage, arguments, ranges' has gsd.help 'Usage: rackd gsd RACK LINE ADDRESS [--vendor T] [--model T]' \
+  '<RACK>' '<LINE>' '0 to 255' '<ADDRESS>' '0 to 255' '--vendor <T>' '--model <T>' $'\nExamples:\n  rackd '
+hold 'the help of slave: usage, arguments' has slave.help 'Usage: rackd slave GSD [--module NAME..]' '<GSD>' '--module <NAME>' \
+  $'\nExamples:\n  rackd '
 hold 'the help of serve: usage, options, ranges' has serve.help \
   'Usage: rackd serve RACK [--sessions N] [--until-input-ends] [--ports FILE]' \
-  '[--audit FOLDER [--endless [--part MB]] [--page N]] [--tick MS] [--step MS] [--log [WHAT]]' \
+  '[--audit FOLDER [--endless [--part MB]] [--page N]] [--tick MS] [--step MS]' '[--log [WHAT]]' \
   '--sessions <N>' '1 to 1000000 [default: no limit]' '--audit <FOLDER>' '--endless' '4294967295; requires --audit' \
   '--part <MB>' '1 to 4096' 'requires --endless [default: 16]' '--page <N>' '0 to 65535' 'requires --audit [default: no page]' \
   '--ports <FILE>' '--until-input-ends' \
@@ -249,7 +262,7 @@ refused() {
 }
 
 try="For more information, try '--help'."
-each_word=('Usage: rackd < INPUT' 'rackd run ' 'rackd check ' 'rackd explain ' 'rackd judge ' 'rackd serve ' 'rackd watch ' 'rackd operate ' 'rackd cable '
+each_word=('Usage: rackd < INPUT' 'rackd run ' 'rackd check ' 'rackd explain ' 'rackd judge ' 'rackd capture ' 'rackd gsd ' 'rackd slave ' 'rackd serve ' 'rackd watch ' 'rackd operate ' 'rackd cable '
   'rackd --help' "$try")
 refused word "unrecognized subcommand 'word'" "${each_word[@]}"
 refused 'help word' "unrecognized subcommand 'word'" "${each_word[@]}"
@@ -260,6 +273,13 @@ refused 'explain rack audit --from 01' "invalid value '01' for '--from <N>': a n
   'Usage: rackd explain RACK AUDIT..' 'rackd explain --help' "$try"
 refused 'explain rack audit --json --summary' "the argument '--json' cannot be used with '--summary'" \
   'Usage: rackd explain RACK AUDIT..' 'rackd explain --help' "$try"
+refused 'judge rack audit --retries 16' "invalid value '16' for '--retries <N>': 16 is not in 0..=15" "$try"
+refused 'judge rack audit --rules fcb-first,fcb' "invalid value 'fcb' for '--rules <NAME,..>': there is no such rule" "$try"
+refused 'judge rack audit --json --junit' "the argument '--junit' cannot be used with '--json'" "$try"
+refused 'gsd rack 1 05' "invalid value '05' for '<ADDRESS>': a number has no sign and no leading zero" \
+  'Usage: rackd gsd RACK LINE ADDRESS' 'rackd gsd --help' "$try"
+refused 'gsd rack +1 5' "invalid value '+1' for '<LINE>': a number has no sign and no leading zero" \
+  'Usage: rackd gsd RACK LINE ADDRESS' 'rackd gsd --help' "$try"
 refused 'serve rack --session 1' "unexpected argument '--session' found" 'Usage: rackd serve RACK' 'rackd serve --help' "$try"
 refused 'serve rack --sessions 0' "invalid value '0' for '--sessions <N>': 0 is not in 1..=1000000" "$try"
 refused 'serve rack --log loud' "invalid value 'loud' for '--log [<WHAT>]'" '[possible values: sessions, requests]' "$try"
@@ -281,6 +301,11 @@ for words in word -x --hel --help=1 --version=1 '' '--line 1' 'help word' 'help 
   'explain rack audit --master +1' 'explain rack audit --refused 1' 'explain rack audit --faults 1' 'explain rack audit --summary --summary' \
   'explain rack audit --why' 'check rack audit --summary' 'check rack audit --follow' 'explain rack --follow' 'explain rack audit --follow --follow' \
   'explain rack audit --json --json' 'explain rack audit --json 1' 'check rack audit --json' 'explain rack audit --json --summary' \
+  judge 'judge rack' 'judge rack audit --retries' 'judge rack audit --retries 16' 'judge rack audit --retries 03' \
+  'judge rack audit --master 256' 'judge rack audit --rules' 'judge rack audit --rules x' 'judge rack audit --rules min-tsdr,' \
+  'judge rack audit --json --junit' 'judge rack audit --junit --junit' 'judge rack audit --follow' \
+  capture 'capture rack' 'capture rack audit --json' gsd 'gsd rack' 'gsd rack 1' 'gsd rack 1 256' 'gsd rack 256 5' 'gsd rack 1 5 word' \
+  'gsd rack 1 5 --vendor' 'gsd rack 01 5' 'gsd rack x 5' slave 'slave gsd --module' 'slave gsd word' \
   serve 'serve rack word' 'serve --sessions 1' 'serve rack --sessions' 'serve rack --sessions 0' \
   'serve rack --sessions 1000001' 'serve rack --sessions x' 'serve rack --sessions -1' \
   'serve rack --sessions 1 --sessions 1' 'serve rack --session 1' 'serve rack --sessions +5' 'serve rack --sessions 05' \

@@ -29,6 +29,8 @@ pub enum Fault<'a> {
     NoSlave(u8),
     /// The line of the audit text has no master at this address, whose requests are asked for.
     NoMaster(u8),
+    /// Standard output is a terminal, which a capture is not written to.
+    OutputIsTerminal,
     /// The run ended early.
     Run(RunFault),
     /// The rack is not served, or no longer served.
@@ -79,7 +81,7 @@ pub fn status(fault: Fault<'_>) -> u8
         Fault::Run(RunFault::WriteFault) => 4,
         Fault::BadWord | Fault::CannotRead(_, _) | Fault::CannotMake(_, _) => 2,
         Fault::CannotConnect(_, _) | Fault::PortEnded(_) => 2,
-        Fault::NoSlave(_) | Fault::NoMaster(_) => 2,
+        Fault::NoSlave(_) | Fault::NoMaster(_) | Fault::OutputIsTerminal => 2,
         Fault::Run(RunFault::Rack(_) | RunFault::Script(_)) => 2,
         Fault::Run(RunFault::CannotRead | RunFault::NotText) => 2,
         Fault::Serve(fault) => status_of_serving(fault),
@@ -108,7 +110,7 @@ pub fn cause(fault: Fault<'_>) -> Option<Cause>
         Fault::CannotRead(_, cause) | Fault::CannotMake(_, cause) => Some(cause),
         Fault::CannotConnect(_, cause) => Some(cause),
         Fault::BadWord | Fault::PortEnded(_) | Fault::Run(_) => None,
-        Fault::NoSlave(_) | Fault::NoMaster(_) => None,
+        Fault::NoSlave(_) | Fault::NoMaster(_) | Fault::OutputIsTerminal => None,
         Fault::Serve(fault) => cause_of_serving(fault),
     }
 }
@@ -136,6 +138,7 @@ impl<'a> fmt::Display for Fault<'a> {
             Fault::PortEnded(port) => write!(f, "rackd: port {port} has ended"),
             Fault::NoSlave(address) => write!(f, "rackd: the line has no slave {address}"),
             Fault::NoMaster(address) => write!(f, "rackd: the line has no master {address}"),
+            Fault::OutputIsTerminal => f.write_str("rackd: standard output is a terminal"),
             Fault::Run(fault) => write!(f, "rackd: {fault}"),
             Fault::Serve(fault) => write!(f, "rackd: {fault}"),
         }

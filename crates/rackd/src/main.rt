@@ -2,19 +2,23 @@
 //!
 //! Without words it reads a rack text, a line `%%` and a script from standard input, and writes the answers of the
 //! script. `run` reads the rack and the script from two files. `check` reads a rack and an audit text, and checks the
-//! text. `explain` reads a rack and an audit text, and explains the text. `judge` judges the masters of one. `serve` reads
-//! a rack, and serves its lines at sockets. `watch` shows a rack in a browser. `operate` is a client of the operator port of
-//! a line that is served. `cable` serves a cable with faults between masters and a line. `--help` and `--version` are
-//! answered on standard output.
+//! text. `explain` reads a rack and an audit text, and explains the text. `judge` judges the masters of an audit text, and
+//! `capture` writes its telegrams for Wireshark. `gsd` and `slave` write and read GSD files. `serve` reads a rack, and serves
+//! its lines at sockets. `watch` shows a rack in a browser. `operate` is a client of the operator port of a line that is
+//! served. `cable` serves a cable with faults between masters and a line. `--help` and `--version` are answered on standard
+//! output.
 #![tactic(auto)]
 
 mod answers;
 mod audit_files;
 mod cable;
+mod capture;
+mod commands;
 mod differences;
 mod ending;
 mod files;
 mod follow;
+mod gsd;
 mod judge;
 mod missing_port;
 mod next_part;
@@ -29,18 +33,17 @@ mod watching;
 
 use answers::answer_words;
 use cable::run_cable;
+use commands::{Terminals, run_command};
 use dp_script::RunFault;
 use ending::Fault;
 use files::read_file;
-use follow::follow_files;
-use judge::judge_files;
 use log::{Level, Log, Logged, info};
 use operator_client::operate;
 use output::{buffered, flushed};
 use rack_server::{Host, InputEnd, ServeFault, Served, serve_text};
 use rack_service::Service;
 use rack_watch::WatchHost;
-use rackd_words::{Entries, Invocation, read_words, words_of};
+use rackd_words::{Invocation, read_words, words_of};
 use reporting::{ended, report, reported};
 use row_queue::{RowQueue, Written};
 use std::alloc::Global;
@@ -51,7 +54,7 @@ use std::process::ExitCode;
 use std::rt::Runtime;
 use std::sync::Wait;
 use std::thread::{self, Threads};
-use texts::{check_files, explain_files, run_files, run_input};
+use texts::run_input;
 use watching::{ServedPage, watch_folder};
 
 /// A file that has no bytes.
@@ -73,42 +76,12 @@ fn main(rt: HostRuntime) -> ExitCode {
             hint(&rt, rt.stdin().is_terminal());
             ended(&rt, run_input(&rt))
         }
-        Ok(Invocation::Run { rack, script }) => ended(&rt, run_files(&rt, rack, script)),
-        Ok(Invocation::Check { rack, audit }) => {
-            let shows = rt.stderr().is_terminal();
-            ended(&rt, check_files(&rt, rack, audit.as_slice(), shows))
-        }
-        Ok(
-            Invocation::Explain {
-                rack,
-                audit,
-                entries,
-                follows,
-            },
-        ) => {
-            if follows {
-                ended(&rt, follow_files(&rt, rack, audit.as_slice(), entries))
-            } else {
-                let terminals = (rt.stdout().is_terminal(), rt.stderr().is_terminal());
-                let shows = shows_progress(terminals, entries);
-                ended(
-                    &rt,
-                    explain_files(&rt, rack, audit.as_slice(), entries, shows),
-                )
-            }
-        }
-        Ok(
-            Invocation::Judge {
-                rack,
-                audit,
-                judging,
-            },
-        ) => {
-            let shows = rt.stderr().is_terminal() && !rt.stdout().is_terminal();
-            ended(
-                &rt,
-                judge_files(&rt, rack, audit.as_slice(), judging, shows),
-            )
+        Ok(Invocation::Files(command)) => {
+            let terminals = Terminals {
+                output: rt.stdout().is_terminal(),
+                errors: rt.stderr().is_terminal(),
+            };
+            ended(&rt, run_command(&rt, command, terminals))
         }
         Ok(Invocation::Watch { rack, folder, port }) => {
             ended(&rt, watch_folder(&rt, rack, folder, port))
@@ -166,12 +139,6 @@ fn hint(errors: &impl Eprint, is_terminal: bool) {
     if is_terminal {
         let _ = errors.eprintln(HINT);
     }
-}
-
-/// Returns whether the progress of an explanation is shown, by whether standard output and standard error are terminals. What
-/// is explained shows the progress itself if both are.
-fn shows_progress((output, errors): (bool, bool), entries: Entries) -> bool {
-    errors && (entries.only_summary || !output)
 }
 
 /// Reads the rack file, opens the page if there is one, watches the input if serving ends with it, and starts the queue of rows

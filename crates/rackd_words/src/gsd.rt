@@ -1,8 +1,8 @@
 //! The words `gsd` and `slave`: their arguments, and what they ask for.
 
 use crate::commands::{with_help, with_rack};
+use crate::file_command::DescribedSlave;
 use crate::help::Help;
-use crate::invocation::DescribedSlave;
 use clap::builder::ValueParser;
 use clap::{Arg, ArgMatches, Command};
 use std::alloc::{AllocError, Global};

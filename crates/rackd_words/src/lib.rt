@@ -4,6 +4,7 @@
 mod cable;
 mod cable_help;
 mod commands;
+mod file_command;
 mod gsd;
 mod help;
 mod invocation;
@@ -11,6 +12,7 @@ mod judge;
 mod reading;
 
 pub use cable::{CableWords, FaultyTelegrams};
-pub use invocation::{DescribedSlave, Entries, Invocation, WordsFault};
+pub use file_command::{DescribedSlave, Entries, FileCommand};
+pub use invocation::{Invocation, WordsFault};
 pub use judge::{Findings, Judging};
 pub use reading::{read_words, words_of};

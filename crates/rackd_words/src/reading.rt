@@ -6,8 +6,9 @@ use crate::commands::{
     PORTS, RACK, REFUSED, SCRIPT, SESSIONS, SLAVE, STEP, SUMMARY, TICK, TO, UNTIL_INPUT_ENDS,
     WATCHED, explaining, known, operating, serving, watching,
 };
+use crate::file_command::{Entries, FileCommand};
 use crate::gsd::{ADDRESS, GSD, LINE, MODULE, described_slave_of, describing};
-use crate::invocation::{Entries, Invocation, WordsFault};
+use crate::invocation::{Invocation, WordsFault};
 use crate::judge::{RETRIES, judge_word, judging_of, unknown_rule};
 use clap::error::ErrorKind as Refused;
 use clap::{ArgMatches, Command};
@@ -184,50 +185,51 @@ fn invocation_of<'a>(
         return Ok(Invocation::Input);
     };
     match command {
-        "run" => Ok(Invocation::Run {
+        "judge" => match unknown_rule(words) {
+            Some(name) => refuse_rule(alloc, name),
+            None => Ok(Invocation::Files(of_audit(alloc, command, words)?)),
+        },
+        "check" | "explain" | "capture" => {
+            Ok(Invocation::Files(of_audit(alloc, command, words)?))
+        }
+        "run" => Ok(Invocation::Files(FileCommand::Run {
             rack: path_in(words, RACK),
             script: path_in(words, SCRIPT),
-        }),
-        "check" | "explain" | "judge" | "capture" => of_audit(alloc, command, words),
-        "gsd" => Ok(Invocation::Gsd {
+        })),
+        "gsd" => Ok(Invocation::Files(FileCommand::Gsd {
             rack: path_in(words, RACK),
             described: described_slave_of(words),
-        }),
-        "slave" => Ok(Invocation::Slave {
+        })),
+        "slave" => Ok(Invocation::Files(FileCommand::Slave {
             gsd: path_in(words, GSD),
             modules: texts_in(alloc, words, MODULE)?,
-        }),
+        })),
         _ => of_ports(alloc, command, words),
     }
 }
 
-/// Returns what the words ask for that name an audit text: `check`, `explain`, `judge` and `capture`.
+/// Returns what the words ask for that name an audit text: `explain`, `judge`, `capture` and `check`.
 fn of_audit<'a>(
     alloc: Global,
     command: &str,
     words: &ArgMatches<'a>,
-) -> Result<Invocation<'a>, WordsFault> {
-    if command == "judge"
-        && let Some(name) = unknown_rule(words)
-    {
-        return refuse_rule(alloc, name);
-    }
+) -> Result<FileCommand<'a>, WordsFault> {
     let rack = path_in(words, RACK);
     let audit = texts_in(alloc, words, AUDIT)?;
     Ok(match command {
-        "explain" => Invocation::Explain {
+        "explain" => FileCommand::Explain {
             rack,
             audit,
             entries: entries_of(words),
             follows: words.get_flag(FOLLOW),
         },
-        "judge" => Invocation::Judge {
+        "judge" => FileCommand::Judge {
             rack,
             audit,
             judging: judging_of(words),
         },
-        "capture" => Invocation::Capture { rack, audit },
-        _ => Invocation::Check { rack, audit },
+        "capture" => FileCommand::Capture { rack, audit },
+        _ => FileCommand::Check { rack, audit },
     })
 }
 

@@ -2,12 +2,12 @@
 
 /// The text of `page/page.js`.
 pub const SCRIPT: &str = r##""use strict";
-// The page of `rackd watch`. It asks the watch for /state.json up to four times a second, and draws one line of the rack.
+// The page of `rackd watch`: asks the watch for /state.json up to four times a second, and draws one line of the rack.
 // Text of the watch is put into the page as text nodes and attributes only, so none of it is read as HTML.
 
 // ---- Constants
 
-// Milliseconds between two requests, at the least and at the most; until the next one after a failure; until a request fails.
+// Milliseconds: the least and the most between two requests, the pause after a failure, and when a request fails.
 const PERIOD = 250, LONGEST_PERIOD = 1000, RETRY = 1000, TIMEOUT = 2500;
 // How many times as long as it took to draw an answer the page waits, so that it leaves the processors to the rack.
 const REST = 20;
