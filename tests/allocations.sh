@@ -48,11 +48,12 @@ least() {
 
 # is_refused: whether the last run ended out of memory, with nothing but the beginning of its output written
 is_refused() {
-  [ "$status" = 3 ] && [ "$(cat "$work/err")" = 'rackd: out of memory' ] && [[ $(cat "$work/whole") == "$(cat "$work/out")"* ]]
+  [ "$status" = 3 ] && [ "$(cat "$work/err")" = 'rackd: out of memory' ] &&
+    cmp -s -n "$(wc -c <"$work/out")" "$work/whole" "$work/out"
 }
 
 # same FILE OTHER: whether two files have the same text
-same() { [ "$(cat "$work/$1")" = "$(cat "$work/$2")" ]; }
+same() { cmp -s "$work/$1" "$work/$2"; }
 
 # sweep NAME STEP INPUT WORD..: from the least memory on, STEP KiB more each time, until the memory suffices
 sweep() {
@@ -95,6 +96,7 @@ printf 'rack-audit 2 line 1\n1 tick 1 | none | done\n' >"$work/other"
   printf ' | WaitPrm none | reply 680b0b68e481083e3c020500ff80a10e16 Done\n'
 } >"$work/entry"
 { rack 1 1 1 | sed 's/^capacity = 1000/capacity = 1/'; } >"$work/one-place"
+"$program" gsd "$work/rack" 1 1 >"$work/gsd"
 
 sweep 'help' 4 /dev/null --help
 sweep 'version' 4 /dev/null --version
@@ -109,6 +111,10 @@ sweep 'two files' 4 /dev/null run "$work/rack" "$work/script"
 sweep 'an operator and nobody' 4 /dev/null operate 1
 sweep 'a check' 4 /dev/null check "$work/rack" "$work/audit"
 sweep 'an explanation' 4 /dev/null explain "$work/rack" "$work/audit"
+sweep 'a judgement' 4 /dev/null judge "$work/rack" "$work/entry"
+sweep 'a capture' 4 /dev/null capture "$work/rack" "$work/entry"
+sweep 'a GSD file' 4 /dev/null gsd "$work/rack" 1 1
+sweep 'a slave of a GSD file' 4 /dev/null slave "$work/gsd" --module 'Configuration 1'
 
 # ports that a rack is served at; while the program runs each of them is connected to once
 knocked=()
@@ -187,6 +193,11 @@ else
   in_turn 'an explanation' /dev/null explain "$work/rack" "$work/audit"
   in_turn 'an explanation of a slave' /dev/null explain "$work/rack" "$work/audit" --slave 1
   in_turn 'an entry as a line of JSON' /dev/null explain "$work/rack" "$work/entry" --json
+  in_turn 'a judgement' /dev/null judge "$work/rack" "$work/entry"
+  in_turn 'a judgement as JUnit XML' /dev/null judge "$work/rack" "$work/entry" --junit --rules fcb-first
+  in_turn 'a capture' /dev/null capture "$work/rack" "$work/entry"
+  in_turn 'a GSD file' /dev/null gsd "$work/rack" 1 1
+  in_turn 'a slave of a GSD file' /dev/null slave "$work/gsd" --module 'Configuration 1'
   in_turn 'a text that is followed' /dev/null explain "$work/rack" "$work/other" --follow
   mapfile -t knocked < <("$top/tests/serve_client.py" ports 2)
   sed "s/^number = 1$/&\nlisten = ${knocked[0]}\noperator = ${knocked[1]}/" "$work/rack" >"$work/served"

@@ -156,25 +156,6 @@ Examples:
   rackd explain rack.toml audit/line-1-1.audit --faults --follow",
 };
 
-/// The help of `capture`.
-pub(crate) const CAPTURE: Help = Help {
-    about: "Write the telegrams of an audit text as a capture for Wireshark (pcapng)",
-    usage: "\
-rackd capture RACK AUDIT.. > FILE.pcapng
-       rackd capture --help",
-    details: "\
-Standard output, which must not be a terminal, gets a packet for each request, reply and event of
-the operator. The comment of a packet has its place, its rule and the sentence of 'explain'. The
-text is checked on the way, and captured to its first wrong line; the exit status is that of
-'check'.
-
-The file share/fdl.lua has Wireshark show telegrams field by field.
-
-Examples:
-  rackd capture examples/audit-rack.toml examples/audit.txt > audit.pcapng
-  tshark -r audit.pcapng -Y 'frame.comment contains \"NotHolder\"'",
-};
-
 /// The help of `serve`.
 pub(crate) const SERVE: Help = Help {
     about: "Serve the lines of a rack to masters and operators at TCP ports of 127.0.0.1",

@@ -3,6 +3,7 @@
 
 mod cable;
 mod cable_help;
+mod capture;
 mod commands;
 mod file_command;
 mod gsd;
@@ -10,6 +11,7 @@ mod help;
 mod invocation;
 mod judge;
 mod reading;
+mod serve;
 
 pub use cable::{CableWords, FaultyTelegrams};
 pub use file_command::{DescribedSlave, Entries, FileCommand};

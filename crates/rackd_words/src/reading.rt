@@ -2,14 +2,16 @@
 
 use crate::cable::{BadValue, DELAY, LISTEN, RESYNC, SEED, cable_of, cabling};
 use crate::commands::{
-    AUDIT, ENDLESS, FAULTS, FOLDER, FOLLOW, FROM, JSON, LOG, MASTER, PAGE, PAGE_PORT, PART, PORT,
-    PORTS, RACK, REFUSED, SCRIPT, SESSIONS, SLAVE, STEP, SUMMARY, TICK, TO, UNTIL_INPUT_ENDS,
-    WATCHED, explaining, known, operating, serving, watching,
+    AUDIT, FAULTS, FOLLOW, FROM, JSON, MASTER, PAGE_PORT, PORT, RACK, REFUSED, SCRIPT, SLAVE,
+    SUMMARY, TO, WATCHED, explaining, known, operating, watching,
 };
 use crate::file_command::{Entries, FileCommand};
 use crate::gsd::{ADDRESS, GSD, LINE, MODULE, described_slave_of, describing};
 use crate::invocation::{Invocation, WordsFault};
 use crate::judge::{RETRIES, judge_word, judging_of, unknown_rule};
+use crate::serve::{
+    ENDLESS, FOLDER, LOG, PAGE, PART, PORTS, SESSIONS, STEP, TICK, UNTIL_INPUT_ENDS, serving,
+};
 use clap::error::ErrorKind as Refused;
 use clap::{ArgMatches, Command};
 use rack_service::{LogDetail, Service};

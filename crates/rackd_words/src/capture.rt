@@ -1,0 +1,30 @@
+//! The word `capture`.
+
+use crate::commands::{audit, with_rack};
+use crate::help::Help;
+use clap::Command;
+use std::alloc::{AllocError, Global};
+
+/// The help of `capture`.
+const HELP: Help = Help {
+    about: "Write the telegrams of an audit text as a capture for Wireshark (pcapng)",
+    usage: "\
+rackd capture RACK AUDIT.. > FILE.pcapng
+       rackd capture --help",
+    details: "\
+Standard output, which must not be a terminal, gets a packet for each request, reply and event of
+the operator. The comment of a packet has its place, its rule and the sentence of 'explain'. The
+text is checked on the way, and captured to its first wrong line; the exit status is that of
+'check'.
+
+The file share/fdl.lua has Wireshark show telegrams field by field.
+
+Examples:
+  rackd capture examples/audit-rack.toml examples/audit.txt > audit.pcapng
+  tshark -r audit.pcapng -Y 'frame.comment contains \"NotHolder\"'",
+};
+
+/// Returns the word `capture`, with a rack and an audit text.
+pub(crate) fn capturing<'a>(alloc: Global) -> Result<Command<'a>, AllocError> {
+    with_rack(alloc, "capture", HELP)?.arg(audit(alloc))
+}
