@@ -51,6 +51,8 @@ IDENT_7 = 0x0B3C
 WATCHDOG = 2000
 # Units of 10 ms that are longer than the watchdog.
 EXPIRE = 300
+# A slot time for the cases in which no reply is lost: a busy machine holds no reply up for that long.
+NO_LOSS = ("--slot", "1000")
 SLAVES = {
     5: f"5:80A1:2111:2:{WATCHDOG}:01",
     6: f"6:80A2:11:0:{WATCHDOG}:02",
@@ -78,7 +80,7 @@ NO_DIAGNOSIS = {
 # The rule that each wrong master breaks.
 MIN_TSDR_RULE = "min-tsdr"
 REPEATED_FCB_RULE = "fcb-repeated"
-NO_DIAGNOSIS_RULE = "diagnosis-ignored"
+NO_DIAGNOSIS_RULE = "diag-not-read"
 
 # A row of an audit text that is a request: master, DA, DSAP (None if it has none), frame control octet, data, outcome.
 Row = namedtuple("Row", "master station point control data outcome")
@@ -243,11 +245,16 @@ class Master:
 
     running = []
 
-    def __init__(self, command, port, slaves, *options, address=1):
-        self.process = subprocess.Popen([*command, str(port), str(address), *(SLAVES[slave] for slave in slaves), *options],
-                                        stdout=subprocess.PIPE, text=True)
+    def __init__(self, command, port, slaves, *options, address=1, environment=False):
+        slaves = [SLAVES[slave] for slave in slaves]
+        options = options if "--slot" in options else (*options, *NO_LOSS)
+        words = [] if environment else [str(port), str(address), *slaves, *options]
+        variables = dict(os.environ, MASTER_PORT=str(port), MASTER_ADDRESS=str(address), MASTER_SLAVES=" ".join(slaves),
+                         MASTER_OPTIONS=" ".join(options)) if environment else None
+        self.process = subprocess.Popen([*command, *words], env=variables, stdout=subprocess.PIPE, text=True)
         Master.running.append(self.process)
         self.slaves = {}
+        self.strays = 0
 
     def end(self, statuses=(0,), stop=True):
         """Ends the master, or waits for its end, and takes its report: for each slave a number for each word."""
@@ -259,15 +266,17 @@ class Master:
             words = line.split()
             if words[0] == "slave":
                 self.slaves[int(words[1])] = dict(zip(words[2::2], map(int, words[3::2])))
+            else:
+                self.strays = int(words[3])
         return self.slaves
 
 
 # Cases: each has the words of a master, its language, the program and a folder
 
 def alone(language, program, folder):
-    """Three slaves, each by itself 50 times, and unlocked at the end."""
+    """Three slaves, each exchanges 50 times, and unlocked at the end; the words are those of the environment."""
     rack = Rack(program, folder, "rack")
-    master = Master(source(language, folder), rack.port, SLAVES, "--exchanges", "50", "--unlock")
+    master = Master(source(language, folder), rack.port, SLAVES, "--exchanges", "50", "--unlock", environment=True)
     slaves = master.end(stop=False)
     for slave, counts in slaves.items():
         require(counts["exchanges"] >= 50 and counts["starts"] == 1 and counts["losses"] == 0, f"slave {slave}: {counts}")
@@ -380,7 +389,7 @@ def cable(language, program, folder):
             with open(ports, encoding="utf-8") as file:
                 port = int(file.read().split()[3])
             holders = dict.fromkeys(SLAVES, 1)
-            master = Master(source(language, folder), port, SLAVES, "--seconds", "60", "--sync", "05")
+            master = Master(source(language, folder), port, SLAVES, "--seconds", "60", "--sync", "05", "--slot", "100")
             wait_until(lambda: rack.exchanging(holders), "data exchange")
             rack.tell("diag 5 e 0401")
             for order in ("lose 5 1", "lose 5 3", "spoil 7 1", "cut 6 1", "late 7 1 150", "late 5 1 250", "lose 6 4", "lose 7 6"):
@@ -394,22 +403,50 @@ def cable(language, program, folder):
             slaves = master.end()
             require(all(counts["losses"] >= 1 and counts["retries"] >= 4 and counts["starts"] >= 2
                         for counts in slaves.values()), f"{slaves}")
+            losses = sum(counts["losses"] for counts in slaves.values())
+            require(rack.count(control=0x6D) >= 3 + losses, f"{losses} losses, and FCB does not begin again after each")
             require(rack.count(rule="Repeat") >= 6, "there are too few repeats")
+            require(master.strays >= 1, "no late reply was dropped")
         finally:
             faults.kill()
     rack.is_clean()
 
 
 def absent(language, program, folder):
-    """A slave that never answers, beside one that does."""
+    """A slave that never answers, beside one that does; no watchdogs."""
     rack = Rack(program, folder, "rack")
     words = source(language, folder)
-    SLAVES[9] = "9:80A1:2111:2:2000:01"
-    Master(words, rack.port, [5, 9], "--seconds", "2", "--unlock").end(statuses=(1,), stop=False)
+    SLAVES[5] = "5:80A1:2111:2:0:01"
+    SLAVES[9] = "9:80A1:2111:2:0:01"
+    Master(words, rack.port, [5, 9], "--seconds", "2", "--unlock", "--slot", "100").end(statuses=(1,), stop=False)
     require(rack.count(station=9) >= 6 and rack.count(station=9, rule="NoStation") == rack.count(station=9, point=60),
             "slave 9 is not asked")
     require(rack.count(station=5, point=None, rule="Done") >= 6, "slave 5 does not exchange data")
     rack.is_clean()
+
+
+def replies(language, program, folder):
+    """A reply that comes late, and replies of slave 6 and for master 2; a line of this test sends them."""
+    del program
+    with socket.create_server(("127.0.0.1", 0)) as listener:
+        listener.settimeout(20)
+        port = listener.getsockname()[1]
+        Master(source(language, folder), port, [5], "--seconds", "20", "--slot", "100", "--cycle", "300")
+        line, _ = listener.accept()
+        with line:
+            line.settimeout(20)
+            require(line.recv(1) == b"\x01", "the master does not send its address")
+            line.sendall(b"\xe5")
+            first = line.recv(255)
+            # The master waits for 100 ms, and sends again 300 ms later. In between comes that master 2 holds the slave.
+            time.sleep(0.25)
+            line.sendall(bytes.fromhex("680b0b688185083e3c0004000280a1af16"))
+            require(line.recv(255) == first, "the master does not ask for the diagnosis again")
+            line.sendall(bytes.fromhex("680b0b688185083e3c020500ff80a1af16"))
+            for point, strays in ((61, "100106030a16" + "100205030a16"), (62, ""), (60, "")):
+                octets = line.recv(255)
+                require(octets[7] == point, f"a reply misleads the master: {octets.hex()} follows, not point {point}")
+                line.sendall(bytes.fromhex(strays) + b"\xe5")
 
 
 def wrong_min_tsdr(language, program, folder):
@@ -438,7 +475,7 @@ def wrong_diagnosis(language, program, folder):
     return rack.shows(NO_DIAGNOSIS_RULE)
 
 
-CASES = (alone, sync_freeze, operator, ident, others, cable, absent, wrong_min_tsdr, wrong_fcb, wrong_diagnosis)
+CASES = (alone, sync_freeze, operator, ident, others, cable, absent, replies, wrong_min_tsdr, wrong_fcb, wrong_diagnosis)
 
 
 def main():
