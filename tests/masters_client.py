@@ -162,9 +162,11 @@ class Rack:
         return sum(all(getattr(row, name) == value for name, value in fields.items())
                    and (rule is None or row.outcome.split()[-1] == rule) for row in self.requests())
 
-    def wait_for(self, more, what, **fields):
-        """Waits until this number of requests with these fields has come since now."""
+    def wait_for(self, more, what, act=None, **fields):
+        """Sends a line of the operator, if there is one, and waits until this number of requests with these fields has come."""
         before = self.count(**fields)
+        if act is not None:
+            self.tell(act)
         wait_until(lambda: self.count(**fields) >= before + more, what)
 
     def end(self):
@@ -306,31 +308,26 @@ def operator(language, program, folder):
     master = Master(source(language, folder), rack.port, SLAVES, "--seconds", "60", "--sync", "05", "--freeze", "02", "--unlock")
     rack.started(holders, "data exchange")
     rack.tell("in 5 aa55")
-    rack.tell("diag 5 e 04010203")
-    rack.wait_for(1, "Slave_Diag after DH", station=5, point=60, rule="Done")
-    rack.tell("diag 6 es 0401")
-    rack.wait_for(4, "Slave_Diag while Stat_Diag is set", station=6, point=60, rule="Done")
-    rack.tell("diag 6 - -")
-    rack.wait_for(5, "data exchange without Stat_Diag", station=6, point=None, rule="Done")
+    rack.wait_for(1, "Slave_Diag after DH", "diag 5 e 04010203", station=5, point=60, rule="Done")
+    rack.wait_for(4, "Slave_Diag while Stat_Diag is set", "diag 6 es 0401", station=6, point=60, rule="Done")
+    rack.wait_for(5, "data exchange without Stat_Diag", "diag 6 - -", station=6, point=None, rule="Done")
     # The second time at once after Chk_Cfg: the master may not have seen yet that the slaves are ready.
     for _ in range(2):
         rack.expire()
         wait_until(lambda: rack.exchanging(holders), "data exchange after the watchdogs ran out")
     rack.started(holders, "Data_Exchange after the watchdogs ran out")
-    rack.tell("busy 5 default on")
-    rack.wait_for(2, "Data_Exchange of a busy slave", station=5, point=None, rule="Busy")
+    rack.wait_for(2, "Data_Exchange of a busy slave", "busy 5 default on", station=5, point=None, rule="Busy")
     rack.tell("busy 5 default off")
     rack.tell("busy 6 60 on")
-    rack.tell("diag 6 e 0402")
-    rack.wait_for(2, "Slave_Diag of a busy slave", station=6, point=60, rule="Busy")
-    rack.tell("busy 6 60 off")
-    rack.wait_for(1, "Slave_Diag once it is not busy", station=6, point=60, rule="Done")
-    for slave, point in ((5, 62), (6, 60), (7, 61)):
+    rack.wait_for(2, "Slave_Diag of a busy slave", "diag 6 e 0402", station=6, point=60, rule="Busy")
+    rack.wait_for(1, "Slave_Diag once it is not busy", "busy 6 60 off", station=6, point=60, rule="Done")
+    marks = ((5, 62), (6, 60), (7, 61))
+    for slave, point in marks:
         rack.tell(f"busy {slave} {point} on")
     rack.expire()
-    for slave, point in ((5, 62), (6, 60), (7, 61)):
+    for slave, point in marks:
         rack.wait_for(2, f"requests to point {point}", station=slave, point=point, rule="Busy")
-    for slave, point in ((5, 62), (6, 60), (7, 61)):
+    for slave, point in marks:
         rack.tell(f"busy {slave} {point} off")
     rack.started(holders, "data exchange after the busy marks")
     rack.expire()
@@ -344,7 +341,7 @@ def ident(language, program, folder):
     """A slave whose ident is wrong, until another rack stands at the port."""
     first = Rack(program, folder, "first", ident=IDENT_7 + 1)
     master = Master(source(language, folder), first.port, SLAVES, "--exchanges", "100", "--seconds", "60")
-    wait_until(lambda: first.exchanging({5: 1, 6: 1}), "data exchange of two slaves")
+    first.started({5: 1, 6: 1}, "data exchange of two slaves")
     first.wait_for(5, "Slave_Diag of the wrong slave", station=7, point=60)
     require(first.count(station=7, point=None) == 0, "the slave of the wrong ident gets Data_Exchange")
     first.is_clean()
@@ -361,12 +358,12 @@ def others(language, program, folder):
     holder = Master(other, rack.port, [6], "--seconds", "60", "--unlock", address=2)
     wait_until(lambda: rack.exchanging({6: 2}), "data exchange with master 2")
     master = Master(source(language, folder), rack.port, SLAVES, "--seconds", "60")
-    wait_until(lambda: rack.exchanging({5: 1, 7: 1}), "data exchange with master 1")
+    rack.started({5: 1, 7: 1}, "data exchange with master 1")
     rack.wait_for(5, "Slave_Diag of the slave of master 2", master=1, station=6, point=60)
-    require(rack.count(master=1, station=6) == rack.count(master=1, station=6, point=60),
+    require(all(row.point == 60 for row in rack.requests() if (row.master, row.station) == (1, 6)),
             "master 1 sends more than Slave_Diag to the slave of master 2")
     holder.end()
-    wait_until(lambda: rack.exchanging({5: 1, 6: 1, 7: 1}), "data exchange with all slaves")
+    rack.started(dict.fromkeys(SLAVES, 1), "data exchange with all slaves")
     holder = Master(other, rack.port, [6], "--seconds", "60", address=2)
     rack.wait_for(3, "Slave_Diag of master 2", master=2, station=6, point=60)
     for _ in range(4):
@@ -390,7 +387,7 @@ def cable(language, program, folder):
                 port = int(file.read().split()[3])
             holders = dict.fromkeys(SLAVES, 1)
             master = Master(source(language, folder), port, SLAVES, "--seconds", "60", "--sync", "05", "--slot", "100")
-            wait_until(lambda: rack.exchanging(holders), "data exchange")
+            rack.started(holders, "data exchange")
             rack.tell("diag 5 e 0401")
             for order in ("lose 5 1", "lose 5 3", "spoil 7 1", "cut 6 1", "late 7 1 150", "late 5 1 250", "lose 6 4", "lose 7 6"):
                 faults.stdin.write(order.encode() + b"\n")
@@ -468,9 +465,8 @@ def wrong_diagnosis(language, program, folder):
     """No Slave_Diag after DH."""
     rack = Rack(program, folder, "rack")
     master = Master(source(language, folder, NO_DIAGNOSIS), rack.port, SLAVES, "--seconds", "60")
-    wait_until(lambda: rack.exchanging(dict.fromkeys(SLAVES, 1)), "data exchange")
-    rack.tell("diag 5 e 0401")
-    rack.wait_for(12, "data exchange after DH", station=5, point=None, rule="Done")
+    rack.started(dict.fromkeys(SLAVES, 1), "data exchange")
+    rack.wait_for(12, "data exchange after DH", "diag 5 e 0401", station=5, point=None, rule="Done")
     master.end()
     return rack.shows(NO_DIAGNOSIS_RULE)
 
