@@ -1,0 +1,13 @@
+"""`python -m rackd suite COMMAND..` runs a master under test against scenarios."""
+import sys
+
+from .suite_run import main
+
+if __name__ == "__main__":
+    if sys.argv[1:2] != ["suite"]:
+        print("usage: python -m rackd suite [OPTION].. COMMAND..", file=sys.stderr)
+        sys.exit(0 if sys.argv[1:] in (["-h"], ["--help"]) else 2)
+    try:
+        sys.exit(main(sys.argv[2:]))
+    except KeyboardInterrupt:
+        sys.exit(130)

@@ -1,0 +1,175 @@
+"""`python -m rackd suite`: runs a master under test against scenarios, and prints whether it passes."""
+from __future__ import annotations
+
+import argparse
+import importlib.util
+import sys
+import tempfile
+import time
+import traceback
+from dataclasses import dataclass
+from pathlib import Path
+from typing import Callable, List, Optional, Sequence
+
+from .cable import Cable, RunningCable
+from .faults import NotLegal, RackError, RackFault
+from .rack import Rack
+from .suite import ADDRESS, Bus, Failed, Slave, rack_of
+from .suite_judge import reasons
+from .suite_master import CannotRun, MasterProcess, environment_of
+from .suite_plug import Plug
+
+# The scenarios of the checkout, if this package lies in one.
+SCENARIOS = Path(__file__).resolve().parents[2] / "examples" / "suite"
+# Seconds that a scenario may take.
+TIMEOUT = 30.0
+
+
+@dataclass(frozen=True)
+class Scenario:
+    """A scenario: the names of its file (docs/FORMATS.md, "Scenarios"), and the defaults of those that it lacks."""
+
+    path: Path
+    title: str
+    slaves: List[Slave]
+    rack: str
+    clear: int
+    allowed: List[str]
+    warnings: List[str]
+    run: Callable[[Bus], None]
+
+    @property
+    def name(self) -> str:
+        """The name of the file without its end."""
+        return self.path.stem
+
+
+def read_scenario(path: Path) -> Scenario:
+    """Returns the scenario of a file. Raises CannotRun if it is none."""
+    spec = importlib.util.spec_from_file_location("scenario_" + path.stem.replace("-", "_"), path)
+    assert spec is not None and spec.loader is not None
+    module = importlib.util.module_from_spec(spec)
+    try:
+        spec.loader.exec_module(module)
+        slaves = list(module.SLAVES)
+        return Scenario(path, (module.__doc__ or "").strip().split("\n")[0], slaves,
+                        getattr(module, "RACK", None) or rack_of(slaves), getattr(module, "CLEAR", 0),
+                        list(getattr(module, "ALLOWED", [])), list(getattr(module, "WARNINGS", [])), module.run)
+    except Exception as error:
+        raise CannotRun(f"{path.name} is no scenario: {place_of(error, path)}{error}") from None
+
+
+def place_of(error: Exception, path: Path) -> str:
+    """Returns the line of a file in which an exception came, in words; nothing if it came elsewhere."""
+    rows = [frame.lineno for frame in traceback.extract_tb(error.__traceback__) if frame.filename == str(path)]
+    return f"line {rows[-1]}: {type(error).__name__}: " if rows else ""
+
+
+def read_folder(folder: Path, only: Sequence[str]) -> List[Scenario]:
+    """Returns the scenarios of a folder by their names, or those named. Raises CannotRun if there are none."""
+    paths = {path.stem: path for path in sorted(folder.glob("*.py"))}
+    if not paths:
+        raise CannotRun(f"no scenarios in {folder}")
+    for name in only:
+        if name not in paths:
+            raise CannotRun(f"no scenario {name} in {folder}")
+    return [read_scenario(path) for name, path in paths.items() if not only or name in only]
+
+
+def failure_of(scenario: Scenario, command: Sequence[str], seconds: float, folder: Path) -> List[str]:
+    """Runs a scenario, and returns why the master fails it: nothing if it passes.
+
+    The files of the rack are in `folder` afterwards. Raises CannotRun, RackFault or NotLegal if it cannot run.
+    """
+    rack = Rack(scenario.rack, options=["--endless"], folder=folder)
+    with rack:
+        environment = environment_of([slave.keys() for slave in scenario.slaves], ADDRESS, scenario.clear)
+        program = MasterProcess(command, rack.folder / "master.output", environment)
+        plug = Plug(rack.lines[0].listen) if len(rack.lines) > 1 else None
+        try:
+            line = rack.lines[0]
+            cable = RunningCable(rack.program, plug.listen if plug else line.listen, Cable(), rack.folder)
+            line.cables.append(cable)
+            bus = Bus(rack, program, cable, plug, time.monotonic() + seconds, seconds)
+            failed = [*seen(scenario, bus), *filter(None, [program.stop()])]
+        finally:
+            program.stop()
+            if plug:
+                plug.close()
+    return failed + reasons(rack, ADDRESS, scenario.allowed, scenario.warnings)
+
+
+def seen(scenario: Scenario, bus: Bus) -> List[str]:
+    """Runs the steps of a scenario, and returns what was not seen, if there is something."""
+    try:
+        scenario.run(bus)
+    except Failed as failed:
+        return [str(failed)]
+    except AssertionError as error:
+        return [f"{place_of(error, scenario.path)}{error}"]
+    except (CannotRun, RackFault):
+        raise
+    except RackError as error:
+        return [f"{place_of(error, scenario.path)}{error}"]
+    except Exception as error:
+        raise CannotRun(f"{scenario.path.name} {place_of(error, scenario.path)}{error}") from error
+    return []
+
+
+def run_all(scenarios: Sequence[Scenario], command: Sequence[str], seconds: float, keep: Optional[str]) -> int:
+    """Runs scenarios one after another, prints the table, and returns the exit status."""
+    width = max(len(scenario.name) for scenario in scenarios)
+    failures = 0
+    with tempfile.TemporaryDirectory(prefix="rackd-suite-") as temporary:
+        for scenario in scenarios:
+            failed = failure_of(scenario, command, seconds, Path(keep or temporary, scenario.name))
+            failures += bool(failed)
+            first = f"failed  {scenario.name:{width}}  " if failed else f"passed  {scenario.name}"
+            print(first + ("\n" + " " * len(first)).join(failed), flush=True)
+    print(f"{len(scenarios) - failures} passed, {failures} failed", flush=True)
+    return 1 if failures else 0
+
+
+def seconds_of(word: str) -> float:
+    """Returns the number of --timeout. Raises ValueError for another than 1 to 3600."""
+    seconds = float(word)
+    if not 1 <= seconds <= 3600:
+        raise ValueError(word)
+    return seconds
+
+
+def parser_of() -> argparse.ArgumentParser:
+    """Returns the parser of the words behind `python -m rackd suite`."""
+    parser = argparse.ArgumentParser(
+        prog="python -m rackd suite", usage="%(prog)s [OPTION].. COMMAND..",
+        description="Runs a master under test against scenarios of a rack and its operator, and prints a table. COMMAND "
+                    "is started for each scenario, and finds port, address and slaves in RACKD_PORT, RACKD_ADDRESS and "
+                    "RACKD_SLAVES. docs/FORMATS.md describes them.",
+        epilog="Status 0 if all passed, 1 if one failed, 2 for wrong words or a suite that cannot run.")
+    parser.add_argument("--only", action="append", default=[], metavar="NAME", help="runs this scenario, or several")
+    parser.add_argument("--list", action="store_true", help="prints the scenarios, and runs none")
+    parser.add_argument("--folder", default=str(SCENARIOS), help="has the scenarios (%(default)s)")
+    parser.add_argument("--timeout", type=seconds_of, default=TIMEOUT, metavar="SECONDS",
+                        help="how long a scenario may take, 1 to 3600 (%(default)g)")
+    parser.add_argument("--keep", metavar="FOLDER", help="keeps racks, journals and what the master wrote there")
+    parser.add_argument("command", nargs=argparse.REMAINDER, metavar="COMMAND", help="the master under test")
+    return parser
+
+
+def main(words: Sequence[str]) -> int:
+    """Runs the words behind `suite`, and returns the exit status."""
+    parser = parser_of()
+    options = parser.parse_args(words)
+    command = options.command[1:] if options.command[:1] == ["--"] else options.command
+    if bool(command) == options.list:
+        parser.error("--list takes no COMMAND" if command else "COMMAND is missing")
+    try:
+        scenarios = read_folder(Path(options.folder), options.only)
+        if options.list:
+            width = max(len(scenario.name) for scenario in scenarios)
+            print(*(f"{scenario.name:{width}}  {scenario.title}" for scenario in scenarios), sep="\n")
+            return 0
+        return run_all(scenarios, command, options.timeout, options.keep)
+    except (CannotRun, RackFault, NotLegal, OSError) as error:
+        print(f"rackd suite: {error}", file=sys.stderr)
+        return 2
