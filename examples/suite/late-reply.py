@@ -3,7 +3,7 @@ from rackd.suite import Bus, Slave
 
 SLAVES = [Slave(5, mirror=True), Slave(6, mirror=True)]
 # longer than masters wait for a reply
-LATE_MS = 1500
+LATE_MS = 1200
 # the judge takes a reply that is late for one that the master got
 ALLOWED = ["fcb-not-alternated"]
 
@@ -16,7 +16,7 @@ def run(bus: Bus) -> None:
     bus.outputs(6, "1234")
     for slave in (5, 6):
         bus.cable.late(slave, 1, LATE_MS)
-        bus.cable.wait_done()
+        bus.met()
         bus.exchanges(5)
         bus.exchanges(6)
     bus.only(5, "0000", "aa55")

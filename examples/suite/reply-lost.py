@@ -12,7 +12,7 @@ def run(bus: Bus) -> None:
         bus.exchanges(slave)
         first = bus.place()
         bus.cable.lose(slave)
-        bus.cable.wait_done()
+        bus.met()
         bus.exchanges(slave)
         requests = bus.requests(slave, first)
         if not any(again.octets == request.octets and again.rules.get(slave) == "Repeat"

@@ -23,7 +23,7 @@ from dataclasses import dataclass
 from typing import Callable, List, Optional, Sequence
 
 from .cable import RunningCable
-from .faults import BadFrame
+from .faults import BadFrame, NoReply
 from .frames import decode
 from .master import SLAVE_DIAG, Master
 from .operator import Operator, State
@@ -195,6 +195,17 @@ class Bus:
             return any(is_first(bytes.fromhex(row.split(" ")[5])) for row in self.cable.log() if row.startswith(begin))
 
         self.wait(f"a request to slave {slave} with FCV 0 while it is lost", has)
+
+    def met(self) -> None:
+        """Waits until the replies have come that the cable was told to lose, spoil, cut or delay."""
+        def has() -> bool:
+            try:
+                self.cable.wait_done(LOOK_TIME)
+            except NoReply:
+                return False
+            return True
+
+        self.wait("a reply for each fault of the cable", has)
 
     def _shown(self, slave: int) -> str:
         show = self.operator.show(slave)

@@ -49,6 +49,8 @@ def read_scenario(path: Path) -> Scenario:
     spec = importlib.util.spec_from_file_location("scenario_" + path.stem.replace("-", "_"), path)
     assert spec is not None and spec.loader is not None
     module = importlib.util.module_from_spec(spec)
+    # no folder beside the scenarios
+    sys.dont_write_bytecode = True
     try:
         spec.loader.exec_module(module)
         slaves = list(module.SLAVES)
