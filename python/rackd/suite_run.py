@@ -58,18 +58,19 @@ def read_scenario(path: Path) -> Scenario:
                         getattr(module, "RACK", None) or rack_of(slaves), getattr(module, "CLEAR", 0),
                         list(getattr(module, "ALLOWED", [])), list(getattr(module, "WARNINGS", [])), module.run)
     except Exception as error:
-        raise CannotRun(f"{path.name} is no scenario: {place_of(error, path)}{error}") from None
+        raise CannotRun(f"{path.name} is no scenario: {text_of(error, path)}") from None
 
 
-def place_of(error: Exception, path: Path) -> str:
-    """Returns the line of a file in which an exception came, in words; nothing if it came elsewhere."""
-    rows = [frame.lineno for frame in traceback.extract_tb(error.__traceback__) if frame.filename == str(path)]
-    return f"line {rows[-1]}: {type(error).__name__}: " if rows else ""
+def text_of(error: Exception, path: Path) -> str:
+    """Returns an exception in words, with the line of the scenario in which it came, if it came in its file."""
+    rows = [frame for frame in traceback.extract_tb(error.__traceback__) if frame.filename == str(path)]
+    text = str(error) or (rows[-1].line or "" if rows else "")
+    return f"line {rows[-1].lineno}: {type(error).__name__}: {text}" if rows else text
 
 
 def read_folder(folder: Path, only: Sequence[str]) -> List[Scenario]:
     """Returns the scenarios of a folder by their names, or those named. Raises CannotRun if there are none."""
-    paths = {path.stem: path for path in sorted(folder.glob("*.py"))}
+    paths = {path.stem: path for path in sorted(folder.absolute().glob("*.py"))}
     if not paths:
         raise CannotRun(f"no scenarios in {folder}")
     for name in only:
@@ -107,14 +108,12 @@ def seen(scenario: Scenario, bus: Bus) -> List[str]:
         scenario.run(bus)
     except Failed as failed:
         return [str(failed)]
-    except AssertionError as error:
-        return [f"{place_of(error, scenario.path)}{error}"]
     except (CannotRun, RackFault):
         raise
-    except RackError as error:
-        return [f"{place_of(error, scenario.path)}{error}"]
+    except (AssertionError, RackError) as error:
+        return [text_of(error, scenario.path)]
     except Exception as error:
-        raise CannotRun(f"{scenario.path.name} {place_of(error, scenario.path)}{error}") from error
+        raise CannotRun(f"{scenario.path.name} {text_of(error, scenario.path)}") from error
     return []
 
 

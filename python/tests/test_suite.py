@@ -1,0 +1,331 @@
+"""`python -m rackd suite` with small scenarios and masters of their own. The scenarios of examples/suite are tried by
+tests/suite.sh."""
+import json
+import os
+import re
+import signal
+import socket
+import subprocess
+import sys
+import time
+import unittest
+from pathlib import Path
+from typing import Any, List
+
+from support import CFG, IDENT, PACKAGE, PATIENCE, TOP, InAFolder, environment, lines_text, rack_text, run_in, runs, wait_for
+from rackd import Master, Rack, SessionEnded
+from rackd.suite_plug import Plug
+from rackd.suite_rows import Requests
+
+NAMES = ["another-master", "bring-up", "busy-slave", "diagnosis-during-exchange", "fail-safe", "late-reply",
+         "reply-lost", "several-configurations", "slave-lost-and-back", "slave-lost-for-300-ms", "sync-and-freeze",
+         "watchdog-expiry", "wrong-ident-at-first"]
+HEAD = "from rackd.suite import Bus, Slave\nSLAVES = [Slave(5)]\n"
+# A master that brings slave 5 up as it is told, and then does what follows, with a for each exchange of data.
+MASTER = """
+import json, os, sys, time
+import rackd
+slave = json.loads(os.environ["RACKD_SLAVES"])[0]
+cfg = bytes.fromhex(slave["cfg"])
+master = rackd.Master(int(os.environ["RACKD_PORT"]), int(os.environ["RACKD_ADDRESS"]))
+master.timeout = 5
+"""
+GOES_ON = """
+master.bring_up(5, slave["ident"], cfg)
+while True:
+    master.data_exchange(5, bytes(2))
+    time.sleep(0.005)
+"""
+
+
+class Suite(InAFolder):
+    """A folder of scenarios, and a master."""
+
+    def scenario(self, name: str, text: str) -> Path:
+        path = self.folder / "scenarios" / f"{name}.py"
+        path.parent.mkdir(exist_ok=True)
+        path.write_text(text)
+        return path
+
+    def master(self, text: str) -> List[str]:
+        path = self.folder / "master.py"
+        path.write_text(text)
+        return [sys.executable, str(path)]
+
+    def suite(self, *words: str, **more: str) -> "subprocess.CompletedProcess[str]":
+        return run_in(self.folder, [sys.executable, "-m", "rackd", "suite", *words], **more)
+
+    def own(self, *words: str, **more: str) -> "subprocess.CompletedProcess[str]":
+        """Runs the scenarios of the folder."""
+        return self.suite("--folder", "scenarios", *words, **more)
+
+    def assert_cannot_run(self, done: "subprocess.CompletedProcess[str]", cause: str) -> None:
+        """Status 2, and a cause as a pattern on standard error."""
+        self.assertEqual(done.returncode, 2, done)
+        self.assertRegex(done.stderr, cause)
+        self.assertNotIn("Traceback", done.stderr)
+
+    def assert_failed(self, done: "subprocess.CompletedProcess[str]", *reasons: str) -> None:
+        """Status 1, and these reasons as patterns, each on a row, of the only scenario."""
+        self.assertEqual((done.returncode, done.stderr), (1, ""), done)
+        *rows, last = done.stdout.splitlines()
+        self.assertEqual(last, "0 passed, 1 failed")
+        begin = re.match(r"failed  \S+  ", rows[0])
+        assert begin
+        self.assertEqual([row[:begin.end()].strip() for row in rows[1:]], [""] * (len(rows) - 1))
+        found = [row[begin.end():] for row in rows]
+        self.assertEqual(len(found), len(reasons), found)
+        for row, reason in zip(found, reasons):
+            self.assertRegex(row, f"^{reason}$")
+
+
+class Words(Suite):
+    def test_wrong_words(self) -> None:
+        for words, cause in (([], "COMMAND is missing"), (["--list", "true"], "--list takes no COMMAND"),
+                             (["--timeout", "0", "true"], "--timeout"), (["--timeout", "x", "true"], "--timeout"),
+                             (["--timeout", "nan", "true"], "--timeout"), (["--seconds", "3", "true"], "--seconds"),
+                             (["--only", "bring-down", "true"], "no scenario bring-down in "),
+                             (["--folder", "nowhere", "true"], "no scenarios in nowhere"),
+                             (["./no-master"], r"cannot start \./no-master: No such file")):
+            with self.subTest(words):
+                self.assert_cannot_run(self.suite(*words), cause)
+
+    def test_other_words(self) -> None:
+        for words, status in (([], 2), (["judge"], 2), (["--help"], 0), (["suite", "--help"], 0)):
+            done = run_in(self.folder, [sys.executable, "-m", "rackd", *words])
+            self.assertEqual(done.returncode, status)
+            self.assertIn("python -m rackd suite [OPTION].. COMMAND..", done.stdout + done.stderr)
+
+    def test_list(self) -> None:
+        done = self.suite("--list", RACKD="/nowhere")
+        self.assertEqual((done.returncode, done.stderr), (0, ""))
+        rows = done.stdout.splitlines()
+        self.assertEqual([row.split(" ")[0] for row in rows], NAMES)
+        self.assertEqual(rows[1], f"{'bring-up':27}Three slaves are brought up: their outputs are set, and their "
+                                  "inputs are seen.")
+        done = self.suite("--list", "--only", "fail-safe", "--only", "bring-up")
+        self.assertEqual([row.split(" ")[0] for row in done.stdout.splitlines()], ["bring-up", "fail-safe"])
+
+    def test_program(self) -> None:
+        self.scenario("one", HEAD + "def run(bus):\n    pass\n")
+        self.assert_cannot_run(self.own("true", RACKD="/nowhere"), "/nowhere is no program")
+        without = self.executable("without", "#!/bin/bash\n[ \"$1\" != judge ] || { echo wrong words >&2; exit 2; }\n"
+                                  f"exec {os.environ.get('RACKD') or TOP / 'dist/x86_64-linux/rackd'} \"$@\"\n")
+        self.assert_cannot_run(self.own("true", RACKD=without), "rackd judge ended with status 2\nwrong words")
+
+
+class Files(Suite):
+    def test_no_scenarios(self) -> None:
+        for text, cause in (("SLAVES = [", "one.py is no scenario: .*never closed|one.py is no scenario"),
+                            ("def run(bus):\n    pass\n", "one.py is no scenario: .*SLAVES"),
+                            ("SLAVES = []\n", "one.py is no scenario: .*run"),
+                            ("\nSLAVES = other\ndef run(bus):\n    pass\n",
+                             "one.py is no scenario: line 2: NameError: name 'other' is not defined"),
+                            (HEAD + "def run(bus):\n    bus.strat()\n", "one.py line 4: AttributeError: .*strat"),
+                            (HEAD + "ALLOWED = ['no-rule']\ndef run(bus):\n    pass\n", "(?s)status 2.*no-rule"),
+                            (HEAD + "RACK = 'nothing = 1\\n'\ndef run(bus):\n    pass\n", "(?s)status 2.*nothing")):
+            with self.subTest(text):
+                self.scenario("one", text)
+                self.assert_cannot_run(self.own("true"), cause)
+
+    def test_names_of_a_scenario(self) -> None:
+        text = rack_text().replace("capacity = 65536", "capacity = 20000")
+        self.scenario("one", f'"""Title.\n\nMore."""\n{HEAD}CLEAR = 7\nRACK = """{text}"""\nimport pathlib\n'
+                      f"def run(bus):\n    bus.start()\n    bus.exchanges(5)\n    pathlib.Path('ran').write_text(str("
+                      f"bus.operator.show(5)))\n")
+        self.assertEqual(self.own("--list").stdout, "one  Title.\n")
+        master = self.master(MASTER + "assert os.environ['RACKD_CLEAR'] == '7'\n" + GOES_ON)
+        done = self.own(*master)
+        self.assertEqual((done.returncode, done.stdout, done.stderr), (0, "passed  one\n1 passed, 0 failed\n", ""))
+        self.assertIn("DATA_EXCH", (self.folder / "ran").read_text())
+
+    def test_rules_that_count(self) -> None:
+        # min TSDR is an error of the judge, the point 3 a warning
+        master = self.master(MASTER + "master.slave_diag(5)\nmaster.set_prm(5, slave['ident'], min_tsdr=5)\n"
+                             "try:\n    master.srd(5, b'', 3)\nexcept rackd.RS:\n    pass\n"
+                             "master.chk_cfg(5, cfg)\nmaster.slave_diag(5)\nwhile True:\n"
+                             "    master.data_exchange(5, bytes(2))\n    time.sleep(0.005)\n")
+        tsdr, point = r"place 2 slave 5 min-tsdr: .+", r"place 3 slave 5 unknown-point: .+"
+        for more, reasons in (("", [tsdr]), ("ALLOWED = ['min-tsdr']\n", []),
+                              ("WARNINGS = ['unknown-point']\n", [tsdr, point]),
+                              ("ALLOWED = ['min-tsdr']\nWARNINGS = ['unknown-point']\n", [point])):
+            with self.subTest(more):
+                self.scenario("one", HEAD + more + "def run(bus):\n    bus.start()\n    bus.exchanges(5)\n")
+                done = self.own(*master)
+                if reasons:
+                    self.assert_failed(done, *reasons)
+                else:
+                    self.assertEqual((done.returncode, done.stdout), (0, "passed  one\n1 passed, 0 failed\n"))
+
+
+class Runs(Suite):
+    def test_environment_and_end(self) -> None:
+        """Each scenario has a process of its own with its environment, which SIGTERM ends with its children."""
+        for name in ("one", "two"):
+            self.scenario(name, "from rackd.suite import Slave\nSLAVES = [Slave(5, watchdog_ms=0, outputs='12'), "
+                          f"Slave(6, ident=7, cfg='{'10' if name == 'one' else '20'}', group=3, sync=True)]\nimport os, "
+                          f"pathlib, time\ndef run(bus):\n    bus.start()\n"
+                          f"    bus.wait('its file', lambda: os.path.exists('{self.folder}/{name}'))\n"
+                          f"    pathlib.Path('{self.folder}/{name}.run').write_text('')\n")
+        master = self.master(
+            f"import json, os, signal, socket, subprocess, sys, time\n"
+            f"keys = {{name: value for name, value in os.environ.items() if name.startswith('RACKD_')}}\n"
+            f"with socket.create_connection(('127.0.0.1', int(keys['RACKD_PORT']))) as one:\n"
+            f"    one.sendall(bytes([int(keys['RACKD_ADDRESS'])]))\n    keys['answer'] = one.recv(9).hex()\n"
+            f"cfg = json.loads(keys['RACKD_SLAVES'])[1]['cfg']\n"
+            f"name = '{self.folder}/' + {{'10': 'one', '20': 'two'}}[cfg]\n"
+            f"child = subprocess.Popen(['sleep', '60'])\nkeys['pids'] = [os.getpid(), child.pid]\n"
+            f"keys['words'] = sys.argv[1:]\n"
+            f"def end(*_):\n    open(name + '.end', 'w').close()\n    sys.exit(5)\n"
+            f"signal.signal(signal.SIGTERM, end)\n"
+            f"open(name + '.new', 'w').write(json.dumps(keys))\nos.rename(name + '.new', name)\n"
+            f"while True:\n    time.sleep(1)\n")
+        done = self.own(*master, "--only", "a word")
+        self.assertEqual((done.returncode, done.stdout), (0, "passed  one\npassed  two\n2 passed, 0 failed\n"), done)
+        first, second = (json.loads((self.folder / name).read_text()) for name in ("one", "two"))
+        self.assertEqual({*first}, {"RACKD_PORT", "RACKD_ADDRESS", "RACKD_SLAVES", "RACKD_CLEAR", "answer", "pids",
+                                    "words", *(name for name in os.environ if name.startswith("RACKD_"))})
+        self.assertEqual((first["RACKD_ADDRESS"], first["RACKD_CLEAR"], first["answer"], first["words"]),
+                         ("1", "0", "e5", ["--only", "a word"]))
+        self.assertEqual(json.loads(first["RACKD_SLAVES"]), [
+            {"address": 5, "ident": 0x80A1, "cfg": "2111", "user": "", "watchdog_ms": 0, "group": 0, "sync": False,
+             "freeze": False, "failsafe": False, "outputs": "12", "mirror": False},
+            {"address": 6, "ident": 7, "cfg": "10", "user": "", "watchdog_ms": 1000, "group": 3, "sync": True,
+             "freeze": False, "failsafe": False, "outputs": "0000", "mirror": False}])
+        self.assertEqual(json.loads(second["RACKD_SLAVES"])[1]["cfg"], "20")
+        self.assertNotEqual(first["pids"], second["pids"])
+        self.assertEqual([runs(pid) for keys in (first, second) for pid in keys["pids"]], [False] * 4)
+        for name in ("one", "two"):
+            self.assertTrue((self.folder / f"{name}.end").exists())
+        self.assertEqual(list(self.folder.glob("rackd-*")), [])
+
+    def test_reasons_of_scenarios(self) -> None:
+        master = self.master(MASTER + GOES_ON)
+        for steps, reason in (("    bus.fail('no reason')\n", "no reason"),
+                              ("    assert 1 == 2, 'one is two'\n", "line 5: AssertionError: one is two"),
+                              ("    assert 1 == 2\n", "line 5: AssertionError: assert 1 == 2"),
+                              ("    bus.exchanges(5)\n    bus.master().set_prm(5, 1)\n",
+                               "line 6: RS: slave 5 refuses master 2: .+"),
+                              ("    bus.outputs(5, '0102')\n",
+                               "not seen in 3 s: slave 5 in data exchange with master 1, with outputs 0102; it is in "
+                               "DataExch, held by master 1, with outputs 0000"),
+                              ("    bus.cable.lose(6)\n    bus.met()\n",
+                               "not seen in 3 s: a reply for each fault of the cable")):
+            with self.subTest(reason):
+                self.scenario("one", HEAD + "def run(bus):\n    bus.start()\n" + steps)
+                begun = time.monotonic()
+                self.assert_failed(self.own("--timeout", "3", *master), reason)
+                self.assertLess(time.monotonic() - begun, 3 + PATIENCE / 2)
+
+    def test_master_that_ends(self) -> None:
+        self.scenario("one", HEAD + "def run(bus):\n    bus.start()\n    bus.exchanges(5)\n")
+        begun = time.monotonic()
+        self.assert_failed(self.own(*self.master("print('a'); print('b ', end='\\n\\n')")),
+                           r"the master ended with status 0 \(b\), before this was seen: 10 exchanges with slave 5")
+        self.assert_failed(self.own(*self.master("import os; os.kill(os.getpid(), 9)")),
+                           r"the master was ended by signal 9 \(SIGKILL\), before this was seen: .+")
+        self.assertLess(time.monotonic() - begun, PATIENCE)
+
+    def test_counts(self) -> None:
+        for name, step in (("a", "pass"), ("bbb", "bus.fail('why')"), ("c", "pass"), ("d", "bus.fail('not')")):
+            self.scenario(name, HEAD + f"def run(bus):\n    {step}\n")
+        done = self.own("true")
+        self.assertEqual((done.returncode, done.stdout), (1, "passed  a\nfailed  bbb  why\npassed  c\nfailed  d    not\n"
+                                                             "2 passed, 2 failed\n"))
+        done = self.own("--only", "c", "--only", "a", "true")
+        self.assertEqual((done.returncode, done.stdout), (0, "passed  a\npassed  c\n2 passed, 0 failed\n"))
+
+    def test_keep(self) -> None:
+        self.scenario("one", HEAD + "def run(bus):\n    bus.start()\n    bus.exchanges(5)\n")
+        self.assertEqual(self.own("--keep", "kept", *self.master("print('here', flush=True)\n" + MASTER + GOES_ON)).returncode, 0)
+        found = {path.name: path for path in (self.folder / "kept" / "one").rglob("*") if path.is_file()}
+        self.assertLessEqual({"rack.toml", "line-1-1.000001.audit", "master.output"}, {*found})
+        self.assertEqual(found["master.output"].read_text(), "here\n")
+        self.assertIn("req 1 ", found["line-1-1.000001.audit"].read_text())
+
+    def test_suite_that_is_ended(self) -> None:
+        self.scenario("one", HEAD + "def run(bus):\n    bus.start()\n    bus.exchanges(5, 10 ** 9)\n")
+        for number in (signal.SIGTERM, signal.SIGINT):
+            path = self.folder / "pid"
+            master = self.master(f"import os, time\nopen('{path}.new', 'w').write(str(os.getpid()))\n"
+                                 f"os.rename('{path}.new', '{path}')\nwhile True:\n    time.sleep(1)\n")
+            words = [sys.executable, "-m", "rackd", "suite", "--folder", "scenarios", *master]
+            with subprocess.Popen(words, cwd=self.folder, env=environment(TMPDIR=str(self.folder))) as suite:
+                self.assertTrue(wait_for(path.exists))
+                suite.send_signal(number)
+                self.assertEqual(suite.wait(PATIENCE), 128 + number)
+            self.assertFalse(runs(int(path.read_text())))
+            path.unlink()
+            self.assertEqual(list(self.folder.glob("rackd-*")), [])
+
+
+class Journals(InAFolder):
+    def test_requests(self) -> None:
+        """Rows of other events are left out, rows that are not whole are read later, and parts follow one another."""
+        files = [self.folder / name for name in ("one", "two")]
+        files[0].write_bytes(b"rack-audit 3 line 1\n1 in 5 aa55 | WaitPrm none | done\n"
+                             b"2 req 1 6805056885816d3c3eed16 | WaitPrm none | reply e5 Do")
+        line: Any = type("Line", (), {"files": lambda self: [path for path in files if path.exists()]})()
+        requests = Requests(line)
+        self.assertEqual(requests.read(), [])
+        with open(files[0], "ab") as file:
+            file.write(b"ne\n3 tick 1 | none | released\n")
+        self.assertEqual([(one.place, one.master, one.slave, one.point, one.data, one.rules) for one in requests.read()],
+                         [(2, 1, 5, 60, b"", {5: "Done"})])
+        self.assertEqual(len(requests.read()), 1)
+        with open(files[0], "ab") as file:
+            file.write(b"4 req 2 68070768ff82463a3e02034416 | none | spread 5:Done 6:NotSelected\n")
+        files[1].write_bytes(b"5 req 1 100501494f16 | DataExch 1 | reply 100105000616 Status\n")
+        found = requests.read()
+        self.assertEqual([(one.place, one.master, one.slave, one.point, one.data) for one in found[1:]],
+                         [(4, 2, 127, 58, b"\x02\x03"), (5, 1, 5, None, b"")])
+        self.assertEqual([one.rules for one in found[1:]], [{5: "Done", 6: "NotSelected"}, {5: "Status"}])
+        self.assertEqual(len(requests.read()), 3)
+
+
+class Plugs(unittest.TestCase):
+    def setUp(self) -> None:
+        self.rack = Rack(lines_text(5, 6).replace("capacity = 9", "capacity = 99"))
+        self.addCleanup(self.rack.close)
+        self.plug = Plug(self.rack.line(5).listen)
+        self.addCleanup(self.plug.close)
+
+    def test_other_line_in_the_same_session(self) -> None:
+        with Master(self.plug.listen, 1) as master:
+            master.timeout = PATIENCE
+            master.slave_diag(5)
+            self.plug.put(self.rack.line(6).listen)
+            self.assertTrue(wait_for(lambda: self.is_there(master, 6)))
+            self.assertFalse(self.is_there(master, 5))
+        with Master(self.plug.listen, 1) as master:
+            master.timeout = PATIENCE
+            self.assertEqual(master.slave_diag(6).ident, 1)
+
+    @staticmethod
+    def is_there(master: Master, slave: int) -> bool:
+        master.timeout = 0.2
+        return master.fdl_status(slave)
+
+    def test_ends(self) -> None:
+        master = Master(self.plug.listen, 1)
+        self.addCleanup(master.close)
+        self.plug.close()
+        with self.assertRaises(SessionEnded):
+            master.slave_diag(5)
+        with self.assertRaises((SessionEnded, OSError)):
+            Master(self.plug.listen, 1)
+
+    def test_master_that_the_line_refuses(self) -> None:
+        for first in (b"\x07", b""):
+            with socket.create_connection(("127.0.0.1", self.plug.listen)) as client:
+                client.sendall(first)
+                client.shutdown(socket.SHUT_WR)
+                client.settimeout(PATIENCE)
+                self.assertEqual(client.recv(1), b"")
+        with Master(self.plug.listen, 1) as master:
+            master.timeout = PATIENCE
+            master.slave_diag(5)
+
+
+if __name__ == "__main__":
+    unittest.main()
