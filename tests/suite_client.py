@@ -17,7 +17,7 @@ TOP = Path(__file__).resolve().parents[1]
 CLEAN, WRONG, SCENARIOS = TOP / "examples/suite-master.py", TOP / "tests/suite_masters.py", TOP / "examples/suite"
 LANES = 5
 # Seconds that a scenario may take. A wrong master that does not do what must be seen takes them all.
-SECONDS = 12
+SECONDS = 15
 
 
 def broken(slave, rule):

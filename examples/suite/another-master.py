@@ -1,4 +1,4 @@
-"""Another master takes a lost slave: the master leaves it alone while it is held, and brings it up afterwards."""
+"""Another master takes a slave: the master leaves it alone, and brings it up once it is released."""
 from rackd.master import SLAVE_DIAG
 from rackd.suite import Bus, Slave
 

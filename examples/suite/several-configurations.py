@@ -1,4 +1,4 @@
-"""Slaves that may be plugged in several ways: the master configures each as it is told, and exchanges that many octets."""
+"""Slaves that may be plugged in several ways are configured as the master is told."""
 from rackd.suite import Bus, Slave
 
 SLAVES = [Slave(5, cfg="2010", outputs="12", mirror=True), Slave(6, cfg="2111", outputs="5678")]

@@ -1,4 +1,4 @@
-"""A slave is lost until its watchdog has run out: the master serves the others, and brings it up once it is back."""
+"""A slave is lost until its watchdog has run out: the master brings it up once it is back."""
 from rackd.suite import Bus, Slave
 
 SLAVES = [Slave(5, watchdog_ms=500, outputs="1234"), Slave(6, watchdog_ms=0, outputs="5678")]

@@ -1,4 +1,4 @@
-"""A device with another ident number is in the place of a slave: the master brings up the right one once it is there."""
+"""A slave has a wrong ident number at first: the master brings up the right one once it is there."""
 from rackd.master import SLAVE_DIAG
 from rackd.suite import Bus, Slave
 

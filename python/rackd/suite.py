@@ -18,6 +18,7 @@ the master, does what the operator, the cable and another master do, and waits f
 from __future__ import annotations
 
 import dataclasses
+import itertools
 import time
 from dataclasses import dataclass
 from typing import Callable, List, Optional, Sequence
@@ -120,9 +121,9 @@ class Bus:
 
     def requests(self, slave: Optional[int] = None, first: int = 1) -> List[Request]:
         """Returns the requests of the master under test so far, from a place on, to a slave if one is named."""
-        return [request for request in self._requests.read()
-                if request.master == self.address and request.place >= first
-                and (slave is None or request.slave == slave)]
+        found = itertools.takewhile(lambda request: request.place >= first, reversed(self._requests.read()))
+        return [request for request in found
+                if request.master == self.address and (slave is None or request.slave == slave)][::-1]
 
     def place(self) -> int:
         """Returns the place in the journal behind all that has come."""

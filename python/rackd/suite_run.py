@@ -91,7 +91,9 @@ def failure_of(scenario: Scenario, command: Sequence[str], seconds: float, folde
         plug = Plug(rack.lines[0].listen) if len(rack.lines) > 1 else None
         try:
             line = rack.lines[0]
-            cable = RunningCable(rack.program, plug.listen if plug else line.listen, Cable(), rack.folder)
+            # a stack that is alone on its bus may send tokens to itself all the time
+            cable = RunningCable(rack.program, plug.listen if plug else line.listen, Cable(drop_tokens=True),
+                                 rack.folder)
             line.cables.append(cable)
             bus = Bus(rack, program, cable, plug, time.monotonic() + seconds, seconds)
             failed = [*seen(scenario, bus), *filter(None, [program.stop()])]
@@ -143,9 +145,9 @@ def parser_of() -> argparse.ArgumentParser:
     """Returns the parser of the words behind `python -m rackd suite`."""
     parser = argparse.ArgumentParser(
         prog="python -m rackd suite", usage="%(prog)s [OPTION].. COMMAND..",
-        description="Runs a master under test against scenarios of a rack and its operator, and prints a table. COMMAND "
-                    "is started for each scenario, and finds port, address and slaves in RACKD_PORT, RACKD_ADDRESS and "
-                    "RACKD_SLAVES. docs/FORMATS.md describes them.",
+        description="Runs a master under test against scenarios of a rack and its operator, and prints a table. "
+                    "COMMAND is started for each scenario, and finds port, address and slaves in RACKD_PORT, "
+                    "RACKD_ADDRESS and RACKD_SLAVES. docs/FORMATS.md describes them.",
         epilog="Status 0 if all passed, 1 if one failed, 2 for wrong words or a suite that cannot run.")
     parser.add_argument("--only", action="append", default=[], metavar="NAME", help="runs this scenario, or several")
     parser.add_argument("--list", action="store_true", help="prints the scenarios, and runs none")

@@ -4,18 +4,15 @@ import json
 import os
 import re
 import signal
-import socket
 import subprocess
 import sys
 import time
 import unittest
 from pathlib import Path
-from typing import Any, List
+from typing import List
 
-from support import CFG, IDENT, PACKAGE, PATIENCE, TOP, InAFolder, environment, lines_text, rack_text, run_in, runs, wait_for
-from rackd import Master, Rack, SessionEnded
-from rackd.suite_plug import Plug
-from rackd.suite_rows import Requests
+from support import PATIENCE, InAFolder, environment, rack_text, run_in, runs, wait_for
+from rackd.program import find_program
 
 NAMES = ["another-master", "bring-up", "busy-slave", "diagnosis-during-exchange", "fail-safe", "late-reply",
          "reply-lost", "several-configurations", "slave-lost-and-back", "slave-lost-for-300-ms", "sync-and-freeze",
@@ -35,6 +32,26 @@ master.bring_up(5, slave["ident"], cfg)
 while True:
     master.data_exchange(5, bytes(2))
     time.sleep(0.005)
+"""
+# A master that writes its environment and its processes to a file once it has connected, and another file at SIGTERM.
+WRITES_ITS_ENVIRONMENT = """
+import json, os, signal, socket, subprocess, sys, time
+keys = {name: value for name, value in os.environ.items() if name.startswith("RACKD_")}
+with socket.create_connection(("127.0.0.1", int(keys["RACKD_PORT"]))) as one:
+    one.sendall(bytes([int(keys["RACKD_ADDRESS"])]))
+    keys["answer"] = one.recv(9).hex()
+name = "FOLDER/" + {"10": "one", "20": "two"}[json.loads(keys["RACKD_SLAVES"])[1]["cfg"]]
+child = subprocess.Popen(["sleep", "60"])
+keys.update(pids=[os.getpid(), child.pid], words=sys.argv[1:])
+def end(*_):
+    open(name + ".end", "w").close()
+    sys.exit(5)
+signal.signal(signal.SIGTERM, end)
+with open(name + ".new", "w") as file:
+    json.dump(keys, file)
+os.rename(name + ".new", name)
+while True:
+    time.sleep(1)
 """
 
 
@@ -109,9 +126,12 @@ class Words(Suite):
     def test_program(self) -> None:
         self.scenario("one", HEAD + "def run(bus):\n    pass\n")
         self.assert_cannot_run(self.own("true", RACKD="/nowhere"), "/nowhere is no program")
-        without = self.executable("without", "#!/bin/bash\n[ \"$1\" != judge ] || { echo wrong words >&2; exit 2; }\n"
-                                  f"exec {os.environ.get('RACKD') or TOP / 'dist/x86_64-linux/rackd'} \"$@\"\n")
-        self.assert_cannot_run(self.own("true", RACKD=without), "rackd judge ended with status 2\nwrong words")
+        for name, judge, cause in (
+                ("without", "echo wrong words >&2; exit 2", "rackd judge ended with status 2\nwrong words"),
+                ("no-verdict", "exit 1", "rackd judge did not find the journal of line 1 legal"),
+                ("not-legal", 'echo \'{"verdict":"bad line","row":3}\'; exit 1', "not find the journal of line 1")):
+            text = f"#!/bin/bash\n[ \"$1\" != judge ] || {{ {judge}; }}\nexec {find_program()} \"$@\"\n"
+            self.assert_cannot_run(self.own("true", RACKD=self.executable(name, text)), cause)
 
 
 class Files(Suite):
@@ -131,8 +151,8 @@ class Files(Suite):
     def test_names_of_a_scenario(self) -> None:
         text = rack_text().replace("capacity = 65536", "capacity = 20000")
         self.scenario("one", f'"""Title.\n\nMore."""\n{HEAD}CLEAR = 7\nRACK = """{text}"""\nimport pathlib\n'
-                      f"def run(bus):\n    bus.start()\n    bus.exchanges(5)\n    pathlib.Path('ran').write_text(str("
-                      f"bus.operator.show(5)))\n")
+                      "def run(bus):\n    bus.start()\n    bus.exchanges(5)\n"
+                      "    pathlib.Path('ran').write_text(str(bus.operator.show(5)))\n")
         self.assertEqual(self.own("--list").stdout, "one  Title.\n")
         master = self.master(MASTER + "assert os.environ['RACKD_CLEAR'] == '7'\n" + GOES_ON)
         done = self.own(*master)
@@ -145,12 +165,14 @@ class Files(Suite):
                              "try:\n    master.srd(5, b'', 3)\nexcept rackd.RS:\n    pass\n"
                              "master.chk_cfg(5, cfg)\nmaster.slave_diag(5)\nwhile True:\n"
                              "    master.data_exchange(5, bytes(2))\n    time.sleep(0.005)\n")
-        tsdr, point = r"place 2 slave 5 min-tsdr: .+", r"place 3 slave 5 unknown-point: .+"
+        tsdr, point = r"place 3 slave 5 min-tsdr: .+", r"place 4 slave 5 unknown-point: .+"
         for more, reasons in (("", [tsdr]), ("ALLOWED = ['min-tsdr']\n", []),
                               ("WARNINGS = ['unknown-point']\n", [tsdr, point]),
                               ("ALLOWED = ['min-tsdr']\nWARNINGS = ['unknown-point']\n", [point])):
             with self.subTest(more):
-                self.scenario("one", HEAD + more + "def run(bus):\n    bus.start()\n    bus.exchanges(5)\n")
+                # what another master does wrong does not count
+                self.scenario("one", HEAD + more + "def run(bus):\n    bus.master().set_prm(5, 1, unlock=True)\n"
+                              "    bus.start()\n    bus.exchanges(5)\n")
                 done = self.own(*master)
                 if reasons:
                     self.assert_failed(done, *reasons)
@@ -161,25 +183,12 @@ class Files(Suite):
 class Runs(Suite):
     def test_environment_and_end(self) -> None:
         """Each scenario has a process of its own with its environment, which SIGTERM ends with its children."""
-        for name in ("one", "two"):
-            self.scenario(name, "from rackd.suite import Slave\nSLAVES = [Slave(5, watchdog_ms=0, outputs='12'), "
-                          f"Slave(6, ident=7, cfg='{'10' if name == 'one' else '20'}', group=3, sync=True)]\nimport os, "
-                          f"pathlib, time\ndef run(bus):\n    bus.start()\n"
-                          f"    bus.wait('its file', lambda: os.path.exists('{self.folder}/{name}'))\n"
-                          f"    pathlib.Path('{self.folder}/{name}.run').write_text('')\n")
-        master = self.master(
-            f"import json, os, signal, socket, subprocess, sys, time\n"
-            f"keys = {{name: value for name, value in os.environ.items() if name.startswith('RACKD_')}}\n"
-            f"with socket.create_connection(('127.0.0.1', int(keys['RACKD_PORT']))) as one:\n"
-            f"    one.sendall(bytes([int(keys['RACKD_ADDRESS'])]))\n    keys['answer'] = one.recv(9).hex()\n"
-            f"cfg = json.loads(keys['RACKD_SLAVES'])[1]['cfg']\n"
-            f"name = '{self.folder}/' + {{'10': 'one', '20': 'two'}}[cfg]\n"
-            f"child = subprocess.Popen(['sleep', '60'])\nkeys['pids'] = [os.getpid(), child.pid]\n"
-            f"keys['words'] = sys.argv[1:]\n"
-            f"def end(*_):\n    open(name + '.end', 'w').close()\n    sys.exit(5)\n"
-            f"signal.signal(signal.SIGTERM, end)\n"
-            f"open(name + '.new', 'w').write(json.dumps(keys))\nos.rename(name + '.new', name)\n"
-            f"while True:\n    time.sleep(1)\n")
+        for name, cfg in (("one", "10"), ("two", "20")):
+            self.scenario(name, "import os\nfrom rackd.suite import Slave\n"
+                          "SLAVES = [Slave(5, watchdog_ms=0, outputs='12'), "
+                          f"Slave(6, ident=7, cfg='{cfg}', group=3, sync=True)]\ndef run(bus):\n    bus.start()\n"
+                          f"    bus.wait('its file', lambda: os.path.exists('{self.folder}/{name}'))\n")
+        master = self.master(WRITES_ITS_ENVIRONMENT.replace("FOLDER", str(self.folder)))
         done = self.own(*master, "--only", "a word")
         self.assertEqual((done.returncode, done.stdout), (0, "passed  one\npassed  two\n2 passed, 0 failed\n"), done)
         first, second = (json.loads((self.folder / name).read_text()) for name in ("one", "two"))
@@ -199,6 +208,32 @@ class Runs(Suite):
             self.assertTrue((self.folder / f"{name}.end").exists())
         self.assertEqual(list(self.folder.glob("rackd-*")), [])
 
+    def test_own_tokens_do_not_come_to_the_line(self) -> None:
+        self.scenario("one", HEAD + "def run(bus):\n    bus.start()\n    bus.exchanges(5)\n"
+                      "    assert [one.place for one in bus.requests()] == list(range(1, bus.place()))\n"
+                      "    assert {one.frame.start for one in bus.requests()} == {0x68}\n")
+        done = self.own(*self.master(MASTER + "master._send(bytes([0xDC, 1, 1]) * 5)\n" + GOES_ON))
+        self.assertEqual((done.returncode, done.stdout), (0, "passed  one\n1 passed, 0 failed\n"), done)
+
+    def test_requests_are_those_of_the_master(self) -> None:
+        self.scenario("one", HEAD + "def run(bus):\n    bus.start()\n    bus.exchanges(5)\n"
+                      "    bus.master().slave_diag(5)\n    first = bus.place()\n    bus.exchanges(5, 3)\n"
+                      "    assert {one.master for one in bus.requests()} == {1}\n"
+                      "    assert bus.requests(5) == bus.requests() and not bus.requests(6)\n"
+                      "    assert bus.requests()[0].place == 1 and bus.requests(first=first)[0].place == first\n")
+        done = self.own(*self.master(MASTER + GOES_ON))
+        self.assertEqual((done.returncode, done.stdout), (0, "passed  one\n1 passed, 0 failed\n"), done)
+
+    def test_each_line_is_judged(self) -> None:
+        rack = "".join(f"[[line]]\nnumber = {number}\ncapacity = 16416\nmasters = [1, 2]\nlisten = 0\noperator = 0\n"
+                       '[[line.slave]]\naddress = 5\nident = 0x80A1\ncfg = "2111"\n' for number in (1, 2))
+        self.scenario("one", HEAD + f"RACK = {rack!r}\ndef run(bus):\n    bus.start()\n    bus.exchanges(5)\n"
+                      "    bus.put(2)\n    bus.request(5, None, 'NotActive')\n")
+        goes_on = ("master.bring_up(5, slave['ident'], cfg)\nwhile True:\n    try:\n"
+                   "        master.data_exchange(5, bytes(2))\n    except rackd.RS:\n        time.sleep(60)\n")
+        self.assert_failed(self.own(*self.master(MASTER + goes_on)),
+                           "place 1 slave 5 fcb-first: .+", "place 1 slave 5 exchange-before-ready: .+")
+
     def test_reasons_of_scenarios(self) -> None:
         master = self.master(MASTER + GOES_ON)
         for steps, reason in (("    bus.fail('no reason')\n", "no reason"),
@@ -209,6 +244,8 @@ class Runs(Suite):
                               ("    bus.outputs(5, '0102')\n",
                                "not seen in 3 s: slave 5 in data exchange with master 1, with outputs 0102; it is in "
                                "DataExch, held by master 1, with outputs 0000"),
+                              ("    bus.request(5, None, 'Busy')\n",
+                               "not seen in 3 s: 1 of Data_Exchange of slave 5 with Busy; it is in DataExch, .+"),
                               ("    bus.cable.lose(6)\n    bus.met()\n",
                                "not seen in 3 s: a reply for each fault of the cable")):
             with self.subTest(reason):
@@ -230,14 +267,15 @@ class Runs(Suite):
         for name, step in (("a", "pass"), ("bbb", "bus.fail('why')"), ("c", "pass"), ("d", "bus.fail('not')")):
             self.scenario(name, HEAD + f"def run(bus):\n    {step}\n")
         done = self.own("true")
-        self.assertEqual((done.returncode, done.stdout), (1, "passed  a\nfailed  bbb  why\npassed  c\nfailed  d    not\n"
-                                                             "2 passed, 2 failed\n"))
+        self.assertEqual(done.stdout, "passed  a\nfailed  bbb  why\npassed  c\nfailed  d    not\n2 passed, 2 failed\n")
+        self.assertEqual(done.returncode, 1)
         done = self.own("--only", "c", "--only", "a", "true")
         self.assertEqual((done.returncode, done.stdout), (0, "passed  a\npassed  c\n2 passed, 0 failed\n"))
 
     def test_keep(self) -> None:
         self.scenario("one", HEAD + "def run(bus):\n    bus.start()\n    bus.exchanges(5)\n")
-        self.assertEqual(self.own("--keep", "kept", *self.master("print('here', flush=True)\n" + MASTER + GOES_ON)).returncode, 0)
+        master = self.master("print('here', flush=True)\n" + MASTER + GOES_ON)
+        self.assertEqual(self.own("--keep", "kept", *master).returncode, 0)
         found = {path.name: path for path in (self.folder / "kept" / "one").rglob("*") if path.is_file()}
         self.assertLessEqual({"rack.toml", "line-1-1.000001.audit", "master.output"}, {*found})
         self.assertEqual(found["master.output"].read_text(), "here\n")
@@ -257,74 +295,6 @@ class Runs(Suite):
             self.assertFalse(runs(int(path.read_text())))
             path.unlink()
             self.assertEqual(list(self.folder.glob("rackd-*")), [])
-
-
-class Journals(InAFolder):
-    def test_requests(self) -> None:
-        """Rows of other events are left out, rows that are not whole are read later, and parts follow one another."""
-        files = [self.folder / name for name in ("one", "two")]
-        files[0].write_bytes(b"rack-audit 3 line 1\n1 in 5 aa55 | WaitPrm none | done\n"
-                             b"2 req 1 6805056885816d3c3eed16 | WaitPrm none | reply e5 Do")
-        line: Any = type("Line", (), {"files": lambda self: [path for path in files if path.exists()]})()
-        requests = Requests(line)
-        self.assertEqual(requests.read(), [])
-        with open(files[0], "ab") as file:
-            file.write(b"ne\n3 tick 1 | none | released\n")
-        self.assertEqual([(one.place, one.master, one.slave, one.point, one.data, one.rules) for one in requests.read()],
-                         [(2, 1, 5, 60, b"", {5: "Done"})])
-        self.assertEqual(len(requests.read()), 1)
-        with open(files[0], "ab") as file:
-            file.write(b"4 req 2 68070768ff82463a3e02034416 | none | spread 5:Done 6:NotSelected\n")
-        files[1].write_bytes(b"5 req 1 100501494f16 | DataExch 1 | reply 100105000616 Status\n")
-        found = requests.read()
-        self.assertEqual([(one.place, one.master, one.slave, one.point, one.data) for one in found[1:]],
-                         [(4, 2, 127, 58, b"\x02\x03"), (5, 1, 5, None, b"")])
-        self.assertEqual([one.rules for one in found[1:]], [{5: "Done", 6: "NotSelected"}, {5: "Status"}])
-        self.assertEqual(len(requests.read()), 3)
-
-
-class Plugs(unittest.TestCase):
-    def setUp(self) -> None:
-        self.rack = Rack(lines_text(5, 6).replace("capacity = 9", "capacity = 99"))
-        self.addCleanup(self.rack.close)
-        self.plug = Plug(self.rack.line(5).listen)
-        self.addCleanup(self.plug.close)
-
-    def test_other_line_in_the_same_session(self) -> None:
-        with Master(self.plug.listen, 1) as master:
-            master.timeout = PATIENCE
-            master.slave_diag(5)
-            self.plug.put(self.rack.line(6).listen)
-            self.assertTrue(wait_for(lambda: self.is_there(master, 6)))
-            self.assertFalse(self.is_there(master, 5))
-        with Master(self.plug.listen, 1) as master:
-            master.timeout = PATIENCE
-            self.assertEqual(master.slave_diag(6).ident, 1)
-
-    @staticmethod
-    def is_there(master: Master, slave: int) -> bool:
-        master.timeout = 0.2
-        return master.fdl_status(slave)
-
-    def test_ends(self) -> None:
-        master = Master(self.plug.listen, 1)
-        self.addCleanup(master.close)
-        self.plug.close()
-        with self.assertRaises(SessionEnded):
-            master.slave_diag(5)
-        with self.assertRaises((SessionEnded, OSError)):
-            Master(self.plug.listen, 1)
-
-    def test_master_that_the_line_refuses(self) -> None:
-        for first in (b"\x07", b""):
-            with socket.create_connection(("127.0.0.1", self.plug.listen)) as client:
-                client.sendall(first)
-                client.shutdown(socket.SHUT_WR)
-                client.settimeout(PATIENCE)
-                self.assertEqual(client.recv(1), b"")
-        with Master(self.plug.listen, 1) as master:
-            master.timeout = PATIENCE
-            master.slave_diag(5)
 
 
 if __name__ == "__main__":
