@@ -18,7 +18,7 @@ NAMES = ["another-master", "bring-up", "busy-slave", "diagnosis-during-exchange"
          "reply-lost", "several-configurations", "slave-lost-and-back", "slave-lost-for-300-ms", "sync-and-freeze",
          "watchdog-expiry", "wrong-ident-at-first"]
 HEAD = "from rackd.suite import Bus, Slave\nSLAVES = [Slave(5)]\n"
-# A master that brings slave 5 up as it is told, and then does what follows, with a for each exchange of data.
+# The beginning of a master, and an end that brings slave 5 up and exchanges data with it.
 MASTER = """
 import json, os, sys, time
 import rackd
@@ -161,11 +161,12 @@ class Files(Suite):
 
     def test_rules_that_count(self) -> None:
         # min TSDR is an error of the judge, the point 3 a warning
-        master = self.master(MASTER + "master.slave_diag(5)\nmaster.set_prm(5, slave['ident'], min_tsdr=5)\n"
+        master = self.master(MASTER + "master.slave_diag(5)\nfor min_tsdr in (5, 6):\n"
+                             "    master.set_prm(5, slave['ident'], min_tsdr=min_tsdr)\n"
                              "try:\n    master.srd(5, b'', 3)\nexcept rackd.RS:\n    pass\n"
                              "master.chk_cfg(5, cfg)\nmaster.slave_diag(5)\nwhile True:\n"
                              "    master.data_exchange(5, bytes(2))\n    time.sleep(0.005)\n")
-        tsdr, point = r"place 3 slave 5 min-tsdr: .+", r"place 4 slave 5 unknown-point: .+"
+        tsdr, point = r"place 3 slave 5 min-tsdr \(2 times\): .+", r"place 5 slave 5 unknown-point: .+"
         for more, reasons in (("", [tsdr]), ("ALLOWED = ['min-tsdr']\n", []),
                               ("WARNINGS = ['unknown-point']\n", [tsdr, point]),
                               ("ALLOWED = ['min-tsdr']\nWARNINGS = ['unknown-point']\n", [point])):
@@ -189,13 +190,11 @@ class Runs(Suite):
                           f"Slave(6, ident=7, cfg='{cfg}', group=3, sync=True)]\ndef run(bus):\n    bus.start()\n"
                           f"    bus.wait('its file', lambda: os.path.exists('{self.folder}/{name}'))\n")
         master = self.master(WRITES_ITS_ENVIRONMENT.replace("FOLDER", str(self.folder)))
-        done = self.own(*master, "--only", "a word")
+        done = self.own(*master, "--only", "a word", RACKD_OTHER="7")
         self.assertEqual((done.returncode, done.stdout), (0, "passed  one\npassed  two\n2 passed, 0 failed\n"), done)
         first, second = (json.loads((self.folder / name).read_text()) for name in ("one", "two"))
-        self.assertEqual({*first}, {"RACKD_PORT", "RACKD_ADDRESS", "RACKD_SLAVES", "RACKD_CLEAR", "answer", "pids",
-                                    "words", *(name for name in os.environ if name.startswith("RACKD_"))})
-        self.assertEqual((first["RACKD_ADDRESS"], first["RACKD_CLEAR"], first["answer"], first["words"]),
-                         ("1", "0", "e5", ["--only", "a word"]))
+        self.assertEqual([first[name] for name in ("RACKD_ADDRESS", "RACKD_CLEAR", "RACKD_OTHER", "answer", "words")],
+                         ["1", "0", "7", "e5", ["--only", "a word"]])
         self.assertEqual(json.loads(first["RACKD_SLAVES"]), [
             {"address": 5, "ident": 0x80A1, "cfg": "2111", "user": "", "watchdog_ms": 0, "group": 0, "sync": False,
              "freeze": False, "failsafe": False, "outputs": "12", "mirror": False},

@@ -4,7 +4,7 @@ import unittest
 from typing import Any
 
 from support import PATIENCE, InAFolder, lines_text, wait_for
-from rackd import Master, Rack, SessionEnded
+from rackd import Master, Rack
 from rackd.suite_plug import Plug
 from rackd.suite_rows import Requests
 
@@ -58,13 +58,15 @@ class Plugs(unittest.TestCase):
         return master.fdl_status(slave)
 
     def test_ends(self) -> None:
-        master = Master(self.plug.listen, 1)
-        self.addCleanup(master.close)
+        with socket.create_connection(("127.0.0.1", self.plug.listen)) as client:
+            client.settimeout(PATIENCE)
+            client.sendall(b"\x01")
+            self.assertEqual(client.recv(1), b"\xe5")
+            self.plug.close()
+            self.assertEqual(client.recv(1), b"")
+        with self.assertRaises(ConnectionRefusedError):
+            socket.create_connection(("127.0.0.1", self.plug.listen))
         self.plug.close()
-        with self.assertRaises(SessionEnded):
-            master.slave_diag(5)
-        with self.assertRaises((SessionEnded, OSError)):
-            Master(self.plug.listen, 1)
 
     def test_master_that_the_line_refuses(self) -> None:
         for first in (b"\x07", b""):
