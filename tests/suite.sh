@@ -8,8 +8,8 @@ set -u
 top=$(cd "$(dirname "$0")/.." && pwd)
 client=$top/tests/suite_client.py
 . "$top/tests/cases.sh"
-# a case that fails as it should may wait as long as a scenario may take
-limit=120
+# a lane has several cases, and one that fails as it should may wait as long as a scenario may take
+limit=300
 
 mapfile -t lanes < <("$client" lanes)
 try_beside "${lanes[@]}"
