@@ -1,5 +1,5 @@
 -- One more entry, at the station that it is sent to.
-use Rattle.std.proofs.Common.{◌≡◌, ℕ, ◌+◌, ◌<◌, List, [], ◌∷◌, ◌++◌, length, get_or, map, inl, inr, sym, ap, ◌∙◌, arith}
+use Rattle.std.proofs.Common.{◌≡◌, ℕ, ◌+◌, ◌<◌, List, [], ◌∷◌, ◌++◌, length, get_or, map, inl, inr, refl, sym, ap, ◌∙◌, arith}
 use Rattle.std.specs.Prelude.{◌==◌}
 use Rattle.std.specs.List.{range_with_len}
 use Rattle.std.proofs.Math.ListN.{set}
@@ -12,6 +12,7 @@ use Rattle.dp_judge.specs.declared.entry.Entry.{Entry}
 use Rattle.dp_judge.specs.declared.entry.Entry.TheVariants as entries
 use Rattle.dp_judge.specs.declared.entry.Request.{Request}
 use Rattle.dp_judge.specs.declared.station.Station.{Station}
+use Rattle.dp_judge.specs.Before.{octets_stored, srd_before}
 use Rattle.dp_judge.specs.BusFacts.{bus_after, bus_of, new_bus}
 use Rattle.dp_judge.specs.Stations.{new_station, station_after, station_of, station_with}
 use Rattle.dp_judge.specs.declared.rule.JudgeRule.{JudgeRule}
@@ -33,12 +34,19 @@ pub station_at : (past : List Entry) (address : ℕ) (d : Station) → address <
 unfolding all_stations
 station_at past address d within = get_or-map-range_with_len (λ address. station_of address past) 0 256 address address d within (omega arith)
 
--- octets that are no request leave every station
-pub stray_taken : (past : List Entry) → all_stations past ≡ all_stations (past ++ entries.Stray ∷ [])
+-- an entry that leaves each station leaves all of them
+left : (past : List Entry) (entry : Entry) → ((address : ℕ) (station : Station) → station_with address station entry ≡ station) → all_stations past ≡ all_stations (past ++ entry ∷ [])
 unfolding all_stations
-stray_taken past =
-    fill_by_all (λ address. station_of address (past ++ entries.Stray ∷ [])) (all_stations past) 256 new_station (length-all_stations past)
-    (λ address within. station_at past address new_station within ∙ sym (station_more address past entries.Stray))
+left past entry leaves =
+    fill_by_all (λ address. station_of address (past ++ entry ∷ [])) (all_stations past) 256 new_station (length-all_stations past)
+    (λ address within. station_at past address new_station within ∙ sym (leaves address (station_of address past)) ∙ sym (station_more address past entry))
+
+-- so do octets that are no request, and a token that is passed on
+pub stray_taken : (past : List Entry) → all_stations past ≡ all_stations (past ++ entries.Stray ∷ [])
+stray_taken past = left past entries.Stray (λ address station. refl)
+
+pub token_taken : (past : List Entry) → all_stations past ≡ all_stations (past ++ entries.PassedToken ∷ [])
+token_taken past = left past entries.PassedToken (λ address station. refl)
 
 -- a request changes the station that it is sent to
 here : (past : List Entry) (request : Request) (address : ℕ) (v : Station) → address ≡ request.address → v ≡ station_after (station_of request.address past) request
@@ -95,6 +103,10 @@ pub stray_taken_at : (past : List Entry) (entry : Entry) (stations : List Statio
     → stations ≡ all_stations (past ++ entry ∷ [])
 stray_taken_at past entry stations is_stray are = are ∙ stray_taken past ∙ ap (λ e. all_stations (past ++ e ∷ [])) (sym is_stray)
 
+pub token_taken_at : (past : List Entry) (entry : Entry) (stations : List Station) → entry ≡ entries.PassedToken → stations ≡ all_stations past
+    → stations ≡ all_stations (past ++ entry ∷ [])
+token_taken_at past entry stations is_token are = are ∙ token_taken past ∙ ap (λ e. all_stations (past ++ e ∷ [])) (sym is_token)
+
 pub found_at : (past : List Entry) (stations : List Station) (address index : ℕ) (found d : Station) → index ≡ address → index < 256 → found ≡ get_or stations index d
     → stations ≡ all_stations past → found ≡ station_of address past
 found_at past stations address index found d at within is are =
@@ -109,6 +121,14 @@ broken_at view retries past bus station entry request rule viewed is_request bus
     ∙ ap (λ s. broken_by retries (bus_of past) s request rule) station_is
     ∙ ap (λ e. breaks retries past e rule) (sym is_request)
     ∙ ap (λ (v : JudgeView). breaks v.retries v.past entry rule) (sym viewed)
+
+pub before_at : (view : JudgeView) (retries : ℕ) (past : List Entry) (station : Station) (entry : Entry) (request : Request)
+    → view ≡ record { retries = retries; past = past } → entry ≡ entries.Request request → station ≡ station_of request.address past
+    → octets_stored station.last ≡ srd_before view.past entry
+before_at view retries past station entry request viewed is_request station_is =
+    ap (λ (s : Station). octets_stored s.last) station_is
+    ∙ ap (λ e. srd_before past e) (sym is_request)
+    ∙ ap (λ (v : JudgeView). srd_before v.past entry) (sym viewed)
 
 pub many : (stations : List Station) (past : List Entry) → stations ≡ all_stations past → length stations ≡ 256
 many stations past are = ap (λ (l : List Station). length l) are ∙ length-all_stations past

@@ -25,10 +25,6 @@ abbrev pub is_done : Answer → Bool
 is_done answers.Done = true
 is_done other = false
 
-abbrev pub is_rs : Answer → Bool
-is_rs answers.Rs = true
-is_rs other = false
-
 abbrev pub is_ue : Answer → Bool
 is_ue answers.Ue = true
 is_ue other = false

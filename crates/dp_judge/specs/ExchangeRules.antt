@@ -1,15 +1,14 @@
 -- The rules of Data_Exchange and of retries (IEC 61158-6-3, Data_Exchange; IEC 61158-4-3, retry), and of what is no request.
-use Rattle.std.specs.Prelude.{ℕ, ◌-◌, ◌==◌, ◌&&◌, nat_le, if◌then◌else◌, Bool, false, Option, Some, None}
+use Rattle.std.specs.Prelude.{ℕ, ◌-◌, ◌==◌, ◌&&◌, nat_le, Bool, false, Option, Some, None}
 use Rattle.dp_judge.specs.declared.bus.Bus.{Bus}
-use Rattle.dp_judge.specs.declared.entry.Diagnosis.{Diagnosis}
 use Rattle.dp_judge.specs.declared.entry.Request.{Request}
 use Rattle.dp_judge.specs.declared.station.Last.{Last}
 use Rattle.dp_judge.specs.declared.station.Station.{Station}
-use Rattle.dp_judge.specs.Entries.{is_rs, is_ue, diag_asked, diagnosis_in, exchange_asked}
+use Rattle.dp_judge.specs.Entries.{is_srd, is_ue, exchange_asked}
 use Rattle.dp_judge.specs.Stages.{is_parametrized}
 use Rattle.dp_judge.specs.BusFacts.{is_retry}
 
--- length-repeated: Data_Exchange of a length that the slave refuses by UE, and the one before it was refused so too
+-- length-repeated: Data_Exchange of a length that the slave refuses by UE, not for the first time since the last Set_Prm that was acknowledged
 abbrev pub length_repeated : Station → Request → Bool
 length_repeated station request = exchange_asked request && is_ue request.answer && station.wrong_length
 
@@ -21,15 +20,7 @@ is_third (Some exchanges) = exchanges == 3
 abbrev pub diag_not_read : Station → Request → Bool
 diag_not_read station request = exchange_asked request && is_third station.unread
 
--- watchdog-short: the answer shows that a station which had parameters needs them again, and since the last SRD to it the watchdog time has passed
-abbrev pub needs_parameters : Option Diagnosis → Bool
-needs_parameters None = false
-needs_parameters (Some diagnosis) = diagnosis.needs_parameters
-
-abbrev pub shows_loss : Request → Bool
-shows_loss request =
-    if exchange_asked request then is_rs request.answer else diag_asked request && needs_parameters (diagnosis_in request.answer)
-
+-- watchdog-short: an SRD to a station that has parameters, and since the last SRD to it at least its watchdog time has passed
 abbrev pub is_gap : ℕ → Option Last → ℕ → Bool
 is_gap watchdog None time = false
 is_gap watchdog (Some last) time = nat_le watchdog (time - last.time)
@@ -39,7 +30,7 @@ is_past None last time = false
 is_past (Some watchdog) last time = is_gap watchdog last time
 
 abbrev pub watchdog_short : Station → Request → Bool
-watchdog_short station request = shows_loss request && is_parametrized station.stage && is_past station.watchdog station.last request.time
+watchdog_short station request = is_srd request && is_parametrized station.stage && is_past station.watchdog station.last request.time
 
 -- retry-limit: one retry more than are allowed; of one telegram it is reported once
 abbrev pub retry_limit : ℕ → Bus → Request → Bool

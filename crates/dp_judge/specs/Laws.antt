@@ -12,7 +12,7 @@ use Rattle.dp_judge.specs.FcbRules.{same_bit}
 -- an SRD to the station of an address
 abbrev pub is_srd_to : ℕ → Entry → Bool
 is_srd_to address (entries.Request request) = request.address == address && is_srd request
-is_srd_to address entries.Stray = false
+is_srd_to address other = false
 
 -- none of these entries is one
 abbrev pub have_no_srd_to : ℕ → List Entry → Bool

@@ -9,7 +9,9 @@ pub mod ParameterRules
 pub mod TelegramRules
 pub mod RuleNames
 pub mod Rules
+pub mod Before
 pub mod Judges
 pub mod Reading
 pub mod Laws
 pub mod RuleExamples
+pub mod ReadingExamples

@@ -5,7 +5,7 @@ use Rattle.dp_telegram.specs.declared.access.Parts.{Parts}
 use Rattle.dp_telegram.specs.declared.frame.Frame.{Frame}
 use Rattle.dp_telegram.specs.declared.frame.Frame.TheVariants as frames
 use Rattle.dp_telegram.specs.declared.frame.Telegram.{Telegram}
-use Rattle.dp_telegram.specs.Access.{address_of, parts_of}
+use Rattle.dp_telegram.specs.Access.{address_of, is_station, parts_of}
 use Rattle.dp_telegram.specs.FrameText.{frame_of}
 use Rattle.dp_telegram.specs.FunctionCode.{data_high, frame_count_bit, frame_count_is_valid, function_of, is_request, is_set}
 use Rattle.arrayvec.specs.ArrayVec.{ArrayVec}
@@ -49,16 +49,22 @@ asked_in payload =
     else if is_set 7 (slice_index payload 0) then asks.Lock
     else asks.MinTsdr
 
+-- the watchdog time is the product of the factors; with a factor 0 no watchdog runs, since the slave refuses the parameters
+abbrev pub watchdog_by_factors : ℕ → Option ℕ
+watchdog_by_factors product = if product == 0 then None else Some product
+
 abbrev pub watchdog_in : List ℕ → Option ℕ
-watchdog_in payload = if is_set 3 (slice_index payload 0) then Some (slice_index payload 1 * slice_index payload 2) else None
+watchdog_in payload = if is_set 3 (slice_index payload 0) then watchdog_by_factors (slice_index payload 1 * slice_index payload 2) else None
 
 abbrev pub parameters_in : List ℕ → Parameters
 parameters_in payload = record { asked = asked_in payload; min_tsdr = slice_index payload 3; watchdog = watchdog_in payload }
 
--- the service of a point (IEC 61158-6-3, service access points)
+-- the service of a point that DP-V0 has; no simulated slave has 54 and 55 (IEC 61158-6-3, service access points)
 abbrev pub service_at : ℕ → List ℕ → Service
 service_at point payload =
-    if point == 56 then services.RdInp
+    if point == 54 then services.MasterToMaster
+    else if point == 55 then services.SetSlaveAdd
+    else if point == 56 then services.RdInp
     else if point == 57 then services.RdOutp
     else if point == 58 then services.GlobalControl (control_of (slice_index payload 0))
     else if point == 59 then services.GetCfg
@@ -158,7 +164,16 @@ entry_of_telegram master octets outcome time telegram =
     if not (is_request telegram.fc) || not (address_of telegram.sa == master) then entries.Stray
     else entry_of_parts master octets outcome time telegram (parts_of telegram)
 
+-- a token is passed on if its source is the master and its destination another station (IEC 61158-4-3, token passing); in a ring of one the
+-- destination is the master
+abbrev pub is_passed_on : ℕ → ℕ → ℕ → Bool
+is_passed_on master da sa = address_of sa == master && is_station (address_of da) && not (address_of da == master)
+
+abbrev pub entry_of_token : ℕ → ℕ → ℕ → Entry
+entry_of_token master da sa = if is_passed_on master da sa then entries.PassedToken else entries.Stray
+
 abbrev pub entry_of_frame : ℕ → ArrayVec ℕ → Outcome → ℕ → Option Frame → Entry
+entry_of_frame master octets outcome time (Some (frames.Token da sa)) = entry_of_token master da sa
 entry_of_frame master octets outcome time (Some (frames.Telegram telegram)) = entry_of_telegram master octets outcome time telegram
 entry_of_frame master octets outcome time other = entries.Stray
 

@@ -47,9 +47,10 @@ abbrev pub broken_by_stray : Bus → JudgeRule → Bool
 broken_by_stray bus rules.NoRequest = is_stray_often bus
 broken_by_stray bus other = false
 
--- the next entry of a master breaks a rule, after these entries
+-- the next entry of a master breaks a rule, after these entries; a token that it passes on breaks none
 abbrev pub breaks : ℕ → List Entry → Entry → JudgeRule → Bool
 breaks limit past (entries.Request request) rule = broken_by limit (bus_of past) (station_of request.address past) request rule
+breaks limit past entries.PassedToken rule = false
 breaks limit past entries.Stray rule = broken_by_stray (bus_of past) rule
 
 -- the rules that it breaks, in their order

@@ -1,6 +1,6 @@
 -- What the requests of a master to one station left (own): the last SRD, the stage of the bring-up, and three facts of Data_Exchange and of the
 -- watchdog.
-use Rattle.std.specs.Prelude.{ℕ, ◌+◌, ◌==◌, ◌&&◌, not, nat_lt, is_some, if◌then◌else◌, Bool, false, List, fold, Option, Some, None}
+use Rattle.std.specs.Prelude.{ℕ, ◌+◌, ◌==◌, ◌&&◌, ◌||◌, nat_lt, is_some, if◌then◌else◌, Bool, false, List, fold, Option, Some, None}
 use Rattle.dp_judge.specs.declared.entry.Answer.{Answer}
 use Rattle.dp_judge.specs.declared.entry.Asked.{Asked}
 use Rattle.dp_judge.specs.declared.entry.Asked.TheVariants as asks
@@ -29,10 +29,10 @@ new_station = record { last = None; stage = stages.Unseen; wrong_length = false;
 abbrev pub is_acknowledged_prm : Request → Bool
 is_acknowledged_prm request = is_some (prm_asked request) && is_done request.answer
 
--- the last Data_Exchange was refused by UE; a Set_Prm that is acknowledged begins again
+-- a Data_Exchange was refused by UE since the last Set_Prm that was acknowledged
 abbrev pub wrong_length_after : Bool → Request → Bool
 wrong_length_after wrong request =
-    if exchange_asked request then is_ue request.answer else wrong && not (is_acknowledged_prm request)
+    if is_acknowledged_prm request then false else wrong || exchange_asked request && is_ue request.answer
 
 -- exchanges since the first DH that no Slave_Diag has followed; more than four count as four
 abbrev pub one_more : Option ℕ → Answer → Option ℕ
@@ -76,7 +76,7 @@ station_after station request = record {
 -- after one more entry: only a request to the station of the address counts
 abbrev pub station_with : ℕ → Station → Entry → Station
 station_with address station (entries.Request request) = if request.address == address then station_after station request else station
-station_with address station entries.Stray = station
+station_with address station other = station
 
 -- what these entries, one after another, left of the station of an address
 abbrev pub station_of : ℕ → List Entry → Station

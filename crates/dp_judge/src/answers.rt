@@ -108,6 +108,8 @@ fn answer_done(master: u8, service: Service, octets: &[u8]) -> Answer
             }
         }
         Service::SlaveDiag => diagnosis_answer(master, octets),
+        Service::MasterToMaster => Answer::Done,
+        Service::SetSlaveAdd => Answer::Done,
         Service::RdInp => Answer::Done,
         Service::RdOutp => Answer::Done,
         Service::GlobalControl(_) => Answer::Done,

@@ -2,7 +2,7 @@
 
 ghost use Rattle.std.specs.Prelude.{◌≡◌};
 ghost use Rattle.dp_cfg.specs.Choosing.{same_octets};
-ghost use Rattle.dp_judge.specs.BusFacts.{bus_after, bus_after_request, is_retry, new_bus, window_after};
+ghost use Rattle.dp_judge.specs.BusFacts.{bus_after, bus_after_request, bus_after_token, has_fcv, is_retry, new_bus, window_after};
 
 use crate::entry::{Entry, Request};
 use crate::station::Last;
@@ -22,7 +22,7 @@ pub(crate) struct Window {
 /// What the entries of a master left, whatever the station.
 #[derive(Debug, Drop)]
 pub(crate) struct Bus {
-    /// The last entry, if it was an SRD.
+    /// The last entry, if it was an SRD; an SRD with FCV 1 also if a token was passed on since.
     pub(crate) last: Option<Last>,
     /// How many times in a row the last telegram was sent again without an answer, at most 255.
     pub(crate) retries: u8,
@@ -66,7 +66,8 @@ impl Bus {
         }
     }
 
-    /// Returns whether the request is a retry of the last entry: the same octets again, after no answer, at the same time.
+    /// Returns whether the request is a retry of the last entry: the same octets again, after no answer, with FCV 1 or at the
+    /// same time.
     pub(crate) fn is_retry(&self, request: &Request) -> bool
         ensures { result ≡ is_retry self.now.last request.now }
     {
@@ -74,7 +75,7 @@ impl Bus {
             Some(last) => {
                 request.is_srd()
                     && !last.answered
-                    && last.time == request.time
+                    && (request.fcv || last.time == request.time)
                     && same_octets(last.octets.as_slice(), request.octets.as_slice())
             }
             None => false,
@@ -87,11 +88,21 @@ impl Bus {
     {
         match entry {
             Entry::Request(request) => self.take_request(request),
+            Entry::PassedToken => self.take_token(),
             Entry::Stray => {
                 self.last = None;
                 self.retries = 0;
                 self.window = self.window.after(true);
             }
+        }
+    }
+
+    /// Takes a token that is passed on: when the master has it again, an SRD with FCV 0 is a new one.
+    fn take_token(&mut self)
+        ensures { self.new ≡ bus_after_token self.old }
+    {
+        if !has_fcv(&self.last) {
+            self.last = None;
         }
     }
 
@@ -110,6 +121,16 @@ impl Bus {
             None
         };
         self.window = self.window.after(false);
+    }
+}
+
+/// Returns whether this is an SRD with FCV 1.
+fn has_fcv(last: &Option<Last>) -> bool
+    ensures { result ≡ has_fcv last.now }
+{
+    match last {
+        Some(last) => last.fcv,
+        None => false,
     }
 }
 

@@ -1,7 +1,7 @@
 //! What the rules read of an entry of a journal.
 
 ghost use Rattle.std.specs.Prelude.{◌≡◌};
-ghost use Rattle.dp_judge.specs.Entries.{chk_cfg_asked, diag_asked, exchange_asked, is_answered, is_served, is_srd, prm_asked, is_repeat_answer, is_done, is_rs, is_ue, is_dh, is_none_selected, diagnosis_in};
+ghost use Rattle.dp_judge.specs.Entries.{chk_cfg_asked, diag_asked, exchange_asked, is_answered, is_served, is_srd, prm_asked, is_repeat_answer, is_done, is_ue, is_dh, is_none_selected, diagnosis_in};
 
 use dp_telegram::{Function, GLOBAL_ADDRESS, Octets};
 
@@ -10,8 +10,12 @@ use dp_telegram::{Function, GLOBAL_ADDRESS, Octets};
 pub enum Entry {
     /// A telegram that is a request of the master.
     Request(Request),
-    /// Octets that are no request of the master: no frame, a short acknowledgement, a token, a response, a telegram with
-    /// the source address of another station, or one without an extension octet that it announces.
+    /// A token that the master passes on to another station (IEC 61158-4-3, token passing). It breaks no rule, and no rule
+    /// counts it.
+    PassedToken,
+    /// Octets that are no request of the master: no frame, a short acknowledgement, a token that is not passed on, a
+    /// response, a telegram with the source address of another station, or one without an extension octet that it
+    /// announces.
     Stray,
 }
 
@@ -41,6 +45,10 @@ pub struct Request {
 pub enum Service {
     /// Data_Exchange, the default point.
     DataExchange,
+    /// The functions between masters, point 54, which no simulated slave has.
+    MasterToMaster,
+    /// Set_Slave_Add, point 55, which no simulated slave has.
+    SetSlaveAdd,
     /// RD_Inp, point 56.
     RdInp,
     /// RD_Outp, point 57.
@@ -81,7 +89,7 @@ pub struct Parameters {
     pub asked: Asked,
     /// Min TSDR, in bit times; 0 leaves it.
     pub min_tsdr: u8,
-    /// The watchdog time, in units of 10 ms, 1 to 65,025; None without a watchdog.
+    /// The watchdog time, in units of 10 ms, 1 to 65,025; None without WD_On, or with a factor 0.
     pub watchdog: Option<u32>,
 }
 
@@ -176,13 +184,6 @@ impl Answer {
         matches!(self, Answer::Done)
     }
 
-    /// Returns whether it is RS.
-    pub(crate) fn is_rs(self) -> bool
-        ensures { result ≡ is_rs self }
-    {
-        matches!(self, Answer::Rs)
-    }
-
     /// Returns whether it is UE.
     pub(crate) fn is_ue(self) -> bool
         ensures { result ≡ is_ue self }
@@ -268,6 +269,8 @@ impl Request {
         match self.service {
             Service::SetPrm(parameters) => Some(parameters),
             Service::DataExchange => None,
+            Service::MasterToMaster => None,
+            Service::SetSlaveAdd => None,
             Service::RdInp => None,
             Service::RdOutp => None,
             Service::GlobalControl(_) => None,

@@ -1,10 +1,10 @@
 //! The rules of Data_Exchange (IEC 61158-6-3, Data_Exchange), of the watchdog, and of retries.
 
 ghost use Rattle.std.specs.Prelude.{◌≡◌};
-ghost use Rattle.dp_judge.specs.ExchangeRules.{diag_not_read, is_gap, is_past, is_stray_often, length_repeated, needs_parameters, retry_limit, shows_loss, watchdog_short};
+ghost use Rattle.dp_judge.specs.ExchangeRules.{diag_not_read, is_gap, is_past, is_stray_often, length_repeated, retry_limit, watchdog_short};
 
 use crate::bus::Bus;
-use crate::entry::{Diagnosis, Request};
+use crate::entry::Request;
 use crate::station::{Last, Station};
 
 /// How many Data_Exchanges after a DH may come before Slave_Diag.
@@ -13,7 +13,7 @@ const EXCHANGES_BEFORE_DIAG: u8 = 3;
 /// How many stray octets a master may send among its last entries.
 const MOST_STRAYS: u8 = 3;
 
-/// Returns whether a Data_Exchange is refused by UE, as the one before it was.
+/// Returns whether a Data_Exchange is refused by UE, not for the first time since the last Set_Prm that was acknowledged.
 pub(crate) fn length_repeated(station: &Station, request: &Request) -> bool
     ensures { result ≡ length_repeated station.now request.now }
 {
@@ -30,33 +30,13 @@ pub(crate) fn diag_not_read(station: &Station, request: &Request) -> bool
     }
 }
 
-/// Returns whether the answer shows that the station was lost, after a gap as long as its watchdog.
+/// Returns whether an SRD comes after a gap as long as the watchdog of a station that has parameters, or longer.
 pub(crate) fn watchdog_short(station: &Station, request: &Request) -> bool
     ensures { result ≡ watchdog_short station.now request.now }
 {
-    shows_loss(request)
+    request.is_srd()
         && station.stage.is_parametrized()
         && is_past(station.watchdog, &station.last, request.time)
-}
-
-/// Returns whether the answer shows that the station needs parameters.
-fn shows_loss(request: &Request) -> bool
-    ensures { result ≡ shows_loss request.now }
-{
-    if request.asks_exchange() {
-        return request.answer.is_rs();
-    }
-    request.asks_diag() && needs_parameters(request.answer.diagnosis())
-}
-
-/// Returns whether a diagnosis says that the station needs parameters.
-fn needs_parameters(diagnosis: Option<Diagnosis>) -> bool
-    ensures { result ≡ needs_parameters diagnosis }
-{
-    match diagnosis {
-        Some(diagnosis) => diagnosis.needs_parameters,
-        None => false,
-    }
 }
 
 /// Returns whether the watchdog time has passed since the last SRD.

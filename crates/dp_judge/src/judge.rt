@@ -1,7 +1,8 @@
 //! The judge of one master.
 
-ghost use Rattle.std.specs.Prelude.{◌≡◌, ◌++◌, ◌∷◌, [], List, length, IfOk};
+ghost use Rattle.std.specs.Prelude.{◌≡◌, ◌++◌, ◌∷◌, [], List, length, option_map, IfOk};
 ghost use Rattle.dp_judge.specs.declared.entry.Entry.{Entry as Entries};
+ghost use Rattle.dp_judge.specs.Before.{srd_before};
 ghost use Rattle.dp_judge.specs.Judges.{all_stations};
 ghost use Rattle.dp_judge.specs.Stations.{station_of};
 ghost use Rattle.dp_judge.specs.Rules.{breaks};
@@ -64,7 +65,22 @@ impl MasterJudge {
                 let station = station_in(self.stations.as_slice(), request.address);
                 broken_by(self.retries, &self.bus, station, request, rule)
             }
+            Entry::PassedToken => false,
             Entry::Stray => broken_by_stray(&self.bus, rule),
+        }
+    }
+
+    /// Returns the octets of the last SRD to the same station, with which the next entry is compared; None if there was
+    /// none, or the entry is no request.
+    pub fn srd_before(&self, entry: &Entry) -> Option<&[u8]>
+        ensures { option_map (λ octets. octets.now) result ≡ srd_before self.now.past entry.now }
+    {
+        match entry {
+            Entry::Request(request) => {
+                station_in(self.stations.as_slice(), request.address).last_octets()
+            }
+            Entry::PassedToken => None,
+            Entry::Stray => None,
         }
     }
 
@@ -105,6 +121,7 @@ fn take_at(stations: &mut [Station], entry: &Entry)
 {
     match entry {
         Entry::Request(request) => stations[usize::from(request.address)].take(request),
+        Entry::PassedToken => {}
         Entry::Stray => {}
     }
 }

@@ -1,10 +1,11 @@
 //! Laws of the rules: each is the contract of an empty function.
 
-ghost use Rattle.std.specs.Prelude.{◌≡◌, ◌++◌, ◌∷◌, ◌&&◌, not, ℕ, true, false, List};
+ghost use Rattle.std.specs.Prelude.{◌≡◌, ◌++◌, ◌∷◌, ◌&&◌, not, ℕ, true, false, List, Some};
 ghost use Rattle.dp_judge.specs.declared.entry.Entry.{Entry};
 ghost use Rattle.dp_judge.specs.declared.entry.Entry.TheVariants as entries;
 ghost use Rattle.dp_judge.specs.declared.entry.Request.{Request};
 ghost use Rattle.dp_judge.specs.declared.rule.JudgeRule.TheVariants as rules;
+ghost use Rattle.dp_judge.specs.Before.{srd_before};
 ghost use Rattle.dp_judge.specs.Entries.{is_answered, is_srd};
 ghost use Rattle.dp_judge.specs.Laws.{has_fcb_of, has_octets_of, have_no_srd_to, is_counted_too_early, is_srd_to};
 ghost use Rattle.dp_judge.specs.Rules.{breaks};
@@ -12,7 +13,7 @@ ghost use Rattle.dp_judge.specs.Rules.{breaks};
 /// An SRD is compared with the last SRD of the master to the same station, whatever lies between: `fcb-repeated` is
 /// reported exactly if both have the same valid FCB and are other telegrams, `fcb-not-alternated` exactly if they are the
 /// same telegram and the first was answered, and `fcb-first` exactly if the new one is counted though the first was
-/// neither counted nor answered.
+/// neither counted nor answered. The telegram that is shown with a finding is that last SRD.
 pub fn an_srd_is_compared_with_the_last_one()
     ensures repeated { (limit : ℕ) (front back : List Entry) (before request : Request)
         → is_srd_to request.address (entries.Request before) ≡ true
@@ -29,6 +30,10 @@ pub fn an_srd_is_compared_with_the_last_one()
         → have_no_srd_to request.address back ≡ true
         → breaks limit (front ++ entries.Request before ∷ back) (entries.Request request) rules.FcbFirst
         ≡ is_counted_too_early before request }
+    ensures shown { (front back : List Entry) (before request : Request)
+        → is_srd_to request.address (entries.Request before) ≡ true
+        → have_no_srd_to request.address back ≡ true
+        → srd_before (front ++ entries.Request before ∷ back) (entries.Request request) ≡ Some before.octets.items }
 {}
 
 /// The first SRD of a master to a station repeats nothing, and breaks `fcb-first` exactly if it has FCV 1.

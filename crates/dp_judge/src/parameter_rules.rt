@@ -79,6 +79,8 @@ fn control_in(service: Service) -> Option<Control>
     match service {
         Service::GlobalControl(control) => Some(control),
         Service::DataExchange => None,
+        Service::MasterToMaster => None,
+        Service::SetSlaveAdd => None,
         Service::RdInp => None,
         Service::RdOutp => None,
         Service::GetCfg => None,

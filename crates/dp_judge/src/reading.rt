@@ -4,14 +4,17 @@ ghost use Rattle.std.specs.Prelude.{◌≡◌, option_map};
 ghost use Rattle.dp_telegram.specs.Access.{address_of};
 ghost use Rattle.dp_telegram.specs.FrameText.{frame_of};
 ghost use Rattle.dp_telegram.specs.Lent.{frame_lent};
-ghost use Rattle.dp_judge.specs.Reading.{entry_of_frame, entry_of_telegram, entry_read, request_of};
+ghost use Rattle.dp_judge.specs.Reading.{entry_of_frame, entry_of_telegram, entry_of_token, entry_read, is_passed_on, request_of};
 
 use crate::answers::answer_of;
 use crate::entry::{Entry, Request};
 use crate::services::service_of;
 use dp_decode::ReadOctets;
 use dp_line::{Event, Outcome};
-use dp_telegram::{FrameLent, Octets, PartsLent, TelegramLent, function_code};
+use dp_telegram::{FrameLent, GLOBAL_ADDRESS, Octets, PartsLent, TelegramLent, function_code};
+
+/// The bits of an address octet that are the address (IEC 61158-4-3, address octets).
+const ADDRESS_BITS: u8 = 0x7F;
 
 /// Returns the master of an event and its entry; None for an event of the operator. `time` is the sum of the ticks before
 /// the event, in units of 10 ms.
@@ -35,10 +38,29 @@ fn entry_of_octets(master: u8, octets: &Octets, outcome: &Outcome, time: u64) ->
         Some(FrameLent::Telegram(telegram)) => {
             entry_of_telegram(master, octets, outcome, time, &telegram)
         }
-        Some(FrameLent::Token { .. }) => Entry::Stray,
+        Some(FrameLent::Token { da, sa }) => entry_of_token(master, da, sa),
         Some(FrameLent::Ack) => Entry::Stray,
         None => Entry::Stray,
     }
+}
+
+/// Returns the entry of a token of a master with these octets as DA and SA.
+fn entry_of_token(master: u8, da: u8, sa: u8) -> Entry
+    ensures { result ≡ entry_of_token master da sa }
+{
+    if is_passed_on(master, da, sa) {
+        Entry::PassedToken
+    } else {
+        Entry::Stray
+    }
+}
+
+/// Returns whether the source of a token is the master, and its destination another station.
+fn is_passed_on(master: u8, da: u8, sa: u8) -> bool
+    ensures { result ≡ is_passed_on master da sa }
+{
+    let destination = da & ADDRESS_BITS;
+    sa & ADDRESS_BITS == master && destination < GLOBAL_ADDRESS && destination != master
 }
 
 /// Returns the entry of a telegram of a master.

@@ -206,11 +206,11 @@ impl JudgeRule {
             JudgeRule::FcbNotAlternated =>
                 "the request before to this slave again, though it was answered",
             JudgeRule::FcbFirst =>
-                "FCV 1, though no request to this slave with FCV 0 was answered before",
+                "FCV 1 in the first request to this slave, or after one with FCV 0 and no answer",
             JudgeRule::FcbNotAllowed => "FCB or FCV is set, and the function has neither",
             JudgeRule::RetryLimit => "one retry more than the limit allows, with no answer to any",
             JudgeRule::PrmBeforeDiag => "Set_Prm, though this slave never answered Slave_Diag",
-            JudgeRule::CfgBeforePrm => "Chk_Cfg, though no Set_Prm was acknowledged before",
+            JudgeRule::CfgBeforePrm => "Chk_Cfg, though no Set_Prm was acknowledged since the slave needed parameters",
             JudgeRule::ExchangeBeforeReady =>
                 "Data_Exchange, though the slave did not report that it is ready",
             JudgeRule::ExchangeWithoutDiag =>
@@ -219,11 +219,11 @@ impl JudgeRule {
             JudgeRule::ExchangeOfOther =>
                 "Data_Exchange, though the diagnosis showed another master",
             JudgeRule::LengthRepeated =>
-                "a wrong length again: UE, as for the Data_Exchange before",
+                "a wrong length again: UE, as for an earlier Data_Exchange",
             JudgeRule::DiagNotRead => "the fourth Data_Exchange after DH, with no Slave_Diag since",
             JudgeRule::PrmOfOther => "Set_Prm, though the diagnosis showed another master",
             JudgeRule::MinTsdr => "min TSDR is 1 to 10, and 11 is the least",
-            JudgeRule::WatchdogShort => "the slave was lost in a gap as long as its watchdog",
+            JudgeRule::WatchdogShort => "no SRD to this slave for its watchdog time or longer",
             JudgeRule::GroupNotSet =>
                 "no slave that the master holds has one of these groups in its parameters",
             JudgeRule::ControlBoth => "Freeze with Unfreeze, or Sync with Unsync",

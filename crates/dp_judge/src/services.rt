@@ -7,6 +7,12 @@ ghost use Rattle.dp_judge.specs.Reading.{asked_in, control_of, parameters_in, se
 use crate::entry::{Asked, Control, Parameters, Service};
 use dp_sap::{CHK_CFG, GET_CFG, GLOBAL_CONTROL, RD_INP, RD_OUTP, SET_PRM, SLAVE_DIAG};
 
+/// The point of the functions between masters (IEC 61158-6-3, service access points).
+const MASTER_TO_MASTER: u8 = 54;
+
+/// The point Set_Slave_Add (IEC 61158-6-3, service access points).
+const SET_SLAVE_ADD: u8 = 55;
+
 /// The least number of octets of a Set_Prm.
 const PRM_OCTETS: usize = 7;
 
@@ -16,6 +22,8 @@ pub(crate) fn service_of(point: Option<u8>, payload: &[u8]) -> Service
 {
     match point {
         None => Service::DataExchange,
+        Some(MASTER_TO_MASTER) => Service::MasterToMaster,
+        Some(SET_SLAVE_ADD) => Service::SetSlaveAdd,
         Some(RD_INP) => Service::RdInp,
         Some(RD_OUTP) => Service::RdOutp,
         Some(GLOBAL_CONTROL) => Service::GlobalControl(control_of(octet_at(payload, 0))),
@@ -68,15 +76,15 @@ fn asked_in(payload: &[u8]) -> Asked
     }
 }
 
-/// Returns the watchdog time, in units of 10 ms, the product of both factors; None without WD_On.
+/// Returns the watchdog time, in units of 10 ms, the product of both factors; None without WD_On, or with a factor 0.
 fn watchdog_in(payload: &[u8]) -> Option<u32>
     ensures { result ≡ watchdog_in payload.now }
 {
-    if is_set(3, octet_at(payload, 0)) {
-        Some(u32::from(octet_at(payload, 1)) * u32::from(octet_at(payload, 2)))
-    } else {
-        None
+    if !is_set(3, octet_at(payload, 0)) {
+        return None;
     }
+    let product = u32::from(octet_at(payload, 1)) * u32::from(octet_at(payload, 2));
+    if product == 0 { None } else { Some(product) }
 }
 
 /// Returns the octet at this index, from 0; 0 if there are fewer octets.

@@ -1,6 +1,7 @@
 //! What the requests of a master to one station left.
 
-ghost use Rattle.std.specs.Prelude.{◌≡◌};
+ghost use Rattle.std.specs.Prelude.{◌≡◌, option_map};
+ghost use Rattle.dp_judge.specs.Before.{octets_stored};
 ghost use Rattle.dp_judge.specs.Stations.{is_acknowledged_prm, last_of, new_station, station_after, wrong_length_after, unread_after, watchdog_after, watchdog_asked, one_more};
 
 use crate::entry::{Answer, Asked, Parameters, Request};
@@ -29,7 +30,7 @@ pub(crate) struct Station {
     /// The last SRD to the station.
     pub(crate) last: Option<Last>,
     pub(crate) stage: Stage,
-    /// Whether the last Data_Exchange that was judged was refused by UE.
+    /// Whether a Data_Exchange was refused by UE since the last Set_Prm that was acknowledged.
     pub(crate) wrong_length: bool,
     /// The number of exchanges since the first DH that no Slave_Diag has followed, 0 to 4; None if there is no such DH.
     pub(crate) unread: Option<u8>,
@@ -66,6 +67,16 @@ impl Station {
         }
     }
 
+    /// Returns the octets of the last SRD to the station; None if there was none.
+    pub(crate) fn last_octets(&self) -> Option<&[u8]>
+        ensures { option_map (λ octets. octets.now) result ≡ octets_stored self.now.last }
+    {
+        match &self.last {
+            Some(last) => Some(last.octets.as_slice()),
+            None => None,
+        }
+    }
+
     /// Takes the next request to the station.
     pub(crate) fn take(&mut self, request: &Request)
         ensures { self.new ≡ station_after self.old request.now }
@@ -80,14 +91,14 @@ impl Station {
     }
 }
 
-/// Returns whether the last Data_Exchange was refused by UE, after a request. A Set_Prm that is acknowledged begins again.
+/// Returns whether a Data_Exchange was refused by UE since the last Set_Prm that was acknowledged, after a request.
 fn wrong_length_after(wrong: bool, request: &Request) -> bool
     ensures { result ≡ wrong_length_after wrong request.now }
 {
-    if request.asks_exchange() {
-        return request.answer.is_ue();
+    if is_acknowledged_prm(request) {
+        return false;
     }
-    wrong && !is_acknowledged_prm(request)
+    wrong || request.asks_exchange() && request.answer.is_ue()
 }
 
 /// Returns whether it is a Set_Prm that was acknowledged.

@@ -1,5 +1,6 @@
 use Rattle.std.proofs.Common.{Option, ap}
 use Rattle.dp_judge.specs.declared.station.Last.{Last}
+use Rattle.dp_judge.specs.Before.{octets_stored}
 use Rattle.dp_judge.specs.Entries.{is_srd}
 use Rattle.dp_judge.specs.FcbRules.{may_be_counted, repeats_an_answered, repeats_with_another}
 use Rattle.std.specs.Prelude.{◌&&◌, not}
@@ -17,3 +18,7 @@ returns-clause-alternated c limit front back before request here none =
 pub returns-clause-first : goal.returns-clause-first
 returns-clause-first c limit front back before request here none =
     ap (λ (last : Option Last). is_srd request && request.fcv && not (may_be_counted last)) (last_is request.address front back before here none)
+
+pub returns-clause-shown : goal.returns-clause-shown
+returns-clause-shown c front back before request here none =
+    ap (λ (last : Option Last). octets_stored last) (last_is request.address front back before here none)
