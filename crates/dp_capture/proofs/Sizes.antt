@@ -76,8 +76,21 @@ parts_fit head octets comment flags a b c d =
     let first = head ++ padded captured in
     let second = first ++ option_octets 1 comment in
     let third = second ++ flags in
-    omega (arith, a, b, c, d, length-append third end_of_options, length-append second flags, length-append first (option_octets 1 comment), length-append head (padded captured),
-    padded_fits captured, length_data octets, option_fits 1 comment, length_end)
+    omega (
+      arith,
+      a,
+      b,
+      c,
+      d,
+      length-append third end_of_options,
+      length-append second flags,
+      length-append first (option_octets 1 comment),
+      length-append head (padded captured),
+      padded_fits captured,
+      length_data octets,
+      option_fits 1 comment,
+      length_end,
+    )
 
 pub packet_fits : (sent : PacketView) → length sent.telegram ≤ 65535 → length (packet_body sent) < 262144
 unfolding packet_body

@@ -3,7 +3,7 @@
 ghost use Rattle.std.specs.Prelude.{◌≡◌, ◌++◌, ◌≤◌, length, OnOk};
 ghost use Rattle.dp_capture.specs.Blocks.{comment_kept, comment_option, flags_option, interface_body, packet_body, packet_data, packet_head, padded, section_body, size_octets, time_octets};
 
-use crate::options::{end_options, push_four, padding, push_option, push_two};
+use crate::options::{end_options, padding, push_four, push_option, push_two};
 use crate::packet::{Direction, Packet};
 use std::alloc::AllocError;
 
