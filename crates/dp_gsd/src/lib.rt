@@ -1,0 +1,19 @@
+//! GSD files, the device descriptions that configuration tools of PROFIBUS read: the file of a slave, and what a file
+//! says.
+//!
+//! Nothing here uses a file: texts and descriptions are values.
+#![tactic(auto)]
+
+mod cause;
+mod facts;
+mod gsd;
+mod keys;
+mod rows;
+mod state;
+mod values;
+
+pub use cause::{Cause, GsdFault, RowFault};
+pub use facts::{Facts, LeftOut, Module};
+pub use gsd::{Gsd, read_gsd};
+pub use rows::LONGEST_LINE;
+pub use values::{MOST_NAME, Name};
