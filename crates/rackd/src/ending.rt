@@ -29,6 +29,12 @@ pub enum Fault<'a> {
     NoSlave(u8),
     /// The line of the audit text has no master at this address, whose requests are asked for.
     NoMaster(u8),
+    /// The rack has no line of this number, for a slave of which a GSD file is asked.
+    NoLine(u8),
+    /// The name of a vendor or a model can't stand in a GSD file.
+    BadName,
+    /// The GSD file at this path, or the modules that it is to have plugged, are not accepted.
+    BadGsd(&'a str),
     /// Standard output is a terminal, which a capture is not written to.
     OutputIsTerminal,
     /// The run ended early.
@@ -81,7 +87,8 @@ pub fn status(fault: Fault<'_>) -> u8
         Fault::Run(RunFault::WriteFault) => 4,
         Fault::BadWord | Fault::CannotRead(_, _) | Fault::CannotMake(_, _) => 2,
         Fault::CannotConnect(_, _) | Fault::PortEnded(_) => 2,
-        Fault::NoSlave(_) | Fault::NoMaster(_) | Fault::OutputIsTerminal => 2,
+        Fault::NoSlave(_) | Fault::NoMaster(_) | Fault::NoLine(_) => 2,
+        Fault::BadName | Fault::BadGsd(_) | Fault::OutputIsTerminal => 2,
         Fault::Run(RunFault::Rack(_) | RunFault::Script(_)) => 2,
         Fault::Run(RunFault::CannotRead | RunFault::NotText) => 2,
         Fault::Serve(fault) => status_of_serving(fault),
@@ -110,7 +117,8 @@ pub fn cause(fault: Fault<'_>) -> Option<Cause>
         Fault::CannotRead(_, cause) | Fault::CannotMake(_, cause) => Some(cause),
         Fault::CannotConnect(_, cause) => Some(cause),
         Fault::BadWord | Fault::PortEnded(_) | Fault::Run(_) => None,
-        Fault::NoSlave(_) | Fault::NoMaster(_) | Fault::OutputIsTerminal => None,
+        Fault::NoSlave(_) | Fault::NoMaster(_) | Fault::NoLine(_) => None,
+        Fault::BadName | Fault::BadGsd(_) | Fault::OutputIsTerminal => None,
         Fault::Serve(fault) => cause_of_serving(fault),
     }
 }
@@ -138,6 +146,9 @@ impl<'a> fmt::Display for Fault<'a> {
             Fault::PortEnded(port) => write!(f, "rackd: port {port} has ended"),
             Fault::NoSlave(address) => write!(f, "rackd: the line has no slave {address}"),
             Fault::NoMaster(address) => write!(f, "rackd: the line has no master {address}"),
+            Fault::NoLine(number) => write!(f, "rackd: the rack has no line {number}"),
+            Fault::BadName => f.write_str("rackd: a name for the GSD file is not accepted"),
+            Fault::BadGsd(path) => write!(f, "rackd: cannot use {path}"),
             Fault::OutputIsTerminal => f.write_str("rackd: standard output is a terminal"),
             Fault::Run(fault) => write!(f, "rackd: {fault}"),
             Fault::Serve(fault) => write!(f, "rackd: {fault}"),

@@ -59,7 +59,7 @@ const VENDOR_HELP: &str = "Name of the vendor in the file, at most 32 characters
 
 const MODEL_HELP: &str = "\
 Name of the model in the file, at most 32 characters
-[default: Slave, with the ident number]";
+[default: simulated slave]";
 
 const FILE_HELP: &str = "GSD file of a slave, in ISO 8859-1";
 
