@@ -2,3 +2,4 @@ pub mod Findings
 pub mod Counts
 pub mod Summary
 pub mod Lines
+pub mod FindingExamples

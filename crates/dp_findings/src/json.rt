@@ -1,11 +1,11 @@
 //! The findings of an entry, as lines of JSON.
 
-ghost use Rattle.std.specs.Prelude.{Some};
+ghost use Rattle.std.specs.Prelude.{option_map, Some};
 ghost use Rattle.std.specs.List.{flat_map};
-ghost use Rattle.dp_findings.specs.Findings.{finding_fields, finding_line, finding_lines_of, head_fields, octets_field, rule_fields};
+ghost use Rattle.dp_findings.specs.Findings.{before_field, finding_fields, finding_line, finding_lines_of, head_fields, octets_field, rule_fields};
 
-use crate::finding::Judged;
-use crate::receiver::{EntryPairs, SlaveValue};
+use crate::finding::{Judged, shown_before};
+use crate::receiver::{EntryPairs, Pairs, SlaveValue};
 use dp_judge::{Entry, JudgeRule};
 use std::fmt;
 
@@ -47,9 +47,7 @@ impl<'a> fmt::Display for LineIfBroken<'a> {
         let judged = self.judged;
         if judged.judge.breaks(judged.entry, self.rule) {
             let line = FindingLine {
-                entry: judged.entry,
-                place: judged.place,
-                master: judged.master,
+                judged,
                 rule: self.rule,
             };
             write!(f, "{line}")
@@ -62,20 +60,16 @@ impl<'a> fmt::Display for LineIfBroken<'a> {
 /// A finding, as a line of JSON.
 #[derive(Clone, Copy)]
 struct FindingLine<'a> {
-    entry: &'a Entry,
-    place: u64,
-    master: u8,
+    judged: Judged<'a>,
     rule: JudgeRule,
 }
 
 impl<'a> fmt::Display for FindingLine<'a> {
-    ghost output = { λ s. Some (finding_line s.entry.now s.place s.master s.rule) };
+    ghost output = { λ s. Some (finding_line s.judged.judge.now s.judged.entry.now s.judged.place s.judged.master s.rule) };
 
     fn fmt<W: fmt::Write>(&self, f: &mut fmt::Formatter<W>) -> fmt::Result {
         let fields = FindingFields {
-            entry: self.entry,
-            place: self.place,
-            master: self.master,
+            judged: self.judged,
             rule: self.rule,
         };
         write!(f, "{{{fields}}}\n")
@@ -85,25 +79,43 @@ impl<'a> fmt::Display for FindingLine<'a> {
 /// The fields of a finding.
 #[derive(Clone, Copy)]
 struct FindingFields<'a> {
-    entry: &'a Entry,
-    place: u64,
-    master: u8,
+    judged: Judged<'a>,
     rule: JudgeRule,
 }
 
 impl<'a> fmt::Display for FindingFields<'a> {
-    ghost output = { λ s. Some (finding_fields s.entry.now s.place s.master s.rule) };
+    ghost output = { λ s. Some (finding_fields s.judged.judge.now s.judged.entry.now s.judged.place s.judged.master s.rule) };
 
     #[tactic(auto, unfolding(crate::specs::Findings::finding_fields))]
     fn fmt<W: fmt::Write>(&self, f: &mut fmt::Formatter<W>) -> fmt::Result {
+        let judged = self.judged;
         let head = HeadFields {
-            entry: self.entry,
-            place: self.place,
-            master: self.master,
+            entry: judged.entry,
+            place: judged.place,
+            master: judged.master,
         };
         let rule = RuleFields(self.rule);
-        let octets = OctetsField(self.entry);
-        write!(f, "{head},{rule},{octets}")
+        let octets = OctetsField(judged.entry);
+        let before = BeforeField(shown_before(judged.judge, judged.entry, self.rule));
+        write!(f, "{head},{rule},{octets}{before}")
+    }
+}
+
+/// The field of the telegram before, with a comma in front; nothing if there is none.
+#[derive(Clone, Copy)]
+struct BeforeField<'a>(Option<&'a [u8]>);
+
+impl<'a> fmt::Display for BeforeField<'a> {
+    ghost output = { λ s. Some (before_field (option_map (λ octets. octets.now) s.0)) };
+
+    fn fmt<W: fmt::Write>(&self, f: &mut fmt::Formatter<W>) -> fmt::Result {
+        match self.0 {
+            Some(octets) => {
+                let pairs = Pairs(octets);
+                write!(f, ",\"before\":\"{pairs}\"")
+            }
+            None => Ok(()),
+        }
     }
 }
 

@@ -10,7 +10,7 @@ use dp_judge::Entry;
 use dp_telegram::GLOBAL_ADDRESS;
 use std::fmt;
 
-/// The receiver of an entry, with a space before it; nothing for octets that are no request.
+/// The receiver of an entry, with a space before it; nothing for an entry that is no request.
 #[derive(Clone, Copy)]
 pub(crate) struct ReceiverWords<'a>(pub(crate) &'a Entry);
 
@@ -27,12 +27,13 @@ impl<'a> fmt::Display for ReceiverWords<'a> {
                     write!(f, " slave {address}")
                 }
             }
+            Entry::PassedToken => Ok(()),
             Entry::Stray => Ok(()),
         }
     }
 }
 
-/// The octets of a request as a row of their own; nothing for octets that are no request.
+/// The octets of a request as a row of their own; nothing for an entry that is no request.
 #[derive(Clone, Copy)]
 pub(crate) struct OctetsRow<'a>(pub(crate) &'a Entry);
 
@@ -45,12 +46,13 @@ impl<'a> fmt::Display for OctetsRow<'a> {
                 let octets = Hex(request.octets.as_slice());
                 write!(f, "  {octets}\n")
             }
+            Entry::PassedToken => Ok(()),
             Entry::Stray => Ok(()),
         }
     }
 }
 
-/// The address that an entry is sent to, as a value of JSON; `null` for octets that are no request.
+/// The address that an entry is sent to, as a value of JSON; `null` for an entry that is no request.
 #[derive(Clone, Copy)]
 pub(crate) struct SlaveValue<'a>(pub(crate) &'a Entry);
 
@@ -63,6 +65,7 @@ impl<'a> fmt::Display for SlaveValue<'a> {
                 let address = request.address;
                 write!(f, "{address}")
             }
+            Entry::PassedToken => f.write_str("null"),
             Entry::Stray => f.write_str("null"),
         }
     }
@@ -70,7 +73,7 @@ impl<'a> fmt::Display for SlaveValue<'a> {
 
 /// Octets as pairs of hex digits, with nothing between them.
 #[derive(Clone, Copy)]
-pub(crate) struct Pairs<'a>(&'a [u8]);
+pub(crate) struct Pairs<'a>(pub(crate) &'a [u8]);
 
 impl<'a> fmt::Display for Pairs<'a> {
     ghost output = { λ s. Some (flat_map hex_pair s.0.now) };
@@ -84,7 +87,7 @@ impl<'a> fmt::Display for Pairs<'a> {
     }
 }
 
-/// The octets of a request as pairs of hex digits; none for octets that are no request.
+/// The octets of a request as pairs of hex digits; none for an entry that is no request.
 #[derive(Clone, Copy)]
 pub(crate) struct EntryPairs<'a>(pub(crate) &'a Entry);
 
@@ -97,6 +100,7 @@ impl<'a> fmt::Display for EntryPairs<'a> {
                 let pairs = Pairs(request.octets.as_slice());
                 write!(f, "{pairs}")
             }
+            Entry::PassedToken => Ok(()),
             Entry::Stray => Ok(()),
         }
     }
