@@ -236,7 +236,9 @@ def length_repeated(script):
     master = Master(script)
     master.bring_up()
     master.exchange(data=b"\x01")
-    return [master.exchange(data=b"\x02")]
+    master.exchange()
+    place = master.exchange(data=b"\x02")
+    return [place, master.exchange(data=b"\x03")]
 
 
 def diag_not_read(script):
@@ -268,11 +270,14 @@ def min_tsdr(script):
 
 
 def watchdog_short(script):
+    """Leaves a gap as long as the watchdog. Get_Cfg ends it, and its reply does not show that the slave was lost."""
     master = Master(script)
     master.bring_up(status=0x88, factors=(2, 5))
     master.exchange()
     script.append("tick 10")
-    return [master.exchange()]
+    place = master.request(5, 59)
+    master.exchange()
+    return [place]
 
 
 def group_not_set(script):
@@ -312,7 +317,7 @@ def unknown_point(script):
 def no_request(script):
     master = Master(script)
     for _ in range(3):
-        master.send(bytes([0xDC, 2, 1]))
+        master.send(bytes([0xDC, 1, 1]))
     place = master.send(frame(5, 1, 0x08))
     master.send(b"\xe5")
     return [place]
@@ -383,9 +388,42 @@ def clean_stray_octets_now_and_then(script):
     master = Master(script)
     for _ in range(5):
         master.send(b"\xe5")
-        master.send(bytes([0xDC, 2, 1]))
+        master.send(bytes([0xDC, 1, 1]))
         for _ in range(120):
             master.send(frame(9, 1, 0x49))
+    return []
+
+
+def clean_passes_the_token_on(script):
+    first, second = Master(script, 1), Master(script, 2)
+    first.bring_up()
+    for _ in range(10):
+        first.exchange()
+        first.send(frame(9, 1, 0x6D, DIAG))
+        first.send(bytes([0xDC, 2, 1]))
+        second.send(frame(10, 2, 0x6D, DIAG))
+        second.send(bytes([0xDC, 1, 2]))
+    return []
+
+
+def clean_uses_each_point_of_dp_v0(script):
+    master = Master(script)
+    master.bring_up()
+    for point in range(56, 58):
+        master.request(5, point)
+    master.request(5, 59)
+    master.request(5, 54, b"\x01")
+    master.send(frame(5, 1, 0x44, 54, b"\x01"))
+    master.request(5, 55, [7, 0x80, 0xA1, 0])
+    return []
+
+
+def clean_sends_a_wrong_length_once(script):
+    master = Master(script)
+    for _ in range(2):
+        master.bring_up()
+        master.exchange(data=b"\x01")
+        master.exchange()
     return []
 
 
@@ -400,7 +438,8 @@ BROKEN = {
     "broadcast-needs-reply": broadcast_needs_reply, "unknown-point": unknown_point, "no-request": no_request,
 }
 CLEAN = [clean, clean_polls_an_absent_slave, clean_retries_within_the_limit, clean_after_a_lost_slave,
-         clean_waits_for_another_master, clean_stray_octets_now_and_then]
+         clean_waits_for_another_master, clean_stray_octets_now_and_then, clean_passes_the_token_on,
+         clean_uses_each_point_of_dp_v0, clean_sends_a_wrong_length_once]
 
 
 def try_rules(program, folder):
@@ -439,6 +478,7 @@ def try_forms(program, folder):
     wanted = (
         f"place {place} master 1 slave 5 fcb-repeated: the FCB of the request before to this slave, with another telegram\n"
         f"  {octets[place - 1][4:]}\n"
+        f"  before {octets[place - 2][4:]}\n"
         f"place {again} master 1 slave 5 unknown-point: a point that DP-V0 has not\n"
         f"  {octets[again - 1][4:]}\n"
         "findings\n"
@@ -453,7 +493,9 @@ def try_forms(program, folder):
         "standard": "IEC 61158-4-3, frame count bit",
         "text": "the FCB of the request before to this slave, with another telegram",
         "octets": octets[place - 1][4:].replace(" ", ""),
+        "before": octets[place - 2][4:].replace(" ", ""),
     }, rows[0])
+    expect("JSON of a finding of another rule", False, "before" in rows[1])
     expect("JSON of the summary", [("fcb-repeated", 1, place), ("unknown-point", 1, again)],
            [(row["summary"]["rule"], row["summary"]["count"], row["summary"]["first"]) for row in rows if "summary" in row])
     expect("JSON of the verdict", {"verdict": "legal", "entries": again}, rows[-1])
@@ -482,6 +524,27 @@ def try_masters(program, folder):
     audit_of(program, folder, script)
     expect("--retries 4", ([("retry-limit", 1, places[0] + 1)], 0), findings(program, folder, "--retries", "4"))
     expect("--retries 0", ([("retry-limit", 1, 2)], 0), findings(program, folder, "--retries", "0"))
+
+
+def try_retries(program, folder):
+    """Retries with FCV 1 count also after ticks and after a token is passed on, those with FCV 0 only at one time."""
+    script = []
+    master = Master(script)
+    places = [master.send(frame(9, 1, 0x7D, DIAG)) for _ in range(3)]
+    script.append("tick 1")
+    master.send(frame(9, 1, 0x7D, DIAG))
+    master.send(bytes([0xDC, 2, 1]))
+    last = master.send(frame(9, 1, 0x7D, DIAG))
+    audit_of(program, folder, script)
+    expect("retries with FCV 1", ([("fcb-first", 1, places[0]), ("retry-limit", 1, last)], 1), findings(program, folder))
+    script = []
+    master = Master(script)
+    for _ in range(3):
+        for _ in range(4):
+            master.send(frame(9, 1, 0x6D, DIAG))
+        script.append("tick 1")
+    audit_of(program, folder, script)
+    expect("retries with FCV 0", ([], 0), findings(program, folder))
 
 
 def try_words(program, folder):
@@ -533,7 +596,7 @@ def main():
     program = sys.argv[1]
     with tempfile.TemporaryDirectory() as name:
         folder = Path(name)
-        for trial in (try_rules, try_forms, try_masters, try_words, try_texts):
+        for trial in (try_rules, try_forms, try_masters, try_retries, try_words, try_texts):
             trial(program, folder)
     print(f"{passed} passed, {failed} failed")
     return 1 if failed else 0

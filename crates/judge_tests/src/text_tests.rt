@@ -1,6 +1,7 @@
 //! Findings as texts.
 
 use crate::rows::judge_rows;
+use crate::rule_tests::BROUGHT_UP;
 use dp_findings::{CountLines, CountRows, FindingLines, FindingRows, Judged, Junit, JunitVerdict};
 use dp_judge::{Entry, JudgeRule, Severity, entry_read};
 use dp_line::{Event, Outcome};
@@ -43,6 +44,32 @@ fn one_finding(rt: HostRuntime) -> Result<(), Fail> {
     assert_eq!(rt;
         line.as_str(),
         "{\"place\":7,\"master\":1,\"slave\":127,\"rule\":\"broadcast-needs-reply\",\"severity\":\"error\",\"standard\":\"IEC 61158-4-3, function code of a request\",\"text\":\"a function with a reply, to all stations\",\"octets\":\"107f0149c916\"}\n"
+    );
+    Ok(())
+}
+
+/// A finding of `fcb-repeated` shows the telegram before as well: Data_Exchange with 56 78, and before it with 12 34.
+#[test]
+fn both_telegrams(rt: HostRuntime) -> Result<(), Fail> {
+    let judge = judge_rows(rt.alloc(), BROUGHT_UP)?;
+    let entry = entry_of(b"6805056805017d56785116")?;
+    let seat = judge.seat_of(1).ok_or("no master")?;
+    let judged = Judged {
+        judge: seat.judge(),
+        entry: &entry,
+        place: 6,
+        master: 1,
+    };
+    let rules = &JudgeRule::ALL;
+    let row = format!(in rt.alloc(); "{}", FindingRows { judged, rules })?;
+    assert_eq!(rt;
+        row.as_str(),
+        "place 6 master 1 slave 5 fcb-repeated: the FCB of the request before to this slave, with another telegram\n  68 05 05 68 05 01 7d 56 78 51 16\n  before 68 05 05 68 05 01 7d 12 34 c9 16\n"
+    );
+    let line = format!(in rt.alloc(); "{}", FindingLines { judged, rules })?;
+    assert_eq!(rt;
+        line.as_str(),
+        "{\"place\":6,\"master\":1,\"slave\":5,\"rule\":\"fcb-repeated\",\"severity\":\"error\",\"standard\":\"IEC 61158-4-3, frame count bit\",\"text\":\"the FCB of the request before to this slave, with another telegram\",\"octets\":\"6805056805017d56785116\",\"before\":\"6805056805017d1234c916\"}\n"
     );
     Ok(())
 }
