@@ -1,21 +1,30 @@
-//! Judges an audit text that is read row by row.
+//! Judges an audit text that is read row by row, on the line of a rack that its header names.
+
+ghost use Rattle.std.specs.Prelude.{◌≡◌, None, All, IfSome, OnOk, [], Err};
+ghost use Rattle.dp_line.specs.World.{description_of, opening_fault};
+ghost use Rattle.rack_file.specs.RackFile.{rack_in};
+ghost use Rattle.rack_file.specs.Rack.{rack_described};
+ghost use Rattle.dp_audit.specs.declared.fault.AuditFault.{AuditFault as Fault};
+ghost use Rattle.dp_explain.specs.TextRows.{known_text, octets_read};
+ghost use Rattle.dp_script.specs.ReadFaults.{run_fault_of_rows};
+ghost use Rattle.rack_judge.specs.Judging.{judged_by, judged_on};
+ghost use Rattle.rack_judge.specs.RowsJudged.{JudgesRows};
+ghost use Rattle.rack_judge.specs.Runs.{DecidesJudgement, RunsJudge};
 
 use crate::choice::JudgeChoice;
-use crate::ending::write_end;
-use crate::events::judge_event;
-use dp_audit::{AuditFault, is_header_of, open_line, take_row};
-use dp_explain::{TextRows, readable};
+use crate::rows::{end_rows, judge_rows};
+use dp_audit::AuditFault;
+use dp_explain::{ExplainFault, RowsFault, TextRows};
 use dp_findings::LineJudge;
-use dp_line::{LineSpec, LineState, Step};
 use dp_script::{RunFault, line_named};
-use dp_text::Text;
+use rack_file::laws::accepted_lines_can_be_opened;
 use rack_file::{Rack, RackFault, read_rack};
 use std::alloc::Global;
 use std::io::{BufRead, Write};
 
 /// Judges the masters of an audit text, on the line of the rack that its header names. Writes the findings of each entry,
 /// up to the first line of the text that is wrong, a summary, and the verdict on the text. Returns the exit status: 0 if
-/// the text is legal and no rule whose severity is error was broken, else 1.
+/// the text is legal and no rule whose severity is error was broken, else 1. What JUnit XML contains is open.
 ///
 /// The rows are read one after another, up to the first wrong one; the first row may have been read before. It takes the
 /// memory of one line, of its judges, and of one row.
@@ -28,11 +37,30 @@ pub fn run_judge<R: BufRead, W: Write>(
     rows: &mut TextRows<R>,
     choice: &JudgeChoice<'_>,
     writer: &mut W,
-) -> Result<u8, RunFault> {
+) -> Result<u8, RunFault>
+    requires { rows.old.text.past ≡ [] }
+    ensures judged { RunsJudge (rack_in rack.now) rows.new.text choice.now (W.contents writer.old) (W.contents writer.new) result }
+    ensures decided { OnOk result (IfSome (known_text rows.old.text (R.remaining rows.old.reader)) (DecidesJudgement (rack_in rack.now) choice.now (octets_read rows.new.text))) }
+{
+    accepted_lines_can_be_opened();
     match read_rack(alloc, rack) {
-        Ok(rack) => judge_on(alloc, &rack, rows, choice, writer),
+        Ok(rack) => match judge_on(alloc, &rack, rows, choice, writer) {
+            Ok(status) => Ok(status),
+            Err(fault) => Err(run_fault_of(fault)),
+        },
         Err(RackFault::OutOfMemory) => Err(RunFault::OutOfMemory),
         Err(fault) => Err(RunFault::Rack(fault)),
+    }
+}
+
+/// Returns the fault of a run whose judgement ended so.
+const fn run_fault_of(fault: RowsFault) -> RunFault
+    ensures { result ≡ run_fault_of_rows fault }
+{
+    match fault {
+        RowsFault::Explain(ExplainFault::OutOfMemory) => RunFault::OutOfMemory,
+        RowsFault::Explain(ExplainFault::WriteFault) => RunFault::WriteFault,
+        RowsFault::Read(fault) => RunFault::of_read(fault),
     }
 }
 
@@ -43,139 +71,42 @@ fn judge_on<R: BufRead, W: Write>(
     rows: &mut TextRows<R>,
     choice: &JudgeChoice<'_>,
     writer: &mut W,
-) -> Result<u8, RunFault> {
+) -> Result<u8, RowsFault>
+    requires opens { All (λ line. opening_fault (description_of line.spec) ≡ None) rack.now.lines.items }
+    requires first { rows.old.text.past ≡ [] }
+    ensures judged { JudgesRows (judged_on choice.now (rack_described rack.now) (octets_read rows.new.text)) rows.new.text.row (W.contents writer.old) (W.contents writer.new) result }
+    ensures decided { OnOk result (IfSome (known_text rows.old.text (R.remaining rows.old.reader))
+        (λ text. judged_on choice.now (rack_described rack.now) text ≡ judged_on choice.now (rack_described rack.now) (octets_read rows.new.text))) }
+{
     match rows.complete_row() {
         Ok(_) => {}
-        Err(fault) => return Err(RunFault::of_read(fault)),
+        Err(fault) => return Err(RowsFault::Read(fault)),
     }
     match line_named(&rack.lines, rows.row()) {
-        Some(line) => {
-            let masters = judged_masters(choice, line.spec.masters.as_slice());
-            let mut judge = new_judge(alloc, masters, choice)?;
-            let mut buffer = String::new(alloc);
-            let verdict = judge_line(
-                alloc,
-                &line.spec,
-                &mut judge,
-                rows,
-                choice,
-                &mut buffer,
-                writer,
-            )?;
-            end_text(&judge, verdict, rows.row(), choice, &mut buffer, writer)
-        }
-        None => {
-            let judge = new_judge(alloc, &[], choice)?;
-            let mut buffer = String::new(alloc);
-            end_text(
-                &judge,
-                Err(AuditFault::BadLine(1)),
-                rows.row(),
-                choice,
-                &mut buffer,
-                writer,
-            )
-        }
+        Some(line) => judge_rows(alloc, &line.spec, rows, choice, writer),
+        None => judge_no_line(alloc, rows.row(), choice, writer),
     }
 }
 
-/// Returns the masters that are judged.
-fn judged_masters<'a>(choice: &'a JudgeChoice<'_>, masters: &'a [u8]) -> &'a [u8] {
-    match &choice.master {
-        Some(master) => std::slice::from_ref(master),
-        None => masters,
-    }
-}
-
-/// Returns the judges of these masters.
-fn new_judge(
+/// Judges an audit text that names no line, whose first row is `row`: its first line is bad.
+fn judge_no_line<W: Write>(
     alloc: Global,
-    masters: &[u8],
-    choice: &JudgeChoice<'_>,
-) -> Result<LineJudge, RunFault> {
-    match LineJudge::new(alloc, masters, choice.retries) {
-        Ok(judge) => Ok(judge),
-        Err(_) => Err(RunFault::OutOfMemory),
-    }
-}
-
-/// Judges an audit text on a line. Returns the verdict on the text.
-fn judge_line<R: BufRead, W: Write>(
-    alloc: Global,
-    line: &LineSpec,
-    judge: &mut LineJudge,
-    rows: &mut TextRows<R>,
-    choice: &JudgeChoice<'_>,
-    buffer: &mut String,
-    writer: &mut W,
-) -> Result<Result<u32, AuditFault>, RunFault> {
-    let bad_header = Ok(Err(AuditFault::BadLine(1)));
-    if !rows.is_whole() || !is_header_of(rows.row(), line) {
-        return bad_header;
-    }
-    let Ok(header) = std::str::from_utf8(rows.row()) else {
-        return bad_header;
-    };
-    match open_line(alloc, line, header) {
-        Ok(mut state) => judge_entries(&mut state, judge, rows, choice, buffer, writer),
-        Err(_) => Err(RunFault::OutOfMemory),
-    }
-}
-
-/// Judges the rows behind the header. Returns the verdict on the text.
-fn judge_entries<R: BufRead, W: Write>(
-    state: &mut LineState,
-    judge: &mut LineJudge,
-    rows: &mut TextRows<R>,
-    choice: &JudgeChoice<'_>,
-    buffer: &mut String,
-    writer: &mut W,
-) -> Result<Result<u32, AuditFault>, RunFault> {
-    let mut answer = Step::blank();
-    let mut written = Text::new();
-    loop {
-        let place = u64::from(state.count()) + 1;
-        match rows.read_row() {
-            Ok(true) => {}
-            Ok(false) => return Ok(verdict_at_end(state.count(), rows.row())),
-            Err(fault) => return Err(RunFault::of_read(fault)),
-        }
-        match take_row(state, rows.row(), &mut answer, &mut written) {
-            Ok(event) => judge_event(
-                judge,
-                place,
-                &event,
-                &answer.outcome,
-                choice,
-                buffer,
-                writer,
-            )?,
-            Err(fault) => return Ok(Err(fault)),
-        }
-    }
-}
-
-/// Returns the verdict on a text of this many right entries, with this text behind the last LF.
-fn verdict_at_end(count: u32, last: &[u8]) -> Result<u32, AuditFault> {
-    if last.is_empty() {
-        Ok(count)
-    } else {
-        Err(AuditFault::BadLine(u64::from(count) + 2))
-    }
-}
-
-/// Writes what follows the findings of a text whose last row is this one. Returns the exit status, or `NotText` if the text
-/// is not legal and the row is not UTF-8.
-fn end_text<W: Write>(
-    judge: &LineJudge,
-    verdict: Result<u32, AuditFault>,
     row: &[u8],
     choice: &JudgeChoice<'_>,
-    buffer: &mut String,
     writer: &mut W,
-) -> Result<u8, RunFault> {
-    match readable(verdict, row) {
-        Ok(verdict) => write_end(judge, verdict, choice, buffer, writer),
-        Err(fault) => Err(RunFault::of_read(fault)),
-    }
+) -> Result<u8, RowsFault>
+    ensures { JudgesRows (judged_by choice.now [] [] (Err (Fault.BadLine 1))) row.now (W.contents writer.old) (W.contents writer.new) result }
+{
+    let Ok(judge) = LineJudge::new(alloc, &[], choice.retries) else {
+        return Err(RowsFault::Explain(ExplainFault::OutOfMemory));
+    };
+    let mut buffer = String::new(alloc);
+    end_rows(
+        &judge,
+        Err(AuditFault::BadLine(1)),
+        row,
+        choice,
+        &mut buffer,
+        writer,
+    )
 }

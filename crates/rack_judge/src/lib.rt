@@ -8,7 +8,9 @@ mod choice;
 mod ending;
 mod events;
 mod judging;
+pub mod laws;
 mod output;
+mod rows;
 
 pub use choice::{Form, JudgeChoice};
 pub use judging::run_judge;

@@ -1,6 +1,9 @@
 //! Writes texts.
 
-use dp_script::RunFault;
+ghost use Rattle.std.specs.Prelude.{IfSome};
+ghost use Rattle.dp_explain.specs.Explained.{Leaves};
+
+use dp_explain::ExplainFault;
 use dp_text::write_whole;
 use std::fmt::Display;
 use std::io::Write;
@@ -11,13 +14,23 @@ pub(crate) fn write_text<W: Write, D: Display>(
     text: &D,
     buffer: &mut String,
     writer: &mut W,
-) -> Result<(), RunFault> {
+) -> Result<(), ExplainFault>
+    ensures { IfSome (D.output text.now) (λ written. Leaves written (W.contents writer.old) (W.contents writer.new) result) }
+{
     buffer.clear();
-    if write!(buffer, "{text}").is_err() {
-        return Err(RunFault::OutOfMemory);
+    match write!(buffer, "{text}") {
+        Ok(()) => {}
+        Err(_) => return Err(ExplainFault::OutOfMemory),
     }
-    match write_whole(writer, buffer.as_bytes()) {
+    write_bytes(buffer.as_bytes(), writer)
+}
+
+/// Writes these bytes. Returns `WriteFault` if the write fails.
+pub(crate) fn write_bytes<W: Write>(bytes: &[u8], writer: &mut W) -> Result<(), ExplainFault>
+    ensures { Leaves bytes.now (W.contents writer.old) (W.contents writer.new) result }
+{
+    match write_whole(writer, bytes) {
         Ok(()) => Ok(()),
-        Err(_) => Err(RunFault::WriteFault),
+        Err(_) => Err(ExplainFault::WriteFault),
     }
 }

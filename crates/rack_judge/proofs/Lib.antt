@@ -1,0 +1,5 @@
+mod JudgedLines
+mod WrongRow
+mod ReadRows
+mod Ending
+mod FirstRow

@@ -1,0 +1,8 @@
+use Rattle.rack_file.specs.Rack.{rack_described}
+use Rattle.rack_judge.proofs.FirstRow.{lines_open}
+use Rattle.rack_judge.proofs.judging.run_judge.Goals as goal
+
+pub judge_on-requires-clause-opens : goal.judge_on-requires-clause-opens
+judge_on-requires-clause-opens g c =
+    let rack = c.in-Ok.rack in
+    lines_open rack.lines.items (c.accepted_lines_can_be_opened.ensures c.args.rack.now (rack_described rack) c.in-Ok.ensures.ok)

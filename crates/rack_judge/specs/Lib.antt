@@ -1,0 +1,5 @@
+pub mod Judging
+pub mod Runs
+pub mod RowsJudged
+pub mod Laws
+pub mod JudgingExamples
