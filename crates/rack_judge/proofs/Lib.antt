@@ -1,5 +1,5 @@
 mod JudgedLines
 mod WrongRow
 mod ReadRows
-mod Ending
+mod EndedText
 mod FirstRow

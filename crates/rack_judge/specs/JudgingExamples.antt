@@ -1,5 +1,6 @@
 -- Worked examples of what is judged, and of the exit status.
-use Rattle.std.specs.Prelude.{codes, ◌≡◌, true, false, [], ◌∷◌, Some, None, Ok, Err, refl}
+use Rattle.std.specs.Prelude.{codes, ◌≡◌, true, false, [], ◌∷◌, ◌++◌, Some, None, Ok, Err, refl}
+use Rattle.std.specs.Fmt.{decimal}
 use Rattle.dp_audit.specs.declared.fault.AuditFault.TheVariants as faults
 use Rattle.rack_judge.specs.declared.choice.Form.TheVariants as forms
 use Rattle.rack_judge.specs.Judging.{ending_in, exit_status, judged_masters}
@@ -22,8 +23,8 @@ not_legal : exit_status false (Err (faults.NotThePolicy 4)) ≡ 1
 not_legal = refl
 
 -- what is written behind the findings of a text of three entries in which no rule was broken
-ending_of_rows : ending_in forms.Rows [] [] (Ok 3) ≡ Some (codes "findings\nlegal 3\n")
+ending_of_rows : ending_in forms.Rows [] [] (Ok 3) ≡ Some (codes "findings\nlegal " ++ (decimal 3 ++ codes "\n"))
 ending_of_rows = refl
 
-ending_of_lines : ending_in forms.Json [] [] (Err (faults.BadLine 4)) ≡ Some (codes "{\"verdict\":\"bad line\",\"row\":4}\n")
+ending_of_lines : ending_in forms.Json [] [] (Err (faults.BadLine 4)) ≡ Some (codes "{\"verdict\":\"bad line\",\"row\":" ++ (decimal 4 ++ codes "}\n"))
 ending_of_lines = refl

@@ -37,11 +37,11 @@ EndsText status ending old new (Err fault) = IfSome ending (WritesPrefix old new
 
 -- the text and its exit status, or a prefix if it ended early; `NotText` only if the last row is not UTF-8
 abbrev pub JudgesRows : JudgedText → List ℕ → Option (List ℕ) → Option (List ℕ) → Result ℕ RowsFault → Type 0
-JudgesRows judged row old new (Ok status) = (status ≡ judged.status) × AppendsWhole judged old new × IsReadable judged.verdict row
-JudgesRows judged row old new (Err (rows.Explain fault)) = AppendsPrefix judged old new
-JudgesRows judged row old new (Err (rows.Read faults.OutOfMemory)) = AppendsPrefix judged old new
-JudgesRows judged row old new (Err (rows.Read faults.CannotRead)) = AppendsPrefix judged old new
-JudgesRows judged row old new (Err (rows.Read faults.NotText)) = AppendsPrefix judged old new × (¬ (IsUtf8 row))
+JudgesRows text row old new (Ok status) = (status ≡ text.status) × AppendsWhole text old new × IsReadable text.verdict row
+JudgesRows text row old new (Err (rows.Explain fault)) = AppendsPrefix text old new
+JudgesRows text row old new (Err (rows.Read faults.OutOfMemory)) = AppendsPrefix text old new
+JudgesRows text row old new (Err (rows.Read faults.CannotRead)) = AppendsPrefix text old new
+JudgesRows text row old new (Err (rows.Read faults.NotText)) = AppendsPrefix text old new × (¬ (IsUtf8 row))
 
 -- the part of a text of the line that was read decides its judgement
 abbrev pub DecidesJudged : JudgeChoice → Description → List ℕ → List ℕ → Type 0

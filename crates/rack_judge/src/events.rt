@@ -93,7 +93,7 @@ fn write_judged<W: Write>(
     buffer: &mut String,
     writer: &mut W,
 ) -> Result<(), ExplainFault>
-    ensures { Leaves (findings_in choice.now.form choice.now.rules.now judged.judge.now judged.entry.now judged.place judged.master) (W.contents writer.old) (W.contents writer.new) result }
+    ensures { Leaves (findings_in choice.now.form choice.now.rules.now judged.entry.judge.now judged.entry.entry.now judged.entry.place judged.entry.master) (W.contents writer.old) (W.contents writer.new) result }
 {
     let rules = choice.rules;
     match choice.form {

@@ -1,6 +1,8 @@
 use Rattle.std.proofs.Common.{None, Some, refl, ◌∙◌, rules}
 use Rattle.dp_explain.specs.TextRows.{octets_read}
-use Rattle.rack_judge.proofs.Ending.{not_read}
+use Rattle.rack_file.specs.Rack.{rack_described}
+use Rattle.rack_judge.specs.Judging.{judged_on}
+use Rattle.rack_judge.proofs.EndedText.{not_read}
 use Rattle.rack_judge.proofs.FirstRow.{decides_if_ok, first_line, found_opens, judged_is, named_by, none_if_ok, only_line}
 use Rattle.rack_judge.proofs.judging.judge_on.Goals as goal
 
@@ -9,7 +11,9 @@ judge_rows-requires-clause-opens g c =
     found_opens c.row.result.now c.args.rack.now.lines.items c.in-Some.line.now (search rules) c.requires.opens
 
 pub returns-in-Err-clause-judged : goal.returns-in-Err-clause-judged
-returns-in-Err-clause-judged g c = not_read _ _ (g.W.Write.contents c.args.writer.now) c.in-Err.fault c.in-Err.ensures.named
+returns-in-Err-clause-judged g c =
+    let text = c.complete_row.new.self.text in
+    not_read (judged_on c.args.choice.now (rack_described c.args.rack.now) (octets_read text)) text.row (g.W.Write.contents c.args.writer.now) c.in-Err.fault c.in-Err.ensures.named
 
 pub returns-in-Some-clause-judged : goal.returns-in-Some-clause-judged
 returns-in-Some-clause-judged g c =

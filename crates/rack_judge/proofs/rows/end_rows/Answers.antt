@@ -1,5 +1,18 @@
-use Rattle.rack_judge.proofs.Ending.{cut_ended, ended_judged, not_readable}
+use Rattle.std.proofs.Common.{[]}
+use Rattle.rack_judge.specs.Judging.{judged_by}
+use Rattle.rack_judge.proofs.EndedText.{cut_ended, ended_judged, not_readable}
 use Rattle.rack_judge.proofs.rows.end_rows.Goals as goal
 
 pub returns-in-Err : goal.returns-in-Err
-returns-in-Err g c = not_readable _ c.args.verdict c.args.row.now (g.W.Write.contents c.args.writer.now) c.in-Err.fault c.in-Err.ensures.verdict
+returns-in-Err g c =
+    not_readable (judged_by c.args.choice.now [] c.args.judge.now.seats c.args.verdict) c.args.verdict c.args.row.now (g.W.Write.contents c.args.writer.now) c.in-Err.fault c.in-Err.ensures.verdict
+
+pub returns-in-Ok-write_end : goal.returns-in-Ok-write_end
+returns-in-Ok-write_end g c =
+    ended_judged c.args.choice.now c.args.judge.now.seats c.args.verdict c.args.row.now (g.W.Write.contents c.args.writer.now) (g.W.Write.contents c.write_end.new.writer) c.in-Ok-write_end.status
+    c.in-Ok.ensures.verdict.1 c.in-Ok-write_end.ensures
+
+pub returns-in-Err-write_end : goal.returns-in-Err-write_end
+returns-in-Err-write_end g c =
+    cut_ended c.args.choice.now c.args.judge.now.seats c.args.verdict c.args.row.now (g.W.Write.contents c.args.writer.now) (g.W.Write.contents c.write_end.new.writer) _ c.in-Err-write_end.fault
+    c.in-Err-write_end.ensures

@@ -1,4 +1,4 @@
-use Rattle.std.proofs.Common.{List, ℕ, refl, sym, ap, subst, ◌∙◌}
+use Rattle.std.proofs.Common.{List, ℕ, ◌+◌, refl, sym, ap, subst, ◌∙◌}
 use Rattle.dp_line.specs.World.{description_of}
 use Rattle.dp_audit.specs.Check.{checked}
 use Rattle.dp_explain.specs.TextRows.{octets_read}
@@ -64,12 +64,12 @@ returns-in-Ok-false-clause-decided g c = λ begun.
     decides_at_end c.args.choice.now (description_of c.args.line.now) _ _ _ c.args.rows.now.text c.loop-rows.rows.text c.read_row.new.self.text c.loop-rows.invariant.since c.read_row.ensures.reads
     (c.in-Ok-false.ensures.end (sym c.in-Ok-false.ensures.whole ∙ c.in-Ok-false.field-0-test))
 
-pub returns-in-Err-read_row-clause-judged : goal.returns-in-Err-read_row-clause-judged
-returns-in-Err-read_row-clause-judged g c =
+pub returns-in-Err-clause-judged : goal.returns-in-Err-clause-judged
+returns-in-Err-clause-judged g c =
     let line = description_of c.args.line.now in
     let l = c.loop-rows in
     let after = c.read_row.new.self.text in
-    read_ended c.args.choice.now line (octets_read after) l.judge (g.W.Write.contents c.args.writer.now) (g.W.Write.contents l.writer) c.in-Err-read_row.fault c.in-Err-read_row.ensures.named
+    read_ended c.args.choice.now line (octets_read after) l.judge (g.W.Write.contents c.args.writer.now) (g.W.Write.contents l.writer) c.in-Err.fault c.in-Err.ensures.named
     (text_unread c.args.choice.now line (octets_read l.rows.text) after.row (octets_read after) after.whole l.state.world l.judge (g.W.Write.contents c.args.writer.now) (g.W.Write.contents l.writer)
     l.invariant.judged c.read_row.ensures.reads.no_lf (row_behind l.rows.text after _ _ l.invariant.whole c.read_row.ensures.reads))
 

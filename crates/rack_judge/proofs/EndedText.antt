@@ -1,7 +1,7 @@
 -- What is written of a text that was judged, from its findings and its ending.
 use Rattle.std.proofs.Common.{◌≡◌, ℕ, Bool, List, [], ◌++◌, Option, Some, None, IfSome, Result, Ok, Err, refl, sym, ap, subst, ◌∙◌}
 use Rattle.std.specs.Prelude.{option_map}
-use Rattle.std.specs.Io.KnownBytes.{Appends}
+use Rattle.std.specs.Io.KnownBytes.{Appends, Keeps}
 use Rattle.std.proofs.lemmas.List.{append-nil}
 use Rattle.dp_line.specs.World.{Description}
 use Rattle.dp_text.specs.Words.{lines_of}
@@ -18,14 +18,18 @@ use Rattle.dp_explain.specs.declared.rows_fault.RowsFault.TheVariants as rows
 use Rattle.dp_explain.specs.Explained.{Leaves}
 use Rattle.dp_explain.specs.ExplainedRows.{IsReadable, Reads}
 use Rattle.dp_explain.proofs.Writing.{front_cut}
+use Rattle.dp_explain.specs.TextRows.{TextRead, octets_read}
+use Rattle.rack_file.specs.declared.fault.RackFault.{RackFault}
+use Rattle.rack_file.specs.Rack.{RackDescription}
 use Rattle.dp_script.specs.declared.run_fault.RunFault.{RunFault}
+use Rattle.dp_script.specs.declared.run_fault.RunFault.TheVariants as runs
 use Rattle.dp_script.specs.ReadFaults.{run_fault_of_rows}
 use Rattle.dp_findings.specs.declared.seat.Seat.{Seat}
 use Rattle.dp_findings.specs.Lines.{LineJudgeView}
 use Rattle.rack_judge.specs.declared.choice.JudgeChoice.{JudgeChoice}
-use Rattle.rack_judge.specs.Judging.{JudgedText, ending_in, exit_status, has_errors, judged, judged_by, judged_rows}
+use Rattle.rack_judge.specs.Judging.{JudgedText, ending_in, exit_status, has_errors, judged, judged_by, judged_on, judged_rows}
 use Rattle.rack_judge.specs.RowsJudged.{AreJudged, EndsText, JudgesEntries, JudgesRows}
-use Rattle.rack_judge.specs.Runs.{AppendsPrefix, Judges}
+use Rattle.rack_judge.specs.Runs.{AppendsPrefix, Judges, RunsJudge}
 
 -- ---- findings, and then an ending
 
@@ -116,6 +120,15 @@ run_by text row old new (rows.Read faults.NotText) cut = cut
 
 pub run_ended : (text : JudgedText) (row : List ℕ) (old new : Option (List ℕ)) (fault : RowsFault) (result : RunFault) → result ≡ run_fault_of_rows fault → JudgesRows text row old new (Err fault) → Judges text row old new (Err result)
 run_ended text row old new fault result is cut = subst (λ (r : RunFault). Judges text row old new (Err r)) (sym is) (run_by text row old new fault cut)
+
+kept : (old : Option (List ℕ)) → Keeps old old
+kept None = tt
+kept (Some octets) = refl
+
+-- memory may run out before the rack is read
+pub no_memory : (rack : Result RackDescription RackFault) (text : TextRead) (choice : JudgeChoice) (old : Option (List ℕ)) → RunsJudge rack text choice old old (Err runs.OutOfMemory)
+no_memory (Ok rack) text choice old = nothing_judged (judged_on choice rack (octets_read text)) old
+no_memory (Err fault) text choice old = kept old
 
 -- ---- only the ending
 
