@@ -1,4 +1,4 @@
-use Rattle.std.proofs.Common.{List, ℕ, ◌+◌, refl, sym, ap, subst, ◌∙◌}
+use Rattle.std.proofs.Common.{◌≡◌, List, ℕ, ◌+◌, arith, refl, sym, ap, subst, ◌∙◌}
 use Rattle.dp_line.specs.World.{description_of}
 use Rattle.dp_audit.specs.Check.{checked}
 use Rattle.dp_explain.specs.TextRows.{octets_read}
@@ -86,13 +86,14 @@ loop-rows-preserved g c =
     let whole = sym c.in-Ok-true.ensures.whole ∙ c.in-Ok-true.field-0-test in
     let all = whole_behind l.rows.text after _ _ l.invariant.whole c.read_row.ensures.reads whole in
     let takes = rw c.row-in-loop-rows.ensures.row at c.in-Ok.ensures in
+    let at : c.from-place.result + 1 ≡ c.loop-rows.state.world.count + 1 = omega (arith, c.from-place.ensures, c.count-count.ensures) in
     record {
       right = subst (λ (t : List ℕ). IsLineAfter line t c.take_row.new.state.world) (sym all)
           (with_event line (octets_read l.rows.text) after.row l.state.world c.take_row.new.state.world c.take_row.new.answer c.in-Ok.event l.invariant.right c.read_row.ensures.reads.no_lf takes);
       judged = subst (λ (t : List ℕ). SoFar c.args.choice.now line t c.take_row.new.state.world c.judge_event.new.judge (g.W.Write.contents c.args.writer.now) (g.W.Write.contents c.judge_event.new.writer)) (sym all)
-          (row_judged c.args.choice.now line (octets_read l.rows.text) after.row l.state.world c.take_row.new.state.world l.judge c.judge_event.new.judge c.take_row.new.answer c.in-Ok.event (l.state.world.count + 1)
-          (g.W.Write.contents c.args.writer.now) (g.W.Write.contents l.writer) (g.W.Write.contents c.judge_event.new.writer) l.invariant.judged c.read_row.ensures.reads.no_lf takes refl
-          (rw c.count-count.ensures at c.in-Ok-judge_event.ensures.judges) (rw c.count-count.ensures at c.in-Ok-judge_event.ensures.findings));
+          (row_judged c.args.choice.now line (octets_read l.rows.text) after.row l.state.world c.take_row.new.state.world l.judge c.judge_event.new.judge c.take_row.new.answer c.in-Ok.event (c.from-place.result + 1)
+          (g.W.Write.contents c.args.writer.now) (g.W.Write.contents l.writer) (g.W.Write.contents c.judge_event.new.writer) l.invariant.judged c.read_row.ensures.reads.no_lf takes at
+          c.in-Ok-judge_event.ensures.judges c.in-Ok-judge_event.ensures.findings);
       whole = whole;
       since = row_since _ c.args.rows.now.text _ l.rows.text _ after l.invariant.since c.read_row.ensures.reads;
     }
@@ -103,9 +104,10 @@ returns-in-Err-judge_event-clause-judged g c =
     let l = c.loop-rows in
     let after = c.read_row.new.self.text in
     let all = whole_behind l.rows.text after _ _ l.invariant.whole c.read_row.ensures.reads (sym c.in-Ok-true.ensures.whole ∙ c.in-Ok-true.field-0-test) in
-    text_cut c.args.choice.now line (octets_read l.rows.text) after.row (octets_read after) l.state.world c.take_row.new.state.world l.judge c.take_row.new.answer c.in-Ok.event (l.state.world.count + 1)
+    let at : c.from-place.result + 1 ≡ c.loop-rows.state.world.count + 1 = omega (arith, c.from-place.ensures, c.count-count.ensures) in
+    text_cut c.args.choice.now line (octets_read l.rows.text) after.row (octets_read after) l.state.world c.take_row.new.state.world l.judge c.take_row.new.answer c.in-Ok.event (c.from-place.result + 1)
     (g.W.Write.contents c.args.writer.now) (g.W.Write.contents l.writer) (g.W.Write.contents c.judge_event.new.writer) l.invariant.judged c.read_row.ensures.reads.no_lf
-    (rw c.row-in-loop-rows.ensures.row at c.in-Ok.ensures) refl (rw c.count-count.ensures at c.in-Err-judge_event.ensures.findings) all
+    (rw c.row-in-loop-rows.ensures.row at c.in-Ok.ensures) at c.in-Err-judge_event.ensures.findings all
 
 pub returns-in-Err-take_row-clause-judged : goal.returns-in-Err-take_row-clause-judged
 returns-in-Err-take_row-clause-judged g c =
