@@ -53,8 +53,9 @@ rackd judge RACK AUDIT.. [--master M] [--rules NAME,..] [--retries N] [--json | 
        rackd judge --help",
     details: "\
 For each entry that breaks a rule, standard output gets a row with its place, its stations, the name
-of the rule and what it says, and a row with the octets of the telegram. How often each master broke
-each rule follows, and then the result of 'check'. The text is judged to its first wrong line.
+of the rule and what it says, and a row with the octets of the telegram; for fcb-repeated another
+one with those of the telegram before. How often each master broke each rule follows, and then the
+result of 'check'. The text is judged to its first wrong line.
 
 The exit status is 1 if the text is not legal, or if a rule whose severity is error was broken, and
 else 0. docs/FORMATS.md lists the rules.
