@@ -1,0 +1,5 @@
+pub mod Rows
+pub mod Taking
+pub mod Deciding
+pub mod Texts
+pub mod FirstRow
