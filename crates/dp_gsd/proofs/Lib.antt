@@ -1,1 +1,4 @@
 pub mod Words
+pub mod Decimals
+pub mod Joins
+pub mod Modes

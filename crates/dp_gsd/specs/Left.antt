@@ -1,5 +1,5 @@
 -- Definitions for private functions. No public clause cites this module.
-use Rattle.std.specs.Prelude.{◌≡◌, ℕ, ◌+◌, ◌≤◌, List, [], length, Option, Some, None, Result}
+use Rattle.std.specs.Prelude.{◌≡◌, ℕ, ◌+◌, ◌≤◌, List, [], ◌++◌, take, length, Option, Some, None, Result}
 use Rattle.std.specs.Borrow.{Bor}
 use Rattle.dp_gsd.specs.Files.{Begun, File, read_from, lines_of, gsd_of}
 
@@ -17,3 +17,8 @@ most_left (Some text) = length text.now + 1
 pub record IsReading (text : List ℕ) (row : ℕ) (begun : Begun) (left : Option (Bor (List ℕ))) : Type 0 where
   pub whole : gsd_of text ≡ read_from row begun (lines_left left)
   pub room : most_left left + row ≤ length text + 1
+
+-- octets and those of `more` that have been appended
+pub record IsJoining (octets more all : List ℕ) (count : ℕ) : Type 0 where
+  pub joined : all ≡ octets ++ take count more
+  pub room : length octets + length more ≤ 244

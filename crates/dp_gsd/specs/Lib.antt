@@ -5,3 +5,5 @@ pub mod Keys
 pub mod Reading
 pub mod Files
 pub mod Left
+pub mod Plugged
+pub mod GsdText

@@ -28,8 +28,19 @@ nothing_left = record { parameters = false; diagnosis = false; others = false }
 
 abbrev pub no_facts : Facts
 no_facts = record {
-  headed = false; ident = None; sync = false; freeze = false; failsafe = false; most_parameters = None; parameters = None;
-  modular = false; most_modules = None; most_inputs = None; most_outputs = None; most_data = None; left = nothing_left;
+  headed = false;
+  ident = None;
+  sync = false;
+  freeze = false;
+  failsafe = false;
+  most_parameters = None;
+  parameters = None;
+  modular = false;
+  most_modules = None;
+  most_inputs = None;
+  most_outputs = None;
+  most_data = None;
+  left = nothing_left;
 }
 
 -- ---- one row

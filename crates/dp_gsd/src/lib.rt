@@ -8,12 +8,17 @@ mod cause;
 mod facts;
 mod gsd;
 mod keys;
+mod plugged;
 mod rows;
+mod sizes;
 mod state;
 mod values;
+mod writing;
 
 pub use cause::{Cause, GsdFault, RowFault};
 pub use facts::{Facts, LeftOut, Module};
 pub use gsd::{Gsd, read_gsd};
+pub use plugged::{PlugFault, PluggedSlave, module_named, plugged_slave};
 pub use rows::LONGEST_LINE;
 pub use values::{MOST_NAME, Name};
+pub use writing::gsd_text;

@@ -71,7 +71,11 @@ fn step_to(facts: Facts, current: Option<Module>, next: Next) -> Step
     ensures { result ≡ step_to facts current next }
 {
     Step {
-        state: State { facts, current, next },
+        state: State {
+            facts,
+            current,
+            next,
+        },
         ended: None,
     }
 }
@@ -158,11 +162,7 @@ fn after_kind(
         Kind::Preset => preset_module(facts, current, more, number_to(1, value)?),
         Kind::Setting(setting) => {
             let number = number_to(most_of(setting), value)?;
-            Ok(step_to(
-                with_number(facts, setting, number),
-                current,
-                next_of(more),
-            ))
+            Ok(step_to(with_number(facts, setting, number), current, next_of(more)))
         }
         Kind::Left(group) => {
             let left = with_left(facts.left, group);
@@ -172,12 +172,7 @@ fn after_kind(
 }
 
 /// Reads a row behind the heading.
-fn after_body(
-    facts: Facts,
-    current: Option<Module>,
-    more: bool,
-    body: &[u8],
-) -> Result<Step, Cause>
+fn after_body(facts: Facts, current: Option<Module>, more: bool, body: &[u8]) -> Result<Step, Cause>
     ensures { result ≡ after_body facts current more body.now }
 {
     let key = key_of(body);
@@ -208,12 +203,7 @@ fn after_heading(
 }
 
 /// Reads a row.
-fn after_row(
-    facts: Facts,
-    current: Option<Module>,
-    more: bool,
-    body: &[u8],
-) -> Result<Step, Cause>
+fn after_row(facts: Facts, current: Option<Module>, more: bool, body: &[u8]) -> Result<Step, Cause>
     ensures { result ≡ after_row facts current more body.now }
 {
     if body.is_empty() {
@@ -255,7 +245,11 @@ pub(crate) fn after_line(state: State, line: &[u8]) -> Result<Step, Cause>
     let code = code_of(line)?;
     let body = body_of(code);
     let more = goes_on(code);
-    let State { facts, current, next } = state;
+    let State {
+        facts,
+        current,
+        next,
+    } = state;
     match next {
         Next::Row => after_row(facts, current, more, body),
         Next::Octets => after_octets(facts, current, more, body),

@@ -1,0 +1,2 @@
+pub mod Unwritten
+pub mod Joins

@@ -1,0 +1,4 @@
+pub mod Names
+pub mod GsdRuns
+pub mod SlaveText
+pub mod SlaveRuns
