@@ -9,7 +9,7 @@ top=$(cd "$(dirname "$0")/.." && pwd)
 client=$top/tests/suite_client.py
 . "$top/tests/cases.sh"
 # a lane has several cases, and one that fails as it should may wait as long as a scenario may take
-limit=300
+limit=600
 
 mapfile -t lanes < <("$client" lanes)
 try_beside "${lanes[@]}"

@@ -8,8 +8,7 @@ SLAVES = [Slave(5, watchdog_ms=100, outputs="1234"), Slave(6, watchdog_ms=0, out
 def run(bus: Bus) -> None:
     bus.start()
     bus.exchanges(5)
-    bus.cable.off(5)
-    bus.given_up(5)
+    bus.off(5)
     bus.operator.tick(10)
     other = bus.master()
     other.bring_up(5, SLAVES[0].ident, bytes.fromhex(SLAVES[0].cfg))

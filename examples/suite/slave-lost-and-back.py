@@ -7,8 +7,7 @@ SLAVES = [Slave(5, watchdog_ms=500, outputs="1234"), Slave(6, watchdog_ms=0, out
 def run(bus: Bus) -> None:
     bus.start()
     bus.exchanges(5)
-    bus.cable.off(5)
-    bus.given_up(5)
+    bus.off(5)
     bus.operator.tick(50)
     # each request to the lost slave may take as long as the master waits for a reply
     bus.exchanges(6, count=2)

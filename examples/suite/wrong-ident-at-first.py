@@ -22,8 +22,7 @@ cfg = "2111"
 def run(bus: Bus) -> None:
     bus.start()
     bus.request(5, SLAVE_DIAG, "Done", count=5)
-    bus.cable.off(5)
-    bus.given_up(5)
+    bus.off(5)
     bus.put(2)
     bus.cable.on(5)
     bus.exchanges(5)

@@ -26,7 +26,7 @@ from typing import Callable, List, Optional, Sequence
 from .cable import RunningCable
 from .faults import BadFrame, NoReply
 from .frames import decode
-from .master import SLAVE_DIAG, Master
+from .master import CHK_CFG, GET_CFG, GLOBAL_CONTROL, RD_INP, RD_OUTP, SET_PRM, SLAVE_DIAG, Master
 from .operator import Operator, State
 from .rack import Line, Rack
 from .suite_master import MasterProcess
@@ -39,6 +39,8 @@ ADDRESS, OTHER = 1, 2
 LOOK_TIME = 0.01
 # How many exchanges show that data are exchanged.
 EXCHANGES = 10
+SERVICES = {None: "Data_Exchange", RD_INP: "RD_Inp", RD_OUTP: "RD_Outp", GLOBAL_CONTROL: "Global_Control",
+            GET_CFG: "Get_Cfg", SLAVE_DIAG: "Slave_Diag", SET_PRM: "Set_Prm", CHK_CFG: "Chk_Cfg"}
 
 
 @dataclass(frozen=True)
@@ -77,7 +79,7 @@ def rack_of(slaves: Sequence[Slave]) -> str:
 
 
 class Failed(Exception):
-    """The master under test does not what the scenario asks for."""
+    """The master under test does not do what the scenario asks for."""
 
 
 class Bus:
@@ -184,18 +186,23 @@ class Bus:
     def request(self, slave: int, point: Optional[int], rule: str, count: int = 1) -> None:
         """Waits for requests of the master to an access point, decided by a rule of docs/POLICY.md, from now on."""
         first = self.place()
-        name = "Data_Exchange" if point is None else f"point {point}"
-        self.wait(f"{count} of {name} of slave {slave} with {rule}",
+        self.wait(f"{count} {SERVICES.get(point, f'of point {point}')} to slave {slave} with rule {rule}",
                   lambda: sum(request.point == point and request.rules.get(slave) == rule
                               for request in self.requests(None, first)) >= count, lambda: self._shown(slave))
 
-    def given_up(self, slave: int) -> None:
-        """Waits until the master has given up a slave that is off: a request to it that is lost has FCV 0."""
-        def has() -> bool:
-            begin = f"master {self.address} request {slave}: lost "
-            return any(is_first(bytes.fromhex(row.split(" ")[5])) for row in self.cable.log() if row.startswith(begin))
+    def off(self, slave: int) -> None:
+        """Takes a slave off the bus until `cable.on`, and waits until the master has given it up.
 
-        self.wait(f"a request to slave {slave} with FCV 0 while it is lost", has)
+        It has if a request that is lost has FCV 0: the first one of another beginning.
+        """
+        begin, before = f"master {self.address} request {slave}: lost ", len(self.cable.log())
+        self.cable.off(slave)
+
+        def has() -> bool:
+            lost = (row for row in self.cable.log()[before:] if row.startswith(begin))
+            return any(is_first(bytes.fromhex(row.split(" ")[5])) for row in lost)
+
+        self.wait(f"a request to slave {slave} with FCV 0 while it is off", has)
 
     def met(self) -> None:
         """Waits until the replies have come that the cable was told to lose, spoil, cut or delay."""

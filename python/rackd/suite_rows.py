@@ -40,11 +40,6 @@ class Request:
         """The data behind the access points."""
         return self.frame.data
 
-    @property
-    def fcv(self) -> bool:
-        """Whether FCV is set."""
-        return bool(self.frame.fc & 0x10)
-
     @functools.cached_property
     def rules(self) -> Dict[int, str]:
         """The rule of docs/POLICY.md that decided, by slave: of a Global_Control to all for each slave it reached."""

@@ -12,7 +12,7 @@ from pathlib import Path
 from typing import Callable, List, Optional, Sequence
 
 from .cable import Cable, RunningCable
-from .faults import NotLegal, RackError, RackFault
+from .faults import RackError, RackFault
 from .rack import Rack
 from .suite import ADDRESS, Bus, Failed, Slave, rack_of
 from .suite_judge import reasons
@@ -134,10 +134,13 @@ def run_all(scenarios: Sequence[Scenario], command: Sequence[str], seconds: floa
 
 
 def seconds_of(word: str) -> float:
-    """Returns the number of --timeout. Raises ValueError for another than 1 to 3600."""
-    seconds = float(word)
+    """Returns the number of --timeout. Raises ArgumentTypeError for another than 1 to 3600."""
+    try:
+        seconds = float(word)
+    except ValueError:
+        seconds = 0
     if not 1 <= seconds <= 3600:
-        raise ValueError(word)
+        raise argparse.ArgumentTypeError("SECONDS is no number from 1 to 3600")
     return seconds
 
 
@@ -173,6 +176,6 @@ def main(words: Sequence[str]) -> int:
             print(*(f"{scenario.name:{width}}  {scenario.title}" for scenario in scenarios), sep="\n")
             return 0
         return run_all(scenarios, command, options.timeout, options.keep)
-    except (CannotRun, RackFault, NotLegal, OSError) as error:
+    except (CannotRun, RackError, OSError) as error:
         print(f"rackd suite: {error}", file=sys.stderr)
         return 2

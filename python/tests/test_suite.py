@@ -99,8 +99,10 @@ class Suite(InAFolder):
 class Words(Suite):
     def test_wrong_words(self) -> None:
         for words, cause in (([], "COMMAND is missing"), (["--list", "true"], "--list takes no COMMAND"),
-                             (["--timeout", "0", "true"], "--timeout"), (["--timeout", "x", "true"], "--timeout"),
-                             (["--timeout", "nan", "true"], "--timeout"), (["--seconds", "3", "true"], "--seconds"),
+                             (["--timeout", "0", "true"], "--timeout: SECONDS is no number"),
+                             (["--timeout", "x", "true"], "--timeout: SECONDS"),
+                             (["--timeout", "nan", "true"], "--timeout: SECONDS"),
+                             (["--seconds", "3", "true"], "--seconds"),
                              (["--only", "bring-down", "true"], "no scenario bring-down in "),
                              (["--folder", "nowhere", "true"], "no scenarios in nowhere"),
                              (["./no-master"], r"cannot start \./no-master: No such file")):
@@ -239,19 +241,21 @@ class Runs(Suite):
                               ("    assert 1 == 2, 'one is two'\n", "line 5: AssertionError: one is two"),
                               ("    assert 1 == 2\n", "line 5: AssertionError: assert 1 == 2"),
                               ("    bus.exchanges(5)\n    bus.master().set_prm(5, 1)\n",
-                               "line 6: RS: slave 5 refuses master 2: .+"),
-                              ("    bus.outputs(5, '0102')\n",
-                               "not seen in 3 s: slave 5 in data exchange with master 1, with outputs 0102; it is in "
-                               "DataExch, held by master 1, with outputs 0000"),
-                              ("    bus.request(5, None, 'Busy')\n",
-                               "not seen in 3 s: 1 of Data_Exchange of slave 5 with Busy; it is in DataExch, .+"),
-                              ("    bus.cable.lose(6)\n    bus.met()\n",
-                               "not seen in 3 s: a reply for each fault of the cable")):
+                               "line 6: RS: slave 5 refuses master 2: .+")):
             with self.subTest(reason):
                 self.scenario("one", HEAD + "def run(bus):\n    bus.start()\n" + steps)
+                self.assert_failed(self.own(*master), reason)
+
+    def test_what_is_not_seen(self) -> None:
+        now = r"; it is in \w+, held by (?:nobody|master 1), with outputs 0000"
+        for step, what in (("bus.outputs(5, '0102')", "slave 5 in data exchange with master 1, with outputs 0102" + now),
+                           ("bus.request(5, None, 'Busy')", "1 Data_Exchange to slave 5 with rule Busy" + now),
+                           ("bus.cable.lose(6)\n    bus.met()", "a reply for each fault of the cable")):
+            with self.subTest(step):
+                self.scenario("one", HEAD + f"def run(bus):\n    bus.start()\n    {step}\n")
                 begun = time.monotonic()
-                self.assert_failed(self.own("--timeout", "3", *master), reason)
-                self.assertLess(time.monotonic() - begun, 3 + PATIENCE / 2)
+                self.assert_failed(self.own("--timeout", "3", *self.master(MASTER + GOES_ON)), "not seen in 3 s: " + what)
+                self.assertLess(time.monotonic() - begun, 3 + PATIENCE)
 
     def test_master_that_ends(self) -> None:
         self.scenario("one", HEAD + "def run(bus):\n    bus.start()\n    bus.exchanges(5)\n")
