@@ -15,9 +15,9 @@ from pathlib import Path
 
 TOP = Path(__file__).resolve().parents[1]
 CLEAN, WRONG, SCENARIOS = TOP / "examples/suite-master.py", TOP / "tests/suite_masters.py", TOP / "examples/suite"
-LANES = 5
+LANES = 6
 # Seconds that a scenario may take. A wrong master that does not do what must be seen takes them all.
-SECONDS = 15
+SECONDS = 20
 
 
 def broken(slave, rule):

@@ -248,13 +248,15 @@ class Runs(Suite):
 
     def test_what_is_not_seen(self) -> None:
         now = r"; it is in \w+, held by (?:nobody|master 1), with outputs 0000"
-        for step, what in (("bus.outputs(5, '0102')", "slave 5 in data exchange with master 1, with outputs 0102" + now),
+        outputs = "slave 5 in data exchange with master 1, with outputs 0102"
+        for step, what in (("bus.outputs(5, '0102')", outputs + now),
                            ("bus.request(5, None, 'Busy')", "1 Data_Exchange to slave 5 with rule Busy" + now),
                            ("bus.cable.lose(6)\n    bus.met()", "a reply for each fault of the cable")):
             with self.subTest(step):
                 self.scenario("one", HEAD + f"def run(bus):\n    bus.start()\n    {step}\n")
                 begun = time.monotonic()
-                self.assert_failed(self.own("--timeout", "3", *self.master(MASTER + GOES_ON)), "not seen in 3 s: " + what)
+                done = self.own("--timeout", "3", *self.master(MASTER + GOES_ON))
+                self.assert_failed(done, "not seen in 3 s: " + what)
                 self.assertLess(time.monotonic() - begun, 3 + PATIENCE)
 
     def test_master_that_ends(self) -> None:
