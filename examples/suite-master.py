@@ -15,7 +15,7 @@ sys.path.append(str(Path(__file__).resolve().parents[1] / "python"))
 from rackd import RR, Master, NoReply, SlaveRefused  # noqa: E402
 
 # Seconds between two cycles, and for a reply.
-CYCLE_TIME, REPLY_TIME = 0.005, 0.5
+CYCLE_TIME, REPLY_TIME = 0.005, 1.0
 
 
 class Slave:

@@ -16,8 +16,8 @@ from pathlib import Path
 TOP = Path(__file__).resolve().parents[1]
 CLEAN, WRONG, SCENARIOS = TOP / "examples/suite-master.py", TOP / "tests/suite_masters.py", TOP / "examples/suite"
 LANES = 6
-# Seconds that a scenario may take. A wrong master that does not do what must be seen takes them all.
-SECONDS = 20
+# Seconds that a scenario may take, also on a busy machine. A master that does not what must be seen takes them all.
+SECONDS = 25
 
 
 def broken(slave, rule):
@@ -40,7 +40,9 @@ FAILURES = {
     "NoFirstDiagnosis": ("bring-up", [broken(5, "prm-before-diag")]),
     "NoSecondDiagnosis": ("bring-up", [broken(5, "exchange-without-diag")]),
     "ShortTsdr": ("bring-up", [broken(5, "min-tsdr")]),
-    "FcbOnce": ("bring-up", [broken(6, "fcb-not-alternated")]),
+    # the replies are those of before
+    "FcbStands": ("bring-up", [unseen("slave 7 in data exchange with master 1, with outputs 55aa; it is in DataExch, "
+                                      "held by master 1, with outputs 0000")]),
     "Deaf": ("bring-up", [unseen("slave 5 in data exchange with master 1, with outputs aa55; it is in DataExch, "
                                  "held by master 1, with outputs 0000")]),
     "Ends": ("bring-up", [r"the master ended with status 1 \(out of cycles\), before this was seen: 10 exchanges with "
@@ -70,7 +72,7 @@ FAILURES = {
                                                broken(5, "length-repeated")]),
     "ChangesFcbOfARetry": ("reply-lost", ["the request to slave 5 was not sent again with the same FCB after its reply "
                                           "was lost"]),
-    "KeepsFcb": ("slave-lost-for-300-ms", [no_exchanges(5, "DataExch", "master 1", "0000"),
+    "KeepsFcb": ("slave-lost-for-300-ms", [unseen(r"10 exchanges with slave \d; .+"),
                                            broken(5, "fcb-repeated")]),
     "TakesAnyReply": ("late-reply", [r"outputs (?:aa55 at place \d+, slave 6 has 0000 or 1234|"
                                      r"1234 at place \d+, slave 5 has 0000 or aa55)"]),
@@ -88,7 +90,7 @@ def suite(program, folder, *words):
 
 def clean(program, folder, name):
     """Returns what is wrong: the clean master has to pass a scenario."""
-    done = suite(program, folder, "--only", name, CLEAN)
+    done = suite(program, folder, "--only", name, "--timeout", 4 * SECONDS, CLEAN)
     wanted = (0, f"passed  {name}\n1 passed, 0 failed\n", "")
     return [] if (done.returncode, done.stdout, done.stderr) == wanted else [done.stdout + done.stderr]
 

@@ -50,15 +50,15 @@ class ShortTsdr(clean.Controller):
         self.session.set_prm(slave.address, slave.ident, watchdog_ms=slave.watchdog_ms, user=slave.user, min_tsdr=5)
 
 
-class FcbOnce(Master):
-    """Does not change the FCB of the fifth exchange of a slave whose outputs do not change."""
+class FcbStands(Master):
+    """Does not change the FCB from the fifth exchange with slave 7 on."""
 
     exchanges = 0
 
     def data_exchange(self, slave, outputs=b""):
-        if slave == 6:
+        if slave == 7:
             self.exchanges += 1
-            if self.exchanges == 5:
+            if self.exchanges >= 5:
                 self._fcb[slave] = not self._fcb[slave]
         return super().data_exchange(slave, outputs)
 
@@ -292,14 +292,17 @@ class ChangesFcbOfARetry(Master):
 
 
 class KeepsFcb(Master):
-    """Does not begin with FCV 0 after a slave was lost, but with the FCB of the last reply. It notices early."""
+    """Does not begin with FCV 0 after a slave was lost, but with the FCB of the last reply.
+
+    It notices a loss early, but has patience at the beginning.
+    """
 
     def __init__(self, *words):
         super().__init__(*words)
-        self.answered = {}
+        self.answered, self.replies = {}, 0
 
     def _ask(self, slave, telegram, answers):
-        self.retries, self.timeout = 0, 0.05
+        self.retries, self.timeout = 0, 0.05 if self.replies > 20 else 10
         fcb = self._fcb[slave]
         try:
             reply = super()._ask(slave, telegram, answers)
@@ -307,6 +310,7 @@ class KeepsFcb(Master):
             self._fcb[slave] = not self.answered.get(slave, True)
             raise
         self.answered[slave] = fcb
+        self.replies += 1
         return reply
 
 
@@ -318,7 +322,7 @@ class TakesAnyReply(Master):
 
 
 MASTERS = {kind.__name__: kind for kind in (
-    NoFirstDiagnosis, NoSecondDiagnosis, ShortTsdr, FcbOnce, Deaf, Ends, Noise, Stays, ExchangesForEver,
+    NoFirstDiagnosis, NoSecondDiagnosis, ShortTsdr, FcbStands, Deaf, Ends, Noise, Stays, ExchangesForEver,
     NeverReadsDiagnosis, TakesBusyForDone, GivesUpBusy, GivesUp, StopsForOne, TakesWhatIsHeld, BelievesAnyIdent,
     GivesUpWrongIdent, NoSync, SyncOnce, OtherGroup, BothBits, OutputsInClear, NoClear, FirstConfiguration, LongOutputs,
     ChangesFcbOfARetry, KeepsFcb, TakesAnyReply)}

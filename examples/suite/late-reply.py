@@ -3,9 +3,7 @@ from rackd.suite import Bus, Slave
 
 SLAVES = [Slave(5, mirror=True), Slave(6, mirror=True)]
 # longer than masters wait for a reply
-LATE_MS = 1200
-# the judge takes a reply that is late for one that the master got
-ALLOWED = ["fcb-not-alternated"]
+LATE_MS = 2500
 
 
 def run(bus: Bus) -> None:

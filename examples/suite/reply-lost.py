@@ -2,8 +2,6 @@
 from rackd.suite import Bus, Slave
 
 SLAVES = [Slave(5, outputs="1234"), Slave(6, outputs="5678")]
-# the judge takes a reply that was lost on the way for one that the master got
-ALLOWED = ["fcb-not-alternated"]
 
 
 def run(bus: Bus) -> None:

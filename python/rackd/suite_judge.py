@@ -9,6 +9,10 @@ from .faults import RackFault
 from .program import run
 from .rack import Line, Rack
 
+# The error that never counts without being named: the judge takes each reply for one that the master got in time, but
+# one that was lost, or that a busy machine has made late, has to be asked for again.
+RETRY = "fcb-not-alternated"
+
 
 @dataclass
 class Finding:
@@ -55,16 +59,16 @@ def dropped(rack: Rack, master: int) -> List[str]:
     return [f"octets that are no telegram: {rows[0]}"] if rows else []
 
 
-def reasons(rack: Rack, master: int, allowed: Sequence[str], warnings: Sequence[str]) -> List[str]:
+def reasons(rack: Rack, master: int, allowed: Sequence[str], counted: Sequence[str]) -> List[str]:
     """Returns what a master did wrong on the lines of a rack that was closed.
 
-    A rule counts if its severity is error and it is none of `allowed`, or if it is one of `warnings`.
+    A rule counts if it is one of `counted`, or if its severity is error and it is neither RETRY nor one of `allowed`.
     """
     texts = []
     for line in rack.lines:
-        if allowed or warnings:
+        if allowed or counted:
             # a rule that there is not is wrong words of the judge
-            judged(rack, line, master, [*allowed, *warnings])
+            judged(rack, line, master, [*allowed, *counted])
         texts += [found.reason() for found in judged(rack, line, master)
-                  if found.rule in warnings or found.severity == "error" and found.rule not in allowed]
+                  if found.rule in counted or found.severity == "error" and found.rule not in (RETRY, *allowed)]
     return texts + dropped(rack, master)

@@ -22,7 +22,7 @@ from .suite_plug import Plug
 # The scenarios of the checkout, if this package lies in one.
 SCENARIOS = Path(__file__).resolve().parents[2] / "examples" / "suite"
 # Seconds that a scenario may take.
-TIMEOUT = 30.0
+TIMEOUT = 60.0
 
 
 @dataclass(frozen=True)
@@ -35,7 +35,7 @@ class Scenario:
     rack: str
     clear: int
     allowed: List[str]
-    warnings: List[str]
+    counted: List[str]
     run: Callable[[Bus], None]
 
     @property
@@ -56,7 +56,7 @@ def read_scenario(path: Path) -> Scenario:
         slaves = list(module.SLAVES)
         return Scenario(path, (module.__doc__ or "").strip().split("\n")[0], slaves,
                         getattr(module, "RACK", None) or rack_of(slaves), getattr(module, "CLEAR", 0),
-                        list(getattr(module, "ALLOWED", [])), list(getattr(module, "WARNINGS", [])), module.run)
+                        list(getattr(module, "ALLOWED", [])), list(getattr(module, "COUNTED", [])), module.run)
     except Exception as error:
         raise CannotRun(f"{path.name} is no scenario: {text_of(error, path)}") from None
 
@@ -101,7 +101,7 @@ def failure_of(scenario: Scenario, command: Sequence[str], seconds: float, folde
             program.stop()
             if plug:
                 plug.close()
-    return failed + reasons(rack, ADDRESS, scenario.allowed, scenario.warnings)
+    return failed + reasons(rack, ADDRESS, scenario.allowed, scenario.counted)
 
 
 def seen(scenario: Scenario, bus: Bus) -> List[str]:

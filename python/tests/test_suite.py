@@ -166,12 +166,16 @@ class Files(Suite):
         master = self.master(MASTER + "master.slave_diag(5)\nfor min_tsdr in (5, 6):\n"
                              "    master.set_prm(5, slave['ident'], min_tsdr=min_tsdr)\n"
                              "try:\n    master.srd(5, b'', 3)\nexcept rackd.RS:\n    pass\n"
-                             "master.chk_cfg(5, cfg)\nmaster.slave_diag(5)\nwhile True:\n"
+                             "master.chk_cfg(5, cfg)\nmaster.slave_diag(5)\n"
+                             "master._fcb[5] = not master._fcb[5]\nmaster.slave_diag(5)\nwhile True:\n"
                              "    master.data_exchange(5, bytes(2))\n    time.sleep(0.005)\n")
+        # the last Slave_Diag is sent twice with the same FCB
+        retry = r"place 8 slave 5 fcb-not-alternated: .+"
         tsdr, point = r"place 3 slave 5 min-tsdr \(2 times\): .+", r"place 5 slave 5 unknown-point: .+"
         for more, reasons in (("", [tsdr]), ("ALLOWED = ['min-tsdr']\n", []),
-                              ("WARNINGS = ['unknown-point']\n", [tsdr, point]),
-                              ("ALLOWED = ['min-tsdr']\nWARNINGS = ['unknown-point']\n", [point])):
+                              ("COUNTED = ['unknown-point']\n", [tsdr, point]),
+                              ("COUNTED = ['fcb-not-alternated']\n", [tsdr, retry]),
+                              ("ALLOWED = ['min-tsdr']\nCOUNTED = ['unknown-point']\n", [point])):
             with self.subTest(more):
                 # what another master does wrong does not count
                 self.scenario("one", HEAD + more + "def run(bus):\n    bus.master().set_prm(5, 1, unlock=True)\n"
