@@ -14,4 +14,5 @@ client=$top/tests/python_client.py
 limit=300
 
 try_beside by_pytest pytest
-try_all package frames master cable operator journal port start end.Closed end.Killed end.Many
+try_all package frames master cable operator journal port start end.Closed end.Killed end.Many \
+  suite.Words suite.Files suite.Runs suite_parts
