@@ -11,13 +11,17 @@ import os
 import re
 import subprocess
 import sys
+import time
 from pathlib import Path
 
 TOP = Path(__file__).resolve().parents[1]
 CLEAN, WRONG, SCENARIOS = TOP / "examples/suite-master.py", TOP / "tests/suite_masters.py", TOP / "examples/suite"
 LANES = 6
-# Seconds that a scenario may take, also on a busy machine. A master that does not what must be seen takes them all.
-SECONDS = 25
+# Seconds that the clean master may take for a scenario, also on a busy machine.
+PATIENCE = 120
+# Seconds that a wrong master may take, at the least: one that does not do what must be seen takes them all. It gets this
+# many times the seconds that the clean one takes for its quickest scenario, if that is more.
+SECONDS, TIMES = 15, 4
 
 
 def broken(slave, rule):
@@ -27,7 +31,7 @@ def broken(slave, rule):
 
 def unseen(what):
     """The reason if something was not seen."""
-    return rf"not seen in {SECONDS} s: {what}"
+    return rf"not seen in \d+ s: {what}"
 
 
 def no_exchanges(slave, state, holder, outputs):
@@ -90,15 +94,15 @@ def suite(program, folder, *words):
 
 def clean(program, folder, name):
     """Returns what is wrong: the clean master has to pass a scenario."""
-    done = suite(program, folder, "--only", name, "--timeout", 4 * SECONDS, CLEAN)
+    done = suite(program, folder, "--only", name, "--timeout", PATIENCE, CLEAN)
     wanted = (0, f"passed  {name}\n1 passed, 0 failed\n", "")
     return [] if (done.returncode, done.stdout, done.stderr) == wanted else [done.stdout + done.stderr]
 
 
-def wrong(program, folder, name):
+def wrong(program, folder, name, seconds=SECONDS):
     """Returns what is wrong: a wrong master has to fail its scenario for its reasons and no other."""
     scenario, patterns = FAILURES[name]
-    done = suite(program, folder, "--only", scenario, "--timeout", SECONDS, WRONG, name)
+    done = suite(program, folder, "--only", scenario, "--timeout", seconds, WRONG, name)
     begin = f"failed  {scenario}  "
     rows = done.stdout.splitlines()
     reasons = [row[len(begin):] for row in rows[:-1]]
@@ -115,20 +119,27 @@ def covered():
     return lacking + [f"nobody fails {name}" for name in sorted(set(NAMES) - {name for name, _ in FAILURES.values()})]
 
 
+def lane(program, folder, number):
+    """Returns how many cases a lane has, and what is wrong."""
+    failures, quickest = [], PATIENCE
+    for name in NAMES[number::LANES]:
+        begun = time.monotonic()
+        failures += clean(program, folder, name)
+        quickest = min(quickest, time.monotonic() - begun)
+    wrong_ones = list(FAILURES)[number::LANES]
+    for name in wrong_ones:
+        failures += wrong(program, folder, name, max(SECONDS, round(TIMES * quickest)))
+    return len(NAMES[number::LANES]) + len(wrong_ones), failures
+
+
 def main(words):
     """Runs a case."""
-    lanes = [f"lane_{number}" for number in range(1, LANES + 1)]
+    lanes = [f"lane_{number}" for number in range(LANES)]
     if words == ["lanes"]:
         print(*lanes, sep="\n")
         return 0
     case, program, folder = words
-    if case == "covered":
-        failures, count = covered(), len(FAILURES)
-    else:
-        cases = [(clean, name) for name in NAMES] + [(wrong, name) for name in FAILURES]
-        cases = cases[lanes.index(case)::LANES]
-        failures = [failure for kind, name in cases for failure in kind(program, folder, name)]
-        count = len(cases)
+    count, failures = (len(FAILURES), covered()) if case == "covered" else lane(program, folder, lanes.index(case))
     print("\n".join(failures) if failures else f"{count} cases")
     return 1 if failures else 0
 
