@@ -19,7 +19,7 @@ CLEAN, WRONG, SCENARIOS = TOP / "examples/suite-master.py", TOP / "tests/suite_m
 LANES = 6
 # Seconds that the clean master may take for a scenario, also on a busy machine.
 PATIENCE = 120
-# Seconds that a wrong master may take, at the least: one that does not do what must be seen takes them all. It gets this
+# Seconds that a wrong master may take, at the least: one that does not do what must be seen takes them all. It gets so
 # many times the seconds that the clean one takes for its quickest scenario, if that is more.
 SECONDS, TIMES = 15, 4
 
