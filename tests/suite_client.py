@@ -44,9 +44,7 @@ FAILURES = {
     "NoFirstDiagnosis": ("bring-up", [broken(5, "prm-before-diag")]),
     "NoSecondDiagnosis": ("bring-up", [broken(5, "exchange-without-diag")]),
     "ShortTsdr": ("bring-up", [broken(5, "min-tsdr")]),
-    # the replies are those of before
-    "FcbStands": ("bring-up", [unseen("slave 7 in data exchange with master 1, with outputs 55aa; it is in DataExch, "
-                                      "held by master 1, with outputs 0000")]),
+    "FcbStands": ("bring-up", [no_exchanges(5, "DataExch", "master 1", "0000"), broken(5, "fcb-repeated")]),
     "Deaf": ("bring-up", [unseen("slave 5 in data exchange with master 1, with outputs aa55; it is in DataExch, "
                                  "held by master 1, with outputs 0000")]),
     "Ends": ("bring-up", [r"the master ended with status 1 \(out of cycles\), before this was seen: 10 exchanges with "

@@ -51,15 +51,11 @@ class ShortTsdr(clean.Controller):
 
 
 class FcbStands(Master):
-    """Does not change the FCB from the fifth exchange with slave 7 on."""
-
-    exchanges = 0
+    """Sends each Data_Exchange to slave 5 with the FCB of the request before."""
 
     def data_exchange(self, slave, outputs=b""):
-        if slave == 7:
-            self.exchanges += 1
-            if self.exchanges >= 5:
-                self._fcb[slave] = not self._fcb[slave]
+        if slave == 5:
+            self._fcb[slave] = not self._fcb[slave]
         return super().data_exchange(slave, outputs)
 
 
