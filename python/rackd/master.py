@@ -242,7 +242,8 @@ class Master:
     def _answers(self, frame: Frame, slave: int, dsap: Optional[int], ssap: Optional[int]) -> bool:
         """Whether a frame can be the reply to an SRD, and is not a late reply to an earlier one."""
         if frame.start == frames.SC:
-            return True
+            # a diagnosis has six octets at the least: this acknowledges an earlier request, late
+            return dsap != SLAVE_DIAG
         is_of_slave = frame.source == slave and frame.destination == self.address
         return is_of_slave and (frame.start == frames.SD1 or (frame.ssap, frame.dsap) == (dsap, ssap))
 

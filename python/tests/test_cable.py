@@ -78,6 +78,16 @@ class Faults(BehindACable):
         self.assertGreaterEqual(time.monotonic() - begun, 0.6)
         self.assertRegex(master.cable.log()[0], r"^master 1 reply 5: late 600 68([0-9a-f]+) -> 68\1$")
 
+    def test_late_acknowledgement_is_not_taken_for_a_diagnosis(self) -> None:
+        master = self.master()
+        master.retries, master.timeout = 0, SILENCE
+        master.cable.late(5, 1, 600)
+        with self.assertRaises(NoReply):
+            master.set_prm(5, IDENT)
+        master.timeout = PATIENCE
+        self.assertEqual(master.slave_diag(5).holder, 1)
+        self.assertRegex(master.cable.log()[0], r"^master 1 reply 5: late 600 e5 -> e5$")
+
     def test_spoilt_and_cut_replies(self) -> None:
         master = self.master()
         for fault in master.cable.spoil, master.cable.cut:
