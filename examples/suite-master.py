@@ -83,7 +83,8 @@ class Controller:
         """Exchanges data with a slave, and reads its diagnosis if one is due."""
         inputs = self.session.data_exchange(slave.address, self.outputs(slave))
         slave.exchanges += 1
-        if slave.mirror:
+        # E5 names no slave: one that comes late is a reply without inputs
+        if slave.mirror and len(inputs) == len(slave.outputs):
             slave.outputs = inputs
         if slave.address in self.session.diagnosis_due:
             slave.ready = self.is_ready(self.session.slave_diag(slave.address))
