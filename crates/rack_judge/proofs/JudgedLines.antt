@@ -16,17 +16,14 @@ use Rattle.dp_audit.specs.declared.fault.AuditFault.{AuditFault}
 use Rattle.dp_audit.specs.Check.{Judged, bad, not_the_policy, right, checked, is_accepted_header, judged_line, places_of_header}
 use Rattle.dp_audit.specs.Checking.{TakesRow}
 use Rattle.dp_audit.proofs.Written.{appends_more, front_prefix, more_prefix}
-use Rattle.dp_explain.specs.declared.explain_fault.ExplainFault.{ExplainFault}
 use Rattle.dp_explain.specs.declared.read_fault.ReadFault.{ReadFault}
 use Rattle.dp_explain.specs.declared.read_fault.ReadFault.TheVariants as faults
 use Rattle.dp_explain.specs.declared.rows_fault.RowsFault.TheVariants as rows
-use Rattle.dp_explain.specs.Explained.{Leaves}
-use Rattle.dp_explain.specs.Followed.{entry_rows, whole_rows}
+use Rattle.dp_explain.specs.Followed.{whole_rows}
 use Rattle.dp_explain.specs.Known.{first_world}
 use Rattle.dp_explain.specs.TextRows.{TextRead, lf_if, octets_read}
 use Rattle.dp_explain.proofs.ReadLines.{AreRows, last_lines, line_alone, lines_more, rows_before_last, with_row}
 use Rattle.dp_explain.proofs.ReadRows.{behind_header, first_is}
-use Rattle.dp_judge.specs.declared.entry.Entry.{Entry}
 use Rattle.dp_judge.specs.Reading.{entry_read}
 use Rattle.dp_findings.specs.Lines.{LineJudgeView, first_line_judge}
 use Rattle.rack_judge.specs.declared.choice.JudgeChoice.{JudgeChoice}

@@ -13,7 +13,7 @@ use Rattle.dp_explain.proofs.ReadLines.{has_first, lines_more, whole_rows_more}
 use Rattle.dp_explain.proofs.RightRows.{checked_on, fails}
 use Rattle.dp_explain.proofs.WrongRow.{decides_at_wrong_row}
 use Rattle.rack_judge.specs.declared.choice.JudgeChoice.{JudgeChoice}
-use Rattle.rack_judge.specs.Judging.{JudgedRows, after_checked, after_event, after_row, judged, judged_by, judged_rows, no_rows}
+use Rattle.rack_judge.specs.Judging.{JudgedRows, after_checked, after_event, after_row, judged_by, judged_rows, no_rows}
 use Rattle.rack_judge.specs.Laws.{IsJudgedToItsFirstWrongRow}
 use Rattle.rack_judge.proofs.JudgedLines.{lines_judged, rows_behind}
 
@@ -86,10 +86,10 @@ same_rows choice line front behind fault e =
     let second = has_first behind in
     let alone : lines_of (front ++ 10 ∷ []) ≡ first.first ∷ (first.others ++ [] ∷ []) = lines_more front [] ∙ ap (λ (ls : List (List ℕ)). ls ++ [] ∷ []) first.is in
     let more : lines_of ((front ++ 10 ∷ []) ++ behind) ≡ first.first ∷ (first.others ++ second.first ∷ second.others) =
-        ap lines_of (append_assoc front (10 ∷ []) behind)
-        ∙ lines_more front behind
-        ∙ ap (λ (ls : List (List ℕ)). ls ++ lines_of behind) first.is
-        ∙ ap (λ (ls : List (List ℕ)). first.first ∷ (first.others ++ ls)) second.is in
+    ap lines_of (append_assoc front (10 ∷ []) behind)
+    ∙ lines_more front behind
+    ∙ ap (λ (ls : List (List ℕ)). ls ++ lines_of behind) first.is
+    ∙ ap (λ (ls : List (List ℕ)). first.first ∷ (first.others ++ ls)) second.is in
     ap (judged_rows choice line) more
     ∙ same_by choice line first.first first.others second.first second.others fault (is_accepted_header line first.first) refl
     (sym (ap (checked_from_header line) alone) ∙ sym (check_is line (front ++ 10 ∷ [])) ∙ e)

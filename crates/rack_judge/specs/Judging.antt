@@ -1,5 +1,5 @@
 -- Judging the masters of an audit text: what is written of it, and the exit status (own).
-use Rattle.std.specs.Prelude.{codes, ◌≡◌, ℕ, ◌+◌, if◌then◌else◌, Bool, true, false, List, [], ◌∷◌, ◌++◌, find, fold, Option, Some, None, option_map, Result, Err}
+use Rattle.std.specs.Prelude.{codes, ℕ, ◌+◌, if◌then◌else◌, Bool, true, false, List, [], ◌∷◌, ◌++◌, find, fold, Option, Some, None, option_map, Result, Err}
 use Rattle.std.specs.List.{flat_map, list_any}
 use Rattle.dp_line.specs.declared.event.Event.{Event}
 use Rattle.dp_line.specs.Steps.{step}

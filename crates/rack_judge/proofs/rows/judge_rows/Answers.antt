@@ -8,9 +8,10 @@ use Rattle.rack_judge.proofs.EndedText.{cut_judged, ends_judged, nothing_judged}
 use Rattle.rack_judge.proofs.rows.judge_rows.Goals as goal
 
 pub returns-in_default-clause-judged : goal.returns-in_default-clause-judged
-returns-in_default-clause-judged g c =
-    (nothing_judged (judged c.args.choice.now (description_of c.args.line.now) (octets_read c.args.rows.now.text)) (g.W.Write.contents c.args.writer.now),
-    λ text. c.in_default.ensures.cases.0 (subst IsUtf8 (sym c.row.ensures.row) text))
+returns-in_default-clause-judged g c = (
+  nothing_judged (judged c.args.choice.now (description_of c.args.line.now) (octets_read c.args.rows.now.text)) (g.W.Write.contents c.args.writer.now),
+  λ text. c.in_default.ensures.cases.0 (subst IsUtf8 (sym c.row.ensures.row) text),
+)
 
 pub returns-in_default-open_line-clause-judged : goal.returns-in_default-open_line-clause-judged
 returns-in_default-open_line-clause-judged g c =
