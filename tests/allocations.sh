@@ -114,7 +114,7 @@ sweep 'an explanation' 4 /dev/null explain "$work/rack" "$work/audit"
 sweep 'a judgement' 4 /dev/null judge "$work/rack" "$work/entry"
 sweep 'a capture' 4 /dev/null capture "$work/rack" "$work/entry"
 sweep 'a GSD file' 4 /dev/null gsd "$work/rack" 1 1
-sweep 'a slave of a GSD file' 4 /dev/null slave "$work/gsd" --module 'Configuration 1'
+sweep 'a slave of a GSD file' 4 /dev/null slave "$work/gsd" --module 'Configuration 0'
 
 # ports that a rack is served at; while the program runs each of them is connected to once
 knocked=()
@@ -197,7 +197,7 @@ else
   in_turn 'a judgement as JUnit XML' /dev/null judge "$work/rack" "$work/entry" --junit --rules fcb-first
   in_turn 'a capture' /dev/null capture "$work/rack" "$work/entry"
   in_turn 'a GSD file' /dev/null gsd "$work/rack" 1 1
-  in_turn 'a slave of a GSD file' /dev/null slave "$work/gsd" --module 'Configuration 1'
+  in_turn 'a slave of a GSD file' /dev/null slave "$work/gsd" --module 'Configuration 0'
   in_turn 'a text that is followed' /dev/null explain "$work/rack" "$work/other" --follow
   mapfile -t knocked < <("$top/tests/serve_client.py" ports 2)
   sed "s/^number = 1$/&\nlisten = ${knocked[0]}\noperator = ${knocked[1]}/" "$work/rack" >"$work/served"

@@ -48,7 +48,7 @@ each part of the GSD file that is left out. Modules are plugged in the order of 
 that is not modular needs none.
 
 Examples:
-  rackd slave slave.gsd --module 'Configuration 1' >> rack.toml",
+  rackd slave slave.gsd --module 'Configuration 0' >> rack.toml",
 };
 
 const LINE_HELP: &str = "Number of the line in the rack file: 0 to 255";
