@@ -2,3 +2,4 @@ pub mod Words
 pub mod Decimals
 pub mod Joins
 pub mod Modes
+pub mod ReadBack

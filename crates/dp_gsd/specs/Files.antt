@@ -1,5 +1,5 @@
 -- What a GSD file says as a whole (own).
-use Rattle.std.specs.Prelude.{◌≡◌, codes, ℕ, ◌+◌, ◌==◌, Bool, true, false, not, if◌then◌else◌, List, [], ◌∷◌, ◌++◌, Option, Some, None, Result, Ok, Err}
+use Rattle.std.specs.Prelude.{◌≡◌, ℕ, ◌+◌, ◌==◌, Bool, if◌then◌else◌, List, [], ◌∷◌, ◌++◌, Option, Some, None, Result, Ok, Err}
 use Rattle.std.specs.List.{slice_split}
 use Rattle.dp_gsd.specs.Steps.{◌>>=◌}
 use Rattle.dp_gsd.specs.Reading.{no_facts, after_line}

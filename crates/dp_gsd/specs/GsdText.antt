@@ -1,5 +1,5 @@
 -- The GSD file of a slave (GSD specification, revision 3; the defaults are own).
-use Rattle.std.specs.Prelude.{codes, ℕ, ◌+◌, ◌/◌, ◌%◌, ◌==◌, Bool, true, false, nat_le, nat_lt, max, if◌then◌else◌, List, [], ◌∷◌, ◌++◌, length, Option, Some, None, Result, Ok, Err}
+use Rattle.std.specs.Prelude.{codes, ℕ, ◌+◌, ◌/◌, ◌%◌, Bool, true, false, nat_lt, max, List, [], ◌∷◌, ◌++◌, length, Result, Ok, Err}
 use Rattle.std.specs.Fmt.{decimal, digit_glyph}
 use Rattle.arrayvec.specs.ArrayVec.{ArrayVec}
 use Rattle.dp_cfg.specs.Reading.{reading_of, input_octets, output_octets}

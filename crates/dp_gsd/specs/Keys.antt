@@ -1,5 +1,5 @@
 -- The keys of a GSD file, in any case (GSD specification, revision 3).
-use Rattle.std.specs.Prelude.{codes, ℕ, ◌+◌, ◌==◌, Bool, true, false, not, ◌&&◌, ◌||◌, nat_le, if◌then◌else◌, List, [], ◌∷◌, Option, Some, None}
+use Rattle.std.specs.Prelude.{codes, ℕ, ◌+◌, ◌==◌, Bool, true, false, ◌&&◌, ◌||◌, nat_le, if◌then◌else◌, List, [], ◌∷◌, Option, Some, None}
 use Rattle.dp_gsd.specs.declared.keys.Setting.{Setting}
 use Rattle.dp_gsd.specs.declared.keys.Setting.TheVariants as settings
 use Rattle.dp_gsd.specs.declared.keys.Group.{Group}

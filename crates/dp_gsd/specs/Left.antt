@@ -1,7 +1,7 @@
 -- Definitions for private functions. No public clause cites this module.
-use Rattle.std.specs.Prelude.{◌≡◌, ℕ, ◌+◌, ◌≤◌, List, [], ◌++◌, take, length, Option, Some, None, Result}
+use Rattle.std.specs.Prelude.{◌≡◌, ℕ, ◌+◌, ◌≤◌, List, [], ◌++◌, take, length, Option, Some, None}
 use Rattle.std.specs.Borrow.{Bor}
-use Rattle.dp_gsd.specs.Files.{Begun, File, read_from, lines_of, gsd_of}
+use Rattle.dp_gsd.specs.Files.{Begun, read_from, lines_of, gsd_of}
 
 -- the lines of the text that is left
 abbrev pub lines_left : Option (Bor (List ℕ)) → List (List ℕ)

@@ -1,12 +1,11 @@
 -- What a GSD file says, line by line (GSD specification, revision 3; own in detail).
-use Rattle.std.specs.Prelude.{codes, ℕ, ◌+◌, ◌==◌, Bool, true, false, not, ◌&&◌, ◌||◌, nat_le, if◌then◌else◌, List, [], ◌∷◌, ◌++◌, length, Option, Some, None, Result, Ok, Err}
-use Rattle.std.specs.Option.{option_to_list}
+use Rattle.std.specs.Prelude.{codes, ℕ, ◌==◌, Bool, true, false, if◌then◌else◌, List, [], length, Option, Some, None, Result, Ok, Err}
 use Rattle.dp_gsd.specs.Steps.{◌>>=◌}
 use Rattle.dp_gsd.specs.Rows.{code_of, goes_on, body_of, key_of, value_of}
 use Rattle.dp_gsd.specs.Values.{number_to, with_octets, name_in}
 use Rattle.dp_gsd.specs.Keys.{same_key, kind_of, most_of}
 use Rattle.dp_gsd.specs.declared.cause.Cause.{Cause}
-use Rattle.dp_gsd.specs.declared.cause.Cause.TheVariants.{NoHeading, NoKey, NoValue, OpenModule, NoModule, NoEndModule, NoIdent}
+use Rattle.dp_gsd.specs.declared.cause.Cause.TheVariants.{NoHeading, NoKey, NoValue, OpenModule, NoModule}
 use Rattle.dp_gsd.specs.declared.facts.Facts.{Facts}
 use Rattle.dp_gsd.specs.declared.facts.LeftOut.{LeftOut}
 use Rattle.dp_gsd.specs.declared.facts.Module.{Module}

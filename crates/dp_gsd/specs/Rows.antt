@@ -1,6 +1,5 @@
 -- What a line of a GSD file consists of: its code, its key and its value (GSD specification, revision 3; own in detail).
-use Rattle.std.specs.Prelude.{codes, ℕ, ◌+◌, ◌-◌, ◌==◌, Bool, true, false, not, ◌&&◌, ◌||◌, nat_le, nat_lt, if◌then◌else◌, List, [], ◌∷◌, length, take, drop, Option, Some, None, Result, Ok, Err, slice_index}
-use Rattle.dp_gsd.specs.Steps.{◌>>=◌}
+use Rattle.std.specs.Prelude.{ℕ, ◌+◌, ◌-◌, ◌==◌, Bool, false, not, ◌&&◌, ◌||◌, nat_lt, if◌then◌else◌, List, [], ◌∷◌, length, take, drop, Option, Some, None, Result, Ok, Err}
 use Rattle.dp_gsd.specs.declared.cause.Cause.{Cause}
 use Rattle.dp_gsd.specs.declared.cause.Cause.TheVariants.{LongLine, OpenText}
 

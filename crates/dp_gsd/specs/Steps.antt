@@ -1,5 +1,5 @@
 -- Steps that may fail, one after another (own).
-use Rattle.std.specs.Prelude.{Option, Some, None, Result, Ok, Err}
+use Rattle.std.specs.Prelude.{Result, Ok, Err}
 
 -- the second step, if the first one gave a value
 infixl 10 ◌>>=◌

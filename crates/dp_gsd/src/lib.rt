@@ -8,6 +8,7 @@ mod cause;
 mod facts;
 mod gsd;
 mod keys;
+pub mod laws;
 mod plugged;
 mod rows;
 mod sizes;
