@@ -93,7 +93,7 @@ fn slave_refused<'a>(
 }
 
 /// Reports a fault, and its reason in a second row. Returns the exit status.
-fn report_reason<R: Display>(errors: &impl Eprint, fault: Fault<'_>, reason: R) -> ExitCode {
+fn report_reason<R: Display + Drop>(errors: &impl Eprint, fault: Fault<'_>, reason: R) -> ExitCode {
     let code = report(errors, fault);
     let _ = eprintln!(errors; "  {}", Escaped(reason));
     code
