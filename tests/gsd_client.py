@@ -241,7 +241,7 @@ def missing_slaves(program, folder):
     """Lines and slaves that a rack does not have, and a rack that is not accepted."""
     rack = write(folder, "rack.toml", RACK)
     refused(program, "no line 6", "gsd", rack, "6", "9")
-    refused(program, "line 7 has no slave 8", "gsd", rack, "7", "8")
+    refused(program, "the line has no slave 8", "gsd", rack, "7", "8")
     refused(program, "BadKey", "gsd", write(folder, "bad.toml", RACK.replace("sync", "sink")), "7", "9")
     refused(program, "BadCfg", "gsd", write(folder, "cut.toml", RACK.replace("2111", "C1")), "7", "9")
 

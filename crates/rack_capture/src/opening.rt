@@ -73,11 +73,14 @@ pub(crate) fn interface_named(lines: &[RackLine], header: &[u8]) -> u32
     ensures number { result ≡ interface_among (map line_described lines.now) header.now }
     ensures bound { result ≤ length lines.now }
 {
-    let [line, others @ ..] = lines else {
-        return 0;
-    };
-    if is_header_of(header, &line.spec) {
-        return 0;
+    match lines {
+        [] => 0,
+        [line, others @ ..] => {
+            if is_header_of(header, &line.spec) {
+                0
+            } else {
+                interface_named(others, header) + 1
+            }
+        }
     }
-    interface_named(others, header) + 1
 }

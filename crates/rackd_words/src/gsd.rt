@@ -4,7 +4,7 @@ use crate::commands::{with_help, with_rack};
 use crate::file_command::DescribedSlave;
 use crate::help::Help;
 use clap::builder::ValueParser;
-use clap::{Arg, ArgMatches, Command};
+use clap::{Arg, ArgAction, ArgMatches, Command};
 use std::alloc::{AllocError, Global};
 
 /// The arguments and options of `gsd`.
@@ -101,6 +101,7 @@ fn modules<'a>(alloc: Global) -> Arg<'a> {
         .long(MODULE)
         .value_name("NAME")
         .num_args(1..)
+        .action(ArgAction::Append)
         .help(MODULE_HELP)
 }
 

@@ -2,7 +2,7 @@ use Rattle.std.proofs.Common.{refl, sym, subst, ◌∙◌, List, ℕ}
 use Rattle.dp_line.specs.World.{description_of}
 use Rattle.dp_explain.specs.TextRows.{octets_read}
 use Rattle.dp_explain.proofs.CheckedRows.{falls}
-use Rattle.dp_explain.proofs.ReadRows.{accepted_is, no_header, not_whole, nothing_since, part_behind, row_behind, row_since, whole_behind}
+use Rattle.dp_explain.proofs.ReadRows.{accepted_is, no_header, nothing_since, part_behind, row_behind, row_since, whole_behind}
 use Rattle.rack_capture.proofs.Deciding.{decided_at_end, decided_behind, decides_at_header, decides_at_wrong}
 use Rattle.rack_capture.proofs.Rows.{AreCaptured, cut_is, header_captured, refused_is, row_captured, taken_is}
 use Rattle.rack_capture.proofs.Texts.{counts, cut_text, ended_text, headless_text, part_text, unread_text, wrong_text, wrong_verdict}
