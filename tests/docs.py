@@ -5,7 +5,7 @@ usage: docs.py
 
 For each document a row: its first paragraph is one sentence; no line is over 120 characters, no cell of a table over
 160, no paragraph over five lines; each path is there; each name with an underscore is in some source, and each `name`
-of a `path` in that path; and it has no more lines than it may have. One row more: all together have at most 2,200 lines.
+of a `path` in that path; and it has no more lines than it may have. One row more: all together have at most 2,250 lines.
 The last line is 'N passed, M failed'.
 """
 import os
@@ -14,7 +14,7 @@ import subprocess
 import sys
 
 TOP = os.path.dirname(os.path.dirname(os.path.abspath(__file__)))
-LONGEST_LINE, LONGEST_CELL, LONGEST_PARAGRAPH, MOST_LINES = 120, 160, 5, 2200
+LONGEST_LINE, LONGEST_CELL, LONGEST_PARAGRAPH, MOST_LINES = 120, 160, 5, 2250
 # The most lines of a document.
 MOST = {"README.md": 110, "CONTRIBUTING.md": 80, "docs/DECISIONS.md": 60, "docs/SECURITY.md": 60, "docs/USING.md": 310}
 # Names that a user makes, or that are of another program.

@@ -1,0 +1,9 @@
+pub mod Lengths
+pub mod Plain
+pub mod RowsRead
+pub mod FirstRow
+pub mod FieldsRead
+pub mod SlaveRead
+pub mod SlavesRead
+pub mod HeadRead
+pub mod Sizes

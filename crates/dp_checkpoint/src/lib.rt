@@ -1,0 +1,28 @@
+//! The head of a part of an endless audit text: the world of the line at a place, as rows of text. It is
+//! written from a world and read back exactly, so that a part stands by itself (own).
+//!
+//! The definitions `head_text` and `head_read` of `specs/Head` say what a head is. [`laws`] has what holds of
+//! them: a head is read back from its text, nothing else is read, and a head has a bounded size.
+//!
+//! For each kind of row there is a call that sets a [`dp_text::Text`] to it, without its LF, as [`set_standing`],
+//! and one that reads it, as [`standing_in_row`]: it returns what the row says, if it is exactly the row that the
+//! first call would set. [`Rows`] has the rows of a text. None of them takes memory.
+#![tactic(auto)]
+
+mod field_words;
+pub mod laws;
+mod reading;
+mod rows;
+mod slave_parts;
+mod words;
+mod writing;
+
+pub use reading::{
+    data_in_row, diag_in_row, last_in_row, place_in_row, prm_in_row, running_in_row,
+    settings_in_row, standing_in_row,
+};
+pub use rows::Rows;
+pub use slave_parts::{BusyMarks, DataPair, Remembered, Running, Settings, Standing};
+pub use writing::{
+    set_data, set_diag, set_header, set_last, set_prm, set_running, set_settings, set_standing,
+};
