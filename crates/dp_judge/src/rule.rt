@@ -210,7 +210,8 @@ impl JudgeRule {
             JudgeRule::FcbNotAllowed => "FCB or FCV is set, and the function has neither",
             JudgeRule::RetryLimit => "one retry more than the limit allows, with no answer to any",
             JudgeRule::PrmBeforeDiag => "Set_Prm, though this slave never answered Slave_Diag",
-            JudgeRule::CfgBeforePrm => "Chk_Cfg, though no Set_Prm was acknowledged since the slave needed parameters",
+            JudgeRule::CfgBeforePrm =>
+                "Chk_Cfg, though no Set_Prm was acknowledged since the slave needed parameters",
             JudgeRule::ExchangeBeforeReady =>
                 "Data_Exchange, though the slave did not report that it is ready",
             JudgeRule::ExchangeWithoutDiag =>
