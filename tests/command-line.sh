@@ -355,6 +355,31 @@ printf "$rack%%%%\n" >"$work/both"
 run '' run "$work/both" "$work/script"; expect 'two percent signs in a rack file' 2 '' $'rackd: rack NotToml\n  row 11: invalid key, expected letters, numbers, `-`, `_` or a quoted key'
 printf '%%%%\n' >"$work/mark"
 run '' run "$work/rack" "$work/mark"; expect 'two percent signs in a script file' 2 '' $'rackd: script line 1\n  no such command; \'rackd run --help\' lists them'
+# at_terminal WORD..: runs the program with a terminal as standard output, whose text it takes
+at_terminal() {
+  python3 - "$program" "$@" <<'END' 2>"$work/err" >"$work/out"
+import os, pty, subprocess, sys
+here, there = pty.openpty()
+ended = subprocess.run(sys.argv[1:], stdin=subprocess.DEVNULL, stdout=there)
+os.close(there)
+try:
+    sys.stdout.write(os.read(here, 65536).decode())
+except OSError:
+    pass
+sys.exit(ended.returncode)
+END
+  status=$?
+}
+at_terminal capture "$work/rack" "$work/audit"; expect 'a capture at a terminal' 2 '' 'rackd: standard output is a terminal'
+at_terminal capture "$work/missing" "$work/missing"
+expect 'a capture at a terminal reads no file' 2 '' 'rackd: standard output is a terminal'
+at_terminal gsd "$work/rack" 9 5; expect 'a GSD file of a line that is not there' 2 '' 'rackd: the rack has no line 9'
+run '' gsd "$work/rack" 1 9; expect 'a GSD file of a slave that is not there' 2 '' 'rackd: the line has no slave 9'
+run '' gsd "$work/rack" 1 5 --model 'a "b"'
+expect 'a GSD file with a quote in a name' 2 '' $'rackd: a name for the GSD file is not accepted\n  model: a quote in a name'
+run '' slave "$work/empty"
+expect 'an empty GSD file' 2 '' "rackd: cannot use $work/empty"$'\n  row 1: #Profibus_DP is missing before this line'
+run '' slave "$work/missing"; expect 'a GSD file that is not there' 2 '' "rackd: cannot read $work/missing"$'\n  nothing is there'
 run '' check "$work/rack" "$work/audit"; expect 'a legal audit text' 0 'legal 1' ''
 run 'x' check "$work/rack" "$work/audit"; expect 'a check leaves standard input' 0 'legal 1' ''
 no_header='  row 1: no header; does the text begin with "ready"?'
