@@ -179,13 +179,13 @@ class Bus:
                 self.fail(f"outputs {request.data.hex() or '-'} at place {request.place}, "
                           f"slave {slave} has {' or '.join(outputs)}")
 
-    def diagnosed(self, slave: int) -> None:
-        """Waits until the master reads the diagnosis of a slave from now on."""
-        self.request(slave, SLAVE_DIAG, "Done")
+    def diagnosed(self, slave: int, first: Optional[int] = None) -> None:
+        """Waits until the master reads the diagnosis of a slave, from a place or from now on."""
+        self.request(slave, SLAVE_DIAG, "Done", first=first)
 
-    def request(self, slave: int, point: Optional[int], rule: str, count: int = 1) -> None:
-        """Waits for requests of the master to an access point, decided by a rule of docs/POLICY.md, from now on."""
-        first = self.place()
+    def request(self, slave: int, point: Optional[int], rule: str, count: int = 1, first: Optional[int] = None) -> None:
+        """Waits for requests to an access point, decided by a rule of docs/POLICY.md, from a place or from now on."""
+        first = self.place() if first is None else first
         self.wait(f"{count} {SERVICES.get(point, f'of point {point}')} to slave {slave} with rule {rule}",
                   lambda: sum(request.point == point and request.rules.get(slave) == rule
                               for request in self.requests(None, first)) >= count, lambda: self._shown(slave))
