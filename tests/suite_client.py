@@ -49,7 +49,7 @@ FAILURES = {
                                  "held by master 1, with outputs 0000")]),
     "Ends": ("bring-up", [r"the master ended with status 1 \(out of cycles\), before this was seen: 10 exchanges with "
                           "slave 5"]),
-    "Noise": ("bring-up", [r"octets that are no telegram: dropped 2 octets: NoStart \(00 01\)"]),
+    "Noise": ("bring-up", [r"octets that are no telegram: dropped 1 octet: NoStart \(00\)"]),
     "Stays": ("bring-up", ["the master did not end within 5 s after SIGTERM"]),
     "ExchangesForEver": ("watchdog-expiry", [no_exchanges(5, "WaitPrm", "nobody", "0000"),
                                              broken(5, "exchange-after-rs")]),

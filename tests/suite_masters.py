@@ -80,11 +80,11 @@ class Ends(clean.Controller):
 
 
 class Noise(clean.Controller):
-    """Sends octets that are no telegram."""
+    """Sends an octet that is no telegram."""
 
     def exchange(self, slave):
         if slave.exchanges == 3:
-            self.session._send(b"\x00\x01")
+            self.session._send(b"\x00")
         super().exchange(slave)
 
 
