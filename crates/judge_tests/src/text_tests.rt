@@ -74,33 +74,73 @@ fn both_telegrams(rt: HostRuntime) -> Result<(), Fail> {
     Ok(())
 }
 
-/// The summary of one finding, as a row, as a line of JSON, and as JUnit XML.
+/// The rule that the summaries are of.
+const RULES: [JudgeRule; 1] = [JudgeRule::PrmBeforeDiag];
+
+/// The summary of one finding, as a row.
 #[test]
-fn summary(rt: HostRuntime) -> Result<(), Fail> {
+fn summary_as_rows(rt: HostRuntime) -> Result<(), Fail> {
     let judge = judge_rows(rt.alloc(), ONE_FINDING)?;
     let seats = judge.seats();
-    let rules = &[JudgeRule::PrmBeforeDiag];
-    let rows = format!(in rt.alloc(); "{}", CountRows { seats, rules })?;
+    let rows = format!(in rt.alloc();
+        "{}",
+        CountRows {
+            seats,
+            rules: &RULES
+        }
+    )?;
     assert_eq!(rt;
         rows.as_str(),
         "  master 1 prm-before-diag error 1, first at place 1\n"
     );
-    let lines = format!(in rt.alloc(); "{}", CountLines { seats, rules })?;
+    Ok(())
+}
+
+/// The summary of one finding, as a line of JSON.
+#[test]
+fn summary_as_lines(rt: HostRuntime) -> Result<(), Fail> {
+    let judge = judge_rows(rt.alloc(), ONE_FINDING)?;
+    let seats = judge.seats();
+    let lines = format!(in rt.alloc();
+        "{}",
+        CountLines {
+            seats,
+            rules: &RULES
+        }
+    )?;
     assert_eq!(rt;
         lines.as_str(),
         "{\"summary\":{\"master\":1,\"rule\":\"prm-before-diag\",\"severity\":\"error\",\"standard\":\"IEC 61158-6-3, bring-up of a slave\",\"text\":\"Set_Prm, though this slave never answered Slave_Diag\",\"count\":1,\"first\":1}}\n"
     );
-    let junit = Junit {
-        seats,
-        rules,
-        verdict: JunitVerdict::Legal,
-    };
-    let xml = format!(in rt.alloc(); "{junit}")?;
+    Ok(())
+}
+
+/// The summary of one finding, as JUnit XML.
+#[test]
+fn summary_as_xml(rt: HostRuntime) -> Result<(), Fail> {
+    let judge = judge_rows(rt.alloc(), ONE_FINDING)?;
+    let seats = judge.seats();
+    let verdict = JunitVerdict::Legal;
+    let xml = format!(in rt.alloc();
+        "{}",
+        Junit {
+            seats,
+            rules: &RULES,
+            verdict
+        }
+    )?;
     assert_eq!(rt;
         xml.as_str(),
         "<?xml version=\"1.0\" encoding=\"UTF-8\"?>\n<testsuite name=\"rackd judge\" tests=\"3\" failures=\"1\">\n<testcase classname=\"text\" name=\"legal\"></testcase>\n<testcase classname=\"master 1\" name=\"prm-before-diag\"><failure type=\"error\" message=\"1, first at place 1\">Set_Prm, though this slave never answered Slave_Diag</failure></testcase>\n<testcase classname=\"master 2\" name=\"prm-before-diag\"></testcase>\n</testsuite>\n"
     );
-    assert!(rt; judge.has_error(rules));
+    Ok(())
+}
+
+/// A rule that was broken is an error that was found, and another rule is none.
+#[test]
+fn errors(rt: HostRuntime) -> Result<(), Fail> {
+    let judge = judge_rows(rt.alloc(), ONE_FINDING)?;
+    assert!(rt; judge.has_error(&RULES));
     assert!(rt; !judge.has_error(&[JudgeRule::FcbFirst]));
     Ok(())
 }
