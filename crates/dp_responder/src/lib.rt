@@ -14,5 +14,5 @@ mod memory;
 mod rule;
 
 pub use judgement::{Judged, JudgedLent, judge, judge_lent, judge_sdn};
-pub use memory::FrameMemory;
+pub use memory::{FrameMemory, Last, MasterEntry};
 pub use rule::Rule;

@@ -1,6 +1,6 @@
 //! What a slave remembers of each master.
 
-ghost use Rattle.std.specs.Prelude.{◌≡◌, ◌≤◌, ◌==◌, Some, find, length, map};
+ghost use Rattle.std.specs.Prelude.{◌≡◌, ◌≤◌, ◌<◌, ◌==◌, ◌++◌, ◌∷◌, [], Some, find, length, map};
 ghost use Rattle.std.specs.Option.{option_copied};
 ghost use Rattle.dp_responder.specs.Memory.{master_after, no_memory, remembered_of, with_remembered};
 
@@ -12,11 +12,11 @@ use std::marker::Model;
 
 /// The last SRD of a master with FCV 1 or FCB 1 that was judged and was no repeat.
 #[derive(Debug, Drop)]
-pub(crate) struct Last {
+pub struct Last {
     /// Its frame count bit.
-    pub(crate) fcb: bool,
-    /// The reply to it.
-    pub(crate) reply: Octets,
+    pub fcb: bool,
+    /// The reply to it, 0 to 255 octets.
+    pub reply: Octets,
 }
 
 impl Model for Last {
@@ -29,12 +29,14 @@ impl Model for Last {
 
 /// A master, and what is remembered of it.
 #[derive(Debug, Default, Drop)]
-struct Entry {
-    master: u8,
-    last: Option<Last>,
+pub struct MasterEntry {
+    /// Its address, 0 to 126.
+    pub master: u8,
+    /// What is remembered of it; `None` if nothing is.
+    pub last: Option<Last>,
 }
 
-impl Model for Entry {
+impl Model for MasterEntry {
     ghost use Rattle.dp_responder.specs.Memory.{MasterMemory};
 
     ghost Value = { MasterMemory };
@@ -47,7 +49,7 @@ impl Model for Entry {
 /// masters in their order, and what is remembered of each.
 #[derive(Debug, Drop)]
 pub struct FrameMemory {
-    entries: ArrayVec<Entry, MOST_MASTERS>,
+    entries: ArrayVec<MasterEntry, MOST_MASTERS>,
 }
 
 impl Model for FrameMemory {
@@ -66,12 +68,43 @@ impl FrameMemory {
     {
         let mut entries = ArrayVec::new();
         for master in masters.as_slice() {
-            entries.push(Entry {
+            entries.push(MasterEntry {
                 master: *master,
                 last: None,
             });
         }
         FrameMemory { entries }
+    }
+
+    /// Returns a memory of no master, to which masters are appended.
+    pub fn of_no_master() -> FrameMemory
+        ensures { result ≡ [] }
+    {
+        FrameMemory {
+            entries: ArrayVec::new(),
+        }
+    }
+
+    /// Appends a master with what is remembered of it. Requires that it has fewer than 16 masters.
+    pub fn push(&mut self, entry: MasterEntry)
+        requires { length self.old < 16 }
+        ensures { self.new ≡ self.old ++ entry ∷ [] }
+    {
+        self.entries.push(entry);
+    }
+
+    /// Returns the masters, in their order, each with what is remembered of it.
+    pub fn entries(&self) -> &[MasterEntry]
+        ensures { result.now ≡ self.now }
+    {
+        self.entries.as_slice()
+    }
+
+    /// Copies another memory into this one.
+    pub fn copy_from(&mut self, other: &FrameMemory)
+        ensures { self.new ≡ other.now }
+    {
+        self.entries = copied_entries(&other.entries);
     }
 
     /// Stores what a request of the sender leaves, for a request that was judged and was no repeat.
@@ -98,15 +131,27 @@ impl FrameMemory {
     }
 }
 
+fn copied_entries(
+    entries: &ArrayVec<MasterEntry, MOST_MASTERS>,
+) -> ArrayVec<MasterEntry, MOST_MASTERS>
+    ensures { result.items ≡ entries.now.items }
+{
+    let mut copies = ArrayVec::new();
+    for entry in entries.as_slice() {
+        copies.push(entry.copied());
+    }
+    copies
+}
+
 /// Returns the entry of the sender, if it is a master.
-fn entry_of(entries: &[Entry], sender: u8) -> Option<&Entry>
+fn entry_of(entries: &[MasterEntry], sender: u8) -> Option<&MasterEntry>
     ensures { option_copied result ≡ find (λ m. m.master == sender) entries.now }
 {
     entries.iter().find(|entry| entry.master == sender)
 }
 
 /// Stores what a request leaves in the sender's entry.
-fn remember_in(entries: &mut [Entry], sender: u8, fc: u8, reply: &[u8])
+fn remember_in(entries: &mut [MasterEntry], sender: u8, fc: u8, reply: &[u8])
     requires { length reply.now ≤ 255 }
     ensures { entries.new ≡ map (master_after sender fc reply.now) entries.old }
 {
@@ -115,7 +160,17 @@ fn remember_in(entries: &mut [Entry], sender: u8, fc: u8, reply: &[u8])
     }
 }
 
-impl Entry {
+impl MasterEntry {
+    /// Returns a copy.
+    fn copied(&self) -> MasterEntry
+        ensures { result ≡ self.now }
+    {
+        MasterEntry {
+            master: self.master,
+            last: copied(&self.last),
+        }
+    }
+
     /// Returns what is remembered of the master.
     fn last(&self) -> Option<&Last>
         ensures { option_copied result ≡ self.now.last }
@@ -137,6 +192,18 @@ impl Entry {
         } else {
             self.last = None;
         }
+    }
+}
+
+fn copied(last: &Option<Last>) -> Option<Last>
+    ensures { result ≡ last.now }
+{
+    match last {
+        Some(last) => Some(Last {
+            fcb: last.fcb,
+            reply: ArrayVec::try_from(last.reply.as_slice()).unwrap(),
+        }),
+        None => None,
     }
 }
 
