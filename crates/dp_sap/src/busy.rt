@@ -11,15 +11,23 @@ use std::marker::Model;
 
 /// A busy mark for each point of the access table (own).
 #[derive(Debug, Drop)]
-pub(crate) struct BusyMarks {
-    data_exchange: bool,
-    rd_inp: bool,
-    rd_outp: bool,
-    global_control: bool,
-    get_cfg: bool,
-    slave_diag: bool,
-    set_prm: bool,
-    chk_cfg: bool,
+pub struct BusyMarks {
+    /// The default point, Data_Exchange.
+    pub data_exchange: bool,
+    /// RD_Inp.
+    pub rd_inp: bool,
+    /// RD_Outp.
+    pub rd_outp: bool,
+    /// Global_Control.
+    pub global_control: bool,
+    /// Get_Cfg.
+    pub get_cfg: bool,
+    /// Slave_Diag.
+    pub slave_diag: bool,
+    /// Set_Prm.
+    pub set_prm: bool,
+    /// Chk_Cfg.
+    pub chk_cfg: bool,
 }
 
 impl Model for BusyMarks {
@@ -53,6 +61,22 @@ impl BusyMarks {
             slave_diag: false,
             set_prm: false,
             chk_cfg: false,
+        }
+    }
+
+    /// Returns a copy.
+    pub fn copied(&self) -> BusyMarks
+        ensures { result ≡ self.now }
+    {
+        BusyMarks {
+            data_exchange: self.data_exchange,
+            rd_inp: self.rd_inp,
+            rd_outp: self.rd_outp,
+            global_control: self.global_control,
+            get_cfg: self.get_cfg,
+            slave_diag: self.slave_diag,
+            set_prm: self.set_prm,
+            chk_cfg: self.chk_cfg,
         }
     }
 

@@ -16,6 +16,7 @@ mod point;
 mod points;
 mod state;
 
+pub use busy::BusyMarks;
 pub use fault::SapFault;
 pub use lists::{Lists, MOST_LISTED};
 pub use point::{

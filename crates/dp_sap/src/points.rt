@@ -106,6 +106,20 @@ impl Points {
         self.empty
     }
 
+    /// Returns the busy marks.
+    pub const fn busy(&self) -> &BusyMarks
+        ensures { result.now ≡ self.now.busy }
+    {
+        &self.busy
+    }
+
+    /// Replaces all busy marks.
+    pub fn set_marks(&mut self, marks: BusyMarks)
+        ensures { self.new ≡ record self.old { busy = marks } }
+    {
+        self.busy = marks;
+    }
+
     /// Returns whether the lists of the slave let the sender, 0 to 126, use the point of this
     /// number, which is any octet or `None` for the default point.
     ///
