@@ -8,6 +8,8 @@ pub mod Fields
 pub mod Controls
 pub mod Services
 pub mod Soundness
+pub mod Sound
+pub mod Images
 pub mod View
 pub mod Codes
 pub mod Names

@@ -23,6 +23,20 @@ impl Model for DataOctets {
 }
 
 impl DataOctets {
+    /// Returns these octets.
+    pub(crate) fn of(octets: ArrayVec<u8, MOST_DATA>) -> DataOctets
+        ensures { result ≡ octets.items }
+    {
+        DataOctets { octets }
+    }
+
+    /// Copies other octets, which may be fewer or more.
+    pub(crate) fn copy_from(&mut self, other: &DataOctets)
+        ensures { self.new ≡ other.now }
+    {
+        self.octets = other.copied();
+    }
+
     /// Returns `count` octets of zero, 0 to 244.
     pub(crate) fn zeros(count: u8) -> DataOctets
         requires { count ≤ most_data }

@@ -1,13 +1,23 @@
 //! The fields of a slave, read without a copy of it.
 
-ghost use Rattle.std.specs.Prelude.{◌≡◌};
+ghost use Rattle.std.specs.Prelude.{◌≡◌, ◌≤◌, length};
 ghost use Rattle.std.specs.Option.{option_copied};
+ghost use Rattle.dp_sap.specs.AccessTable.{most_data};
 
+use crate::description::SlaveSpec;
 use crate::slave::Slave;
+use dp_diag::Diag;
 use dp_prm::Prm;
 use dp_sap::State;
 
 impl Slave {
+    /// Returns its description.
+    pub fn description(&self) -> &SlaveSpec
+        ensures { result.now ≡ self.now.slave.description }
+    {
+        &self.description
+    }
+
     /// Returns its state.
     pub fn state(&self) -> State
         ensures { result ≡ self.now.slave.state }
@@ -48,6 +58,58 @@ impl Slave {
         ensures { result ≡ self.now.slave.shape }
     {
         self.shape
+    }
+
+    /// Returns the number of the configuration that its holder sent.
+    pub fn configuration(&self) -> Option<u8>
+        ensures { result ≡ self.now.slave.cfg }
+    {
+        self.cfg
+    }
+
+    /// Returns the inputs of its device, 0 to 244 octets.
+    pub fn inputs(&self) -> &[u8]
+        ensures value { result.now ≡ self.now.slave.inputs }
+        ensures most { length result.now ≤ most_data }
+    {
+        self.inputs.as_slice()
+    }
+
+    /// Returns the copy of the inputs that Freeze made, 0 to 244 octets.
+    pub fn frozen_inputs(&self) -> &[u8]
+        ensures value { result.now ≡ self.now.slave.copy }
+        ensures most { length result.now ≤ most_data }
+    {
+        self.copy.as_slice()
+    }
+
+    /// Returns the data that came last, 0 to 244 octets, which differ from the outputs in sync mode.
+    pub fn latest(&self) -> &[u8]
+        ensures value { result.now ≡ self.now.slave.latest }
+        ensures most { length result.now ≤ most_data }
+    {
+        self.latest.as_slice()
+    }
+
+    /// Returns the time that its watchdog has left, in units of 10 ms; `None` if it is off.
+    pub fn left(&self) -> Option<u32>
+        ensures { result ≡ self.now.slave.left }
+    {
+        self.left
+    }
+
+    /// Returns its diagnosis.
+    pub fn diag(&self) -> &Diag
+        ensures { result.now ≡ self.now.slave.diag }
+    {
+        &self.diag
+    }
+
+    /// Returns whether it is in freeze mode.
+    pub fn is_in_freeze_mode(&self) -> bool
+        ensures { result ≡ self.now.slave.freeze_mode }
+    {
+        self.freeze_mode
     }
 
     /// Returns whether it is in sync mode.

@@ -1,12 +1,13 @@
 //! Laws of a slave: each is what a function that does nothing ensures.
 
-ghost use Rattle.std.specs.Prelude.{◌≡◌, ◌≢◌, ◌+◌, ℕ, List, not, true, false};
+ghost use Rattle.std.specs.Prelude.{◌≡◌, ◌≢◌, ◌+◌, ◌<◌, ℕ, List, length, not, true, false};
 ghost use Rattle.dp_prm.specs.Requests.{AsksUnsupported, IsLocking};
 ghost use Rattle.dp_slave.specs.declared.description.SlaveSpec.{SlaveSpec};
-ghost use Rattle.dp_slave.specs.SlaveRecord.{SlaveRecord, is_held_by, limits_of, output_length, released, starting_slave, zeros};
+ghost use Rattle.dp_slave.specs.SlaveRecord.{SlaveRecord, configurations, is_held_by, limits_of, output_length, released, starting_slave, zeros};
 ghost use Rattle.dp_slave.specs.Acts.{Act, Control, configures, exchanges, halts, is_controlled, is_read, releases, sends_diagnosis, ticks};
 ghost use Rattle.dp_slave.specs.Fields.{acted};
 ghost use Rattle.dp_slave.specs.Services.{set_prm_act};
+ghost use Rattle.dp_slave.specs.Sound.{is_sound};
 ghost use Rattle.dp_slave.specs.Soundness.{acts_after, all_fit, ends_clearing, fits, IsSound};
 
 /// A release changes nothing of a released slave, and a halt releases.
@@ -25,6 +26,14 @@ pub fn a_slave_stays_sound()
     ensures { (masters : List ℕ) (description : SlaveSpec) (acts : List Act)
         → all_fit (starting_slave masters description) acts ≡ true
         → IsSound (acts_after (starting_slave masters description) acts) }
+{}
+
+/// The test of a restored slave says what holds of every slave that has a configuration.
+pub fn a_sound_slave_passes_the_test()
+    ensures { (slave : SlaveRecord)
+        → IsSound slave
+        → slave.shape < length (configurations slave.description)
+        → is_sound slave ≡ true }
 {}
 
 /// A locking request for an unsupported Sync or Freeze is reported as Not_Supported in addition to

@@ -8,13 +8,16 @@ mod data_octets;
 mod description;
 mod fault;
 mod fields;
+mod image;
 pub mod laws;
 mod linked;
 mod services;
 mod slave;
+mod soundness;
 mod view;
 
 pub use description::{Configuration, Device, MOST_CONFIGURATIONS, SlaveSpec};
 pub use fault::InputFault;
+pub use image::{DataPair, Settings, SlaveImage, Standing};
 pub use slave::Slave;
 pub use view::SlaveView;

@@ -213,7 +213,7 @@ impl Slave {
 }
 
 /// Parses these configurations. Requires that each of them can be parsed.
-fn parsed(cfgs: &[Configuration]) -> ArrayVec<CfgIds, MOST_CONFIGURATIONS>
+pub(crate) fn parsed(cfgs: &[Configuration]) -> ArrayVec<CfgIds, MOST_CONFIGURATIONS>
     requires read { list_all can_be_parsed (map (λ cfg. cfg.items) cfgs.now) ≡ true }
     requires few { length cfgs.now ≤ 4 }
     ensures { result.items ≡ map (λ cfg. cfg.items) cfgs.now }
@@ -238,7 +238,7 @@ pub(crate) fn data_lengths(configurations: &[CfgIds], number: u8) -> (u8, u8)
     }
 }
 
-fn copied(description: &SlaveSpec) -> SlaveSpec
+pub(crate) fn copied(description: &SlaveSpec) -> SlaveSpec
     ensures { result ≡ description.now }
 {
     description.clone().unwrap()

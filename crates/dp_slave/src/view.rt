@@ -77,7 +77,7 @@ impl Slave {
     }
 }
 
-fn copied(prm: &Option<Prm>) -> Option<Prm>
+pub(crate) fn copied(prm: &Option<Prm>) -> Option<Prm>
     ensures { result ≡ prm.now }
 {
     match prm {
