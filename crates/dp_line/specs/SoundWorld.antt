@@ -1,0 +1,40 @@
+-- The worlds from which a line goes on (own).
+use Rattle.std.specs.Prelude.{ℕ, ◌==◌, nat_le, nat_lt, Bool, true, not, ◌&&◌, ◌||◌, if◌then◌else◌, List, [], ◌∷◌, find, Option, Some, None, is_none}
+use Rattle.std.specs.List.{list_any}
+use Rattle.std.specs.Option.{option_map_or}
+use Rattle.dp_slave.specs.SlaveRecord.{SlaveRecord, is_held}
+use Rattle.dp_slave.specs.Sound.{agree, is_sound}
+use Rattle.dp_line.specs.declared.fault.RestoreFault.{RestoreFault}
+use Rattle.dp_line.specs.declared.fault.RestoreFault.TheVariants.{UnsoundSlave, SharedPlace, UnsoundCount}
+use Rattle.dp_line.specs.World.{World, address_of_slave}
+
+-- a slave of a line with these masters, behind this place: it is sound, its holder is one of the masters, its lock has one of the places so far,
+-- and 0 exactly if nobody holds it
+abbrev pub is_sound_on : List ℕ → ℕ → SlaveRecord → Bool
+is_sound_on masters count slave =
+    is_sound slave
+    && option_map_or (λ holder. list_any (λ other. other == holder) masters) slave.holder true
+    && nat_le slave.since count
+    && agree (slave.since == 0) (is_none slave.holder)
+
+-- no two of them were locked at one place
+abbrev pub have_own_places : List SlaveRecord → Bool
+have_own_places [] = true
+have_own_places (slave ∷ slaves) =
+    (slave.since == 0 || not (list_any (λ other. other.since == slave.since) slaves)) && have_own_places slaves
+
+-- a halted line has released its slaves, and one that runs has a place left
+abbrev pub has_sound_count : World → Bool
+has_sound_count world = if world.halted then not (list_any is_held world.slaves) else nat_lt world.count world.capacity
+
+abbrev pub fault_of_slave : Option SlaveRecord → Option RestoreFault → Option RestoreFault
+fault_of_slave (Some slave) other = Some (UnsoundSlave (address_of_slave slave))
+fault_of_slave None other = other
+
+-- why no line goes on from a world: the first slave that is not sound, then a place of two locks, then the count
+abbrev pub restore_fault : World → Option RestoreFault
+restore_fault world =
+    fault_of_slave (find (λ slave. not (is_sound_on world.masters world.count slave)) world.slaves)
+    (if not (have_own_places world.slaves) then Some SharedPlace
+    else if not (has_sound_count world) then Some UnsoundCount
+    else None)
