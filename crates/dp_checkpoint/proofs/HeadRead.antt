@@ -9,7 +9,7 @@ use Rattle.dp_slave.specs.SlaveRecord.{SlaveRecord}
 use Rattle.dp_line.specs.World.{Description, ascending}
 use Rattle.dp_line.specs.Endless.{endless_places}
 use Rattle.dp_text.proofs.ReadBack.{number_read}
-use Rattle.dp_checkpoint.specs.declared.slave_parts.Running.{Running}
+use Rattle.dp_checkpoint.specs.declared.running.Running.{Running}
 use Rattle.dp_checkpoint.specs.FieldWords.{halted_word, most_32, most_64, none_word}
 use Rattle.dp_checkpoint.specs.Rows.{Left, and_then, read_row, row_text, rows_text}
 use Rattle.dp_checkpoint.specs.SlaveRows.{slave_rows}

@@ -7,3 +7,6 @@ pub mod SlaveRead
 pub mod SlavesRead
 pub mod HeadRead
 pub mod Sizes
+pub mod Pushed
+pub mod SlaveGroups
+pub mod HeadLines

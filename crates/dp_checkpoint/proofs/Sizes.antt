@@ -15,8 +15,8 @@ use Rattle.dp_text.specs.Events.{AreOctets}
 use Rattle.dp_text.specs.Texts.{octets_text}
 use Rattle.dp_text.proofs.Decimals.{short, short_octet, short_long}
 use Rattle.dp_text.proofs.Lengths.{hex_length, state_is_short}
-use Rattle.dp_checkpoint.specs.declared.slave_parts.Running.{Running}
-use Rattle.dp_checkpoint.specs.declared.slave_parts.DataPair.{DataPair}
+use Rattle.dp_checkpoint.specs.declared.running.Running.{Running}
+use Rattle.dp_slave.specs.declared.image.DataPair.{DataPair}
 use Rattle.dp_checkpoint.specs.FieldWords.{bit_word, halted_word, none_word, off_word, optional_word}
 use Rattle.dp_checkpoint.specs.Rows.{row_text, rows_text, spaced}
 use Rattle.dp_checkpoint.specs.SlaveRows.{busy_word, data_words, diag_word, diag_words, inputs_of, last_words, memory_rows, modes_word, outputs_of, prm_words, reqs_word, settings_of, settings_words, slave_rows, standing_of, standing_words}

@@ -8,7 +8,7 @@ use Rattle.dp_diag.specs.declared.diag.Diag.{Diag}
 use Rattle.dp_slave.specs.SlaveRecord.{SlaveRecord}
 use Rattle.dp_text.specs.Events.{AreOctets}
 use Rattle.dp_text.proofs.ReadBack.{number_read, octets_read}
-use Rattle.dp_checkpoint.specs.declared.slave_parts.DataPair.{DataPair}
+use Rattle.dp_slave.specs.declared.image.DataPair.{DataPair}
 use Rattle.dp_checkpoint.specs.FieldWords.{bit_word, most_32, none_word, off_word, optional_word}
 use Rattle.dp_checkpoint.specs.Rows.{read_row, row_text}
 use Rattle.dp_checkpoint.specs.SlaveRows.{data_in, data_of_row, data_words, diag_in, diag_of_row, diag_words, last_in, last_of_row, last_words, prm_in, prm_of_row, prm_words, settings_in, settings_of, settings_of_row, settings_words, standing_in, standing_of, standing_of_row, standing_words}

@@ -1,16 +1,17 @@
 -- All rows of a slave, and of slaves one after another: read as they are written, and only so.
-use Rattle.std.proofs.Common.{◌≡◌, ℕ, ◌+◌, List, [], ◌∷◌, ◌++◌, map, Option, Result, Ok, refl, sym, ap, subst, ◌∙◌, append_assoc, codes}
+use Rattle.std.proofs.Common.{◌≡◌, ℕ, ◌+◌, Bool, true, false, cond, List, [], ◌∷◌, ◌++◌, map, Option, Result, Ok, Err, refl, sym, ap, subst, ◌∙◌, append_assoc, codes}
 use Rattle.std.specs.List.{AllByRecursion, flat_map}
 use Rattle.dp_responder.specs.Memory.{MasterMemory, Remembered}
 use Rattle.dp_prm.specs.declared.prm.Prm.{Prm}
 use Rattle.dp_diag.specs.declared.diag.Diag.{Diag}
 use Rattle.dp_slave.specs.declared.description.SlaveSpec.{SlaveSpec}
 use Rattle.dp_slave.specs.SlaveRecord.{SlaveRecord}
-use Rattle.dp_checkpoint.specs.declared.slave_parts.Standing.{Standing}
-use Rattle.dp_checkpoint.specs.declared.slave_parts.Settings.{Settings}
-use Rattle.dp_checkpoint.specs.declared.slave_parts.DataPair.{DataPair}
+use Rattle.dp_slave.specs.declared.image.Standing.{Standing}
+use Rattle.dp_slave.specs.declared.image.Settings.{Settings}
+use Rattle.dp_slave.specs.declared.image.DataPair.{DataPair}
 use Rattle.dp_checkpoint.specs.Rows.{Left, and_then, read_row, row_text, rows_text}
-use Rattle.dp_checkpoint.specs.SlaveRows.{data_in, data_of_row, data_words, diag_in, diag_of_row, diag_words, inputs_of, last_in, last_of_row, last_words, memory_read, memory_rows, outputs_of, prm_in, prm_of_row, prm_words, settings_in, settings_of, settings_of_row, settings_words, slave_read, slave_rows, slave_with, standing_in, standing_of, standing_of_row, standing_words}
+use Rattle.dp_slave.specs.Images.{slave_with}
+use Rattle.dp_checkpoint.specs.SlaveRows.{data_in, data_of_row, data_words, diag_in, diag_of_row, diag_words, if_long, inputs_of, last_in, last_of_row, last_words, memory_read, memory_rows, outputs_of, prm_in, prm_of_row, prm_words, settings_in, settings_of, settings_of_row, settings_words, slave_read, slave_rows, standing_in, standing_of, standing_of_row, standing_words}
 use Rattle.dp_checkpoint.specs.Head.{slaves_read}
 use Rattle.dp_checkpoint.specs.Limits.{IsMemoryWithin, IsOctet, IsSlaveWithin}
 use Rattle.dp_checkpoint.proofs.RowsRead.{parted, row_is, some_ok}
@@ -75,26 +76,33 @@ memory_is address (master ∷ masters) left memory after e =
 
 -- ---- a slave
 
-abbrev with_memory : SlaveSpec → Standing → Settings → Option Prm → DataPair → DataPair → Diag → List MasterMemory → Left → Reading SlaveRecord
-with_memory d s t p i o g memory rest = Ok (slave_with d s t p i o g memory, rest)
+-- `n` is the number of the first row of the slave
+abbrev with_memory : ℕ → SlaveSpec → Standing → Settings → Option Prm → DataPair → DataPair → Diag → List MasterMemory → Left → Reading SlaveRecord
+with_memory n d s t p i o g memory rest = if_long n (slave_with d s t p i o g memory) rest
 
-abbrev at_memory : List ℕ → SlaveSpec → Standing → Settings → Option Prm → DataPair → DataPair → Diag → Left → Reading SlaveRecord
-at_memory masters d s t p i o g left = and_then (memory_read d.address masters left) (with_memory d s t p i o g)
+abbrev at_memory : ℕ → List ℕ → SlaveSpec → Standing → Settings → Option Prm → DataPair → DataPair → Diag → Left → Reading SlaveRecord
+at_memory n masters d s t p i o g left = and_then (memory_read d.address masters left) (with_memory n d s t p i o g)
 
-abbrev at_diag : List ℕ → SlaveSpec → Standing → Settings → Option Prm → DataPair → DataPair → Left → Reading SlaveRecord
-at_diag masters d s t p i o left = and_then (read_row (diag_of_row d.address) left) (at_memory masters d s t p i o)
+abbrev at_diag : ℕ → List ℕ → SlaveSpec → Standing → Settings → Option Prm → DataPair → DataPair → Left → Reading SlaveRecord
+at_diag n masters d s t p i o left = and_then (read_row (diag_of_row d.address) left) (at_memory n masters d s t p i o)
 
-abbrev at_outputs : List ℕ → SlaveSpec → Standing → Settings → Option Prm → DataPair → Left → Reading SlaveRecord
-at_outputs masters d s t p i left = and_then (read_row (data_of_row (codes "out") d.address) left) (at_diag masters d s t p i)
+abbrev at_outputs : ℕ → List ℕ → SlaveSpec → Standing → Settings → Option Prm → DataPair → Left → Reading SlaveRecord
+at_outputs n masters d s t p i left = and_then (read_row (data_of_row (codes "out") d.address) left) (at_diag n masters d s t p i)
 
-abbrev at_inputs : List ℕ → SlaveSpec → Standing → Settings → Option Prm → Left → Reading SlaveRecord
-at_inputs masters d s t p left = and_then (read_row (data_of_row (codes "in") d.address) left) (at_outputs masters d s t p)
+abbrev at_inputs : ℕ → List ℕ → SlaveSpec → Standing → Settings → Option Prm → Left → Reading SlaveRecord
+at_inputs n masters d s t p left = and_then (read_row (data_of_row (codes "in") d.address) left) (at_outputs n masters d s t p)
 
-abbrev at_prm : List ℕ → SlaveSpec → Standing → Settings → Left → Reading SlaveRecord
-at_prm masters d s t left = and_then (read_row (prm_of_row d.address) left) (at_inputs masters d s t)
+abbrev at_prm : ℕ → List ℕ → SlaveSpec → Standing → Settings → Left → Reading SlaveRecord
+at_prm n masters d s t left = and_then (read_row (prm_of_row d.address) left) (at_inputs n masters d s t)
 
-abbrev at_settings : List ℕ → SlaveSpec → Standing → Left → Reading SlaveRecord
-at_settings masters d s left = and_then (read_row (settings_of_row d.address) left) (at_prm masters d s)
+abbrev at_settings : ℕ → List ℕ → SlaveSpec → Standing → Left → Reading SlaveRecord
+at_settings n masters d s left = and_then (read_row (settings_of_row d.address) left) (at_prm n masters d s)
+
+-- a slave that is read has the lengths of its shape
+long_by : (number : ℕ) (slave : SlaveRecord) (rest : Left) (found : SlaveRecord × Left) (b : Bool) → cond {A = Reading SlaveRecord} b (Ok (slave, rest)) (Err number) ≡ Ok found
+    → ◌≡◌ {A = Reading SlaveRecord} (Ok (slave, rest)) (Ok found)
+long_by number slave rest found true e = e
+long_by number slave rest found false e = absurd cc
 
 -- seven texts and a rest, one after another
 regroup : (a b c d e f g rest : List ℕ)
@@ -128,14 +136,15 @@ slave_back masters slave number rest within =
       ap (λ (x : List ℕ). slave_read masters d (at number x))
           (regroup (row_text (standing_words a s)) (row_text (settings_words a t)) (row_text (prm_words a slave.prm)) (row_text (data_words (codes "in") a i))
           (row_text (data_words (codes "out") a o)) (row_text (diag_words a slave.diag)) m rest)
-          ∙ ap (λ (r : Reading Standing). and_then r (at_settings masters d)) (standing_back masters slave number r1 within)
-          ∙ ap (λ (r : Reading Settings). and_then r (at_prm masters d s)) (settings_back masters slave (number + 1) r2 within)
-          ∙ ap (λ (r : Reading (Option Prm)). and_then r (at_inputs masters d s t)) (prm_back a slave.prm (number + 1 + 1) r3 within.address within.prm)
-          ∙ ap (λ (r : Reading DataPair). and_then r (at_outputs masters d s t slave.prm)) (data_back 105 (codes "n") a i (number + 1 + 1 + 1) r4 refl within.address within.inputs within.copy)
-          ∙ ap (λ (r : Reading DataPair). and_then r (at_diag masters d s t slave.prm i)) (data_back 111 (codes "ut") a o (number + 1 + 1 + 1 + 1) r5 refl within.address within.outputs within.latest)
-          ∙ ap (λ (r : Reading Diag). and_then r (at_memory masters d s t slave.prm i o)) (diag_back a slave.diag (number + 1 + 1 + 1 + 1 + 1) r6 within.address within.diagnosis)
-          ∙ ap (λ (ms : List ℕ). and_then (memory_read a ms (at (number + 1 + 1 + 1 + 1 + 1 + 1) r6)) (with_memory d s t slave.prm i o slave.diag)) (sym within.remembers)
-          ∙ ap (λ (r : Reading (List MasterMemory)). and_then r (with_memory d s t slave.prm i o slave.diag)) memory,
+          ∙ ap (λ (r : Reading Standing). and_then r (at_settings number masters d)) (standing_back masters slave number r1 within)
+          ∙ ap (λ (r : Reading Settings). and_then r (at_prm number masters d s)) (settings_back masters slave (number + 1) r2 within)
+          ∙ ap (λ (r : Reading (Option Prm)). and_then r (at_inputs number masters d s t)) (prm_back a slave.prm (number + 1 + 1) r3 within.address within.prm)
+          ∙ ap (λ (r : Reading DataPair). and_then r (at_outputs number masters d s t slave.prm)) (data_back 105 (codes "n") a i (number + 1 + 1 + 1) r4 refl within.address within.inputs within.copy)
+          ∙ ap (λ (r : Reading DataPair). and_then r (at_diag number masters d s t slave.prm i)) (data_back 111 (codes "ut") a o (number + 1 + 1 + 1 + 1) r5 refl within.address within.outputs within.latest)
+          ∙ ap (λ (r : Reading Diag). and_then r (at_memory number masters d s t slave.prm i o)) (diag_back a slave.diag (number + 1 + 1 + 1 + 1 + 1) r6 within.address within.diagnosis)
+          ∙ ap (λ (ms : List ℕ). and_then (memory_read a ms (at (number + 1 + 1 + 1 + 1 + 1 + 1) r6)) (with_memory number d s t slave.prm i o slave.diag)) (sym within.remembers)
+          ∙ ap (λ (r : Reading (List MasterMemory)). and_then r (with_memory number d s t slave.prm i o slave.diag)) memory
+          ∙ ap (λ (b : Bool). cond b (Ok (slave, at after rest)) (Err number)) within.long,
     )
 
 pub record IsSlaveOf (masters : List ℕ) (description : SlaveSpec) (text : List ℕ) (slave : SlaveRecord) (rest : List ℕ) : Type 0 where
@@ -146,14 +155,15 @@ pub record IsSlaveOf (masters : List ℕ) (description : SlaveSpec) (text : List
 pub slave_is : (masters : List ℕ) (d : SlaveSpec) (left : Left) (slave : SlaveRecord) (after : Left)
     → slave_read masters d left ≡ Ok (slave, after) → IsSlaveOf masters d left.text slave after.text
 slave_is masters d left slave after e =
-    let p1 = parted (read_row (standing_of_row d.address) left) (at_settings masters d) (slave, after) e in
-    let p2 = parted (read_row (settings_of_row d.address) p1.left) (at_prm masters d p1.value) (slave, after) p1.rest_is in
-    let p3 = parted (read_row (prm_of_row d.address) p2.left) (at_inputs masters d p1.value p2.value) (slave, after) p2.rest_is in
-    let p4 = parted (read_row (data_of_row (codes "in") d.address) p3.left) (at_outputs masters d p1.value p2.value p3.value) (slave, after) p3.rest_is in
-    let p5 = parted (read_row (data_of_row (codes "out") d.address) p4.left) (at_diag masters d p1.value p2.value p3.value p4.value) (slave, after) p4.rest_is in
-    let p6 = parted (read_row (diag_of_row d.address) p5.left) (at_memory masters d p1.value p2.value p3.value p4.value p5.value) (slave, after) p5.rest_is in
-    let p7 = parted (memory_read d.address masters p6.left) (with_memory d p1.value p2.value p3.value p4.value p5.value p6.value) (slave, after) p6.rest_is in
-    let is = some_ok {X = SlaveRecord × Left} (slave_with d p1.value p2.value p3.value p4.value p5.value p6.value p7.value, p7.left) (slave, after) p7.rest_is in
+    let p1 = parted (read_row (standing_of_row d.address) left) (at_settings left.number masters d) (slave, after) e in
+    let p2 = parted (read_row (settings_of_row d.address) p1.left) (at_prm left.number masters d p1.value) (slave, after) p1.rest_is in
+    let p3 = parted (read_row (prm_of_row d.address) p2.left) (at_inputs left.number masters d p1.value p2.value) (slave, after) p2.rest_is in
+    let p4 = parted (read_row (data_of_row (codes "in") d.address) p3.left) (at_outputs left.number masters d p1.value p2.value p3.value) (slave, after) p3.rest_is in
+    let p5 = parted (read_row (data_of_row (codes "out") d.address) p4.left) (at_diag left.number masters d p1.value p2.value p3.value p4.value) (slave, after) p4.rest_is in
+    let p6 = parted (read_row (diag_of_row d.address) p5.left) (at_memory left.number masters d p1.value p2.value p3.value p4.value p5.value) (slave, after) p5.rest_is in
+    let p7 = parted (memory_read d.address masters p6.left) (with_memory left.number d p1.value p2.value p3.value p4.value p5.value p6.value) (slave, after) p6.rest_is in
+    let is = some_ok {X = SlaveRecord × Left} (slave_with d p1.value p2.value p3.value p4.value p5.value p6.value p7.value, p7.left) (slave, after)
+    (long_by left.number (slave_with d p1.value p2.value p3.value p4.value p5.value p6.value p7.value) p7.left (slave, after) _ p7.rest_is) in
     let w1 = row_is (standing_words d.address) standing_in left p1.value p1.left p1.first_is in
     let w2 = row_is (settings_words d.address) settings_in p1.left p2.value p2.left p2.first_is in
     let w3 = row_is (prm_words d.address) prm_in p2.left p3.value p3.left p3.first_is in

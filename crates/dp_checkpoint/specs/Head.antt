@@ -8,7 +8,7 @@ use Rattle.dp_slave.specs.SlaveRecord.{SlaveRecord}
 use Rattle.dp_line.specs.World.{Description, World, ascending}
 use Rattle.dp_line.specs.Endless.{endless_places}
 use Rattle.dp_text.specs.Numbers.{number_to}
-use Rattle.dp_checkpoint.specs.declared.slave_parts.Running.{Running}
+use Rattle.dp_checkpoint.specs.declared.running.Running.{Running}
 use Rattle.dp_checkpoint.specs.FieldWords.{halted_of_word, halted_word, most_32, most_64, none_word, optional_of, optional_word}
 use Rattle.dp_checkpoint.specs.Rows.{Left, and_then, read_row, rows_text, value_of_row}
 use Rattle.dp_checkpoint.specs.SlaveRows.{slave_read, slave_rows}

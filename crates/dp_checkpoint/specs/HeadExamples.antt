@@ -135,3 +135,18 @@ a_missing_row = refl
 pub no_end_of_a_row : world_in line (codes "rack-audit 3 line 7 from 7160\nline running 18929") ≡ Err 2
 unfolding world_in head_read ascending text_on_literals
 no_end_of_a_row = refl
+
+-- the inputs have three octets, and the shape says two: the rows of the slave begin with row 3
+pub other_lengths : world_in line (
+    codes "rack-audit 3 line 7 from 7160\n"
+    ++ codes "line running 18929\n"
+    ++ codes "slave 5 DataExch 1 4 95 -----d--\n"
+    ++ codes "set 5 60 0 0 -f-\n"
+    ++ codes "prm 5 100 -f 60 3 0aff\n"
+    ++ codes "in 5 aa55aa aa54\n"
+    ++ codes "out 5 0102 0102\n"
+    ++ codes "diag 5 e--u--- 0407\n"
+    ++ codes "last 5 1 none\n"
+    ++ codes "last 5 2 none\n") ≡ Err 3
+unfolding world_in head_read ascending text_on_literals
+other_lengths = refl

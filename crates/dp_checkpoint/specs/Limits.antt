@@ -1,5 +1,5 @@
 -- The heads that have texts: those whose numbers and octets are within the limits of their types (own).
-use Rattle.std.specs.Prelude.{◌≡◌, ℕ, ◌<◌, List, map, IfSome}
+use Rattle.std.specs.Prelude.{◌≡◌, ℕ, ◌<◌, true, List, map, IfSome}
 use Rattle.std.specs.List.{AllByRecursion}
 use Rattle.dp_responder.specs.Memory.{MasterMemory}
 use Rattle.dp_prm.specs.declared.prm.Prm.{Prm}
@@ -7,6 +7,7 @@ use Rattle.dp_slave.specs.SlaveRecord.{SlaveRecord}
 use Rattle.dp_line.specs.World.{Description, ascending}
 use Rattle.dp_line.specs.Endless.{endless_places}
 use Rattle.dp_text.specs.Events.{AreOctets}
+use Rattle.dp_checkpoint.specs.DataLengths.{is_long}
 use Rattle.dp_checkpoint.specs.Head.{Head}
 
 abbrev pub IsOctet : ℕ → Type 0
@@ -41,6 +42,7 @@ pub record IsSlaveWithin (masters : List ℕ) (slave : SlaveRecord) : Type 0 whe
   pub diagnosis : AreOctets 238 slave.diag.octets.items
   pub memory : AllByRecursion IsMemoryWithin slave.memory
   pub remembers : map (λ m. m.master) slave.memory ≡ masters
+  pub long : is_long slave ≡ true
 
 -- a head of this line, made endless: masters and slaves are those that are described
 pub record IsWithin (line : Description) (head : Head) : Type 0 where

@@ -1,5 +1,5 @@
 -- The rows of one slave: its words and what they say (own).
-use Rattle.std.specs.Prelude.{codes, ℕ, Bool, List, [], ◌∷◌, map, Option, Some, None, option_map, Result, Ok}
+use Rattle.std.specs.Prelude.{codes, ℕ, Bool, if◌then◌else◌, List, [], ◌∷◌, map, Option, Some, None, option_map, Result, Ok, Err}
 use Rattle.std.specs.Option.{option_and_then}
 use Rattle.std.specs.Fmt.{decimal}
 use Rattle.dp_sap.specs.AccessTable.{BusyMarks}
@@ -9,13 +9,15 @@ use Rattle.dp_prm.specs.declared.prm.Prm.{Prm}
 use Rattle.dp_diag.specs.declared.diag.Diag.{Diag}
 use Rattle.dp_slave.specs.declared.description.SlaveSpec.{SlaveSpec}
 use Rattle.dp_slave.specs.SlaveRecord.{SlaveRecord}
+use Rattle.dp_slave.specs.Images.{slave_with}
+use Rattle.dp_checkpoint.specs.DataLengths.{is_long}
 use Rattle.dp_text.specs.declared.ops.HexCase.TheVariants.{Lower}
 use Rattle.dp_text.specs.Numbers.{number_to, octet_number}
 use Rattle.dp_text.specs.Texts.{octets_text}
 use Rattle.dp_text.specs.Events.{event_octets}
-use Rattle.dp_checkpoint.specs.declared.slave_parts.Standing.{Standing}
-use Rattle.dp_checkpoint.specs.declared.slave_parts.Settings.{Settings}
-use Rattle.dp_checkpoint.specs.declared.slave_parts.DataPair.{DataPair}
+use Rattle.dp_slave.specs.declared.image.Standing.{Standing}
+use Rattle.dp_slave.specs.declared.image.Settings.{Settings}
+use Rattle.dp_slave.specs.declared.image.DataPair.{DataPair}
 use Rattle.dp_checkpoint.specs.FieldWords.{bit_of_word, bit_word, flags_word, is_letter, most_32, none_word, off_word, optional_of, optional_word, state_of_word}
 use Rattle.dp_checkpoint.specs.Rows.{Left, and_then, read_row, value_of_row}
 
@@ -200,30 +202,6 @@ inputs_of slave = record { first = record { items = slave.inputs }; second = rec
 abbrev pub outputs_of : SlaveRecord → DataPair
 outputs_of slave = record { first = record { items = slave.outputs }; second = record { items = slave.latest } }
 
--- a slave of these parts
-abbrev pub slave_with : SlaveSpec → Standing → Settings → Option Prm → DataPair → DataPair → Diag → List MasterMemory → SlaveRecord
-slave_with description standing settings prm inputs outputs diag memory = record {
-  description = description;
-  state = standing.state;
-  holder = standing.holder;
-  since = standing.since;
-  min_tsdr = settings.min_tsdr;
-  prm = prm;
-  cfg = settings.cfg;
-  shape = settings.shape;
-  inputs = inputs.first.items;
-  copy = inputs.second.items;
-  outputs = outputs.first.items;
-  latest = outputs.second.items;
-  sync_mode = settings.sync_mode;
-  freeze_mode = settings.freeze_mode;
-  cleared = settings.cleared;
-  left = standing.left;
-  diag = diag;
-  busy = standing.busy;
-  memory = memory;
-}
-
 -- the rows of a slave: six, and one for each master of the line
 abbrev pub memory_rows : ℕ → List MasterMemory → List (List (List ℕ))
 memory_rows address memory = map (λ m. last_words address m.master m.last) memory
@@ -246,6 +224,10 @@ memory_read address (master ∷ masters) left =
     and_then (memory_read address masters behind) (λ others rest.
     Ok ((record { master = master; last = last }) ∷ others, rest)))
 
+-- the slave, if its data are as long as its shape says; else the row of this number is wrong, the first one of the slave
+abbrev pub if_long : ℕ → SlaveRecord → Left → Result (SlaveRecord × Left) ℕ
+if_long number slave rest = if is_long slave then Ok (slave, rest) else Err number
+
 -- the slave of this description, read: six rows, and one for each of the masters
 abbrev pub slave_read : List ℕ → SlaveSpec → Left → Result (SlaveRecord × Left) ℕ
 slave_read masters description left =
@@ -256,4 +238,4 @@ slave_read masters description left =
     and_then (read_row (data_of_row (codes "out") description.address) left_4) (λ outputs left_5.
     and_then (read_row (diag_of_row description.address) left_5) (λ diag left_6.
     and_then (memory_read description.address masters left_6) (λ memory rest.
-    Ok (slave_with description standing settings prm inputs outputs diag memory, rest))))))))
+    if_long left.number (slave_with description standing settings prm inputs outputs diag memory) rest)))))))

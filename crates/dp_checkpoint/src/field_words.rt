@@ -11,9 +11,8 @@ ghost use Rattle.dp_text.specs.Events.{event_octets, octets_up_to};
 ghost use Rattle.dp_checkpoint.specs.FieldWords.{bit_of_word, halted_of_word, is_letter as is_flag_letter, most_32, most_64, none_word, off_word, optional_of, state_of_word};
 ghost use Rattle.dp_checkpoint.specs.SlaveRows.{busy_of, three_of, two_of};
 
-use crate::slave_parts::BusyMarks;
 use arrayvec::ArrayVec;
-use dp_sap::State;
+use dp_sap::{BusyMarks, State};
 use dp_text::{is_text, number_in, octet_in, octets_in};
 
 /// Returns a number from 0 to 255, `Some(None)` for `none`, or None for any other word.

@@ -9,13 +9,15 @@ use crate::field_words::{
     bit_in, busy_in, halted_in, is_letter, octet_or_none_in, octets_word_in, state_in, three_in,
     time_or_none_in, time_or_off_in, two_in,
 };
-use crate::slave_parts::{DataPair, Remembered, Running, Settings, Standing};
+use crate::running::Running;
 use crate::writing::{
     set_data, set_diag, set_header, set_last, set_prm, set_running, set_settings, set_standing,
 };
 use arrayvec::ArrayVec;
 use dp_diag::{Diag, MOST_EXTENDED};
 use dp_prm::Prm;
+use dp_responder::Last;
+use dp_slave::{DataPair, Settings, Standing};
 use dp_text::{Text, Words, is_text, number_in, octet_in};
 
 /// Returns the place that the words of a header name.
@@ -285,7 +287,7 @@ pub fn prm_in_row(address: u8, row: &[u8], text: &mut Text) -> Option<Option<Prm
     }
 }
 
-fn last_in(row: &[u8]) -> Option<Option<Remembered>>
+fn last_in(row: &[u8]) -> Option<Option<Last>>
     ensures { result ≡ last_said (words_of row.now) }
 {
     let mut words = Words::new(row);
@@ -299,7 +301,7 @@ fn last_in(row: &[u8]) -> Option<Option<Remembered>>
     if words.next().is_some() {
         return None;
     }
-    Some(Some(Remembered {
+    Some(Some(Last {
         fcb: bit_in(fcb)?,
         reply: octets_word_in(reply)?,
     }))
@@ -307,12 +309,7 @@ fn last_in(row: &[u8]) -> Option<Option<Remembered>>
 
 /// Returns what the slave of this address, 0 to 255, remembers of this master, `Some(None)` if nothing, or None if the
 /// row is not the one that [`crate::set_last`] writes for it. `text` is a buffer.
-pub fn last_in_row(
-    address: u8,
-    master: u8,
-    row: &[u8],
-    text: &mut Text,
-) -> Option<Option<Remembered>>
+pub fn last_in_row(address: u8, master: u8, row: &[u8], text: &mut Text) -> Option<Option<Last>>
     ensures { result ≡ last_of_row address master row.now }
 {
     let last = last_in(row)?;

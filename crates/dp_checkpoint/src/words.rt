@@ -1,7 +1,6 @@
 //! Writing the words of a row.
 
-ghost use Rattle.std.specs.Prelude.{◌≡◌, ◌+◌, ◌*◌, ◌≤◌, ◌<◌, [], ◌∷◌, ◌++◌, codes, length, max, if◌then◌else◌};
-ghost use Rattle.std.specs.Fmt.{decimal};
+ghost use Rattle.std.specs.Prelude.{◌≡◌, ◌+◌, ◌*◌, ◌≤◌, ◌<◌, [], ◌∷◌, ◌++◌, length, max, if◌then◌else◌};
 ghost use Rattle.dp_text.specs.declared.text.TheConstants.{LONGEST};
 ghost use Rattle.dp_text.specs.Texts.{octets_text};
 ghost use Rattle.dp_checkpoint.specs.FieldWords.{bit_word, halted_word, none_word, off_word, optional_word};

@@ -9,13 +9,16 @@ ghost use Rattle.dp_checkpoint.specs.Rows.{spaced};
 ghost use Rattle.dp_checkpoint.specs.SlaveRows.{busy_word, data_words, diag_word, diag_words, last_words, modes_word, prm_values, prm_words, reqs_word, settings_words, standing_words};
 ghost use Rattle.dp_checkpoint.specs.Head.{header_words, running_words};
 
-use crate::slave_parts::{BusyMarks, DataPair, Remembered, Running, Settings, Standing};
+use crate::running::Running;
 use crate::words::{
     push_bit, push_flag, push_halted, push_octet_or_none, push_octets, push_time_or_none,
     push_time_or_off,
 };
 use dp_diag::Diag;
 use dp_prm::Prm;
+use dp_responder::Last;
+use dp_sap::BusyMarks;
+use dp_slave::{DataPair, Settings, Standing};
 use dp_text::Text;
 
 /// Sets the text to the header of a part: `rack-audit 3 line N from P`.
@@ -249,7 +252,7 @@ fn push_diag_flags(text: &mut Text, diag: &Diag)
 
 /// Sets the text to `last A M none`, or to `last A M FCB OCTETS`.
 #[tactic(auto, using(crate::proofs::Lengths::lengths))]
-pub fn set_last(text: &mut Text, address: u8, master: u8, last: &Option<Remembered>)
+pub fn set_last(text: &mut Text, address: u8, master: u8, last: &Option<Last>)
     ensures row { text.new ≡ spaced (last_words address master last.now) }
     ensures most { length text.new ≤ 525 }
 {
