@@ -1,7 +1,7 @@
 //! Clients of a line: what a program that lets a line take events, and looks at it, concludes from the contracts of
 //! the line and its laws only. The prover reads these functions, and nothing runs them.
 
-ghost use Rattle.std.specs.Prelude.{◌≡◌, ◌≢◌, ◌+◌, ℕ, List, [], ◌∷◌, length, true, false, None, Some, IfOk, option_map};
+ghost use Rattle.std.specs.Prelude.{◌≡◌, ◌≢◌, ◌+◌, ℕ, List, [], ◌∷◌, length, true, false, None, Some, IfOk, MatchResult, option_map};
 ghost use Rattle.std.specs.List.{AllByRecursion};
 ghost use Rattle.arrayvec.specs.ArrayVec.{ArrayVec as Vectors};
 ghost use Rattle.dp_telegram.specs.declared.frame.Frame.{Frame as Frames};
@@ -30,7 +30,7 @@ ghost use Rattle.dp_line.specs.Refusals.{IsUndone};
 ghost use Rattle.dp_line.specs.Isolation.{Agrees, MeetsNoLastPlace, only_requests_of, seen_by, watched};
 
 use dp_line::laws::take_each;
-use dp_line::{Event, LineSpec, LineState, Op, OpenFault, SlaveView, Step};
+use dp_line::{Event, LineSpec, LineState, Op, OpenFault, RestoreFault, SlaveView, Step};
 use std::alloc::Global;
 
 /// What is shown of a slave before and after an event, and the answer to the event.
@@ -144,6 +144,24 @@ pub fn open_and_take(
     let mut line = LineState::open(alloc, spec)?;
     take_each(&mut line, events);
     Ok(line)
+}
+
+/// Opens an endless line and lets it take events. Then another line goes on from it: this is never refused, and the other
+/// line is as the first one.
+pub fn go_on(
+    alloc: Global,
+    spec: &LineSpec,
+    events: &[Event],
+) -> Result<(LineState, Result<LineState, RestoreFault>), OpenFault>
+    ensures { IfOk result (λ lines. MatchResult lines.1 (λ other. other.world ≡ lines.0.world) (λ fault. fault ≡ RestoreFault.OutOfMemory)) }
+{
+    dp_line::laws::a_line_goes_on_from_each_of_its_worlds();
+    dp_line::bus_laws::a_line_keeps_its_description();
+    let mut line = LineState::open(alloc, spec)?;
+    line.lift_limit();
+    take_each(&mut line, events);
+    let other = LineState::restore(alloc, spec, line.count(), line.is_halted(), line.slaves());
+    Ok((line, other))
 }
 
 /// Opens a line, and lets it take events and then a request. If the request is a Chk_Cfg with the octets of a slave's

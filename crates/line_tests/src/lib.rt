@@ -24,6 +24,8 @@ mod fixtures;
 #[cfg(test)]
 mod globalctl_tests;
 #[cfg(test)]
+mod head_tests;
+#[cfg(test)]
 mod lines;
 #[cfg(test)]
 mod noise_tests;
@@ -39,6 +41,8 @@ mod rack_tests;
 mod request_tests;
 #[cfg(test)]
 mod responder_tests;
+#[cfg(test)]
+mod restore_tests;
 #[cfg(test)]
 mod rows;
 #[cfg(test)]
