@@ -5,7 +5,7 @@ use Rattle.dp_cable.specs.declared.pace.Pace.{Pace}
 abbrev pub first_pace : Pace
 first_pace = record { last = 0 }
 
--- the moment that is so many milliseconds after another, at the latest the last moment that there is
+-- the moment that comes a number of milliseconds after another, at the latest the last moment that there is
 abbrev pub moment_after : ℕ → ℕ → ℕ
 moment_after moment wait = min (moment + min (wait * 1000) (2 ^ 64 - 1)) (2 ^ 64 - 1)
 
