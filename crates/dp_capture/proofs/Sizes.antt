@@ -1,9 +1,9 @@
 -- The lengths of the parts of a block.
-use Rattle.std.proofs.Common.{◌≡◌, ℕ, ◌+◌, ◌-◌, ◌%◌, ◌≤◌, ◌<◌, min, List, [], ◌∷◌, ◌++◌, length, take, refl, sym, ap, ◌∙◌, arith, length-append, length-take, append_assoc}
+use Rattle.std.proofs.Common.{◌≡◌, ℕ, ◌+◌, ◌-◌, ◌%◌, ◌≤◌, ◌<◌, min, List, [], ◌∷◌, ◌++◌, length, take, refl, arith, length-append, length-take}
 use Rattle.std.specs.Prelude.{replicate}
 use Rattle.std.proofs.lemmas.List.{length-replicate, take-replicate, take_min}
 use Rattle.dp_capture.specs.declared.packet.Direction.{Direction}
-use Rattle.dp_capture.specs.Blocks.{PacketView, comment_kept, comment_option, direction_flags, end_of_options, flags_option, interface_body, packet_body, packet_data, packet_head, section_body, size_octets, time_octets, four, option_octets, padded, padding, pdu_tags, two}
+use Rattle.dp_capture.specs.Blocks.{PacketView, comment_kept, direction_flags, end_of_options, flags_option, interface_body, packet_body, packet_data, packet_head, section_body, size_octets, time_octets, four, option_octets, padded, padding, pdu_tags, two}
 
 pub length_two : (number : ℕ) → length (two number) ≡ 2
 unfolding two
