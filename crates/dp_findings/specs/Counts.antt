@@ -1,5 +1,5 @@
 -- How often a master broke each rule, and where first (own).
-use Rattle.std.specs.Prelude.{ℕ, ◌+◌, ◌-◌, ◌^◌, ◌==◌, min, not, ◌&&◌, if◌then◌else◌, Bool, true, false, List, [], ◌∷◌, ◌++◌, replicate, slice_index_or, slice_set}
+use Rattle.std.specs.Prelude.{ℕ, ◌+◌, ◌-◌, ◌^◌, ◌==◌, min, not, ◌&&◌, if◌then◌else◌, Bool, true, false, List, [], ◌∷◌, replicate, slice_index_or, slice_set}
 use Rattle.dp_judge.specs.declared.entry.Entry.{Entry}
 use Rattle.dp_judge.specs.declared.rule.JudgeRule.{JudgeRule}
 use Rattle.std.specs.List.{list_any}
