@@ -1,9 +1,7 @@
 //! Reads the entry of a master out of an event of a line and its outcome.
 
-ghost use Rattle.std.specs.Prelude.{◌≡◌, option_map};
-ghost use Rattle.dp_telegram.specs.Access.{address_of};
+ghost use Rattle.std.specs.Prelude.{◌≡◌};
 ghost use Rattle.dp_telegram.specs.FrameText.{frame_of};
-ghost use Rattle.dp_telegram.specs.Lent.{frame_lent};
 ghost use Rattle.dp_judge.specs.Reading.{entry_of_frame, entry_of_telegram, entry_of_token, entry_read, is_passed_on, request_of};
 
 use crate::answers::answer_of;
