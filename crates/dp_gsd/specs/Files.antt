@@ -6,8 +6,8 @@ use Rattle.dp_gsd.specs.Reading.{no_facts, after_line}
 use Rattle.dp_gsd.specs.declared.cause.Cause.{Cause}
 use Rattle.dp_gsd.specs.declared.cause.Cause.TheVariants.{NoHeading, NoEndModule, NoIdent}
 use Rattle.dp_gsd.specs.declared.cause.RowFault.{RowFault}
-use Rattle.dp_gsd.specs.declared.cause.GsdFault.{GsdFault}
-use Rattle.dp_gsd.specs.declared.cause.GsdFault.TheVariants as faults
+use Rattle.dp_gsd.specs.declared.cause.GsdReadFault.{GsdReadFault}
+use Rattle.dp_gsd.specs.declared.cause.GsdReadFault.TheVariants as faults
 use Rattle.dp_gsd.specs.declared.facts.Facts.{Facts}
 use Rattle.dp_gsd.specs.declared.facts.Module.{Module}
 use Rattle.dp_gsd.specs.declared.facts.Next.TheVariants as nexts
@@ -78,6 +78,6 @@ abbrev pub file_in : Gsd → File
 file_in gsd = record { facts = gsd.facts; ident = gsd.ident; modules = gsd.modules.items }
 
 -- reading ended with this fault: the file has it, or memory ran out
-abbrev pub Fails : {A : Type 0} → Result A RowFault → GsdFault → Type 0
+abbrev pub Fails : {A : Type 0} → Result A RowFault → GsdReadFault → Type 0
 Fails read faults.OutOfMemory = Unit {0}
 Fails read (faults.Row fault) = read ≡ Err fault

@@ -22,7 +22,7 @@ ends_quoted quoted (octet ∷ octets) = ends_quoted (quoted_after quoted octet) 
 abbrev pub begins_comment : Bool → ℕ → Bool
 begins_comment quoted octet = not quoted && octet == 59
 
--- one octet before so many: a blank before nothing is nothing
+-- the number of octets that are kept with one more in front of them: a blank in front of none is not kept
 abbrev pub with_octet : ℕ → ℕ → ℕ
 with_octet octet count = if count == 0 && is_blank octet then 0 else count + 1
 

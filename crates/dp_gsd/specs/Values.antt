@@ -16,7 +16,7 @@ digit_of base octet =
     else if base == 16 && nat_le 65 octet && nat_le octet 70 then Some (octet - 55)
     else None
 
--- a number and one more digit; numbers above 1,000,000 are not told apart
+-- a number and one more digit; a larger one is read as 1,000,000
 abbrev pub with_digit : ℕ → ℕ → Option ℕ → Option ℕ
 with_digit base number None = None
 with_digit base number (Some digit) =

@@ -61,7 +61,7 @@ pub struct RowFault {
 
 /// A reason why a GSD file isn't read.
 #[derive(Clone, Copy, Debug, PartialEq, Eq, Error)]
-pub enum GsdFault {
+pub enum GsdReadFault {
     /// Memory ran out.
     #[error("out of memory")]
     OutOfMemory,

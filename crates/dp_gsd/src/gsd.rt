@@ -1,12 +1,11 @@
 //! Reads a GSD file.
 
 ghost use Rattle.std.specs.Prelude.{◌≡◌, ◌<◌, ◌+◌, ◌∷◌, [], Ok, IfOk, IfErr, IfSome, length, position, MatchOption};
-ghost use Rattle.std.specs.List.{slice_split};
-ghost use Rattle.dp_gsd.specs.Files.{read_from, start, is_lf, lines_of, gsd_of, file_in, file_of, with_ended, Fails};
+ghost use Rattle.dp_gsd.specs.Files.{is_lf, lines_of, gsd_of, file_in, file_of, with_ended, Fails};
 ghost use Rattle.dp_gsd.specs.Steps.{seen};
-ghost use Rattle.dp_gsd.specs.declared.cause.GsdFault.TheVariants.{Row, OutOfMemory};
+ghost use Rattle.dp_gsd.specs.declared.cause.GsdReadFault.TheVariants.{Row, OutOfMemory};
 
-use crate::cause::{Cause, GsdFault, RowFault};
+use crate::cause::{Cause, GsdReadFault, RowFault};
 use crate::facts::{Facts, Module, Next, State};
 use crate::state::after_line;
 use std::alloc::Global;
@@ -50,10 +49,10 @@ fn first_line(text: &[u8]) -> (&[u8], Option<&[u8]>)
 }
 
 /// Returns the fault of the line with this number.
-fn at_row(row: usize, cause: Cause) -> GsdFault
+fn at_row(row: usize, cause: Cause) -> GsdReadFault
     ensures { result ≡ Row (record { row = row; cause = cause }) }
 {
-    GsdFault::Row(RowFault { row, cause })
+    GsdReadFault::Row(RowFault { row, cause })
 }
 
 /// Returns what a file says whose lines have been read, or the fault of the whole file.
@@ -77,7 +76,7 @@ fn finished(state: State, modules: Vec<Module>) -> Result<Gsd, Cause>
 }
 
 /// Returns the modules and the one that has ended, if there is one; `OutOfMemory` if memory runs out.
-fn with_ended(modules: Vec<Module>, ended: Option<Module>) -> Result<Vec<Module>, GsdFault>
+fn with_ended(modules: Vec<Module>, ended: Option<Module>) -> Result<Vec<Module>, GsdReadFault>
     ensures ok { IfOk result (λ more. more.items ≡ with_ended modules.items ended) }
     ensures err { IfErr result (λ fault. fault ≡ OutOfMemory) }
 {
@@ -86,7 +85,7 @@ fn with_ended(modules: Vec<Module>, ended: Option<Module>) -> Result<Vec<Module>
         None => Ok(more),
         Some(module) => match more.push(module) {
             Ok(()) => Ok(more),
-            Err(_) => Err(GsdFault::OutOfMemory),
+            Err(_) => Err(GsdReadFault::OutOfMemory),
         },
     }
 }
@@ -96,7 +95,7 @@ fn with_ended(modules: Vec<Module>, ended: Option<Module>) -> Result<Vec<Module>
 /// or CR LF. If a key stands twice, the last one counts.
 ///
 /// Returns the first line that isn't accepted with its cause. `OutOfMemory` may come instead of each result.
-pub fn read_gsd(alloc: Global, text: &[u8]) -> Result<Gsd, GsdFault>
+pub fn read_gsd(alloc: Global, text: &[u8]) -> Result<Gsd, GsdReadFault>
     ensures ok { IfOk result (λ gsd. gsd_of text.now ≡ Ok (file_in gsd)) }
     ensures err { IfErr result (Fails (gsd_of text.now)) }
 {

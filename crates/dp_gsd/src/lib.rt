@@ -16,7 +16,7 @@ mod state;
 mod values;
 mod writing;
 
-pub use cause::{Cause, GsdFault, RowFault};
+pub use cause::{Cause, GsdReadFault, RowFault};
 pub use facts::{Facts, LeftOut, Module};
 pub use gsd::{Gsd, read_gsd};
 pub use plugged::{PlugFault, PluggedSlave, module_named, plugged_slave};

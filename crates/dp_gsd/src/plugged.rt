@@ -1,12 +1,10 @@
 //! The slave that plugged modules of a GSD file make.
 
-ghost use Rattle.std.specs.Prelude.{◌≡◌, ◌≤◌, length, map, nat_eq, unwrap_or, Some, None};
+ghost use Rattle.std.specs.Prelude.{◌≡◌, ◌≤◌, length, map, unwrap_or, Some, None};
 ghost use Rattle.std.specs.Option.{option_map};
-ghost use Rattle.std.specs.Cmp.Lexicographic.{pointwise};
-ghost use Rattle.dp_cfg.specs.Reading.{reading_of, input_octets, output_octets};
 ghost use Rattle.dp_gsd.specs.Files.{file_in};
 ghost use Rattle.dp_gsd.specs.Steps.{seen};
-ghost use Rattle.dp_gsd.specs.Plugged.{module_named, joined, plug, plug_named, plug_preset, plug_only, has_preset, plug_unnamed, plugged_of, fits, fits_by, user_most, slave_by, plugged_slave, nothing_plugged};
+ghost use Rattle.dp_gsd.specs.Plugged.{module_named, joined, plug, plug_named, plug_preset, plug_only, has_preset, plug_unnamed, plugged_of, fits, fits_by, plugged_slave};
 
 use crate::facts::{Facts, LeftOut, Module};
 use crate::gsd::Gsd;

@@ -1,6 +1,6 @@
 //! The largest lengths of the data of a slave's configurations.
 
-ghost use Rattle.std.specs.Prelude.{◌≡◌, ◌≤◌};
+ghost use Rattle.std.specs.Prelude.{◌≡◌};
 ghost use Rattle.dp_gsd.specs.GsdText.{sizes_of, sizes_read, larger};
 ghost use Rattle.dp_cfg.specs.Reading.{reading_of};
 

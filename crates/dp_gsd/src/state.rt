@@ -2,7 +2,7 @@
 
 ghost use Rattle.std.specs.Prelude.{◌≡◌};
 ghost use Rattle.std.specs.Option.{option_map};
-ghost use Rattle.dp_gsd.specs.Reading.{with_number, with_left, next_of, octets_next_of, step_to, begin_module, begun, end_module, preset_module, after_kind, after_body, after_heading, after_row, after_octets, after_code, after_line};
+ghost use Rattle.dp_gsd.specs.Reading.{with_number, with_left, next_of, octets_next_of, step_to, begin_module, end_module, preset_module, after_kind, after_body, after_heading, after_row, after_octets, after_line};
 
 use crate::cause::Cause;
 use crate::facts::{Facts, LeftOut, Module, Next, State, Step};

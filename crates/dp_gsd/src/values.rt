@@ -1,10 +1,10 @@
 //! The values of a GSD file: numbers, octets and names.
 
-ghost use Rattle.std.specs.Prelude.{◌≡◌, ◌≤◌, ◌<◌, ◌==◌, ◌∷◌, position, IfOk, IfSome, Some, length, map, MatchOption, []};
+ghost use Rattle.std.specs.Prelude.{◌≡◌, ◌≤◌, ◌<◌, ◌==◌, ◌∷◌, position, IfSome, Some, length, MatchOption, []};
 ghost use Rattle.std.specs.List.{slice_split};
 ghost use Rattle.std.specs.Option.{option_map};
 ghost use Rattle.dp_gsd.specs.Steps.{seen};
-ghost use Rattle.dp_gsd.specs.Values.{digit_of, with_digit, with_digits, digits_number, has_hex_mark, number_of, number_to, number_within, is_separator, with_octet_more, with_word, with_words, with_octets, utf8_of, with_character, name_from, name_in};
+ghost use Rattle.dp_gsd.specs.Values.{digit_of, with_digit, with_digits, digits_number, has_hex_mark, number_of, number_to, is_separator, with_octet_more, with_word, with_octets, utf8_of, with_character, name_from, name_in};
 
 use crate::cause::Cause;
 use crate::rows::is_blank;
@@ -14,7 +14,7 @@ use dp_slave::Configuration;
 /// The most octets of the name of a module, in UTF-8.
 pub const MOST_NAME: usize = 128;
 
-/// The largest number that is told apart from larger ones.
+/// The largest number that a value may be: larger ones are read as this one.
 const LARGEST: u32 = 1_000_000;
 
 /// The name of a module, in UTF-8.

@@ -2,7 +2,7 @@
 
 ghost use Rattle.std.specs.Prelude.{◌≡◌, ◌+◌, ◌++◌, ◌<◌, ◌≤◌, true, OnOk, IfOk, length};
 ghost use Rattle.std.specs.Fmt.{decimal, digit_glyph};
-ghost use Rattle.dp_gsd.specs.GsdText.{number_line, text_line, hex_2, flag, octets_text, modules_text, module_text, ident_line, head_text, revision_text, kind_text, rates_text, times_text, cable_text, names_text, fixed_text, modes_text, sizes_text, is_modular, gsd_text};
+ghost use Rattle.dp_gsd.specs.GsdText.{number_line, text_line, hex_2, flag, octets_text, modules_text, module_text, ident_line, head_text, revision_text, kind_text, rates_text, times_text, cable_text, names_text, fixed_text, modes_text, sizes_text, gsd_text};
 
 use crate::sizes::{Sizes, sizes_of};
 use dp_slave::{Configuration, SlaveSpec};

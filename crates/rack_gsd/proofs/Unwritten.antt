@@ -1,5 +1,5 @@
 -- A run that fails before it writes leaves its writer as it was.
-use Rattle.std.proofs.Common.{◌≡◌, ℕ, List, Option, Result, Err, refl, inr}
+use Rattle.std.proofs.Common.{ℕ, List, Option, Result, Err, refl, inr}
 use Rattle.rack_gsd.specs.declared.fault.GsdFault.{GsdFault}
 use Rattle.rack_gsd.specs.declared.fault.GsdFault.TheVariants as gsd
 use Rattle.rack_gsd.specs.declared.fault.SlaveFault.{SlaveFault}

@@ -1,16 +1,14 @@
 -- What `rackd gsd` writes (own).
-use Rattle.std.specs.Prelude.{◌≡◌, codes, ℕ, ◌==◌, ◌⊎◌, List, [], ◌∷◌, find, Option, Some, None, unwrap_or, Result, Ok, Err}
+use Rattle.std.specs.Prelude.{◌≡◌, codes, ℕ, ◌==◌, ◌⊎◌, List, find, Option, Some, None, unwrap_or, Result, Ok, Err}
 use Rattle.std.specs.Io.KnownBytes.{Appends}
 use Rattle.dp_text.specs.Writes.{WritesPrefix}
 use Rattle.dp_slave.specs.declared.description.SlaveSpec.{SlaveSpec}
 use Rattle.dp_line.specs.World.{described_at}
-use Rattle.rack_file.specs.declared.fault.RackFault.{RackFault}
 use Rattle.rack_file.specs.Rack.{RackDescription, LineDescription}
 use Rattle.rack_file.specs.RackFile.{rack_in}
 use Rattle.dp_gsd.specs.Steps.{◌>>=◌}
 use Rattle.dp_gsd.specs.GsdText.{gsd_text}
 use Rattle.rack_gsd.specs.Names.{latin_of}
-use Rattle.rack_gsd.specs.declared.fault.NameFault.{NameFault}
 use Rattle.rack_gsd.specs.declared.fault.GsdFault.{GsdFault}
 use Rattle.rack_gsd.specs.declared.fault.GsdFault.TheVariants.{OutOfMemory, WriteFault, Vendor, Model, Rack, NoLine, NoSlave}
 

@@ -1,6 +1,6 @@
 //! The names of vendors and models, in ISO 8859-1.
 
-ghost use Rattle.std.specs.Prelude.{◌≡◌, length, Some, ◌<◌};
+ghost use Rattle.std.specs.Prelude.{◌≡◌, Some, ◌<◌};
 ghost use Rattle.dp_gsd.specs.Steps.{seen};
 ghost use Rattle.rack_gsd.specs.Names.{name_fault_of, with_character, two_octets, latin_from, latin_of};
 

@@ -7,7 +7,7 @@ ghost use Rattle.rack_gsd.specs.SlaveRuns.{first_unknown, first_near, nearest, r
 
 use crate::fault::SlaveFault;
 use crate::slave_text::slave_text;
-use dp_gsd::{Gsd, GsdFault, Module, PlugFault, module_named, plugged_slave, read_gsd};
+use dp_gsd::{Gsd, GsdReadFault, Module, PlugFault, module_named, plugged_slave, read_gsd};
 use dp_text::{Text, write_whole};
 use std::alloc::{AllocError, Global};
 use std::io::Write;
@@ -119,8 +119,8 @@ fn text_of(alloc: Global, gsd: &[u8], names: &[&str]) -> Result<Text, SlaveFault
 {
     let file = match read_gsd(alloc, gsd) {
         Ok(file) => file,
-        Err(GsdFault::OutOfMemory) => return Err(SlaveFault::OutOfMemory),
-        Err(GsdFault::Row(fault)) => return Err(SlaveFault::Row(fault)),
+        Err(GsdReadFault::OutOfMemory) => return Err(SlaveFault::OutOfMemory),
+        Err(GsdReadFault::Row(fault)) => return Err(SlaveFault::Row(fault)),
     };
     match plugged_slave(&file, names) {
         Ok(slave) => Ok(slave_text(&slave)),

@@ -1,7 +1,7 @@
 //! A slave as a table of a rack file.
 
 ghost use Rattle.std.specs.Prelude.{◌≡◌, ◌+◌, ◌≤◌, ◌++◌, length};
-ghost use Rattle.rack_gsd.specs.SlaveText.{truth_text, truth_row, ident_row, cfg_row, user_max_row, left_row, left_rows, head_rows, slave_text};
+ghost use Rattle.rack_gsd.specs.SlaveText.{truth_row, ident_row, cfg_row, user_max_row, left_row, left_rows, slave_text};
 
 use dp_gsd::{LeftOut, PluggedSlave};
 use dp_text::Text;
