@@ -1,23 +1,22 @@
 -- The packets of rows that were taken so far.
-use Rattle.std.proofs.Common.{◌≡◌, ℕ, ◌+◌, Bool, true, false, cond, List, [], ◌∷◌, ◌++◌, Option, Some, None, Result, Ok, Err, refl, sym, ap, subst, ◌∙◌, append_assoc}
+use Rattle.std.proofs.Common.{◌≡◌, ℕ, Bool, true, false, cond, List, [], ◌∷◌, ◌++◌, Option, Some, None, Result, Ok, Err, refl, sym, ap, subst, ◌∙◌, append_assoc}
 use Rattle.std.specs.Io.KnownBytes.{Appends}
 use Rattle.std.proofs.lemmas.Grind.{flat_map-append}
 use Rattle.std.proofs.lemmas.List.{append-nil}
 use Rattle.dp_line.specs.declared.event.Event.{Event}
 use Rattle.dp_line.specs.World.{Description, World}
-use Rattle.dp_text.specs.Words.{lines_of}
 use Rattle.dp_text.specs.Writes.{WritesPrefix}
 use Rattle.dp_audit.specs.FirstWrong.{HasNoLf}
 use Rattle.dp_audit.specs.declared.fault.AuditFault.{AuditFault}
 use Rattle.dp_audit.specs.Check.{Judged, bad, not_the_policy, right, is_accepted_header, judged_line, places_of_header}
-use Rattle.dp_audit.proofs.Written.{appends_more, front_prefix, more_prefix, none_written}
+use Rattle.dp_audit.proofs.Written.{appends_more, front_prefix, more_prefix}
 use Rattle.dp_capture.specs.Blocks.{Block, block_octets, capture_octets}
 use Rattle.dp_explain.specs.Explained.{known_behind}
 use Rattle.dp_explain.specs.Followed.{FollowerView, after_row, event_unless, first_follower, first_wrong, following, whole_rows}
 use Rattle.dp_explain.specs.Known.{KnownView, first_known, known_after}
 use Rattle.dp_explain.specs.TextRows.{TextRead, lf_if, octets_read}
 use Rattle.dp_explain.proofs.CheckedRows.{AreRight, right_with_row}
-use Rattle.dp_explain.proofs.ReadLines.{AreRows, HasFirst, has_first, last_lines, lines_are, rows_before_last, whole_rows_more, with_row}
+use Rattle.dp_explain.proofs.ReadLines.{AreRows, has_first, last_lines, lines_are, rows_before_last, whole_rows_more, with_row}
 use Rattle.dp_explain.proofs.ReadRows.{behind_header}
 use Rattle.dp_explain.proofs.WrongRow.{any_choice}
 use Rattle.rack_capture.specs.declared.row_fault.Cut.{Cut}

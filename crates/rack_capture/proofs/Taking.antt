@@ -1,5 +1,5 @@
 -- A row that a line and a follower take.
-use Rattle.std.proofs.Common.{◌≡◌, ℕ, ◌+◌, List, [], ◌∷◌, ◌++◌, Option, Some, None, Result, Ok, Err, refl, sym, ap, subst, ◌∙◌}
+use Rattle.std.proofs.Common.{◌≡◌, ℕ, ◌+◌, List, [], ◌++◌, Option, Some, None, Result, Ok, Err, refl, sym, ap, subst, ◌∙◌}
 use Rattle.std.specs.Io.KnownBytes.{Appends}
 use Rattle.dp_line.specs.declared.event.Event.{Event}
 use Rattle.dp_line.specs.declared.event.Outcome.{Outcome}
@@ -16,10 +16,9 @@ use Rattle.dp_audit.proofs.Written.{none_written}
 use Rattle.dp_capture.specs.Blocks.{Block, capture_octets}
 use Rattle.dp_sentences.specs.Scenes.{SceneView}
 use Rattle.dp_explain.specs.declared.choice.Choice.{Choice}
-use Rattle.dp_explain.specs.declared.follow_fault.FollowFault.{FollowFault}
 use Rattle.dp_explain.specs.declared.follow_fault.FollowFault.TheVariants as follows
-use Rattle.dp_explain.specs.Explained.{known_behind, reported_row}
-use Rattle.dp_explain.specs.Followed.{FollowerView, FollowsRow, after_row, event_taken, event_unless, first_wrong, following, text_of_row}
+use Rattle.dp_explain.specs.Explained.{reported_row}
+use Rattle.dp_explain.specs.Followed.{FollowerView, FollowsRow, after_row, event_taken, event_unless, following, text_of_row}
 use Rattle.dp_explain.specs.Known.{KnownView, known_after}
 use Rattle.rack_capture.specs.declared.row_fault.Cut.{Cut}
 use Rattle.rack_capture.specs.declared.row_fault.RowFault.{RowFault}

@@ -1,6 +1,5 @@
 -- What is left when the capture of a text ends.
 use Rattle.std.proofs.Common.{◌≡◌, ℕ, ◌+◌, Bool, true, false, List, [], ◌∷◌, ◌++◌, Option, Some, None, Result, Ok, Err, refl, sym, ap, subst, ◌∙◌}
-use Rattle.std.specs.Prelude.{IsUtf8}
 use Rattle.std.specs.Io.KnownBytes.{Appends}
 use Rattle.std.proofs.lemmas.List.{append-nil}
 use Rattle.dp_line.specs.World.{Description, World}
@@ -13,9 +12,7 @@ use Rattle.dp_audit.proofs.Written.{appends_more, front_prefix, more_prefix}
 use Rattle.dp_capture.specs.Blocks.{Block, capture_octets}
 use Rattle.dp_explain.specs.declared.read_fault.ReadFault.{ReadFault}
 use Rattle.dp_explain.specs.declared.read_fault.ReadFault.TheVariants as reads
-use Rattle.dp_explain.specs.Explained.{known_behind, verdict_status}
 use Rattle.dp_explain.specs.Followed.{FollowerView, after_row, first_wrong, verdict_by}
-use Rattle.dp_explain.specs.Known.{known_after}
 use Rattle.dp_explain.specs.TextRows.{TextRead, lf_if, octets_read}
 use Rattle.dp_explain.proofs.CheckedRows.{judged_at_end, judged_wrong}
 use Rattle.dp_explain.proofs.ReadRows.{no_header, not_whole}

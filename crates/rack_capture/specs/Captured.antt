@@ -17,7 +17,7 @@ use Rattle.dp_explain.specs.Known.{KnownView, first_known, known_after, outcome_
 use Rattle.rack_file.specs.Rack.{LineDescription, RackDescription}
 use Rattle.dp_capture.specs.declared.packet.Direction.{Direction}
 use Rattle.dp_capture.specs.declared.packet.Direction.TheVariants.{Inbound, Outbound, Unknown}
-use Rattle.dp_capture.specs.Blocks.{Block, capture_octets, interface, packet, section}
+use Rattle.dp_capture.specs.Blocks.{Block, interface, packet, section}
 use Rattle.dp_script.specs.Checks.{line_named}
 use Rattle.rack_capture.specs.Comments.{comment_of}
 

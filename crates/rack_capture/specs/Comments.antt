@@ -1,5 +1,5 @@
 -- The comments of packets (own).
-use Rattle.std.specs.Prelude.{codes, ℕ, ◌==◌, if◌then◌else◌, List, [], ◌∷◌, ◌++◌, length, drop}
+use Rattle.std.specs.Prelude.{codes, ℕ, if◌then◌else◌, List, [], ◌∷◌, ◌++◌, drop}
 use Rattle.std.specs.Fmt.{decimal}
 use Rattle.std.specs.List.{flat_map}
 use Rattle.dp_responder.specs.Rules.{rule_name}
@@ -18,17 +18,17 @@ spaced_word (octet ∷ octets) = 32 ∷ octet ∷ octets
 abbrev pub spaced : List (List ℕ) → List ℕ
 spaced words = flat_map spaced_word words
 
--- what a row of an explanation tells about the result, by the label that stands after seven spaces: the sentence; for a request to all slaves also
+-- what a row of an explanation says of the result, by the label that stands after seven spaces: the sentence; for a request to all slaves also
 -- the answer of each slave, after `slave` and its address
-abbrev pub told_words : List (List ℕ) → List ℕ
-told_words [] = []
-told_words (label ∷ words) =
+abbrev pub result_in_words : List (List ℕ) → List ℕ
+result_in_words [] = []
+result_in_words (label ∷ words) =
     if same_text label (codes "result") then spaced words
     else if same_text label (codes "slave") then spaced_word label ++ spaced words
     else []
 
-abbrev pub told_row : List ℕ → List ℕ
-told_row row = told_words (words_of (drop 7 row))
+abbrev pub result_in_row : List ℕ → List ℕ
+result_in_row row = result_in_words (words_of (drop 7 row))
 
 -- the answer to a request in one word: its rule, if one rule answered it
 abbrev pub answer_word : Outcome → List ℕ
@@ -48,4 +48,4 @@ comment_front place (Operator op) outcome head = codes "place" ++ spaced (words_
 -- the comment of an entry, by the rows of its explanation
 abbrev pub comment_of : ℕ → Event → Outcome → List (List ℕ) → List ℕ
 comment_of place event outcome rows =
-    comment_front place event outcome (first_of rows) ++ codes ":" ++ flat_map told_row (drop 1 rows)
+    comment_front place event outcome (first_of rows) ++ codes ":" ++ flat_map result_in_row (drop 1 rows)

@@ -2,7 +2,7 @@
 //!
 //! A text that is not legal gives the packets before its first wrong row.
 
-ghost use Rattle.std.specs.Prelude.{◌≡◌, ◌∷◌, ◌<◌, ◌≤◌, ◌^◌, true, false, [], None, All, IfSome, OnOk, length};
+ghost use Rattle.std.specs.Prelude.{◌≡◌, ◌∷◌, ◌<◌, ◌^◌, true, false, [], None, All, IfSome, OnOk, length};
 ghost use Rattle.dp_line.specs.World.{description_of, opening_fault};
 ghost use Rattle.dp_audit.specs.Check.{checked};
 ghost use Rattle.dp_capture.specs.Blocks.{capture_octets};

@@ -3,8 +3,7 @@
 ghost use Rattle.std.specs.Prelude.{◌≡◌, ◌++◌, ◌≤◌, drop, length, OnOk};
 ghost use Rattle.std.specs.List.{flat_map};
 ghost use Rattle.dp_text.specs.Words.{lines_of};
-ghost use Rattle.dp_explain.specs.JsonRows.{first_of};
-ghost use Rattle.rack_capture.specs.Comments.{answer_word, comment_front, comment_of, spaced_word, told_row};
+ghost use Rattle.rack_capture.specs.Comments.{answer_word, comment_front, comment_of, spaced_word, result_in_row};
 
 use dp_line::{Event, Outcome};
 use dp_text::{Lines, Text, Words, is_text};
@@ -32,7 +31,7 @@ pub(crate) fn set_comment(
     comment.clear();
     push_front(comment, place, event, outcome, head)?;
     comment.extend_from_slice(b":")?;
-    push_told(comment, &mut rows)
+    push_results(comment, &mut rows)
 }
 
 /// Appends the front of a comment: the place and the answer to a request, or the first row of an event of the operator.
@@ -77,18 +76,18 @@ fn answer_name(outcome: &Outcome) -> &'static str
 }
 
 /// Appends the results in these rows. `AllocError` if memory runs out.
-fn push_told(comment: &mut Vec<u8>, rows: &mut Lines<'_>) -> Result<(), AllocError>
-    ensures { OnOk result (comment.new.items ≡ comment.old.items ++ flat_map told_row rows.old) }
+fn push_results(comment: &mut Vec<u8>, rows: &mut Lines<'_>) -> Result<(), AllocError>
+    ensures { OnOk result (comment.new.items ≡ comment.old.items ++ flat_map result_in_row rows.old) }
 {
     while let Some(row) = rows.next() {
-        push_told_row(comment, row)?;
+        push_result(comment, row)?;
     }
     Ok(())
 }
 
 /// Appends the result in a row, if it has one. `AllocError` if memory runs out.
-fn push_told_row(comment: &mut Vec<u8>, row: &[u8]) -> Result<(), AllocError>
-    ensures { OnOk result (comment.new.items ≡ comment.old.items ++ told_row row.now) }
+fn push_result(comment: &mut Vec<u8>, row: &[u8]) -> Result<(), AllocError>
+    ensures { OnOk result (comment.new.items ≡ comment.old.items ++ result_in_row row.now) }
 {
     let mut words = Words::new(behind(row));
     let Some(label) = words.next() else {

@@ -1,6 +1,6 @@
 //! The entries of a text, one after another.
 
-ghost use Rattle.std.specs.Prelude.{◌≡◌, None, MatchResult, IfOk, OnOk};
+ghost use Rattle.std.specs.Prelude.{◌≡◌, None, IfOk, OnOk};
 ghost use Rattle.dp_line.specs.World.{description_of, opening_fault};
 ghost use Rattle.dp_text.specs.Words.{lines_of};
 ghost use Rattle.dp_audit.specs.Check.{judged_line};
