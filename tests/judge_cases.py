@@ -547,6 +547,27 @@ def try_retries(program, folder):
     expect("retries with FCV 0", ([], 0), findings(program, folder))
 
 
+def try_stages(program, folder):
+    """A slave repeats its answer also to the FCB of a first request, and can be lost before its first Data_Exchange."""
+    script = []
+    master = Master(script)
+    master.diag()
+    master.fcb[5] ^= 1
+    place = master.set_prm()
+    audit_of(program, folder, script)
+    expect("the FCB of a first request", ([("fcb-repeated", 1, place)], 1), findings(program, folder))
+    script = []
+    master = Master(script)
+    master.bring_up(status=0x88, factors=(2, 5))
+    script.append("tick 5")
+    master.request(5, 59)
+    script.append("tick 5")
+    master.exchange()
+    place = master.exchange()
+    audit_of(program, folder, script)
+    expect("a slave that was ready is lost", ([("exchange-after-rs", 1, place)], 1), findings(program, folder))
+
+
 def try_words(program, folder):
     """Words that are wrong."""
     audit_of(program, folder, [])
@@ -596,7 +617,7 @@ def main():
     program = sys.argv[1]
     with tempfile.TemporaryDirectory() as name:
         folder = Path(name)
-        for trial in (try_rules, try_forms, try_masters, try_retries, try_words, try_texts):
+        for trial in (try_rules, try_forms, try_masters, try_retries, try_stages, try_words, try_texts):
             trial(program, folder)
     print(f"{passed} passed, {failed} failed")
     return 1 if failed else 0
