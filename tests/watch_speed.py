@@ -25,7 +25,9 @@ from watch_client import Folder, Watched, polls, state_at, tick_rack, ticks
 RATE, WRITES, SECONDS, REQUESTS, PATIENCE = 5_000, 50, 20, 20, 10
 TEXT = "line-1-1.000001.audit"
 # Sessions, the requests of all sessions of a round, the rounds of which the best counts, and the requests that are sent at once.
-SESSIONS, ROUND, ROUNDS, AT_ONCE = (1, 2, 4, 8), 384_000, 5, 16
+SESSIONS, ROUND, ROUNDS, AT_ONCE = (1, 2, 4), 2_048_000, 4, 16
+# Seconds that an opened page has until a round begins, so that the round has none of the work of opening it.
+SETTLED = 3
 
 
 def used(process):
@@ -125,8 +127,11 @@ def served_rate(program, folder, sessions, tab, asks=False):
                 process.stdout.readline()
                 if tab:
                     tab.open(url)
+                    if not tab.wait("document.querySelector('#slaves td') !== null", PATIENCE):
+                        sys.exit("the page shows no slave")
                 if asks:
                     asker = ask_for_state(int(url.rstrip("/").rpartition(":")[2]))
+                time.sleep(SETTLED)
                 return rate(rack, sessions)
             finally:
                 if tab:
