@@ -237,7 +237,7 @@ class Runs(Suite):
         rack = "".join(f"[[line]]\nnumber = {number}\ncapacity = 16416\nmasters = [1, 2]\nlisten = 0\noperator = 0\n"
                        '[[line.slave]]\naddress = 5\nident = 0x80A1\ncfg = "2111"\n' for number in (1, 2))
         self.scenario("one", HEAD + f"RACK = {rack!r}\ndef run(bus):\n    bus.start()\n    bus.exchanges(5)\n"
-                      "    bus.put(2)\n    bus.request(5, None, 'NotActive')\n")
+                      "    bus.put(2)\n    bus.request(5, None, 'NotActive', first=1)\n")
         goes_on = ("master.bring_up(5, slave['ident'], cfg)\nwhile True:\n    try:\n"
                    "        master.data_exchange(5, bytes(2))\n    except rackd.RS:\n        time.sleep(60)\n")
         self.assert_failed(self.own(*self.master(MASTER + goes_on)),
