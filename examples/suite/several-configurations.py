@@ -1,4 +1,4 @@
-"""Slaves that may be plugged in several ways are configured as the master is told."""
+"""Slaves that may be plugged in several ways are configured as the master's environment says."""
 from rackd.suite import Bus, Slave
 
 SLAVES = [Slave(5, cfg="2010", outputs="12", mirror=True), Slave(6, cfg="2111", outputs="5678")]
