@@ -2,7 +2,8 @@
 # Makes each call that takes memory: with ample memory it succeeds; then each of its allocations fails in turn, and no
 # other, until the call succeeds at once; and each start of a worker of the pool is refused. The program of
 # crates/memory_calls makes the call that its word names, once more if it was refused, and its status is the result;
-# `rt ci`, or `rt run` in its folder, builds it. MEMORY_CALLS names another program. The last line is 'N passed, M failed'.
+# `rt ci`, or `rt run` in its folder, builds it. MEMORY_CALLS names another program. Cases run side by side. The last line is
+# 'N passed, M failed'.
 set -u
 top=$(cd "$(dirname "$0")/.." && pwd)
 program=${MEMORY_CALLS:-$top/crates/memory_calls/out/memory_calls}
@@ -11,17 +12,18 @@ refuse=$top/tests/refuse_threads.py
 calls=(line book endless-book check-text shared-line endless-line claims pool rack script check)
 # Seconds that a run may take.
 limit=20
-passed=0
-failed=0
+work=$(mktemp -d)
+trap 'rm -rf "$work"' EXIT
+. "$top/tests/beside.sh"
 if [ ! -x "$program" ]; then
   echo "there is no program $program"
   echo '0 passed, 1 failed'
   exit 1
 fi
 
-# pass TEXT, fail TEXT: counts a case
-pass() { passed=$((passed + 1)); echo "ok $1"; }
-fail() { failed=$((failed + 1)); echo "FAILED $1"; }
+# pass TEXT, fail TEXT: the row of a case
+pass() { echo "ok $1"; }
+fail() { echo "FAILED $1"; }
 
 # run COMMAND..: runs a command, and sets status to its exit status
 run() {
@@ -86,14 +88,14 @@ start() {
   fi
 }
 
-for word in "${calls[@]}"; do ample_memory "$word"; done
+for word in "${calls[@]}"; do beside ample_memory "$word"; done
 
 # 98: no program may be followed here
 python3 "$fail_one" 1 "$program" line >/dev/null 2>&1
 if [ $? = 98 ]; then
   echo 'no program can be followed here: no allocation fails'
 else
-  for word in "${calls[@]}"; do in_turn "$word"; done
+  for word in "${calls[@]}"; do beside in_turn "$word"; done
 fi
 
 # the pool has two workers
@@ -101,8 +103,7 @@ fi
 if [ $? = 98 ]; then
   echo 'threads cannot be refused here'
 else
-  for started in 0 1; do start "$started"; done
+  for started in 0 1; do beside start "$started"; done
 fi
 
-echo "$passed passed, $failed failed"
-[ "$failed" = 0 ]
+rows
