@@ -17,7 +17,7 @@ set 5 60 0 0 -f-
 prm 5 100 -f 60 3 0aff
 in 5 aa55 aa54
 out 5 0102 0102
-diag 5 e--u--- 0407
+diag 5 e--u-c- 0407
 last 5 1 1 6805056801050aaa540e16
 last 5 2 none
 ";
