@@ -1,0 +1,212 @@
+//! Parts of endless texts: accepted, and refused at their first wrong row.
+
+use arrayvec::ArrayVec;
+use dp_audit::AuditFault;
+use dp_line::{LineSpec, LineState};
+use dp_parts::check_parts;
+use dp_sap::Lists;
+use dp_slave::{Device, SlaveSpec};
+use std::alloc::Global;
+use std::test::Fail;
+
+/// A head of line 7 with slave 5, rows 1 to 10.
+const HEAD: &str = "\
+rack-audit 3 line 7 from 7160
+line running 18929
+slave 5 DataExch 1 4 95 -----d--
+set 5 60 0 0 -f-
+prm 5 100 -f 60 3 0aff
+in 5 aa55 aa54
+out 5 0102 0102
+diag 5 e--u-c- 0407
+last 5 1 1 6805056801050aaa540e16
+last 5 2 none
+";
+
+/// What follows the head: an entry, which is row 11, and the next part, whose head is rows 12 to 21.
+const BEHIND: &str = "\
+7161 tick 1 | none | released
+rack-audit 3 line 7 from 7161
+line running 18930
+slave 5 DataExch 1 4 94 -----d--
+set 5 60 0 0 -f-
+prm 5 100 -f 60 3 0aff
+in 5 aa55 aa54
+out 5 0102 0102
+diag 5 e--u-c- 0407
+last 5 1 1 6805056801050aaa540e16
+last 5 2 none
+7162 halt | none | released 5
+";
+
+/// A text from the start of the line: an entry, which is row 2, and the next part.
+const WHOLE: &str = "\
+rack-audit 3 line 7
+1 tick 1 | none | released
+rack-audit 3 line 7 from 1
+line running 1
+slave 5 WaitPrm none 0 off --------
+set 5 11 none 0 ---
+prm 5 none
+in 5 0000 0000
+out 5 0000 0000
+diag 5 ------- -
+last 5 1 none
+last 5 2 none
+2 halt | none | released
+";
+
+/// What is changed behind the first head: each field of the second one, and the entry before it; and the fault.
+const CHANGED_BEHIND: &str = "\
+from 7161 => from 7160 => not the policy 12
+line running => line halted => not the policy 13
+18930 => 18931 => not the policy 13
+18930 => none => not the policy 13
+DataExch 1 => WaitCfg 1 => not the policy 14
+DataExch 1 => DataExch 2 => not the policy 14
+1 4 94 => 1 5 94 => not the policy 14
+4 94 - => 4 95 - => not the policy 14
+-----d-- => ----c--- => not the policy 14
+set 5 60 => set 5 61 => not the policy 15
+60 0 0 -f- => 60 1 0 -f- => not the policy 15
+60 0 0 -f- => 60 0 1 -f- => not the policy 15
+0 0 -f- => 0 0 sf- => not the policy 15
+prm 5 100 => prm 5 101 => not the policy 16
+100 -f 60 => 100 sf 60 => not the policy 16
+-f 60 3 => -f 61 3 => not the policy 16
+60 3 0aff => 60 4 0aff => not the policy 16
+0aff => 0afe => not the policy 16
+in 5 aa55 => in 5 aa56 => not the policy 17
+aa55 aa54 => aa55 aa55 => not the policy 17
+out 5 0102 => out 5 0103 => not the policy 18
+0102 0102 => 0102 0103 => not the policy 18
+e--u-c- => e----c- => not the policy 19
+c- 0407 => c- 0408 => not the policy 19
+last 5 1 1 => last 5 1 0 => not the policy 20
+0e16 => 0f16 => not the policy 20
+5 2 none => 5 2 1 e5 => not the policy 21
+from 7161 => from 07161 => bad line 12
+7161 tick 1 => 7162 tick 1 => not the policy 11
+7161 tick 1 | => 7161 tick 1 => bad line 11
+";
+
+/// What is changed in a head with which a text begins, and the fault.
+const CHANGED_AT_ONCE: &str = "\
+audit 3 => audit 2 => bad line 1
+line 7 => line 8 => bad line 1
+out 5 => out 6 => bad line 7
+in 5 aa55 => in 5 AA55 => bad line 6
+in 5 aa55 => in 5 aa5500 => bad line 3
+DataExch 1 => DataExch 3 => not the policy 3
+1 4 95 => 1 0 95 => not the policy 3
+from 7160 => from 4294967295 => not the policy 2
+line running => line halted => not the policy 2
+";
+
+/// Returns line 7 with masters 1 and 2 and slave 5, which has two octets of inputs and two of outputs.
+fn described(alloc: Global) -> Result<LineSpec, Fail> {
+    let mut cfgs = ArrayVec::new();
+    cfgs.push(ArrayVec::try_from([0x21, 0x11].as_slice())?);
+    let mut slaves = Vec::new(alloc);
+    slaves.push(SlaveSpec {
+        address: 5,
+        ident: 0x80A1,
+        cfgs,
+        sync: true,
+        freeze: true,
+        user_max: 237,
+        device: Device::Still,
+        lists: Lists {
+            lockers: None,
+            readers: None,
+        },
+        failsafe: false,
+    })?;
+    Ok(LineSpec {
+        number: 7,
+        capacity: 20_000,
+        masters: ArrayVec::try_from([1, 2].as_slice())?,
+        slaves,
+    })
+}
+
+/// Checks a text of the line.
+fn checked(alloc: Global, text: &str) -> Result<Result<u32, AuditFault>, Fail> {
+    let line = described(alloc)?;
+    let _opened = LineState::open(alloc, &line)?;
+    Ok(check_parts(alloc, &line, text.as_bytes()))
+}
+
+/// Checks a text, and compares the place of its last entry.
+fn accepted(alloc: Global, text: &str, wanted: u32) -> Result<(), Fail> {
+    if checked(alloc, text)? == Ok(wanted) {
+        Ok(())
+    } else {
+        Err("it is refused, or has another place")?
+    }
+}
+
+/// Checks a text, and compares the fault.
+fn refused(alloc: Global, text: &str, wanted: &str) -> Result<(), Fail> {
+    match checked(alloc, text)? {
+        Ok(_) => Err("it is accepted")?,
+        Err(fault) => {
+            let reported = format!(in alloc; "{fault}")?;
+            if reported.as_str() == wanted {
+                Ok(())
+            } else {
+                Err(reported)?
+            }
+        }
+    }
+}
+
+/// Checks the text `before` and then `text`, once for each row `OLD => NEW => FAULT`, with the one in place of the other
+/// in `text`, and compares the fault.
+fn refused_by_rows(alloc: Global, before: &str, text: &str, rows: &str) -> Result<(), Fail> {
+    for row in rows.lines() {
+        let (old, others) = row.split_once(" => ").ok_or("no row")?;
+        let (new, wanted) = others.split_once(" => ").ok_or("no row")?;
+        let changed = text.replace(alloc, old, new)?;
+        let whole = format!(in alloc; "{before}{changed}")?;
+        refused(alloc, &whole, wanted)?;
+    }
+    Ok(())
+}
+
+/// A part alone, two parts in a row, and a text from its start with the next part.
+#[test]
+fn parts_are_accepted(rt: HostRuntime) -> Result<(), Fail> {
+    let alloc = rt.alloc();
+    accepted(alloc, HEAD, 7160)?;
+    let both = format!(in alloc; "{HEAD}{BEHIND}")?;
+    accepted(alloc, &both, 7162)?;
+    accepted(alloc, WHOLE, 2)
+}
+
+/// A head with any other field is refused by the part before it; so are wrong entries.
+#[test]
+fn another_head_is_refused(rt: HostRuntime) -> Result<(), Fail> {
+    refused_by_rows(rt.alloc(), HEAD, BEHIND, CHANGED_BEHIND)
+}
+
+/// The first row is no header of the line, a row is wrong, or the head says what no line can be.
+#[test]
+fn another_beginning_is_refused(rt: HostRuntime) -> Result<(), Fail> {
+    refused_by_rows(rt.alloc(), "", HEAD, CHANGED_AT_ONCE)
+}
+
+/// The second head lacks its last row, the text ends in it, or something follows the last LF.
+#[test]
+fn another_end_is_refused(rt: HostRuntime) -> Result<(), Fail> {
+    let alloc = rt.alloc();
+    let lacking = BEHIND.replace(alloc, "last 5 2 none\n", "")?;
+    let text = format!(in alloc; "{HEAD}{lacking}")?;
+    refused(alloc, &text, "not the policy 21")?;
+    let text = format!(in alloc;
+        "{HEAD}7161 tick 1 | none | released\nrack-audit 3 line 7 from 7161\n"
+    )?;
+    refused(alloc, &text, "bad line 13")?;
+    let text = format!(in alloc; "{HEAD}{BEHIND}7")?;
+    refused(alloc, &text, "bad line 23")
+}
