@@ -6,7 +6,8 @@ usage: watch_speed.py PROGRAM
 The first row: what it takes of a processor while a text grows by 5,000 ticks a second. The second: how long a refused request
 takes from its row in the text to the screen, in the middle and at the most of 20. Then, for some numbers of sessions of masters with
 lines of their own: how many requests a second are answered without a page, and the ratios with one that a program asks for as
-the page does, and with one that is open in the browser, which takes processors itself.
+the page does, and with one that is open in the browser, which takes processors itself. A round has one run of each, in turn
+from the first to the last and back; the rate and the ratios are those in the middle of all rounds, with the least and the greatest.
 """
 import os
 import signal
@@ -24,9 +25,9 @@ from watch_client import Folder, Watched, polls, state_at, tick_rack, ticks
 # Events and writes a second, for how many seconds; how many requests are waited for, each for how long.
 RATE, WRITES, SECONDS, REQUESTS, PATIENCE = 5_000, 50, 20, 20, 10
 TEXT = "line-1-1.000001.audit"
-# Sessions, the requests of all sessions of a round, the rounds of which the best counts, and the requests that are sent at once.
-SESSIONS, ROUND, ROUNDS, AT_ONCE = (1, 2, 4), 2_048_000, 4, 16
-# Seconds that an opened page has until a round begins, so that the round has none of the work of opening it.
+# Sessions, the requests of all sessions in a run, the rounds, and the requests that are sent at once.
+SESSIONS, RUN, ROUNDS, AT_ONCE = (1, 2, 4), 1_024_000, 5, 16
+# Seconds that an opened page has until a run begins, so that the run has none of the work of opening it.
 SETTLED = 3
 
 
@@ -90,7 +91,7 @@ def rate(rack, sessions):
     """Returns how many requests a second are answered to this number of masters."""
     connected, ready = os.pipe()
     start, go = os.pipe()
-    masters = [ask(rack.masters[line], ROUND // sessions, ready, start) for line in range(1, sessions + 1)]
+    masters = [ask(rack.masters[line], RUN // sessions, ready, start) for line in range(1, sessions + 1)]
     for _ in masters:
         os.read(connected, 1)
     begun = time.monotonic()
@@ -101,7 +102,7 @@ def rate(rack, sessions):
         os.close(descriptor)
     if any(statuses):
         sys.exit("a master did not get its replies")
-    return ROUND / took
+    return RUN / took
 
 
 def ask_for_state(port):
@@ -142,16 +143,24 @@ def served_rate(program, folder, sessions, tab, asks=False):
                 process.kill()
 
 
+def middle(numbers):
+    """Returns the number in the middle."""
+    return sorted(numbers)[len(numbers) // 2]
+
+
 def serve(program, folder, tab):
-    """Writes what an open page costs the masters."""
+    """Writes what a page costs the masters."""
+    kinds = ({"tab": None}, {"tab": None, "asks": True}, {"tab": tab})
     for sessions in SESSIONS:
-        without, asked, beside = 0, 0, 0
-        for _ in range(ROUNDS):
-            without = max(without, served_rate(program, folder, sessions, None))
-            asked = max(asked, served_rate(program, folder, sessions, None, asks=True))
-            beside = max(beside, served_rate(program, folder, sessions, tab))
-        print(f"{sessions} sessions: {without:,.0f} requests a second; {asked / without:.2f} with a page that is asked for, "
-              f"{beside / without:.2f} with a browser")
+        rounds = []
+        for turn in range(ROUNDS):
+            order = range(len(kinds)) if turn % 2 == 0 else reversed(range(len(kinds)))
+            rates = {kind: served_rate(program, folder, sessions, **kinds[kind]) for kind in order}
+            rounds.append([rates[kind] for kind in range(len(kinds))])
+        asked, beside = ([rates[kind] / rates[0] for rates in rounds] for kind in (1, 2))
+        print(f"{sessions} sessions: {middle([rates[0] for rates in rounds]):,.0f} requests a second; with a page that is asked for "
+              f"{middle(asked):.2f} ({min(asked):.2f} to {max(asked):.2f}), with a browser "
+              f"{middle(beside):.2f} ({min(beside):.2f} to {max(beside):.2f})", flush=True)
 
 
 def main():
