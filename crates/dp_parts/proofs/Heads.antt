@@ -50,17 +50,29 @@ awaited_taken line head row words rows =
     cond-true (nat_lt 0 (length view.awaited)) (head_row_taken view (spaced words)) _ (some_left (spaced words) (rows_text rows))
     ∙ ap (if_awaited view) (first_behind (spaced words) (rows_text rows))
 
+-- the number of the row behind these rows
+abbrev rows_after : ℕ → List (List (List ℕ)) → ℕ
+rows_after row [] = row
+rows_after row (words ∷ rows) = rows_after (one_row_more row) rows
+
 all_taken : (line : ℕ) (head : Head) (row : ℕ) (rows : List (List (List ℕ))) (next : List ℕ) (others : List (List ℕ))
-    → (last : ℕ) × (rows_checked (awaiting line head row rows) (map spaced rows ++ next ∷ others) ≡ rows_checked (awaiting line head last []) (next ∷ others))
-all_taken line head row [] next others = (row, refl)
+    → rows_checked (awaiting line head row rows) (map spaced rows ++ next ∷ others) ≡ rows_checked (awaiting line head (rows_after row rows) []) (next ∷ others)
+all_taken line head row [] next others = refl
 all_taken line head row (words ∷ []) next others =
-    (one_row_more row, rows_more (awaiting line head row (words ∷ [])) (awaiting line head (one_row_more row) []) (spaced words) next others None (awaited_taken line head row words []))
+    rows_more (awaiting line head row (words ∷ [])) (awaiting line head (one_row_more row) []) (spaced words) next others None (awaited_taken line head row words [])
 all_taken line head row (words ∷ more ∷ rows) next others =
-    let (last, is) = all_taken line head (one_row_more row) (more ∷ rows) next others in (
-      last,
-      rows_more (awaiting line head row (words ∷ more ∷ rows)) (awaiting line head (one_row_more row) (more ∷ rows)) (spaced words) (spaced more) (map spaced rows ++ next ∷ others) None
-          (awaited_taken line head row words (more ∷ rows)) ∙ is,
-    )
+    rows_more (awaiting line head row (words ∷ more ∷ rows)) (awaiting line head (one_row_more row) (more ∷ rows)) (spaced words) (spaced more) (map spaced rows ++ next ∷ others) None
+    (awaited_taken line head row words (more ∷ rows))
+    ∙ all_taken line head (one_row_more row) (more ∷ rows) next others
+
+counted_more : (row n : ℕ) → min (min (row + 1) (2 ^ 64 - 1) + n) (2 ^ 64 - 1) ≡ min (row + (n + 1)) (2 ^ 64 - 1)
+counted_more row n = omega arith
+
+counted : (row : ℕ) (words : List (List ℕ)) (rows : List (List (List ℕ))) → rows_after row (words ∷ rows) ≡ min (row + (length rows + 1)) (2 ^ 64 - 1)
+counted row words [] = refl
+counted row words (more ∷ rows) =
+    let one_more : row + ((length rows + 1) + 1) ≡ row + (length (more ∷ rows) + 1) = omega arith in
+    counted (one_row_more row) more rows ∙ counted_more row (length rows + 1) ∙ ap (λ (n : ℕ). min n (2 ^ 64 - 1)) one_more
 
 -- ---- a whole head
 
@@ -90,14 +102,17 @@ begun view none small within =
     (some_left row (rows_text (second ∷ flat_map slave_rows view.head.world.slaves))))
 
 pub head_changes_nothing : (view : PartsView) (next : List ℕ) (others : List (List ℕ)) → view.awaited ≡ [] → view.line < 256 → view.head.world.count < 4294967296
-    → (row : ℕ) × (rows_checked view (map spaced (head_rows view.line view.head) ++ next ∷ others) ≡ rows_checked (record view { row = row }) (next ∷ others))
+    → rows_checked view (map spaced (head_rows view.line view.head) ++ next ∷ others)
+    ≡ rows_checked (record view { row = min (view.row + length (head_rows view.line view.head)) (2 ^ 64 - 1) }) (next ∷ others)
 unfolding head_text
 head_changes_nothing view next others none small within =
-    let second = spaced (running_words (record { halted = view.head.world.halted; time = view.head.time })) in
-    let more = map spaced (flat_map slave_rows view.head.world.slaves) ++ next ∷ others in
-    let (row, is) = all_taken view.line view.head view.row (head_rows view.line view.head) next others in (
-      row,
-      ap (λ (t : Result Taken AuditFault). and_checked t (λ taken. rows_checked taken.0 (second ∷ more))) (begun view none small within)
-          ∙ is
-          ∙ ap (λ (awaited : List ℕ). rows_checked (record { line = view.line; head = view.head; awaited = awaited; row = row }) (next ∷ others)) (sym none),
-    )
+    let first = header_words view.line view.head.world.count in
+    let second = running_words (record { halted = view.head.world.halted; time = view.head.time }) in
+    let slaves = flat_map slave_rows view.head.world.slaves in
+    let more = map spaced slaves ++ next ∷ others in
+    let size : view.row + (length (second ∷ slaves) + 1) ≡ view.row + length (head_rows view.line view.head) = omega arith in
+    ap (λ (t : Result Taken AuditFault). and_checked t (λ taken. rows_checked taken.0 (spaced second ∷ more))) (begun view none small within)
+    ∙ all_taken view.line view.head view.row (head_rows view.line view.head) next others
+    ∙ ap (λ (row : ℕ). rows_checked (record { line = view.line; head = view.head; awaited = []; row = row }) (next ∷ others))
+    (counted view.row first (second ∷ slaves) ∙ ap (λ (n : ℕ). min n (2 ^ 64 - 1)) (omega arith))
+    ∙ ap (λ (awaited : List ℕ). rows_checked (record { line = view.line; head = view.head; awaited = awaited; row = min (view.row + length (head_rows view.line view.head)) (2 ^ 64 - 1) }) (next ∷ others)) (sym none)

@@ -1,5 +1,5 @@
 -- Rows that a check takes.
-use Rattle.std.proofs.Common.{◌≡◌, ℕ, ◌+◌, ◌-◌, ◌≤◌, Bool, true, false, cond, List, [], ◌∷◌, length, take, drop, Option, Some, None, Result, Ok, Err, refl, sym, ap, ◌∙◌, ◌*◌, ◌^◌, min, not, arith}
+use Rattle.std.proofs.Common.{◌≡◌, ◌≢◌, ℕ, ◌+◌, ◌-◌, ◌≤◌, Bool, true, false, cond, List, [], ◌∷◌, length, take, drop, Option, Some, None, Result, Ok, Err, refl, sym, ap, ◌∙◌, ◌*◌, ◌^◌, min, not, arith}
 use Rattle.std.specs.Prelude.{codes, is_some, option_and_then}
 use Rattle.std.specs.List.{count_by}
 use Rattle.std.proofs.lemmas.List.{drop-drop, length-drop}
@@ -94,6 +94,20 @@ pub entry_without_memory : (judged : Judged) (view : PartsView) (after : World) 
 entry_without_memory bad view after answer never = absurd cc
 entry_without_memory not_the_policy view after answer never = absurd cc
 entry_without_memory (right other) view after answer (never, is, stepped, answered) = absurd cc
+
+-- ---- memory is refused at the header of a part only
+
+if_awaited_keeps : (view : PartsView) (found : Option (List ℕ)) → if_awaited view found ≢ Err faults.OutOfMemory
+if_awaited_keeps view None = λ e. absurd cc
+if_awaited_keeps view (Some rest) = λ e. absurd cc
+
+pub head_row_keeps : (view : PartsView) (row : List ℕ) → head_row_taken view row ≢ Err faults.OutOfMemory
+head_row_keeps view row = if_awaited_keeps view (behind_row row view.awaited)
+
+pub entry_keeps : (view : PartsView) (judged : Judged) → entry_taken view judged ≢ Err faults.OutOfMemory
+entry_keeps view bad = λ e. absurd cc
+entry_keeps view not_the_policy = λ e. absurd cc
+entry_keeps view (right event) = λ e. absurd cc
 
 -- ---- rows
 

@@ -1,5 +1,5 @@
 -- Checking an endless audit text from one of its parts on (own).
-use Rattle.std.specs.Prelude.{codes, ℕ, ◌+◌, ◌-◌, ◌*◌, ◌^◌, ◌==◌, ◌&&◌, nat_lt, min, if◌then◌else◌, List, [], ◌∷◌, length, take, drop, Option, Some, None, is_some, option_and_then, Result, Ok, Err}
+use Rattle.std.specs.Prelude.{codes, ℕ, ◌+◌, ◌-◌, ◌*◌, ◌^◌, ◌==◌, ◌&&◌, nat_lt, min, Bool, if◌then◌else◌, List, [], ◌∷◌, length, take, drop, Option, Some, None, is_some, option_and_then, Result, Ok, Err}
 use Rattle.std.specs.List.{count_by}
 use Rattle.dp_slave.specs.declared.description.SlaveSpec.{SlaveSpec}
 use Rattle.dp_line.specs.declared.event.Event.{Event}
@@ -67,6 +67,10 @@ entry_taken view (right event) = Ok (with_row view (head_after view.head event) 
 -- with the header of a part a head begins, which is that of the world and the ticks so far
 abbrev pub with_head : PartsView → PartsView
 with_head view = record view { awaited = head_text view.line view.head }
+
+-- no head has begun, and the row is the header of a part
+abbrev pub begins_head : PartsView → List ℕ → Bool
+begins_head view row = length view.awaited == 0 && is_some (place_of_row view.line row)
 
 -- a row: of a head that has begun, or the header of a part, or an entry
 abbrev pub row_taken : PartsView → List ℕ → Result Taken AuditFault

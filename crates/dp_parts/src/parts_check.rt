@@ -1,9 +1,9 @@
 //! The check of an endless audit text, row by row.
 
-ghost use Rattle.std.specs.Prelude.{◌≡◌, ◌≢◌, ◌≤◌, [], is_some, drop, length, None, Ok, Err, IfOk, IfErr, OnOk, Some};
+ghost use Rattle.std.specs.Prelude.{◌≡◌, ◌≢◌, ◌≤◌, [], is_some, drop, length, None, true, Ok, Err, IfOk, IfErr, OnOk, Some};
 ghost use Rattle.dp_line.specs.World.{description_of, opening_fault};
 ghost use Rattle.dp_audit.specs.Check.{judged_line};
-ghost use Rattle.dp_parts.specs.Parts.{behind_row, end_checked, entry_taken, head_row_taken, parts_begun, parts_checked, row_taken, rows_checked, with_head};
+ghost use Rattle.dp_parts.specs.Parts.{begins_head, behind_row, end_checked, entry_taken, head_row_taken, parts_begun, parts_checked, row_taken, rows_checked, with_head};
 
 use crate::beginning;
 use dp_audit::{AuditFault, take_row};
@@ -90,6 +90,7 @@ impl PartsCheck {
     /// Otherwise returns the fault of the row, with its number in the text: `BadLine` if it is badly formed, `NotThePolicy`
     /// if it is another than the policy gives, or not the row of the head that is due; or `OutOfMemory`, at the header of a
     /// part only. The check is of no use then.
+    #[tactic(auto, using(crate::proofs::Taking::head_row_keeps, crate::proofs::Taking::entry_keeps))]
     pub fn take_row(
         &mut self,
         row: &[u8],
@@ -98,6 +99,7 @@ impl PartsCheck {
     ) -> Result<Option<Event>, AuditFault>
         ensures ok { IfOk result (λ event. row_taken self.old row.now ≡ Ok (self.new, event)) }
         ensures err { IfErr result (λ fault. fault ≢ AuditFault.OutOfMemory → row_taken self.old row.now ≡ Err fault) }
+        ensures memory { IfErr result (λ fault. fault ≡ AuditFault.OutOfMemory → begins_head self.old row.now ≡ true) }
     {
         if self.come < self.head.len() {
             return self.take_head_row(row);
