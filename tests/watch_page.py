@@ -404,6 +404,18 @@ def rate_of_entries(trial):
     hold(f"the state is {page.live()}", re.fullmatch(r"last entry [1-5] s ago", page.live()))
 
 
+def rate_of_slow_answers(trial):
+    page = trial.open()
+    trial.rack.delay = 2.1
+    end, place, seen = time.monotonic() + 8, 16, set()
+    while time.monotonic() < end:
+        trial.rack.add(*exchanges(place, 5))
+        place += 5
+        seen.add(page.buttons()[0])
+        time.sleep(0.1)
+    hold(f"rates are {seen}", any(re.fullmatch(r"Line 1 [1-9]\d*/s", button) for button in seen))
+
+
 def pause(trial):
     page = trial.open()
     trial.tab.click("#pause")
@@ -669,9 +681,9 @@ CASES = [
     rows_stay_below_the_pointer, other_faults, three_faults_in_view, words_of_the_matrix, sentence_of_a_cell,
     rows_of_slaves, changed_octets_are_marked, rows_of_masters, filters, fields_of_an_entry, reader_is_left_alone,
     entries_are_merged, older_entries_by_explain, endless_line, next_text, lines, line_of_the_address, rate_of_entries,
-    pause, wrong_row, no_file, halted, no_answer, other_run, markup_is_text, names_in_utf_8, announced_refusals,
-    keyboard, keyboard_in_the_matrix, focus_stays, no_overflow, contrast, light_and_dark, heads_and_names,
-    nothing_from_elsewhere, page_files,
+    rate_of_slow_answers, pause, wrong_row, no_file, halted, no_answer, other_run, markup_is_text, names_in_utf_8,
+    announced_refusals, keyboard, keyboard_in_the_matrix, focus_stays, no_overflow, contrast, light_and_dark,
+    heads_and_names, nothing_from_elsewhere, page_files,
 ]
 
 

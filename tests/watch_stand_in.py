@@ -9,6 +9,7 @@ import json
 import os
 import re
 import threading
+import time
 
 # The fields of each answer.
 FIELDS = {
@@ -131,7 +132,7 @@ class Rack:
     def __init__(self, *lines, rack="rack.toml", folder="audit", run=1795744528917764238):
         self.lock = threading.Lock()
         self.lines, self.rack, self.folder, self.run, self.number = list(lines), rack, folder, run, 1
-        self.silent, self.queries = False, []
+        self.silent, self.queries, self.delay = False, [], 0
 
     def add(self, *entries, line=0):
         """Adds entries to a line, and counts those that are no notes."""
@@ -223,6 +224,7 @@ class Server:
         """Returns the type and the content of what was asked for; no content if there is no answer."""
         path, _, query = target.partition("?")
         if path == "/state.json":
+            time.sleep(self.rack.delay)
             answer = self.rack.answer(query)
             return "application/json", None if answer is None else answer.encode("ascii")
         if path not in FILES:

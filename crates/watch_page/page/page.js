@@ -5,17 +5,18 @@
 // ---- Constants
 
 // Milliseconds: the least and the most between two requests, the pause after a failure, and when a request fails.
-const PERIOD = 250, LONGEST_PERIOD = 1000, RETRY = 1000, TIMEOUT = 2500;
+const PERIOD = 250, LONGEST_PERIOD = 2000, RETRY = 1000, TIMEOUT = 2500;
 // How many times as long as it took to draw an answer the page waits, so that it leaves the processors to the rack.
-const REST = 20;
+const REST = 40;
 // Milliseconds between two drawings of a line that does not change, and for which a changed octet is marked.
 const REDRAW = 1000, FRESH = 1000;
-// Milliseconds over which the rate of entries is taken, and between two announcements to a screen reader.
+// Milliseconds over which the rate of entries is taken, at least from one answer to the next, and between two
+// announcements to a screen reader.
 const RATE_SPAN = 2000, ANNOUNCE_PAUSE = 3000;
 // Entries of a line that the page keeps: the newest ones, and of those before them the ones that are not routine.
 const KEPT_NEWEST = 400, KEPT_NOTABLE = 200;
 // The most entries, groups of faults, and octets of a slave that are drawn.
-const MOST_ENTRIES = 250, MOST_GROUPS = 60, MOST_OCTETS = 48;
+const MOST_ENTRIES = 100, MOST_GROUPS = 60, MOST_OCTETS = 48;
 // The capacity of an endless line, and the number of colours for masters.
 const ENDLESS = 4294967295, COLOURS = 16;
 
@@ -278,7 +279,7 @@ function takeLine(record, line, isFirst) {
 function takeSample(record) {
   const time = performance.now();
   record.samples.push({ time, count: record.now.count });
-  while (time - record.samples[0].time > RATE_SPAN) record.samples.shift();
+  while (record.samples.length > 2 && time - record.samples[0].time > RATE_SPAN) record.samples.shift();
 }
 
 // Stores octets of a slave with the times of their last changes.
