@@ -3,15 +3,17 @@
 
 usage: watch_speed.py PROGRAM
 
-The first row: what it takes of a processor while a text grows by 5,000 ticks a second. The second: how long a refused request
-takes from its row in the text to the screen, in the middle and at the most of 20. Then, for some numbers of sessions of masters with
-lines of their own: how many requests a second are answered without a page, and the ratios with one that a program asks for as
-the page does, and with one that is open in the browser, which takes processors itself. A round has one run of each, in turn
-from the first to the last and back; the rate and the ratios are those in the middle of all rounds, with the least and the greatest.
+The first row: what it takes of a processor while a text grows by 5,000 ticks a second. The second: how long a refused
+request takes from its row in the text to the screen, in the middle and at the most of 20. Then, for some numbers of
+sessions of masters with lines of their own: how many requests a second are answered, and the ratio with a page that is
+open in the browser, which takes processors itself. Two racks are served at the same time, one with a page and one without,
+and asked in turn for a moment each, after the page has followed what was asked before. The rate and the ratio are those in
+the middle, with the least and the greatest ratio of two moments that follow each other.
 """
 import os
 import signal
 import socket
+import struct
 import subprocess
 import sys
 import tempfile
@@ -25,10 +27,12 @@ from watch_client import Folder, Watched, polls, state_at, tick_rack, ticks
 # Events and writes a second, for how many seconds; how many requests are waited for, each for how long.
 RATE, WRITES, SECONDS, REQUESTS, PATIENCE = 5_000, 50, 20, 20, 10
 TEXT = "line-1-1.000001.audit"
-# Sessions, the requests of all sessions in a run, the rounds, and the requests that are sent at once.
-SESSIONS, RUN, ROUNDS, AT_ONCE = (1, 2, 4), 1_024_000, 5, 16
-# Seconds that an opened page has until a run begins, so that the run has none of the work of opening it.
+# Sessions, the moments of each rack and their seconds, and the requests that are sent at once.
+SESSIONS, MOMENTS, MOMENT, AT_ONCE = (1, 2, 4), 15, 1, 16
+# Seconds that an opened page has until the first moment, so that it has none of the work of opening it.
 SETTLED = 3
+# A moment or a count, as it is handed over in a pipe.
+NUMBER = struct.Struct("d")
 
 
 def used(process):
@@ -66,8 +70,9 @@ def show(tab, audit, place):
     print(f"on the screen after {times[REQUESTS // 2] * 1000:.0f} ms in the middle, {times[-1] * 1000:.0f} ms at the most")
 
 
-def ask(port, count, connected, start):
-    """Asks for diagnoses as master 1 of the line at a port, in a process of its own. Returns its number."""
+def ask(port, moments, counts):
+    """Asks for diagnoses as master 1 of the line at a port, in a process of its own, until each end of a moment that it
+    reads. Writes how many replies came. Returns its number."""
     process = os.fork()
     if process:
         return process
@@ -75,72 +80,66 @@ def ask(port, count, connected, start):
         line.setsockopt(socket.IPPROTO_TCP, socket.TCP_NODELAY, 1)
         line.sendall(b"\x01")
         accepted = line.recv(1) == ACCEPTED
-        os.write(connected, b".")
-        os.read(start, 1)
         requests, replies = diag(1, 5) * AT_ONCE, fresh(1, 5) * AT_ONCE
-        for _ in range(count // AT_ONCE):
-            line.sendall(requests)
-            got = b""
-            while len(got) < len(replies) and (octets := line.recv(65_536)):
-                got += octets
-            accepted = accepted and got == replies
-    os._exit(0 if accepted else 1)
+        while accepted:
+            end, count = NUMBER.unpack(os.read(moments, NUMBER.size))[0], 0
+            while accepted and time.monotonic() < end:
+                line.sendall(requests)
+                got = b""
+                while len(got) < len(replies) and (octets := line.recv(65_536)):
+                    got += octets
+                accepted, count = got == replies, count + AT_ONCE
+            os.write(counts, NUMBER.pack(count if accepted else -1))
+    os._exit(1)
 
 
-def rate(rack, sessions):
-    """Returns how many requests a second are answered to this number of masters."""
-    connected, ready = os.pipe()
-    start, go = os.pipe()
-    masters = [ask(rack.masters[line], RUN // sessions, ready, start) for line in range(1, sessions + 1)]
-    for _ in masters:
-        os.read(connected, 1)
-    begun = time.monotonic()
-    os.write(go, b"." * sessions)
-    statuses = [os.waitpid(master, 0)[1] for master in masters]
-    took = time.monotonic() - begun
-    for descriptor in (connected, ready, start, go):
-        os.close(descriptor)
-    if any(statuses):
-        sys.exit("a master did not get its replies")
-    return RUN / took
+class Asked:
+    """A rack that is served, with its page in a tab if there is one, and masters that ask it."""
 
+    def __init__(self, program, folder, sessions, tab):
+        os.mkdir(folder)
+        rack = Rack(os.path.join(folder, "rack.toml"), *range(1, 9), workers=8)
+        page = ["--page", "0"] if tab else []
+        words = [program, "serve", rack.path, "--audit", os.path.join(folder, "audit"), "--endless", *page]
+        os.mkdir(os.path.join(folder, "audit"))
+        self.process = subprocess.Popen(words, stdin=subprocess.DEVNULL, stdout=subprocess.PIPE)
+        url = self.process.stdout.readline().decode().split()[-1] if tab else None
+        self.process.stdout.readline()
+        self.port, self.count = None, 0
+        if tab:
+            self.port = int(url.rstrip("/").rpartition(":")[2])
+            tab.open(url)
+            if not tab.wait("document.querySelector('#slaves td') !== null", PATIENCE):
+                sys.exit("the page shows no slave")
+        moments, self.moments = os.pipe()
+        self.counts, counts = os.pipe()
+        self.masters = [ask(rack.masters[line], moments, counts) for line in range(1, sessions + 1)]
+        os.close(moments)
+        os.close(counts)
 
-def ask_for_state(port):
-    """Asks for the whole state four times a second, in a process of its own. Returns its number."""
-    process = os.fork()
-    if process:
-        return process
-    while True:
-        state_at(port)
-        time.sleep(0.25)
+    def rate(self):
+        """Returns how many requests a second are answered, from now on for a moment."""
+        end = NUMBER.pack(time.monotonic() + MOMENT)
+        os.write(self.moments, end * len(self.masters))
+        counts = [NUMBER.unpack(os.read(self.counts, NUMBER.size))[0] for _ in self.masters]
+        if min(counts) <= 0:
+            sys.exit("a master did not get its replies")
+        self.count += int(sum(counts))
+        return sum(counts) / MOMENT
 
+    def settle(self):
+        """Waits until the page has followed all requests."""
+        while self.port and sum(line["count"] for line in state_at(self.port)["lines"]) < self.count:
+            time.sleep(0.2)
 
-def served_rate(program, folder, sessions, tab, asks=False):
-    """Returns the rate of a rack that is served: with its page in a tab if there is one, or asked for by a program."""
-    rack = Rack(os.path.join(folder, "rack.toml"), *range(1, 9), workers=8)
-    with tempfile.TemporaryDirectory(dir=folder) as audit:
-        page = ["--page", "0"] if tab or asks else []
-        words = [program, "serve", rack.path, "--audit", audit, "--endless", *page]
-        with subprocess.Popen(words, stdin=subprocess.DEVNULL, stdout=subprocess.PIPE) as process:
-            asker = None
-            try:
-                url = process.stdout.readline().decode().split()[-1] if page else None
-                process.stdout.readline()
-                if tab:
-                    tab.open(url)
-                    if not tab.wait("document.querySelector('#slaves td') !== null", PATIENCE):
-                        sys.exit("the page shows no slave")
-                if asks:
-                    asker = ask_for_state(int(url.rstrip("/").rpartition(":")[2]))
-                time.sleep(SETTLED)
-                return rate(rack, sessions)
-            finally:
-                if tab:
-                    tab.open("about:blank")
-                if asker:
-                    os.kill(asker, signal.SIGKILL)
-                    os.waitpid(asker, 0)
-                process.kill()
+    def close(self):
+        for master in self.masters:
+            os.kill(master, signal.SIGKILL)
+            os.waitpid(master, 0)
+        os.close(self.moments)
+        os.close(self.counts)
+        self.process.kill()
+        self.process.communicate()
 
 
 def middle(numbers):
@@ -148,19 +147,24 @@ def middle(numbers):
     return sorted(numbers)[len(numbers) // 2]
 
 
-def serve(program, folder, tab):
+def serve(program, folder, tab, sessions):
     """Writes what a page costs the masters."""
-    kinds = ({"tab": None}, {"tab": None, "asks": True}, {"tab": tab})
-    for sessions in SESSIONS:
-        rounds = []
-        for turn in range(ROUNDS):
-            order = range(len(kinds)) if turn % 2 == 0 else reversed(range(len(kinds)))
-            rates = {kind: served_rate(program, folder, sessions, **kinds[kind]) for kind in order}
-            rounds.append([rates[kind] for kind in range(len(kinds))])
-        asked, beside = ([rates[kind] / rates[0] for rates in rounds] for kind in (1, 2))
-        print(f"{sessions} sessions: {middle([rates[0] for rates in rounds]):,.0f} requests a second; with a page that is asked for "
-              f"{middle(asked):.2f} ({min(asked):.2f} to {max(asked):.2f}), with a browser "
-              f"{middle(beside):.2f} ({min(beside):.2f} to {max(beside):.2f})", flush=True)
+    racks = [Asked(program, os.path.join(folder, f"{sessions}-{name}"), sessions, shown)
+             for name, shown in (("page", tab), ("alone", None))]
+    rates = []
+    time.sleep(SETTLED)
+    for moment in range(MOMENTS):
+        turn = {}
+        for rack in racks if moment % 2 == 0 else reversed(racks):
+            turn[rack.port is None] = rack.rate()
+            rack.settle()
+        rates.append((turn[True], turn[False]))
+    ratios = [beside / alone for alone, beside in rates]
+    print(f"{sessions} sessions: {middle([alone for alone, _ in rates]):,.0f} requests a second; with a page "
+          f"{middle(ratios):.2f} ({min(ratios):.2f} to {max(ratios):.2f})", flush=True)
+    tab.open("about:blank")
+    for rack in racks:
+        rack.close()
 
 
 def main():
@@ -176,7 +180,8 @@ def main():
             watched.expect("the entries", lambda line: line["count"], place - 1)
             time.sleep(2)
             show(tab, audit, place)
-        serve(sys.argv[1], folder, tab)
+        for sessions in SESSIONS:
+            serve(sys.argv[1], folder, tab, sessions)
 
 
 if __name__ == "__main__":
