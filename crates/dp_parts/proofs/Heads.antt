@@ -17,7 +17,7 @@ use Rattle.dp_parts.proofs.Taking.{rows_more}
 
 -- ---- a text behind its beginning
 
-front_taken : (front rest : List ℕ) → behind front (front ++ rest) ≡ Some rest
+pub front_taken : (front rest : List ℕ) → behind front (front ++ rest) ≡ Some rest
 front_taken front rest =
     let same : same_text (take (length front) (front ++ rest)) front ≡ true =
     ap (λ (t : List ℕ). same_text t front) (take_at front rest (length front) refl) ∙ same_itself front in
