@@ -81,3 +81,20 @@ seen 6 => since 2 sync []
 ",
     )
 }
+
+#[test]
+fn a_broadcast_leaves_slaves_of_another_master(rt: HostRuntime) -> Result<(), Fail> {
+    plays(
+        rt.alloc(),
+        "1000 2111 5 6",
+        "\
+ask 1 5 4d 61 a000000b80a101 => 1 | WaitPrm none | reply e5 Done
+ask 2 6 4d 61 a000000b80a101 => 2 | WaitPrm none | reply e5 Done
+ask 2 6 4d 62 2111 => 3 | WaitCfg 2 | reply e5 Done
+req 1 68070768ff81463a3e20005e16 => 4 | none | spread 5:NotActive
+seen 6 => since 2 []
+req 2 68070768ff82463a3e20005f16 => 5 | none | spread 6:Done
+seen 6 => since 2 sync []
+",
+    )
+}

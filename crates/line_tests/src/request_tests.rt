@@ -107,6 +107,21 @@ show 6 => refused NoStation
 }
 
 #[test]
+fn a_wrong_length_stores_nothing(rt: HostRuntime) -> Result<(), Fail> {
+    plays(
+        rt.alloc(),
+        "1000 2111 5",
+        "\
+ask 1 5 4d 61 8002050b80a101 => 1 | WaitPrm none | reply e5 Done
+ask 1 5 4d 62 2111 => 2 | WaitCfg 1 | reply e5 Done
+req 1 6805056805014d12349916 => 3 | DataExch 1 | reply 6805056801050800000e16 Done
+req 1 6806066805014d56789abb16 => 4 | DataExch 1 | reply 100105010716 Length
+show 5 => show 5 DataExch 1 in 0000 out 1234 wd off
+",
+    )
+}
+
+#[test]
 fn oldest_lock_first(rt: HostRuntime) -> Result<(), Fail> {
     plays(
         rt.alloc(),

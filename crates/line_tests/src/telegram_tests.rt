@@ -236,6 +236,7 @@ decode - => Short 4
 decode 680505 => Short 4
 decode 33 => NoStart 1
 decode 68050468 => BadHead 2
+decode 680303680501494f16 => BadHead 2
 decode 100501494e16 => BadEnd 3
 decode 100501494f1600 => Long 5
 decode e500 => Long 5
