@@ -1,6 +1,6 @@
 //! Whether receipts agree with the journal of a closed line.
 
-use crate::lines::{ClosedDesk, closed_desk, fresh_desk};
+use crate::lines::{ClosedDesk, Desk, closed_desk, fresh_desk};
 use dp_audit::Receipt;
 use dp_line::Outcome;
 use dp_shared::Closed;
@@ -23,17 +23,22 @@ busy 9 default on -> fifth
 fn chosen(alloc: Global, receipts: &[Receipt], numbers: &str) -> Result<Vec<Receipt>, Fail> {
     let mut list = Vec::new(alloc);
     for word in numbers.split_whitespace() {
-        let number = word.trim_start_matches('~').parse::<usize>()?;
-        let Some(receipt) = receipts.get(number.wrapping_sub(1)) else {
-            return Err(Fail::new("no receipt"));
-        };
-        let mut receipt = receipt.clone()?;
-        if word.starts_with('~') {
-            garble(&mut receipt.outcome)?;
-        }
-        list.push(receipt)?;
+        list.push(receipt_of_word(receipts, word)?)?;
     }
     Ok(list)
+}
+
+/// Returns the receipt with this number, from 1. After `~` the first octet of the reply is changed.
+fn receipt_of_word(receipts: &[Receipt], word: &str) -> Result<Receipt, Fail> {
+    let number = word.trim_start_matches('~').parse::<usize>()?;
+    let Some(receipt) = receipts.get(number.wrapping_sub(1)) else {
+        return Err(Fail::new("no receipt"));
+    };
+    let mut receipt = receipt.clone()?;
+    if word.starts_with('~') {
+        garble(&mut receipt.outcome)?;
+    }
+    Ok(receipt)
 }
 
 /// Changes the first octet of a reply.
@@ -57,23 +62,29 @@ fn agrees(alloc: Global, closed: &Closed, receipts: &[Receipt], row: &str) -> Re
     Ok(closed.agrees(address.parse::<u8>()?, list.as_slice()))
 }
 
-/// Checks a transcript of lists of receipts: whether each list agrees with the journal after [`PLAYED`].
-fn agreements<R: Wait>(rt: &R, alloc: Global, transcript: &str) -> Result<(), Fail> {
+/// Returns a line that has taken [`PLAYED`].
+fn played_desk<R: Wait>(rt: &R, alloc: Global) -> Result<Desk, Fail> {
     let mut desk = fresh_desk(rt, alloc, 1000)?;
     desk.play_rows(rt, alloc, PLAYED)?;
-    let ClosedDesk {
-        closed,
-        receipts,
-        ..
-    } = closed_desk(rt, alloc, desk)?;
+    Ok(desk)
+}
+
+/// Returns each row that has an arrow, with whether its receipts agree.
+fn answers(alloc: Global, desk: &ClosedDesk, rows: &str) -> Result<String, Fail> {
     let mut reported = String::new(alloc);
-    for row in transcript.lines() {
+    for row in rows.lines() {
         if let Some((row, _)) = row.split_once(ARROW) {
-            let answer = agrees(alloc, &closed, receipts.as_slice(), row)?;
+            let answer = agrees(alloc, &desk.closed, desk.receipts.as_slice(), row)?;
             reported.push_str(&format!(in alloc; "{row}{ARROW}{answer}\n")?)?;
         }
     }
-    is_reported(reported, transcript)
+    Ok(reported)
+}
+
+/// Checks a transcript of lists of receipts: whether each list agrees with the journal after [`PLAYED`].
+fn agreements<R: Wait>(rt: &R, alloc: Global, transcript: &str) -> Result<(), Fail> {
+    let desk = closed_desk(rt, alloc, played_desk(rt, alloc)?)?;
+    is_reported(answers(alloc, &desk, transcript)?, transcript)
 }
 
 #[test]

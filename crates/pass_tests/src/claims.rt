@@ -249,11 +249,16 @@ fn contended<R: Threads + Wait + Sync>(rt: &R, alloc: Global) -> Result<String, 
     if !contend_all(rt, &claims, seats, &counts) {
         return Err(Fail::new("no thread"));
     }
+    let seen = look(alloc, &claims, &mut watcher, 1)?;
+    let claimed = claim(alloc, &claims, &mut watcher, 1)?;
+    counts_text(alloc, &counts, &seen, &claimed)
+}
+
+/// Returns the counts, and what the ninth seat saw and claimed.
+fn counts_text(alloc: Global, counts: &Counts, seen: &str, claimed: &str) -> Result<String, Fail> {
     let clashes = counts.clashes.load(SeqCst);
     let some = counts.claimed.load(SeqCst) > 0;
     let holders = counts.holders.load(SeqCst);
-    let seen = look(alloc, &claims, &mut watcher, 1)?;
-    let claimed = claim(alloc, &claims, &mut watcher, 1)?;
     Ok(format!(in alloc;
         "{clashes} clashes, claimed {some}, {holders} holders, {seen}, {claimed}"
     )?)
