@@ -45,30 +45,54 @@ fn serve_connection<S: StateSource, H: PageHost>(
     stream: &TcpStream,
     service: &mut PageService<'_, S>,
 ) -> io::Result<()> {
-    let limit = Duration::from_secs(REQUEST_SECONDS);
     stream.set_nodelay(true)?;
-    stream.set_write_timeout(Some(limit))?;
-    let keys = RandomState::new(host)?;
-    let mut config = Config::default();
-    config.max_body_len = 0;
-    let mut connection = Connection::new(host.alloc(), keys, config);
+    stream.set_write_timeout(Some(request_limit()))?;
+    let mut connection = open_connection(host)?;
     let mut began = Instant::now(host)?;
     for _ in host.forever() {
         if connection.is_done() {
             return Ok(());
         }
-        if connection.wants_write() {
-            connection.write_to(&mut &*stream)?;
-            began = Instant::now(host)?;
-        } else {
-            let left = limit.saturating_sub(Instant::now(host)?.duration_since(began));
-            if left.is_zero() {
-                return Ok(());
-            }
-            stream.set_read_timeout(Some(left))?;
-            connection.read_from(&mut &*stream)?;
+        match exchange(host, stream, &mut connection, began)? {
+            Some(moment) => began = moment,
+            None => return Ok(()),
         }
         connection.advance(service);
     }
     unreachable!()
+}
+
+/// Returns a connection whose requests have no body.
+fn open_connection<H: PageHost>(host: &H) -> io::Result<Connection> {
+    let keys = RandomState::new(host)?;
+    let mut config = Config::default();
+    config.max_body_len = 0;
+    Ok(Connection::new(host.alloc(), keys, config))
+}
+
+/// Writes what is due, or reads on. `began` is when the request began that is read. Returns that moment for the next
+/// exchange; None if the time of the request is over.
+fn exchange<H: PageHost>(
+    host: &H,
+    stream: &TcpStream,
+    connection: &mut Connection,
+    began: Instant,
+) -> io::Result<Option<Instant>> {
+    if connection.wants_write() {
+        connection.write_to(&mut &*stream)?;
+        return Ok(Some(Instant::now(host)?));
+    }
+    let passed = Instant::now(host)?.duration_since(began);
+    let left = request_limit().saturating_sub(passed);
+    if left.is_zero() {
+        return Ok(None);
+    }
+    stream.set_read_timeout(Some(left))?;
+    connection.read_from(&mut &*stream)?;
+    Ok(Some(began))
+}
+
+/// Returns the time in which a whole request has to come.
+fn request_limit() -> Duration {
+    Duration::from_secs(REQUEST_SECONDS)
 }
