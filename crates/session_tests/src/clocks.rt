@@ -25,7 +25,24 @@ fn play<R: Wait>(rt: &R, alloc: Global, clock: &LineClock<'_>, row: &str) -> Res
     Ok(format!(in alloc; "{units} and {cut_off}")?)
 }
 
-/// Carries out each line of a transcript that has an arrow with a new clock. Returns each line with its result.
+/// Carries out each line of a transcript that has an arrow. Returns each line with its result.
+fn played_by<R: Wait>(
+    rt: &R,
+    alloc: Global,
+    clock: &LineClock<'_>,
+    rows: &str,
+) -> Result<String, Fail> {
+    let mut played = String::new(alloc);
+    for row in rows.lines() {
+        if let Some((what, _)) = row.split_once(ARROW) {
+            let result = play(rt, alloc, clock, what)?;
+            played.push_str(&format!(in alloc; "{what}{ARROW}{result}\n")?)?;
+        }
+    }
+    Ok(played)
+}
+
+/// Carries out a transcript with a new clock. Returns each line with its result.
 fn play_rows<R: Wait>(
     rt: &R,
     alloc: Global,
@@ -39,13 +56,7 @@ fn play_rows<R: Wait>(
     let Some(clock) = LineClock::open(rt, port, spec, tick) else {
         return Err(Fail::new("no pass"));
     };
-    let mut played = String::new(alloc);
-    for row in rows.lines() {
-        if let Some((what, _)) = row.split_once(ARROW) {
-            let result = play(rt, alloc, &clock, what)?;
-            played.push_str(&format!(in alloc; "{what}{ARROW}{result}\n")?)?;
-        }
-    }
+    let played = played_by(rt, alloc, &clock, rows)?;
     clock.close(rt);
     Ok(played)
 }
@@ -59,9 +70,8 @@ fn check_clock<R: Wait>(
     transcript: &str,
 ) -> Result<(), Fail> {
     let spec = ample_line(alloc, 1, Device::Counter)?;
-    let place = fresh_place(alloc, &spec)?;
-    let mut played = play_rows(rt, alloc, &place.port, &spec, tick, transcript)?;
-    let Place { port, .. } = place;
+    let Place { port, .. } = fresh_place(alloc, &spec)?;
+    let mut played = play_rows(rt, alloc, &port, &spec, tick, transcript)?;
     played.push_str(&closed_with(alloc, port.line, Vec::new(alloc))?)?;
     is_reported(played, transcript)
 }

@@ -1,14 +1,36 @@
 //! Sessions of operators.
 
+ghost use Rattle.std.specs.Prelude.{◌≡◌};
+ghost use Rattle.dp_shared.specs.Passes.{line_of};
+
 use crate::limits::{Limits, end_of};
-use dp_line::Device;
-use dp_sessions::serve_operator;
+use dp_line::{Device, LineSpec};
+use dp_sessions::{Port, serve_operator};
 use fixtures::line_specs::ample_line;
 use fixtures::place::{Place, fresh_place};
 use fixtures::rows::{closed_with, is_reported, many_passes};
 use std::alloc::{AllocError, Global};
 use std::sync::Wait;
 use std::test::Fail;
+
+/// Runs an operator's session at this port. Returns how it ended, what was written, and a bar.
+fn session_at<T: Wait>(
+    rt: &T,
+    alloc: Global,
+    port: &Port,
+    spec: &LineSpec,
+    limits: &Limits,
+    octets: &[u8],
+) -> Result<String, Fail>
+    requires described { line_of port.now.line ≡ spec.now }
+{
+    let mut reader = limits.reader(octets);
+    let mut writer = limits.writer(alloc);
+    let end = serve_operator(rt, &mut reader, &mut writer, port, spec, limits.turns);
+    let end = end_of(alloc, end, &reader)?;
+    let written = String::from_utf8(writer.taken)?;
+    Ok(format!(in alloc; "{end}\n{written}|\n")?)
+}
 
 /// Runs an operator's session at a new port with this device, while `out` passes of master 2 are out. Checks how it
 /// ended, what was written, and, after a bar, the journal.
@@ -25,13 +47,9 @@ fn operates_with<T: Wait>(
     let Place { port, .. } = fresh_place(alloc, &spec)?;
     let passes = many_passes(rt, alloc, &port.line, 2, out)?;
     let limits = Limits::new(limits)?;
-    let mut reader = limits.reader(octets);
-    let mut writer = limits.writer(alloc);
-    let end = serve_operator(rt, &mut reader, &mut writer, &port, &spec, limits.turns);
-    let end = end_of(alloc, end, &reader)?;
-    let written = String::from_utf8(writer.taken)?;
-    let journal = closed_with(alloc, port.line, passes)?;
-    is_reported(format!(in alloc; "{end}\n{written}|\n{journal}")?, expected)
+    let mut reported = session_at(rt, alloc, &port, &spec, &limits, octets)?;
+    reported.push_str(&closed_with(alloc, port.line, passes)?)?;
+    is_reported(reported, expected)
 }
 
 /// Runs an operator's session while no other pass is out. See [`operates_with`].

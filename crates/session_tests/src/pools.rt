@@ -3,13 +3,13 @@
 ghost use Rattle.std.specs.Prelude.{◌≡◌, ◌∷◌, [], IfOk};
 ghost use Rattle.dp_sessions.specs.Pools.{IsSeatAt};
 
-use crossbeam_channel::unbounded;
+use crossbeam_channel::{Receiver, unbounded};
 use dp_line::Device;
 use dp_sessions::{Gate, Job, NotRecorded, OpenGate, Port, run_pool};
 use dp_shared::WorkerSeat;
 use dp_telegram::Octets;
 use fixtures::line_specs::ample_line;
-use fixtures::place::fresh_place;
+use fixtures::place::{Place, fresh_place};
 use fixtures::rows::{hex_of, is_reported, octets_of};
 use std::alloc::{AllocError, Global};
 use std::io::{ErrorKind, Read, Write};
@@ -79,6 +79,26 @@ fn are_free(port: &Port, seat: WorkerSeat) -> bool
     port.claims.claim(&mut seat, 2).is_ok()
 }
 
+/// Returns the end of a queue that has these jobs, and takes no others.
+fn queue_of<H: Wait, R: Read + Send + Drop, W: Write + Send + Drop>(
+    rt: &H,
+    alloc: Global,
+    jobs: Vec<Job<R, W>>,
+) -> Result<Receiver<Job<R, W>>, Fail> {
+    let (sender, receiver) = unbounded(alloc)?;
+    for job in jobs {
+        if sender.send(rt, job).is_err() {
+            return Err(Fail::new("no receiver"));
+        }
+    }
+    Ok(receiver)
+}
+
+/// Opens the line with this number, with three seats.
+fn place_at(alloc: Global, line: u8) -> Result<Place, Fail> {
+    fresh_place(alloc, &ample_line(alloc, line, Device::Still)?)
+}
+
 /// Serves these jobs by two workers at lines 1 and 2. Returns how many jobs they served, and whether the addresses of
 /// both lines are free afterwards.
 fn served<H: Threads + Wait + Sync, R: Read + Send + Drop, W: Write + Send + Drop, G: Gate + Sync>(
@@ -87,22 +107,16 @@ fn served<H: Threads + Wait + Sync, R: Read + Send + Drop, W: Write + Send + Dro
     jobs: Vec<Job<R, W>>,
     gate: &G,
 ) -> Result<String, Fail> {
-    let one = fresh_place(alloc, &ample_line(alloc, 1, Device::Still)?)?;
-    let two = fresh_place(alloc, &ample_line(alloc, 2, Device::Still)?)?;
-    let (sender, receiver) = unbounded(alloc)?;
-    for job in jobs {
-        if sender.send(rt, job).is_err() {
-            return Err(Fail::new("no receiver"));
-        }
-    }
-    drop(sender);
+    let one = place_at(alloc, 1)?;
+    let two = place_at(alloc, 2)?;
+    let queue = queue_of(rt, alloc, jobs)?;
     let seats = both(
         alloc,
         both(alloc, one.first, two.first)?,
         both(alloc, one.second, two.second)?,
     )?;
     let ports = [one.port, two.port];
-    let count = run_pool(rt, &ports, seats, receiver, gate, 100)?;
+    let count = run_pool(rt, &ports, seats, queue, gate, 100)?;
     let free = are_free(&ports[0], one.third) && are_free(&ports[1], two.third);
     Ok(format!(in alloc; "{count} served, free {free}")?)
 }
@@ -308,6 +322,25 @@ fn speak(client: &mut TcpStream, address: u8, request: &[u8]) -> std::io::Result
     Ok(heard)
 }
 
+impl Heard {
+    /// Returns what was received as a text.
+    fn reported(&self, alloc: Global) -> Result<String, Fail> {
+        let acceptance = hex_of(alloc, &self.acceptance)?;
+        let (first, second) = (hex_of(alloc, &self.first)?, hex_of(alloc, &self.second)?);
+        Ok(format!(in alloc; "{acceptance}, {first}, {second}, {} behind", self.behind)?)
+    }
+}
+
+/// Returns both ends of a new connection over TCP: the client's first.
+fn connected<H: Net<Listener = TcpListener, Stream = TcpStream>>(
+    rt: &H,
+) -> Result<(TcpStream, TcpStream), Fail> {
+    let listener = TcpListener::bind(rt, "127.0.0.1:0")?;
+    let client = TcpStream::connect(rt, listener.local_addr()?)?;
+    let (stream, _) = listener.accept()?;
+    Ok((client, stream))
+}
+
 /// Runs a client over TCP in a thread of its own, while a pool serves its connection at line 1. Returns the counts of
 /// [`served`], and what the client received.
 fn served_over_tcp<H: Net<Listener = TcpListener, Stream = TcpStream> + Threads + Wait + Sync>(
@@ -315,9 +348,7 @@ fn served_over_tcp<H: Net<Listener = TcpListener, Stream = TcpStream> + Threads 
     alloc: Global,
     asks: &str,
 ) -> Result<String, Fail> {
-    let listener = TcpListener::bind(rt, "127.0.0.1:0")?;
-    let mut client = TcpStream::connect(rt, listener.local_addr()?)?;
-    let (stream, _) = listener.accept()?;
+    let (mut client, stream) = connected(rt)?;
     let asks = octets_of(asks)?;
     let asks = asks.as_slice();
     let heard = Mutex::new(None);
@@ -334,12 +365,8 @@ fn served_over_tcp<H: Net<Listener = TcpListener, Stream = TcpStream> + Threads 
     let Some(heard) = *heard.lock(rt) else {
         return Err(Fail::new("a session that broke off"));
     };
-    let acceptance = hex_of(alloc, &heard.acceptance)?;
-    let (first, second) = (hex_of(alloc, &heard.first)?, hex_of(alloc, &heard.second)?);
-    Ok(format!(in alloc;
-        "{pool}, {acceptance}, {first}, {second}, {} behind",
-        heard.behind
-    )?)
+    let heard = heard.reported(alloc)?;
+    Ok(format!(in alloc; "{pool}, {heard}")?)
 }
 
 /// Serves this connection at line 1 by a pool. Returns the counts of [`served`].

@@ -171,8 +171,31 @@ fn serve_named<'l, J: Naming, T: Wait>(
     (trail.into_tail(), end)
 }
 
-/// Serves a session of these reads on a fresh line, with a trail that has this much room or without one. Afterwards the
-/// trail has room again, and catches up with a request of another master. Returns the log, and how the session ended.
+/// Serves a session of these reads with a trail that writes to this log. Afterwards the log has room for 1,000 octets more,
+/// and the trail catches up with a request of master 2. Returns how the session ended.
+fn end_with_trail<T: Wait>(
+    rt: &T,
+    port: &Port,
+    seat: &mut WorkerSeat,
+    log: &Mutex<Log>,
+    reads: &[Octets],
+) -> Result<SessionEnd, Fail>
+    requires ours { seat.old.table ≡ port.now.claims.table }
+    requires free { seat.old.view.held ≡ None }
+{
+    let tail = Tail::open(rt, &port.line, Rows { rt, log })?;
+    let (mut tail, end) = serve_named::<Brand, T>(rt, tail, port, seat, log, reads);
+    let mut other = port.line.open_pass(rt, 2)?;
+    port.line
+        .exchange(rt, &mut other, &octets_of("100902495416")?);
+    log.lock(rt).room = 1000;
+    let _ = tail.catch_up(rt);
+    tail.close(rt);
+    Ok(end)
+}
+
+/// Serves a session of these reads on a fresh line, with a trail that has this much room or without one. Returns the log,
+/// and how the session ended.
 fn log_of<T: Wait>(
     rt: &T,
     alloc: Global,
@@ -188,22 +211,7 @@ fn log_of<T: Wait>(
     let log = empty_log(alloc, room.unwrap_or(0));
     let reads = reads_in(alloc, words)?;
     let end = if room.is_some() {
-        let tail = Tail::open(rt, &port.line, Rows { rt, log: &log })?;
-        let (mut tail, end) = serve_named::<Brand, T>(
-            rt,
-            tail,
-            &port,
-            &mut seat,
-            &log,
-            reads.as_slice(),
-        );
-        let mut other = port.line.open_pass(rt, 2)?;
-        port.line
-            .exchange(rt, &mut other, &octets_of("100902495416")?);
-        log.lock(rt).room = 1000;
-        let _ = tail.catch_up(rt);
-        tail.close(rt);
-        end
+        end_with_trail(rt, &port, &mut seat, &log, reads.as_slice())?
     } else {
         serve_between(rt, &NoTrail, &port, &mut seat, &log, reads.as_slice())
     };

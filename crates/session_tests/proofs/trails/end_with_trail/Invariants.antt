@@ -1,6 +1,6 @@
 use Rattle.std.proofs.Common.{[], ◌∷◌}
 use Rattle.dp_trail.specs.Named.{name_of}
-use Rattle.session_tests.proofs.trails.log_of.Given as goal
+use Rattle.session_tests.proofs.trails.end_with_trail.Given as goal
 
 -- the only trail
 abbrev pub ghosts-serve_named : goal.ghosts-serve_named
