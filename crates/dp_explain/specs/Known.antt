@@ -10,7 +10,7 @@ use Rattle.dp_sentences.specs.Notes.{first_notes, notes_after}
 use Rattle.dp_sentences.specs.ReleaseChanges.{releases_after}
 use Rattle.dp_sentences.specs.Releases.{first_releases}
 use Rattle.dp_sentences.specs.Scenes.{SceneView}
-use Rattle.dp_sentences.specs.Times.{time_after}
+use Rattle.dp_audit.specs.Times.{time_after}
 use Rattle.dp_explain.specs.declared.statistics.AddressCounts.{AddressCounts}
 use Rattle.dp_explain.specs.declared.tally.SenderCounts.{SenderCounts}
 use Rattle.dp_explain.specs.StationCounts.{first_statistics}

@@ -25,7 +25,7 @@ use Rattle.dp_sentences.specs.Changes.{same_holder, touched}
 use Rattle.dp_sentences.specs.Endings.{ending_by}
 use Rattle.dp_sentences.specs.Shown.{shown_at}
 use Rattle.dp_sentences.specs.Scenes.{SceneView}
-use Rattle.dp_sentences.specs.Times.{time_after}
+use Rattle.dp_audit.specs.Times.{time_after}
 use Rattle.dp_sentences.specs.Ways.{answered_as}
 use Rattle.dp_explain.specs.declared.statistics.AddressCounts.{AddressCounts}
 use Rattle.dp_explain.specs.declared.statistics.Count.TheVariants.{Sent, Began}

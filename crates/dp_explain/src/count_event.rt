@@ -6,8 +6,9 @@ ghost use Rattle.dp_explain.specs.Statistics.{statistics_after};
 use crate::count_holds::{Passed, count_holds, moment};
 use crate::count_requests::count_event_in;
 use crate::statistics::AddressCounts;
+use dp_audit::time_after;
 use dp_line::{LineState, Outcome};
-use dp_sentences::{ReadEvent, Scene, time_after};
+use dp_sentences::{ReadEvent, Scene};
 
 /// Counts an event, by the scene before it, the line after it and its outcome.
 pub(crate) fn count_statistics(

@@ -18,10 +18,11 @@ use crate::json_entry::write_entry_line;
 use crate::output::write_rows;
 use crate::statistics::{AddressCounts, first_statistics};
 use crate::tally::{SenderCounts, count_event, first_tally};
+use dp_audit::time_after;
 use dp_line::{LineSpec, LineState, Outcome};
 use dp_sentences::{
     Block, Noted, ReadEvent, Release, Scene, Taken, first_notes, first_releases, note_event,
-    note_releases, release_of, time_after,
+    note_releases, release_of,
 };
 use std::alloc::{AllocError, Global};
 use std::io::Write;

@@ -14,7 +14,7 @@ use Rattle.dp_audit.specs.declared.fault.AuditFault.{AuditFault}
 use Rattle.dp_audit.specs.declared.fault.AuditFault.TheVariants as faults
 use Rattle.dp_audit.specs.Check.{Judged, bad, not_the_policy, right}
 use Rattle.dp_audit.specs.Checking.{TakesRow}
-use Rattle.dp_sentences.specs.Times.{time_after}
+use Rattle.dp_audit.specs.Times.{time_after}
 use Rattle.dp_parts.specs.Parts.{PartsView, Taken, and_checked, behind, behind_row, entry_taken, head_row_taken, if_awaited, row_taken, rows_checked, with_row}
 
 -- ---- a row at the beginning of a text

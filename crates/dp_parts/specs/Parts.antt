@@ -13,7 +13,7 @@ use Rattle.dp_audit.specs.declared.fault.AuditFault.{AuditFault}
 use Rattle.dp_audit.specs.declared.fault.AuditFault.TheVariants as faults
 use Rattle.dp_audit.specs.AuditText.{header_text, line_text}
 use Rattle.dp_audit.specs.Check.{Judged, bad, not_the_policy, right, judged_line}
-use Rattle.dp_sentences.specs.Times.{time_after}
+use Rattle.dp_audit.specs.Times.{time_after}
 use Rattle.dp_checkpoint.specs.declared.head_fault.HeadFault.{HeadFault}
 use Rattle.dp_checkpoint.specs.declared.head_fault.HeadFault.TheVariants as heads
 use Rattle.dp_checkpoint.specs.Rows.{Left}

@@ -6,10 +6,9 @@ ghost use Rattle.dp_audit.specs.Check.{judged_line};
 ghost use Rattle.dp_parts.specs.Parts.{begins_head, behind_row, end_checked, entry_taken, head_row_taken, parts_begun, parts_checked, row_taken, rows_checked, with_head};
 
 use crate::beginning;
-use dp_audit::{AuditFault, take_row};
+use dp_audit::{AuditFault, take_row, time_after};
 use dp_checkpoint::{place_in_row, push_head};
 use dp_line::{Event, LineSpec, LineState, Step};
-use dp_sentences::time_after;
 use dp_text::{Lines, Text};
 use std::alloc::Global;
 use std::marker::Model;

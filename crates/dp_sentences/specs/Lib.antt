@@ -1,7 +1,6 @@
 pub mod Words
 pub mod TelegramRows
 pub mod Heads
-pub mod Times
 pub mod Notes
 pub mod Releases
 pub mod Meetings

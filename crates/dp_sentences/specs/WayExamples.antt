@@ -1,5 +1,5 @@
--- Examples of notes, of times, of ways in which requests were answered, and of faults.
-use Rattle.std.specs.Prelude.{◌≡◌, ℕ, ◌-◌, ◌^◌, List, [], ◌∷◌, true, false, codes, Some, None, refl}
+-- Examples of notes, of ways in which requests were answered, and of faults.
+use Rattle.std.specs.Prelude.{◌≡◌, ℕ, List, [], ◌∷◌, true, false, codes, Some, None, refl}
 use Rattle.dp_sap.specs.declared.state.State.TheVariants.{DataExch}
 use Rattle.dp_responder.specs.declared.rule.Rule.{Rule}
 use Rattle.dp_responder.specs.declared.rule.Rule.TheVariants as rules
@@ -22,7 +22,6 @@ use Rattle.dp_sentences.specs.Results.{fault_in_spread}
 use Rattle.dp_sentences.specs.ReleaseChanges.{change_noted}
 use Rattle.dp_sentences.specs.Notes.{first_notes, has_octets, note_of, notes_after, place_noted}
 use Rattle.dp_sentences.specs.Scenes.{SceneView}
-use Rattle.dp_sentences.specs.Times.{time_after}
 use Rattle.dp_sentences.specs.Ways.{answered_as, first_fault, is_fault, way_name, way_of_pair}
 
 -- ---- notes
@@ -72,20 +71,6 @@ a_lock_is_no_release = refl
 
 pub no_change_is_no_release : change_noted 6 (ask 1 exchange) 5 (Some held) (Some held) first_releases ≡ first_releases
 no_change_is_no_release = refl
-
--- ---- times
-
-pub the_first_tick : time_after None (Operator (Tick 18)) ≡ Some 18
-the_first_tick = refl
-
-pub the_next_tick : time_after (Some 18) (Operator (Tick 2)) ≡ Some 20
-the_next_tick = refl
-
-pub no_tick : time_after (Some 18) (ask 1 check) ≡ Some 18
-no_tick = refl
-
-pub the_largest_time : time_after (Some (2 ^ 64 - 1)) (Operator (Tick 1)) ≡ Some (2 ^ 64 - 1)
-the_largest_time = refl
 
 -- ---- ways
 
