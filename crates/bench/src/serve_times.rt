@@ -170,6 +170,7 @@ fn recorded_round<
             replies: stream.try_clone()?,
             session: opened_endless(alloc, &line, stream)?,
             file: File::create(rt, path.as_str())?,
+            alloc,
         };
         fs::remove_file(rt, path.as_str())?;
         connections.push(Connection { client, answers })?;

@@ -9,7 +9,8 @@ use dp_clock::LineClock;
 use dp_line::LineSpec;
 use dp_sessions::{Gate, NotRecorded, OpenGate, Port, serve};
 use dp_shared::WorkerSeat;
-use dp_trail::{Naming, RecordEntries, Tail, Trail};
+use dp_trail::{Naming, RecordEntries, Tail, Trail, WriteParts};
+use std::alloc::Global;
 use std::io::{self, Read, Write};
 use std::marker::Brand;
 use std::net::{Net, TcpListener, TcpStream};
@@ -180,21 +181,24 @@ pub(crate) struct Recorded<F> {
     pub(crate) replies: TcpStream,
     /// The file.
     pub(crate) file: F,
+    /// Where the trail takes memory.
+    pub(crate) alloc: Global,
 }
 
-impl<F: Write + Drop> Answers for Recorded<F> {
+impl<F: WriteParts + Drop> Answers for Recorded<F> {
     fn answer<R: Wait>(self, rt: &R) {
         let Recorded {
             session,
             replies,
             file,
+            alloc,
         } = self;
         let Served {
             stream,
             port,
             mut seat,
         } = session;
-        let Ok(tail) = Tail::open(rt, &port.line, file) else {
+        let Ok(tail) = Tail::open(rt, alloc, &port.line, file) else {
             return;
         };
         serve_recorded::<Brand, R, F>(rt, tail, stream, replies, &port, &mut seat);
@@ -202,7 +206,7 @@ impl<F: Write + Drop> Answers for Recorded<F> {
 }
 
 /// Serves a session whose entries are recorded by the trail of this tail, which `J` names.
-fn serve_recorded<'l, J: Naming, R: Wait, F: Write + Drop>(
+fn serve_recorded<'l, J: Naming, R: Wait, F: WriteParts + Drop>(
     rt: &R,
     tail: Tail<'l, F>,
     stream: TcpStream,

@@ -2,7 +2,7 @@
 use Rattle.std.specs.Prelude.{◌≡◌, ℕ, ◌≤◌, List, length, Option, Contains}
 use Rattle.atomic_table.specs.Seated.{TableId}
 use Rattle.dp_shared.specs.Passes.{PassIn}
-use Rattle.dp_trail.specs.Trails.{AreFrom, IsWhole, found, seen_text}
+use Rattle.dp_trail.specs.Trails.{AreFrom, IsWhole, found, parts_text}
 
 -- the name of a trail: the table of its line, the number of the line, and the number of its pass, which no other pass of the line has
 pub record TrailName : Type 0 where
@@ -18,7 +18,7 @@ abbrev pub IsOneOf : List TrailName → PassIn → Type 0
 IsOneOf trails pass = ∥ Contains trails (name_of pass) ∥₁
 
 -- One of these trails has written the text line of this place of the line. With its pass it has seen the entries of the places from 1 on, and this
--- place is among them. Since it was opened, its writer got the header and the text lines of all these entries.
+-- place is among them. Since it was opened, its writer got the header and the text lines of all these entries, with the heads of parts.
 pub record HasRow {W : Type 0} (contents : W → Option (List ℕ)) (trails : List TrailName) (line place : ℕ) : Type 0 where
   pub pass : PassIn
   pub one : IsOneOf trails pass
@@ -28,4 +28,4 @@ pub record HasRow {W : Type 0} (contents : W → Option (List ℕ)) (trails : Li
   pub version : ℕ
   pub opened : W
   pub written : W
-  pub whole : IsWhole (contents opened) (contents written) (seen_text version pass.line pass.view.looks)
+  pub whole : IsWhole (contents opened) (contents written) (parts_text version pass.line pass.view.looks)

@@ -102,7 +102,7 @@ pub fn begin_text<'a, 's, H: FileHost>(
         match create_first(host, alloc, text, path) {
             Ok(file) => {
                 let writer = AuditWriter::new(host, notes, alloc, text, number, megabytes, file);
-                return begin_trail(host, line, writer, text, path);
+                return begin_trail(host, alloc, line, writer, text, path);
             }
             Err(error) => match error.kind() {
                 ErrorKind::AlreadyExists => {}
@@ -137,6 +137,7 @@ fn create_first<H: FileHost>(
 /// path of its first file.
 fn begin_trail<'a, 's, H: FileHost>(
     host: &'s H,
+    alloc: Global,
     line: &'s Line,
     writer: AuditWriter<'a, 's, H>,
     text: AuditPath<'a>,
@@ -145,7 +146,7 @@ fn begin_trail<'a, 's, H: FileHost>(
     ensures path { IfOk result (λ file. file.path ≡ text.entry) }
     ensures fault { IfErr result (IsNotBegun path.entry) }
 {
-    match Tail::open(host, line, writer) {
+    match Tail::open(host, alloc, line, writer) {
         Ok(tail) => Ok(AuditFile {
             path: text,
             trail: tail,

@@ -3,6 +3,7 @@
 use crate::audit_path::AuditPath;
 use crate::file_host::NewFiles;
 use dp_notes::Notes;
+use dp_trail::WriteParts;
 use log::Log;
 use std::alloc::Global;
 use std::fs::File;
@@ -136,6 +137,8 @@ impl<H: NewFiles + Wait + Log + Clock> Write for AuditWriter<'_, '_, H> {
         }
     }
 }
+
+impl<H: NewFiles + Wait + Log + Clock> WriteParts for AuditWriter<'_, '_, H> {}
 
 /// Creates a file to append to. Fails with `AlreadyExists` if the path exists.
 pub(crate) fn create_file(

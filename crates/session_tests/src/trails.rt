@@ -10,7 +10,7 @@ use dp_line::Device;
 use dp_sessions::{Gate, NotRecorded, Port, SessionEnd, serve};
 use dp_shared::WorkerSeat;
 use dp_telegram::Octets;
-use dp_trail::{Naming, NoTrail, RecordEntries, Tail, Trail};
+use dp_trail::{Naming, NoTrail, RecordEntries, Tail, Trail, WriteParts};
 use fixtures::line_specs::ample_line;
 use fixtures::place::{Place, fresh_place};
 use fixtures::rows::{closed_with, hex_of, is_reported, many_passes, octets_of};
@@ -103,6 +103,8 @@ impl<H: Wait> Write for Rows<'_, H> {
     }
 }
 
+impl<H: Wait> WriteParts for Rows<'_, H> {}
+
 /// Returns the octets of each read, from words that are separated by spaces.
 fn reads_in(alloc: Global, words: &str) -> Result<Vec<Octets>, Fail> {
     let mut reads = Vec::new(alloc);
@@ -175,6 +177,7 @@ fn serve_named<'l, J: Naming, T: Wait>(
 /// and the trail catches up with a request of master 2. Returns how the session ended.
 fn end_with_trail<T: Wait>(
     rt: &T,
+    alloc: Global,
     port: &Port,
     seat: &mut WorkerSeat,
     log: &Mutex<Log>,
@@ -183,7 +186,7 @@ fn end_with_trail<T: Wait>(
     requires ours { seat.old.table ≡ port.now.claims.table }
     requires free { seat.old.view.held ≡ None }
 {
-    let tail = Tail::open(rt, &port.line, Rows { rt, log })?;
+    let tail = Tail::open(rt, alloc, &port.line, Rows { rt, log })?;
     let (mut tail, end) = serve_named::<Brand, T>(rt, tail, port, seat, log, reads);
     let mut other = port.line.open_pass(rt, 2)?;
     port.line
@@ -211,7 +214,7 @@ fn log_of<T: Wait>(
     let log = empty_log(alloc, room.unwrap_or(0));
     let reads = reads_in(alloc, words)?;
     let end = if room.is_some() {
-        end_with_trail(rt, &port, &mut seat, &log, reads.as_slice())?
+        end_with_trail(rt, alloc, &port, &mut seat, &log, reads.as_slice())?
     } else {
         serve_between(rt, &NoTrail, &port, &mut seat, &log, reads.as_slice())
     };
@@ -300,7 +303,7 @@ fn refused_with<T: Wait>(rt: &T, alloc: Global, room: usize, out: usize) -> Resu
     let Place { port, .. } = fresh_place(alloc, &ample_line(alloc, 1, Device::Still)?)?;
     let passes = many_passes(rt, alloc, &port.line, 2, out)?;
     let log = empty_log(alloc, room);
-    let Err(fault) = Tail::open(rt, &port.line, Rows { rt, log: &log }) else {
+    let Err(fault) = Tail::open(rt, alloc, &port.line, Rows { rt, log: &log }) else {
         return Err(Fail::new("a trail"));
     };
     let mut reported = log.into_inner().text;
