@@ -1,6 +1,6 @@
 -- Rows that a check takes.
 use Rattle.std.proofs.Common.{◌≡◌, ◌≢◌, ℕ, ◌+◌, ◌-◌, ◌≤◌, Bool, true, false, cond, List, [], ◌∷◌, length, take, drop, Option, Some, None, Result, Ok, Err, refl, sym, ap, ◌∙◌, ◌*◌, ◌^◌, min, not, arith}
-use Rattle.std.specs.Prelude.{codes, is_some, option_and_then}
+use Rattle.std.specs.Prelude.{codes, is_some, nat_lt, option_and_then}
 use Rattle.std.specs.List.{count_by}
 use Rattle.std.proofs.lemmas.List.{drop-drop, length-drop}
 use Rattle.std.proofs.lemmas.List.Sums.{length-filter}
@@ -12,10 +12,12 @@ use Rattle.dp_line.specs.declared.event.Step.{Step}
 use Rattle.dp_text.specs.Words.{same_text}
 use Rattle.dp_audit.specs.declared.fault.AuditFault.{AuditFault}
 use Rattle.dp_audit.specs.declared.fault.AuditFault.TheVariants as faults
-use Rattle.dp_audit.specs.Check.{Judged, bad, not_the_policy, right}
+use Rattle.dp_audit.specs.Check.{Judged, bad, judged_line, not_the_policy, right}
 use Rattle.dp_audit.specs.Checking.{TakesRow}
 use Rattle.dp_audit.specs.Times.{time_after}
-use Rattle.dp_parts.specs.Parts.{PartsView, Taken, and_checked, behind, behind_row, entry_taken, head_row_taken, if_awaited, row_taken, rows_checked, with_row}
+use Rattle.dp_checkpoint.specs.Head.{place_of_row}
+use Rattle.std.proofs.lemmas.Option.{same_Some}
+use Rattle.dp_parts.specs.Parts.{PartsView, Taken, and_checked, behind, behind_row, entry_taken, head_row_taken, head_taken, if_awaited, row_taken, rows_checked, with_head, with_row}
 
 -- ---- a row at the beginning of a text
 
@@ -94,6 +96,32 @@ pub entry_without_memory : (judged : Judged) (view : PartsView) (after : World) 
 entry_without_memory bad view after answer never = absurd cc
 entry_without_memory not_the_policy view after answer never = absurd cc
 entry_without_memory (right other) view after answer (never, is, stepped, answered) = absurd cc
+
+-- ---- a row of a head, or of an entry
+
+of_head_by : (view : PartsView) (row : List ℕ) (begun header : Bool) (taken entry : Result Taken AuditFault)
+    → cond begun (Some (head_row_taken view row)) (cond header (Some (head_row_taken (with_head view) row)) None) ≡ Some taken
+    → cond begun (head_row_taken view row) (cond header (head_row_taken (with_head view) row) entry) ≡ taken
+of_head_by view row true header taken entry is = same_Some _ _ is
+of_head_by view row false true taken entry is = same_Some _ _ is
+of_head_by view row false false taken entry is = absurd cc
+
+of_entry_by : (view : PartsView) (row : List ℕ) (begun header : Bool) (entry : Result Taken AuditFault)
+    → cond begun (Some (head_row_taken view row)) (cond header (Some (head_row_taken (with_head view) row)) None) ≡ None
+    → cond begun (head_row_taken view row) (cond header (head_row_taken (with_head view) row) entry) ≡ entry
+of_entry_by view row true header entry is = absurd cc
+of_entry_by view row false true entry is = absurd cc
+of_entry_by view row false false entry is = refl
+
+-- a row of a head is taken so
+pub of_head : (view : PartsView) (row : List ℕ) (taken : Result Taken AuditFault) → head_taken view row ≡ Some taken → row_taken view row ≡ taken
+of_head view row taken is =
+    of_head_by view row (nat_lt 0 (length view.awaited)) (is_some (place_of_row view.line row)) taken (entry_taken view (judged_line view.head.world row)) is
+
+-- any other one is that of an entry
+pub of_entry : (view : PartsView) (row : List ℕ) → head_taken view row ≡ None → row_taken view row ≡ entry_taken view (judged_line view.head.world row)
+of_entry view row is =
+    of_entry_by view row (nat_lt 0 (length view.awaited)) (is_some (place_of_row view.line row)) (entry_taken view (judged_line view.head.world row)) is
 
 -- ---- memory is refused at the header of a part only
 

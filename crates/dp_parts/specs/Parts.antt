@@ -1,5 +1,5 @@
 -- Checking an endless audit text from one of its parts on (own).
-use Rattle.std.specs.Prelude.{codes, ℕ, ◌+◌, ◌-◌, ◌*◌, ◌^◌, ◌==◌, ◌&&◌, nat_lt, min, Bool, if◌then◌else◌, List, [], ◌∷◌, length, take, drop, Option, Some, None, is_some, option_and_then, Result, Ok, Err}
+use Rattle.std.specs.Prelude.{codes, ◌≡◌, ℕ, ◌+◌, ◌-◌, ◌*◌, ◌^◌, ◌==◌, ◌&&◌, nat_lt, min, Bool, true, false, if◌then◌else◌, List, [], ◌∷◌, length, take, drop, Option, Some, None, is_some, option_and_then, Result, Ok, Err}
 use Rattle.std.specs.List.{count_by}
 use Rattle.dp_slave.specs.declared.description.SlaveSpec.{SlaveSpec}
 use Rattle.dp_line.specs.declared.event.Event.{Event}
@@ -71,6 +71,26 @@ with_head view = record view { awaited = head_text view.line view.head }
 -- no head has begun, and the row is the header of a part
 abbrev pub begins_head : PartsView → List ℕ → Bool
 begins_head view row = length view.awaited == 0 && is_some (place_of_row view.line row)
+
+-- what has to come yet of a head, and the number of the next row, beside a line of this number and its world and ticks so far
+pub record RowsView : Type 0 where
+  pub awaited : List ℕ
+  pub row : ℕ
+
+abbrev pub check_of : ℕ → Head → RowsView → PartsView
+check_of line head rows = record { line = line; head = head; awaited = rows.awaited; row = rows.row }
+
+-- a row of a head that has begun, or the header of a part; None if it is the row of an entry
+abbrev pub head_taken : PartsView → List ℕ → Option (Result Taken AuditFault)
+head_taken view row =
+    if nat_lt 0 (length view.awaited) then Some (head_row_taken view row)
+    else if is_some (place_of_row view.line row) then Some (head_row_taken (with_head view) row)
+    else None
+
+-- a row is one of a head, and this is the check behind it; or it is the row of an entry, and nothing has changed
+abbrev pub TakesHead : Bool → PartsView → List ℕ → PartsView → Type 0
+TakesHead true view row after = head_taken view row ≡ Some (Ok (after, None))
+TakesHead false view row after = (head_taken view row ≡ None) × (after ≡ view)
 
 -- a row: of a head that has begun, or the header of a part, or an entry
 abbrev pub row_taken : PartsView → List ℕ → Result Taken AuditFault

@@ -3,11 +3,11 @@
 ghost use Rattle.std.specs.Prelude.{◌≡◌, ◌≢◌, ◌≤◌, [], is_some, drop, length, None, true, Ok, Err, IfOk, IfErr, OnOk, Some};
 ghost use Rattle.dp_line.specs.World.{description_of, opening_fault};
 ghost use Rattle.dp_audit.specs.Check.{judged_line};
-ghost use Rattle.dp_parts.specs.Parts.{begins_head, behind_row, end_checked, entry_taken, head_row_taken, parts_begun, parts_checked, row_taken, rows_checked, with_head};
+ghost use Rattle.dp_parts.specs.Parts.{begins_head, end_checked, entry_taken, parts_begun, parts_checked, row_taken, rows_checked};
 
 use crate::beginning;
+use crate::head_rows::HeadRows;
 use dp_audit::{AuditFault, take_row, time_after};
-use dp_checkpoint::{place_in_row, push_head};
 use dp_line::{Event, LineSpec, LineState, Step};
 use dp_text::{Lines, Text};
 use std::alloc::Global;
@@ -24,22 +24,16 @@ pub struct PartsCheck {
     time: Option<u64>,
     /// The number of the line.
     line: u8,
-    /// The number of the next row in the text.
-    row: u64,
-    /// The text of a head, of which these many octets have come.
-    head: Vec<u8>,
-    come: usize,
+    /// The rows of heads.
+    heads: HeadRows,
 }
 
 impl Model for PartsCheck {
-    ghost use Rattle.std.specs.Prelude.{◌≤◌, drop, length};
-    ghost use Rattle.dp_parts.specs.Parts.{PartsView};
+    ghost use Rattle.dp_parts.specs.Parts.{PartsView, check_of};
 
     ghost Value = { PartsView };
 
-    ghost view = { λ c. record { line = c.line; head = record { world = c.state.world; time = c.time }; awaited = drop c.come c.head.items; row = c.row } };
-
-    ghost invariant = { λ c. c.come ≤ length c.head.items };
+    ghost view = { λ c. check_of c.line (record { world = c.state.world; time = c.time }) c.heads };
 }
 
 impl PartsCheck {
@@ -77,9 +71,7 @@ impl PartsCheck {
             state,
             time,
             line,
-            row,
-            head: Vec::new(alloc),
-            come: 0,
+            heads: HeadRows::new(alloc, row),
         }
     }
 
@@ -89,7 +81,7 @@ impl PartsCheck {
     /// Otherwise returns the fault of the row, with its number in the text: `BadLine` if it is badly formed, `NotThePolicy`
     /// if it is another than the policy gives, or not the row of the head that is due; or `OutOfMemory`, at the header of a
     /// part only. The check is of no use then.
-    #[tactic(auto, using(crate::proofs::Taking::head_row_keeps, crate::proofs::Taking::entry_keeps))]
+    #[tactic(auto, using(crate::proofs::Taking::of_head, crate::proofs::Taking::of_entry, crate::proofs::Taking::entry_keeps))]
     pub fn take_row(
         &mut self,
         row: &[u8],
@@ -100,41 +92,14 @@ impl PartsCheck {
         ensures err { IfErr result (λ fault. fault ≢ AuditFault.OutOfMemory → row_taken self.old row.now ≡ Err fault) }
         ensures memory { IfErr result (λ fault. fault ≡ AuditFault.OutOfMemory → begins_head self.old row.now ≡ true) }
     {
-        if self.come < self.head.len() {
-            return self.take_head_row(row);
+        match self
+            .heads
+            .take_row(self.line, &self.state, self.time, row, buffer)
+        {
+            Ok(true) => Ok(None),
+            Ok(false) => self.take_entry(row, answer, buffer),
+            Err(fault) => Err(fault),
         }
-        if place_in_row(self.line, row, buffer).is_none() {
-            return self.take_entry(row, answer, buffer);
-        }
-        self.begin_head(buffer)?;
-        self.take_head_row(row)
-    }
-
-    /// Makes the head that is due with the header of a part.
-    fn begin_head(&mut self, buffer: &mut Text) -> Result<(), AuditFault>
-        ensures ok { OnOk result (self.new ≡ with_head self.old) }
-        ensures err { IfErr result (λ fault. fault ≡ AuditFault.OutOfMemory) }
-    {
-        self.head.clear();
-        self.come = 0;
-        match push_head(&mut self.head, self.line, &self.state, self.time, buffer) {
-            Ok(()) => Ok(()),
-            Err(_) => Err(AuditFault::OutOfMemory),
-        }
-    }
-
-    /// Takes a row of a head.
-    #[tactic(auto, using(crate::proofs::Taking::row_found))]
-    fn take_head_row(&mut self, row: &[u8]) -> Result<Option<Event>, AuditFault>
-        ensures ok { IfOk result (λ event. head_row_taken self.old row.now ≡ Ok (self.new, event)) }
-        ensures err { IfErr result (λ fault. head_row_taken self.old row.now ≡ Err fault) }
-    {
-        if !begins_with_row(&self.head[self.come..], row) {
-            return Err(AuditFault::NotThePolicy(self.row));
-        }
-        self.come += row.len() + 1;
-        self.row = self.row.saturating_add(1);
-        Ok(None)
     }
 
     /// Takes the row of an entry.
@@ -151,11 +116,11 @@ impl PartsCheck {
         match take_row(&mut self.state, row, answer, buffer) {
             Ok(event) => {
                 self.time = time_after(self.time, &event);
-                self.row = self.row.saturating_add(1);
+                self.heads.pass_entry();
                 Ok(Some(event))
             }
-            Err(AuditFault::BadLine(_)) => Err(AuditFault::BadLine(self.row)),
-            Err(AuditFault::NotThePolicy(_)) => Err(AuditFault::NotThePolicy(self.row)),
+            Err(AuditFault::BadLine(_)) => Err(AuditFault::BadLine(self.heads.row())),
+            Err(AuditFault::NotThePolicy(_)) => Err(AuditFault::NotThePolicy(self.heads.row())),
             Err(AuditFault::OutOfMemory) => Err(AuditFault::OutOfMemory),
         }
     }
@@ -165,21 +130,11 @@ impl PartsCheck {
     pub fn end(&self, last: &[u8]) -> Result<u32, AuditFault>
         ensures { result ≡ end_checked self.now last.now }
     {
-        if last.is_empty() && self.come == self.head.len() {
+        if last.is_empty() && self.heads.is_between() {
             Ok(self.state.count())
         } else {
-            Err(AuditFault::BadLine(self.row))
+            Err(AuditFault::BadLine(self.heads.row()))
         }
-    }
-}
-
-/// Returns whether a text begins with a row and its LF.
-fn begins_with_row(text: &[u8], row: &[u8]) -> bool
-    ensures { result ≡ is_some (behind_row row.now text.now) }
-{
-    match text.strip_prefix(row) {
-        Some(rest) => rest.strip_prefix(b"\n").is_some(),
-        None => false,
     }
 }
 
