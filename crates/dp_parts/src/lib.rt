@@ -5,7 +5,7 @@
 //! the head of the next one has to be that of the world behind the entries before it.
 //!
 //! The definition `parts_checked` of `specs/Parts` says what is accepted. [`check_parts`] checks a text that is in memory,
-//! [`PartsCheck`] one that comes row by row. [`HeadRows`] tells the rows of heads from those of entries, for a reader that
+//! [`PartsCheck`] one that comes row by row. [`HeadRows`] takes the rows of heads and no entries, for a reader that
 //! has a line of its own.
 #![tactic(auto)]
 
