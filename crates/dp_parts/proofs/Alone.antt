@@ -1,5 +1,5 @@
 -- A text without heads.
-use Rattle.std.proofs.Common.{◌≡◌, ℕ, ◌+◌, ◌-◌, ◌<◌, ◌==◌, ◌&&◌, ◌||◌, ◌^◌, min, Bool, true, false, cond, List, [], ◌∷◌, ◌++◌, length, Option, None, Result, inl, inr, refl, sym, ap, ◌∙◌, arith}
+use Rattle.std.proofs.Common.{◌≡◌, ℕ, ◌+◌, ◌==◌, ◌&&◌, ◌||◌, Bool, true, false, cond, List, [], ◌∷◌, ◌++◌, length, Option, None, Result, inl, inr, refl, sym, ap, ◌∙◌}
 use Rattle.std.specs.Prelude.{is_some}
 use Rattle.std.specs.List.{AllByRecursion, onto_first}
 use Rattle.std.proofs.lemmas.Bool.{cases_Bool, cond-true, cond-false}
@@ -22,9 +22,9 @@ use Rattle.dp_parts.proofs.Heads.{front_taken}
 
 -- ---- rows behind a head
 
--- a check between two entries, of which no head has begun; the number of the row is that of a text without heads
+-- a check between two entries, of which no head has begun
 abbrev pub between : ℕ → Head → PartsView
-between line head = record { line = line; head = head; awaited = []; row = head.world.count + 2 }
+between line head = record { line = line; head = head; awaited = [] }
 
 -- no row is the header of a part
 abbrev pub NoHead : ℕ → List (List ℕ) → Type 0
@@ -34,38 +34,35 @@ row_is_entry : (line : ℕ) (head : Head) (row : List ℕ) → place_of_row line
 row_is_entry line head row none =
     cond-false (is_some (place_of_row line row)) (head_row_taken (with_head (between line head)) row) (entry_taken (between line head) (judged_line head.world row)) (ap is_some none)
 
-numbered : (count : ℕ) → count + 3 < 2 ^ 64 → min (count + 2 + 1) (2 ^ 64 - 1) ≡ count + 1 + 2
-numbered count room = omega arith
-
 -- the check behind an entry, and the rows behind it
-abbrev behind_entry : ℕ → Head → Event → List (List ℕ) → ℕ → Result ℕ AuditFault
-behind_entry line head event rows number = rows_checked (record { line = line; head = head_after head event; awaited = []; row = number }) rows
+abbrev behind_entry : ℕ → Head → Event → List (List ℕ) → Result ℕ AuditFault
+behind_entry line head event rows = rows_checked (between line (head_after head event)) rows
 
-entry_alike : (line : ℕ) (head : Head) (rows : List (List ℕ)) (judged : Judged) → head.world.count + 3 < 2 ^ 64
-    → ((event : Event) → behind_entry line head event rows (head.world.count + 1 + 2) ≡ checked_lines (effect head.world event).world (head.world.count + 1) rows)
+entry_alike : (line : ℕ) (head : Head) (rows : List (List ℕ)) (judged : Judged)
+    → ((event : Event) → behind_entry line head event rows ≡ checked_lines (effect head.world event).world (head.world.count + 1) rows)
     → and_checked (entry_taken (between line head) judged) (λ taken. rows_checked taken.0 rows)
     ≡ going_on judged head.world.count (λ event. checked_lines (effect head.world event).world (head.world.count + 1) rows)
-entry_alike line head rows bad room more = refl
-entry_alike line head rows not_the_policy room more = refl
-entry_alike line head rows (right event) room more = ap (behind_entry line head event rows) (numbered head.world.count room) ∙ more event
+entry_alike line head rows bad more = refl
+entry_alike line head rows not_the_policy more = refl
+entry_alike line head rows (right event) more = more event
 
 last_alike : {X : Type 0} (is_empty : Bool) (ended wrong : X) → cond (is_empty && true) ended wrong ≡ cond is_empty ended wrong
 last_alike true ended wrong = refl
 last_alike false ended wrong = refl
 
-pub rows_alike : (line : ℕ) (head : Head) (rows : List (List ℕ)) → NoHead line rows → head.world.count + length rows + 3 < 2 ^ 64
+pub rows_alike : (line : ℕ) (head : Head) (rows : List (List ℕ)) → NoHead line rows
     → rows_checked (between line head) rows ≡ checked_lines head.world head.world.count rows
 unfolding effect
-rows_alike line head [] none room = refl
-rows_alike line head (last ∷ []) none room = last_alike (length last == 0) _ _
-rows_alike line head (row ∷ next ∷ rows) none room =
+rows_alike line head [] none = refl
+rows_alike line head (last ∷ []) none = last_alike (length last == 0) _ _
+rows_alike line head (row ∷ next ∷ rows) none =
     ap (λ (t : Result Taken AuditFault). and_checked t (λ taken. rows_checked taken.0 (next ∷ rows))) (row_is_entry line head row none.0)
-    ∙ entry_alike line head (next ∷ rows) (judged_line head.world row) (omega (arith, room))
-    (λ event. rows_alike line (head_after head event) (next ∷ rows) none.1 (omega (arith, room)))
+    ∙ entry_alike line head (next ∷ rows) (judged_line head.world row)
+    (λ event. rows_alike line (head_after head event) (next ∷ rows) none.1)
 
 -- ---- a whole text
 
-some_line : (text : List ℕ) → HasFirst (lines_of text)
+pub some_line : (text : List ℕ) → HasFirst (lines_of text)
 some_line [] = record { first = []; others = []; is = refl }
 some_line (octet ∷ text) = elim (cases_Bool (octet == 10)) [
   | inl is ↦ record { first = []; others = lines_of text; is = slice_split-cons_yes (λ o. o == 10) octet text is }
@@ -86,16 +83,15 @@ is_endless line =
     ap (λ (places : ℕ). start_of (record line { capacity = places }))
     (sym (cond-true (same_text (header_text 3 line.number) (header_text 3 line.number)) endless_places line.capacity (same_itself (header_text 3 line.number))))
 
-pub text_alike : (line : Description) (rows : List ℕ) → NoHead line.number (lines_of rows) → length (lines_of rows) + 3 < 2 ^ 64
+pub text_alike : (line : Description) (rows : List ℕ) → NoHead line.number (lines_of rows)
     → parts_checked line (line_text (header_text 3 line.number) ++ rows) ≡ checked line (line_text (header_text 3 line.number) ++ rows)
 unfolding parts_checked
-text_alike line rows none few =
+text_alike line rows none =
     let header = header_text 3 line.number in
     let text = line_text header ++ rows in
     let start = start_of (endless line) in
     let has = some_line rows in
-    let room : 0 + length (lines_of rows) + 3 < 2 ^ 64 = omega (arith, few) in
     ap (λ (found : Option (List ℕ)). and_checked (begun_by line text found) (λ begun. rows_checked begun.0 (lines_of begun.1))) (front_taken (line_text header) rows)
-    ∙ rows_alike line.number (record { world = start; time = None }) (lines_of rows) none room
+    ∙ rows_alike line.number (record { world = start; time = None }) (lines_of rows) none
     ∙ ap (λ (ls : List (List ℕ)). checked_lines start 0 ls) has.is
     ∙ good_header line text header has.first (lines_of rows) has.others start (line_first header rows (header_has_no_lf 3 line.number)) has.is (is_accepted line) (is_endless line)

@@ -1,5 +1,5 @@
 -- The rows of a head that is due.
-use Rattle.std.proofs.Common.{◌≡◌, ℕ, ◌+◌, ◌-◌, ◌<◌, ◌^◌, min, true, List, [], ◌∷◌, ◌++◌, length, take, drop, map, Some, None, Result, Ok, refl, sym, ap, ◌∙◌, append_assoc, codes, arith}
+use Rattle.std.proofs.Common.{◌≡◌, ℕ, ◌<◌, true, List, [], ◌∷◌, ◌++◌, length, take, drop, map, Some, None, Result, Ok, refl, sym, ap, ◌∙◌, append_assoc, codes, arith}
 use Rattle.std.specs.Prelude.{is_some, nat_lt, option_and_then}
 use Rattle.std.specs.List.{flat_map}
 use Rattle.std.proofs.lemmas.Bool.{cond-true, lt-ltb}
@@ -37,42 +37,25 @@ some_left (octet ∷ row) rest = lt-ltb 0 (length (octet ∷ ((row ++ codes "\n"
 -- ---- rows that are awaited
 
 -- a check that awaits these rows, without their LFs
-abbrev awaiting : ℕ → Head → ℕ → List (List (List ℕ)) → PartsView
-awaiting line head row rows = record { line = line; head = head; awaited = rows_text rows; row = row }
+abbrev awaiting : ℕ → Head → List (List (List ℕ)) → PartsView
+awaiting line head rows = record { line = line; head = head; awaited = rows_text rows }
 
-abbrev one_row_more : ℕ → ℕ
-one_row_more row = min (row + 1) (2 ^ 64 - 1)
-
-awaited_taken : (line : ℕ) (head : Head) (row : ℕ) (words : List (List ℕ)) (rows : List (List (List ℕ)))
-    → row_taken (awaiting line head row (words ∷ rows)) (spaced words) ≡ Ok (awaiting line head (one_row_more row) rows, None)
-awaited_taken line head row words rows =
-    let view = awaiting line head row (words ∷ rows) in
+awaited_taken : (line : ℕ) (head : Head) (words : List (List ℕ)) (rows : List (List (List ℕ)))
+    → row_taken (awaiting line head (words ∷ rows)) (spaced words) ≡ Ok (awaiting line head rows, None)
+awaited_taken line head words rows =
+    let view = awaiting line head (words ∷ rows) in
     cond-true (nat_lt 0 (length view.awaited)) (head_row_taken view (spaced words)) _ (some_left (spaced words) (rows_text rows))
     ∙ ap (if_awaited view) (first_behind (spaced words) (rows_text rows))
 
--- the number of the row behind these rows
-abbrev rows_after : ℕ → List (List (List ℕ)) → ℕ
-rows_after row [] = row
-rows_after row (words ∷ rows) = rows_after (one_row_more row) rows
-
-all_taken : (line : ℕ) (head : Head) (row : ℕ) (rows : List (List (List ℕ))) (next : List ℕ) (others : List (List ℕ))
-    → rows_checked (awaiting line head row rows) (map spaced rows ++ next ∷ others) ≡ rows_checked (awaiting line head (rows_after row rows) []) (next ∷ others)
-all_taken line head row [] next others = refl
-all_taken line head row (words ∷ []) next others =
-    rows_more (awaiting line head row (words ∷ [])) (awaiting line head (one_row_more row) []) (spaced words) next others None (awaited_taken line head row words [])
-all_taken line head row (words ∷ more ∷ rows) next others =
-    rows_more (awaiting line head row (words ∷ more ∷ rows)) (awaiting line head (one_row_more row) (more ∷ rows)) (spaced words) (spaced more) (map spaced rows ++ next ∷ others) None
-    (awaited_taken line head row words (more ∷ rows))
-    ∙ all_taken line head (one_row_more row) (more ∷ rows) next others
-
-counted_more : (row n : ℕ) → min (min (row + 1) (2 ^ 64 - 1) + n) (2 ^ 64 - 1) ≡ min (row + (n + 1)) (2 ^ 64 - 1)
-counted_more row n = omega arith
-
-counted : (row : ℕ) (words : List (List ℕ)) (rows : List (List (List ℕ))) → rows_after row (words ∷ rows) ≡ min (row + (length rows + 1)) (2 ^ 64 - 1)
-counted row words [] = refl
-counted row words (more ∷ rows) =
-    let one_more : row + ((length rows + 1) + 1) ≡ row + (length (more ∷ rows) + 1) = omega arith in
-    counted (one_row_more row) more rows ∙ counted_more row (length rows + 1) ∙ ap (λ (n : ℕ). min n (2 ^ 64 - 1)) one_more
+all_taken : (line : ℕ) (head : Head) (rows : List (List (List ℕ))) (next : List ℕ) (others : List (List ℕ))
+    → rows_checked (awaiting line head rows) (map spaced rows ++ next ∷ others) ≡ rows_checked (awaiting line head []) (next ∷ others)
+all_taken line head [] next others = refl
+all_taken line head (words ∷ []) next others =
+    rows_more (awaiting line head (words ∷ [])) (awaiting line head []) (spaced words) next others None (awaited_taken line head words [])
+all_taken line head (words ∷ more ∷ rows) next others =
+    rows_more (awaiting line head (words ∷ more ∷ rows)) (awaiting line head (more ∷ rows)) (spaced words) (spaced more) (map spaced rows ++ next ∷ others) None
+    (awaited_taken line head words (more ∷ rows))
+    ∙ all_taken line head (more ∷ rows) next others
 
 -- ---- a whole head
 
@@ -102,17 +85,11 @@ begun view none small within =
     (some_left row (rows_text (second ∷ flat_map slave_rows view.head.world.slaves))))
 
 pub head_changes_nothing : (view : PartsView) (next : List ℕ) (others : List (List ℕ)) → view.awaited ≡ [] → view.line < 256 → view.head.world.count < 4294967296
-    → rows_checked view (map spaced (head_rows view.line view.head) ++ next ∷ others)
-    ≡ rows_checked (record view { row = min (view.row + length (head_rows view.line view.head)) (2 ^ 64 - 1) }) (next ∷ others)
+    → rows_checked view (map spaced (head_rows view.line view.head) ++ next ∷ others) ≡ rows_checked view (next ∷ others)
 unfolding head_text
 head_changes_nothing view next others none small within =
-    let first = header_words view.line view.head.world.count in
     let second = running_words (record { halted = view.head.world.halted; time = view.head.time }) in
-    let slaves = flat_map slave_rows view.head.world.slaves in
-    let more = map spaced slaves ++ next ∷ others in
-    let size : view.row + (length (second ∷ slaves) + 1) ≡ view.row + length (head_rows view.line view.head) = omega arith in
+    let more = map spaced (flat_map slave_rows view.head.world.slaves) ++ next ∷ others in
     ap (λ (t : Result Taken AuditFault). and_checked t (λ taken. rows_checked taken.0 (spaced second ∷ more))) (begun view none small within)
-    ∙ all_taken view.line view.head view.row (head_rows view.line view.head) next others
-    ∙ ap (λ (row : ℕ). rows_checked (record { line = view.line; head = view.head; awaited = []; row = row }) (next ∷ others))
-    (counted view.row first (second ∷ slaves) ∙ ap (λ (n : ℕ). min n (2 ^ 64 - 1)) (omega arith))
-    ∙ ap (λ (awaited : List ℕ). rows_checked (record { line = view.line; head = view.head; awaited = awaited; row = min (view.row + length (head_rows view.line view.head)) (2 ^ 64 - 1) }) (next ∷ others)) (sym none)
+    ∙ all_taken view.line view.head (head_rows view.line view.head) next others
+    ∙ ap (λ (awaited : List ℕ). rows_checked (record { line = view.line; head = view.head; awaited = awaited }) (next ∷ others)) (sym none)

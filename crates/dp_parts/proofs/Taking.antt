@@ -1,5 +1,5 @@
 -- Rows that a check takes.
-use Rattle.std.proofs.Common.{◌≡◌, ◌≢◌, ℕ, ◌+◌, ◌-◌, ◌≤◌, Bool, true, false, cond, List, [], ◌∷◌, length, take, drop, Option, Some, None, Result, Ok, Err, refl, sym, ap, ◌∙◌, ◌*◌, ◌^◌, min, not, arith}
+use Rattle.std.proofs.Common.{◌≡◌, ◌≢◌, ℕ, ◌+◌, ◌≤◌, Bool, true, false, cond, List, [], ◌∷◌, length, take, drop, Option, Some, None, Result, Ok, Err, refl, sym, ap, ◌∙◌, ◌*◌, not, arith}
 use Rattle.std.specs.Prelude.{codes, is_some, nat_lt, option_and_then}
 use Rattle.std.specs.List.{count_by}
 use Rattle.std.proofs.lemmas.List.{drop-drop, length-drop}
@@ -17,7 +17,7 @@ use Rattle.dp_audit.specs.Checking.{TakesRow}
 use Rattle.dp_audit.specs.Times.{time_after}
 use Rattle.dp_checkpoint.specs.Head.{place_of_row}
 use Rattle.std.proofs.lemmas.Option.{same_Some}
-use Rattle.dp_parts.specs.Parts.{PartsView, Taken, and_checked, behind, behind_row, entry_taken, head_row_taken, head_taken, if_awaited, row_taken, rows_checked, with_head, with_row}
+use Rattle.dp_parts.specs.Parts.{PartsView, Taken, and_checked, behind, behind_row, entry_taken, head_row_taken, head_taken, if_awaited, row_taken, rows_checked, with_head}
 
 -- ---- a row at the beginning of a text
 
@@ -48,17 +48,12 @@ pub row_found : (row text : List ℕ) → is_some (behind_row row text) ≡ true
     → (behind_row row text ≡ Some (drop (length row + 1) text)) × (length row + 1 ≤ length text)
 row_found row text found = row_found_by row text (same_text (take (length row) text) row) refl found
 
-abbrev head_row_of : PartsView → List ℕ → ℕ → Result Taken AuditFault
-head_row_of view awaited number = Ok (record { line = view.line; head = view.head; awaited = awaited; row = number }, None)
-
 -- a row of a head, of whose text these many octets have come
-pub head_row_ok : (view : PartsView) (row head : List ℕ) (come number : ℕ) → view.awaited ≡ drop come head → is_some (behind_row row (drop come head)) ≡ true
-    → number ≡ min (view.row + 1) (2 ^ 64 - 1)
-    → head_row_taken view row ≡ Ok (record { line = view.line; head = view.head; awaited = drop (come + (length row + 1)) head; row = number }, None)
-head_row_ok view row head come number is found saturated =
+pub head_row_ok : (view : PartsView) (row head : List ℕ) (come : ℕ) → view.awaited ≡ drop come head → is_some (behind_row row (drop come head)) ≡ true
+    → head_row_taken view row ≡ Ok (record { line = view.line; head = view.head; awaited = drop (come + (length row + 1)) head }, None)
+head_row_ok view row head come is found =
     ap (λ (text : List ℕ). if_awaited view (behind_row row text)) is
     ∙ ap (if_awaited view) ((row_found row (drop come head) found).0 ∙ ap Some (drop-drop (length row + 1) come head))
-    ∙ ap (λ (n : ℕ). head_row_of view (drop (come + (length row + 1)) head) n) (sym saturated)
 
 -- ---- the row of an entry
 
@@ -70,32 +65,20 @@ same_event e = cc
 
 -- the check behind an entry, and its event
 abbrev behind_entry : PartsView → World → Event → Event → Result Taken AuditFault
-behind_entry view after event shown = Ok (with_row view (record { world = after; time = time_after view.head.time event }) view.awaited, Some shown)
+behind_entry view after event shown = Ok (record view { head = record { world = after; time = time_after view.head.time event } }, Some shown)
 
 pub entry_right : (judged : Judged) (view : PartsView) (after : World) (answer : Step) (event : Event) → TakesRow judged view.head.world after answer (Ok event)
-    → entry_taken view judged ≡ Ok (with_row view (record { world = after; time = time_after view.head.time event }) view.awaited, Some event)
+    → entry_taken view judged ≡ Ok (record view { head = record { world = after; time = time_after view.head.time event } }, Some event)
 entry_right bad view after answer event never = absurd cc
 entry_right not_the_policy view after answer event never = absurd cc
 entry_right (right other) view after answer event (same, is, stepped, answered) =
     ap (λ (w : World). behind_entry view w other other) (sym is) ∙ ap (λ (e : Event). behind_entry view after e e) (sym (same_event same))
 
-pub entry_bad : (judged : Judged) (view : PartsView) (after : World) (answer : Step) (number : ℕ) → TakesRow judged view.head.world after answer (Err (faults.BadLine number))
-    → entry_taken view judged ≡ Err (faults.BadLine view.row)
-entry_bad bad view after answer number is = refl
-entry_bad not_the_policy view after answer number is = absurd cc
-entry_bad (right other) view after answer number (never, is, stepped, answered) = absurd cc
-
-pub entry_refused : (judged : Judged) (view : PartsView) (after : World) (answer : Step) (number : ℕ) → TakesRow judged view.head.world after answer (Err (faults.NotThePolicy number))
-    → entry_taken view judged ≡ Err (faults.NotThePolicy view.row)
-entry_refused bad view after answer number is = absurd cc
-entry_refused not_the_policy view after answer number is = refl
-entry_refused (right other) view after answer number (never, is, stepped, answered) = absurd cc
-
-pub entry_without_memory : (judged : Judged) (view : PartsView) (after : World) (answer : Step) → TakesRow judged view.head.world after answer (Err faults.OutOfMemory)
-    → entry_taken view judged ≡ Err faults.OutOfMemory
-entry_without_memory bad view after answer never = absurd cc
-entry_without_memory not_the_policy view after answer never = absurd cc
-entry_without_memory (right other) view after answer (never, is, stepped, answered) = absurd cc
+pub entry_wrong : (judged : Judged) (view : PartsView) (after : World) (answer : Step) (fault : AuditFault) → TakesRow judged view.head.world after answer (Err fault)
+    → entry_taken view judged ≡ Err fault
+entry_wrong bad view after answer fault is = cc
+entry_wrong not_the_policy view after answer fault is = cc
+entry_wrong (right other) view after answer fault (never, is, stepped, answered) = absurd cc
 
 -- ---- a row of a head, or of an entry
 

@@ -1,5 +1,5 @@
 -- Checking an endless audit text from one of its parts on (own).
-use Rattle.std.specs.Prelude.{codes, ◌≡◌, ℕ, ◌+◌, ◌-◌, ◌*◌, ◌^◌, ◌==◌, ◌&&◌, nat_lt, min, Bool, true, false, if◌then◌else◌, List, [], ◌∷◌, length, take, drop, Option, Some, None, is_some, option_and_then, Result, Ok, Err}
+use Rattle.std.specs.Prelude.{codes, ◌≡◌, ℕ, ◌+◌, ◌*◌, ◌==◌, ◌&&◌, nat_lt, Bool, true, false, if◌then◌else◌, List, [], ◌∷◌, length, take, drop, Option, Some, None, is_some, option_and_then, Result, Ok, Err}
 use Rattle.std.specs.List.{count_by}
 use Rattle.dp_slave.specs.declared.description.SlaveSpec.{SlaveSpec}
 use Rattle.dp_line.specs.declared.event.Event.{Event}
@@ -22,21 +22,21 @@ use Rattle.dp_checkpoint.specs.HeadLines.{line_read}
 
 -- ---- row by row
 
--- a check behind some rows of a text: the number of the line, its world and the sum of its ticks behind the entries so far, what has to come yet of
--- a head, and the number of the next row
+-- a check behind some rows of a text: the number of the line, its world and the sum of its ticks behind the entries so far, and what has to come yet
+-- of a head
 pub record PartsView : Type 0 where
   pub line : ℕ
   pub head : Head
   pub awaited : List ℕ
-  pub row : ℕ
 
 -- what a row gives: the check behind it, and its event if it is an entry
 abbrev pub Taken : Type 0
 Taken = PartsView × Option Event
 
--- the check behind one more row; the number of a row stops at the largest one of 64 bits
-abbrev pub with_row : PartsView → Head → List ℕ → PartsView
-with_row view head awaited = record { line = view.line; head = head; awaited = awaited; row = min (view.row + 1) (2 ^ 64 - 1) }
+-- the number of the next row: the header of the text is row 1, the entry of place P is row P + 1, and rows of heads are not counted, so that a row
+-- has the same number whichever part a check begins with
+abbrev pub row_number : PartsView → ℕ
+row_number view = view.head.world.count + 2
 
 -- what is left of a text behind its beginning, if it begins so
 abbrev pub behind : List ℕ → List ℕ → Option (List ℕ)
@@ -47,8 +47,8 @@ abbrev pub behind_row : List ℕ → List ℕ → Option (List ℕ)
 behind_row row text = option_and_then (behind (codes "\n")) (behind row text)
 
 abbrev pub if_awaited : PartsView → Option (List ℕ) → Result Taken AuditFault
-if_awaited view None = Err (faults.NotThePolicy view.row)
-if_awaited view (Some rest) = Ok (with_row view view.head rest, None)
+if_awaited view None = Err (faults.NotThePolicy (row_number view))
+if_awaited view (Some rest) = Ok (record view { awaited = rest }, None)
 
 -- a row of a head is the one that is awaited
 abbrev pub head_row_taken : PartsView → List ℕ → Result Taken AuditFault
@@ -60,9 +60,9 @@ head_after head event = record { world = (effect head.world event).world; time =
 
 -- the row of an entry
 abbrev pub entry_taken : PartsView → Judged → Result Taken AuditFault
-entry_taken view bad = Err (faults.BadLine view.row)
-entry_taken view not_the_policy = Err (faults.NotThePolicy view.row)
-entry_taken view (right event) = Ok (with_row view (head_after view.head event) view.awaited, Some event)
+entry_taken view bad = Err (faults.BadLine (row_number view))
+entry_taken view not_the_policy = Err (faults.NotThePolicy (row_number view))
+entry_taken view (right event) = Ok (record view { head = head_after view.head event }, Some event)
 
 -- with the header of a part a head begins, which is that of the world and the ticks so far
 abbrev pub with_head : PartsView → PartsView
@@ -72,13 +72,9 @@ with_head view = record view { awaited = head_text view.line view.head }
 abbrev pub begins_head : PartsView → List ℕ → Bool
 begins_head view row = length view.awaited == 0 && is_some (place_of_row view.line row)
 
--- what has to come yet of a head, and the number of the next row, beside a line of this number and its world and ticks so far
-pub record RowsView : Type 0 where
-  pub awaited : List ℕ
-  pub row : ℕ
-
-abbrev pub check_of : ℕ → Head → RowsView → PartsView
-check_of line head rows = record { line = line; head = head; awaited = rows.awaited; row = rows.row }
+-- what has to come yet of a head, beside a line of this number and its world and ticks so far
+abbrev pub check_of : ℕ → Head → List ℕ → PartsView
+check_of line head awaited = record { line = line; head = head; awaited = awaited }
 
 -- a row of a head that has begun, or the header of a part; None if it is the row of an entry
 abbrev pub head_taken : PartsView → List ℕ → Option (Result Taken AuditFault)
@@ -108,7 +104,7 @@ and_checked (Ok value) next = next value
 -- what follows the last LF is nothing, and no head lacks a row
 abbrev pub end_checked : PartsView → List ℕ → Result ℕ AuditFault
 end_checked view last =
-    if length last == 0 && length view.awaited == 0 then Ok view.head.world.count else Err (faults.BadLine view.row)
+    if length last == 0 && length view.awaited == 0 then Ok view.head.world.count else Err (faults.BadLine (row_number view))
 
 -- the rows of a text: the place of the last entry, or the fault of the first wrong row
 abbrev pub rows_checked : PartsView → List (List ℕ) → Result ℕ AuditFault
@@ -118,15 +114,15 @@ rows_checked view (row ∷ next ∷ rows) = and_checked (row_taken view row) (λ
 
 -- ---- its beginning
 
--- behind the header of the first part, which is row 1
+-- behind the header of the first part
 abbrev pub first_part : Description → PartsView
-first_part line = record { line = line.number; head = record { world = start_of (endless line); time = None }; awaited = []; row = 2 }
+first_part line = record { line = line.number; head = record { world = start_of (endless line); time = None }; awaited = [] }
 
 -- behind the head of a later part
 abbrev pub later_part : Description → Head × Left → PartsView × List ℕ
-later_part line read = (record { line = line.number; head = read.0; awaited = []; row = read.1.number }, read.1.text)
+later_part line read = (record { line = line.number; head = read.0; awaited = [] }, read.1.text)
 
--- the row of a head that says what no line can be: the first one of the slave, the header for a place of two locks, and row 2 for the count. The rows
+-- the row of a head with which a text begins, if it says what no line can be: the first one of the slave, the header for a place of two locks, and row 2 for the count. The rows
 -- of slaves begin with row 3, in ascending order of address; each slave has six and one for each master
 abbrev pub row_of_unsound : Description → RestoreFault → ℕ
 row_of_unsound line (restored.UnsoundSlave address) =

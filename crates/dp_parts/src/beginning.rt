@@ -1,21 +1,60 @@
 //! The beginning of an endless audit text, or of one of its later parts.
 
-ghost use Rattle.std.specs.Prelude.{◌≡◌, ◌≢◌, ◌+◌, ◌*◌, ◌≤◌, length, nat_lt, None, Ok, Err, IfOk, IfErr, MatchResult};
+ghost use Rattle.std.specs.Prelude.{◌≡◌, ◌≢◌, ◌+◌, ◌*◌, ◌≤◌, is_some, length, nat_lt, None, Ok, Err, IfOk, IfErr, MatchResult};
 ghost use Rattle.std.specs.List.{count_by};
 ghost use Rattle.dp_slave.specs.declared.description.SlaveSpec.{SlaveSpec as Slaves};
 ghost use Rattle.dp_line.specs.World.{description_of, opening_fault};
+ghost use Rattle.dp_checkpoint.specs.Head.{place_of_row};
 ghost use Rattle.dp_checkpoint.specs.HeadLines.{line_read};
 ghost use Rattle.dp_parts.specs.Parts.{begun_later, fault_of_head, first_part, parts_begun, row_of_unsound};
 
 use crate::parts_check::PartsCheck;
 use dp_audit::{AuditFault, set_header_line, version_of};
-use dp_checkpoint::{HeadFault, ReadHead, read_head};
+use dp_checkpoint::{HeadFault, ReadHead, place_in_row, read_head};
 use dp_line::{LineSpec, LineState, RestoreFault, SlaveSpec};
 use dp_text::Text;
 use std::alloc::Global;
+use std::io::{self, BufRead};
 
-/// The row behind the header of a text.
-const FIRST_ROW: u64 = 2;
+/// Returns whether a row, without its LF, is the header of a later part of the line's text.
+pub fn is_part_header(line: &LineSpec, row: &[u8]) -> bool
+    ensures { result ≡ is_some (place_of_row line.now.number row.now) }
+{
+    place_in_row(line.number, row, &mut Text::new()).is_some()
+}
+
+/// Returns how many rows a head of the line has behind its header: one of the line, and for each slave six and one for each
+/// master.
+pub fn rows_behind_header(line: &LineSpec) -> usize
+    requires { opening_fault (description_of line.now) ≡ None }
+    ensures { result ≡ length line.now.slaves.items * (6 + length line.now.masters.items) + 1 }
+{
+    line.slaves.len() * (6 + line.masters.len()) + 1
+}
+
+/// Reads the rest of the rows with which an endless audit text begins, if it begins with the head of a part: `front` has the
+/// first row of the text with its LF, and the other rows of the head are appended. Returns whether the first row is the
+/// header of a part of the line.
+///
+/// If the text ends before, `front` has what there is. Returns the error of a read that fails, or `OutOfMemory`.
+pub fn read_beginning<R: BufRead>(
+    line: &LineSpec,
+    front: &mut Vec<u8>,
+    reader: &mut R,
+) -> io::Result<bool>
+    requires { opening_fault (description_of line.now) ≡ None }
+{
+    let Some(row) = front.strip_suffix(b"\n") else {
+        return Ok(false);
+    };
+    if !is_part_header(line, row) {
+        return Ok(false);
+    }
+    for _ in 0..rows_behind_header(line) {
+        reader.read_until(b'\n', front)?;
+    }
+    Ok(true)
+}
 
 /// Begins the check of a text with its first rows, as [`PartsCheck::begin`].
 pub(crate) fn begin<'a>(
@@ -47,7 +86,7 @@ fn begin_first(alloc: Global, line: &LineSpec) -> Result<PartsCheck, AuditFault>
         Ok(state) => {
             let mut state = state;
             state.lift_limit();
-            Ok(PartsCheck::behind_beginning(alloc, state, None, line.number, FIRST_ROW))
+            Ok(PartsCheck::behind_beginning(alloc, state, None, line.number))
         }
         Err(_) => Err(AuditFault::OutOfMemory),
     }
@@ -72,23 +111,16 @@ fn begin_later<'a>(
                 rows,
             },
         ) => {
-            let check = PartsCheck::behind_beginning(
-                alloc,
-                state,
-                time,
-                line.number,
-                rows.number(),
-            );
+            let check = PartsCheck::behind_beginning(alloc, state, time, line.number);
             Ok((check, rows.rest()))
         }
         Err(fault) => Err(fault_of_head(line, fault)),
     }
 }
 
-/// Returns the fault of a text whose head is refused.
-fn fault_of_head(line: &LineSpec, fault: HeadFault) -> AuditFault
-    requires slaves { length line.now.slaves.items ≤ 64 }
-    requires masters { length line.now.masters.items ≤ 16 }
+/// Returns the fault of a text that begins with a head of the line, for the fault with which [`read_head`] refuses the head.
+pub fn fault_of_head(line: &LineSpec, fault: HeadFault) -> AuditFault
+    requires { opening_fault (description_of line.now) ≡ None }
     ensures { result ≡ fault_of_head (description_of line.now) fault }
 {
     match fault {

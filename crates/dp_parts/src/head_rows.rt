@@ -1,8 +1,7 @@
 //! The rows of heads among those of an endless text.
 
-ghost use Rattle.std.specs.Prelude.{ℕ, ◌≡◌, ◌≢◌, ◌==◌, ◌+◌, ◌-◌, ◌^◌, [], is_some, length, min, None, true, Ok, Err, IfOk, IfErr, OnOk, Some};
+ghost use Rattle.std.specs.Prelude.{ℕ, ◌≡◌, ◌≢◌, ◌==◌, [], is_some, length, Option, None, true, Ok, Err, IfOk, IfErr, OnOk, Some};
 ghost use Rattle.dp_parts.specs.Parts.{TakesHead, begins_head, behind_row, check_of, head_row_taken, head_taken, with_head};
-ghost use Rattle.dp_checkpoint.specs.Head.{Head};
 
 use dp_audit::AuditFault;
 use dp_checkpoint::{place_in_row, push_head};
@@ -12,51 +11,47 @@ use std::alloc::Global;
 use std::marker::Model;
 
 /// The rows of heads among those of an endless text, for a reader that has the line of the text behind the rows so far.
-/// Contracts see what has to come yet of a head, and the number of the next row.
+/// Contracts see what has to come yet of a head.
 ///
 /// It takes memory for one head if a text has several parts: at most 733,960 octets.
 #[derive(Drop)]
 pub struct HeadRows {
-    /// The number of the next row in the text.
-    row: u64,
     /// The text of a head, of which these many octets have come.
     head: Vec<u8>,
     come: usize,
 }
 
 impl Model for HeadRows {
-    ghost use Rattle.std.specs.Prelude.{◌≤◌, drop, length};
-    ghost use Rattle.dp_parts.specs.Parts.{RowsView};
+    ghost use Rattle.std.specs.Prelude.{◌≤◌, ℕ, List, drop, length};
 
-    ghost Value = { RowsView };
+    ghost Value = { List ℕ };
 
-    ghost view = { λ h. record { awaited = drop h.come h.head.items; row = h.row } };
+    ghost view = { λ h. drop h.come h.head.items };
 
     ghost invariant = { λ h. h.come ≤ length h.head.items };
 }
 
 impl HeadRows {
-    /// Returns the reader of rows from this one on, where no head has begun.
-    pub fn new(alloc: Global, row: u64) -> HeadRows
-        ensures { result ≡ record { awaited = []; row = row } }
+    /// Returns the reader of rows where no head has begun.
+    pub fn new(alloc: Global) -> HeadRows
+        ensures { result ≡ [] }
     {
         HeadRows {
-            row,
             head: Vec::new(alloc),
             come: 0,
         }
     }
 
-    /// Returns the number of the next row in the text.
-    pub fn row(&self) -> u64
-        ensures { result ≡ self.now.row }
+    /// Returns what has to come yet of a head; empty if no head lacks rows.
+    pub fn awaited(&self) -> &[u8]
+        ensures { result.now ≡ self.now }
     {
-        self.row
+        &self.head[self.come..]
     }
 
     /// Returns whether no head lacks rows.
     pub fn is_between(&self) -> bool
-        ensures { result ≡ (length self.now.awaited == 0) }
+        ensures { result ≡ (length self.now == 0) }
     {
         self.come == self.head.len()
     }
@@ -65,7 +60,7 @@ impl HeadRows {
     /// with the header of a part is that of this line, of this number, and of the sum of its ticks so far. `buffer` is a
     /// buffer.
     ///
-    /// Otherwise returns `NotThePolicy` with the number of the row, if it is not the row of the head that is due; or
+    /// Otherwise returns `NotThePolicy` if it is not the row of the head that is due, with the number of the row of the next entry; or
     /// `OutOfMemory`, at the header of a part only.
     pub fn take_row(
         &mut self,
@@ -88,14 +83,7 @@ impl HeadRows {
             }
             self.begin_head(number, line, time, buffer)?;
         }
-        self.take_head_row(row)
-    }
-
-    /// Counts the row of an entry.
-    pub fn pass_entry(&mut self)
-        ensures { self.new ≡ record { awaited = self.old.awaited; row = min (self.old.row + 1) (2 ^ 64 - 1) } }
-    {
-        self.row = self.row.saturating_add(1);
+        self.take_head_row(line, row)
     }
 
     /// Makes the head that is due with the header of a part.
@@ -120,15 +108,15 @@ impl HeadRows {
 
     /// Takes a row of a head.
     #[tactic(auto, using(crate::proofs::Taking::row_found))]
-    fn take_head_row(&mut self, row: &[u8]) -> Result<bool, AuditFault>
-        ensures ok { IfOk result (λ is_head. (is_head ≡ true) × ((line : ℕ) (head : Head) → head_row_taken (check_of line head self.old) row.now ≡ Ok (check_of line head self.new, None))) }
-        ensures err { IfErr result (λ fault. (fault ≢ AuditFault.OutOfMemory) × ((line : ℕ) (head : Head) → head_row_taken (check_of line head self.old) row.now ≡ Err fault)) }
+    fn take_head_row(&mut self, line: &LineState, row: &[u8]) -> Result<bool, AuditFault>
+        ensures ok { IfOk result (λ is_head. (is_head ≡ true) × ((number : ℕ) (time : Option ℕ) → head_row_taken (check_of number (record { world = line.now.world; time = time }) self.old) row.now
+            ≡ Ok (check_of number (record { world = line.now.world; time = time }) self.new, None))) }
+        ensures err { IfErr result (λ fault. (fault ≢ AuditFault.OutOfMemory) × ((number : ℕ) (time : Option ℕ) → head_row_taken (check_of number (record { world = line.now.world; time = time }) self.old) row.now ≡ Err fault)) }
     {
         if !begins_with_row(&self.head[self.come..], row) {
-            return Err(AuditFault::NotThePolicy(self.row));
+            return Err(AuditFault::NotThePolicy(u64::from(line.count()) + 2));
         }
         self.come += row.len() + 1;
-        self.row = self.row.saturating_add(1);
         Ok(true)
     }
 }

@@ -63,24 +63,24 @@ impl PartsCheck {
         state: LineState,
         time: Option<u64>,
         line: u8,
-        row: u64,
     ) -> PartsCheck
-        ensures { result ≡ record { line = line; head = record { world = state.world; time = time }; awaited = []; row = row } }
+        ensures { result ≡ record { line = line; head = record { world = state.world; time = time }; awaited = [] } }
     {
         PartsCheck {
             state,
             time,
             line,
-            heads: HeadRows::new(alloc, row),
+            heads: HeadRows::new(alloc),
         }
     }
 
     /// Takes the next row of the text, without its LF. Returns its event if it is an entry, and `None` if it is a row of a head.
     /// `answer` gets the answer of the line to the event; `buffer` is a buffer.
     ///
-    /// Otherwise returns the fault of the row, with its number in the text: `BadLine` if it is badly formed, `NotThePolicy`
-    /// if it is another than the policy gives, or not the row of the head that is due; or `OutOfMemory`, at the header of a
-    /// part only. The check is of no use then.
+    /// Otherwise returns the fault of the row: `BadLine` if it is badly formed, `NotThePolicy` if it is another than the
+    /// policy gives, or not the row of the head that is due; or `OutOfMemory`, at the header of a part only. The number of
+    /// a row does not count those of heads: the entry of place P has row P + 1, and a row of a head has the number of the
+    /// next entry's. The check is of no use then.
     #[tactic(auto, using(crate::proofs::Taking::of_head, crate::proofs::Taking::of_entry, crate::proofs::Taking::entry_keeps))]
     pub fn take_row(
         &mut self,
@@ -103,7 +103,7 @@ impl PartsCheck {
     }
 
     /// Takes the row of an entry.
-    #[tactic(auto, using(crate::proofs::Taking::entry_right))]
+    #[tactic(auto, using(crate::proofs::Taking::entry_right, crate::proofs::Taking::entry_wrong))]
     fn take_entry(
         &mut self,
         row: &[u8],
@@ -116,12 +116,9 @@ impl PartsCheck {
         match take_row(&mut self.state, row, answer, buffer) {
             Ok(event) => {
                 self.time = time_after(self.time, &event);
-                self.heads.pass_entry();
                 Ok(Some(event))
             }
-            Err(AuditFault::BadLine(_)) => Err(AuditFault::BadLine(self.heads.row())),
-            Err(AuditFault::NotThePolicy(_)) => Err(AuditFault::NotThePolicy(self.heads.row())),
-            Err(AuditFault::OutOfMemory) => Err(AuditFault::OutOfMemory),
+            Err(fault) => Err(fault),
         }
     }
 
@@ -133,7 +130,7 @@ impl PartsCheck {
         if last.is_empty() && self.heads.is_between() {
             Ok(self.state.count())
         } else {
-            Err(AuditFault::BadLine(self.heads.row()))
+            Err(AuditFault::BadLine(u64::from(self.state.count()) + 2))
         }
     }
 }
