@@ -1,6 +1,6 @@
 //! The beginning of an endless audit text, or of one of its later parts.
 
-ghost use Rattle.std.specs.Prelude.{◌≡◌, ◌≢◌, ◌+◌, ◌*◌, ◌≤◌, is_some, length, nat_lt, None, Ok, Err, IfOk, IfErr, MatchResult};
+ghost use Rattle.std.specs.Prelude.{◌≡◌, ◌≢◌, ◌+◌, ◌*◌, ◌≤◌, is_some, false, length, nat_lt, None, Ok, Err, IfOk, IfErr, MatchResult};
 ghost use Rattle.std.specs.List.{count_by};
 ghost use Rattle.dp_slave.specs.declared.description.SlaveSpec.{SlaveSpec as Slaves};
 ghost use Rattle.dp_line.specs.World.{description_of, opening_fault};
@@ -36,13 +36,15 @@ pub fn rows_behind_header(line: &LineSpec) -> usize
 /// first row of the text with its LF, and the other rows of the head are appended. Returns whether the first row is the
 /// header of a part of the line.
 ///
-/// If the text ends before, `front` has what there is. Returns the error of a read that fails, or `OutOfMemory`.
+/// If it is not, nothing is read. If the text ends before, `front` has what there is. Tests show what is appended; no clause
+/// says it. Returns the error of a read that fails, or `OutOfMemory`.
 pub fn read_beginning<R: BufRead>(
     line: &LineSpec,
     front: &mut Vec<u8>,
     reader: &mut R,
 ) -> io::Result<bool>
     requires { opening_fault (description_of line.now) ≡ None }
+    ensures unread { result ≡ Ok false → (front.new ≡ front.old) × (reader.new ≡ reader.old) }
 {
     let Some(row) = front.strip_suffix(b"\n") else {
         return Ok(false);

@@ -1,5 +1,7 @@
 //! The rows of an endless audit text without those of heads, as a reader gives them.
 
+ghost use Rattle.std.specs.Prelude.{◌≡◌};
+
 use crate::parts_check::PartsCheck;
 use dp_audit::AuditFault;
 use dp_line::Step;
@@ -14,9 +16,10 @@ const BEGUN_ROW: &[u8] = b"0";
 
 /// An audit text without the rows of heads, as a reader gives it: for who takes the rows of entries.
 ///
-/// Each row of a text that lies in parts is checked, and so each head. In the place of a row that is not what the policy
-/// gives, another such row is given, and behind the end of a text that ends within a head the beginning of a row. So a
-/// check of the rows that are given finds the fault that a check of the parts finds, with its number.
+/// Each row of a text that lies in parts is checked, and so each head. In the place of a row that is not what the
+/// policy gives, another such row is given, and behind the end of a text that ends within a head the beginning of a
+/// row. So a check of the rows that are given finds the fault that a check of the parts finds, with its number. Tests
+/// show what is read; no clause says it.
 ///
 /// It takes memory for the longest row, and what [`PartsCheck`] takes.
 #[derive(Drop)]
@@ -34,7 +37,12 @@ pub struct EntryRows<R> {
 impl<R: BufRead> EntryRows<R> {
     /// Returns the rows of a text, of which the reader has those that were not read. `first` is given before them; `check`
     /// is the check of the parts behind the rows that were read, or None for a text that has no parts.
-    pub fn new(check: Option<PartsCheck>, first: Vec<u8>, reader: R) -> EntryRows<R> {
+    pub fn new(check: Option<PartsCheck>, first: Vec<u8>, reader: R) -> EntryRows<R>
+        ensures check { result.check ≡ check }
+        ensures first { result.row ≡ first }
+        ensures none_given { result.given ≡ 0 }
+        ensures reader { result.reader ≡ reader }
+    {
         EntryRows {
             reader,
             check,
@@ -46,7 +54,9 @@ impl<R: BufRead> EntryRows<R> {
     }
 
     /// Returns the reader.
-    pub fn reader(&self) -> &R {
+    pub fn reader(&self) -> &R
+        ensures { result.now ≡ self.now.reader }
+    {
         &self.reader
     }
 

@@ -60,8 +60,8 @@ impl HeadRows {
     /// with the header of a part is that of this line, of this number, and of the sum of its ticks so far. `buffer` is a
     /// buffer.
     ///
-    /// Otherwise returns `NotThePolicy` if it is not the row of the head that is due, with the number of the row of the next entry; or
-    /// `OutOfMemory`, at the header of a part only.
+    /// Otherwise returns `NotThePolicy` if it is not the row of the head that is due, with the number of the next entry's
+    /// row; or `OutOfMemory`, at the header of a part only.
     pub fn take_row(
         &mut self,
         number: u8,
