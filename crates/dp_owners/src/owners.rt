@@ -42,16 +42,6 @@ impl Owners {
         }
     }
 
-    /// Returns a copy, for records that have the same links.
-    pub fn copied(&self) -> Owners
-        ensures { result ≡ self.now }
-    {
-        Owners {
-            heads: self.heads,
-            tails: self.tails,
-        }
-    }
-
     /// Appends a record that is in no list to the master's list.
     ///
     /// The other lists stay. Of the records only links change: those of the record, and of the one

@@ -122,15 +122,6 @@ impl Slave {
         self.diag = other.diag.clone().unwrap();
         self.memory.copy_from(&other.memory);
     }
-
-    /// Copies another slave of the same description, and its links.
-    pub fn copy_from(&mut self, other: &Slave)
-        requires { self.old.slave.description ≡ other.now.slave.description }
-        ensures { self.new ≡ other.now }
-    {
-        self.copy_state_from(other);
-        self.links = other.links;
-    }
 }
 
 /// Returns whether both have this number of octets.

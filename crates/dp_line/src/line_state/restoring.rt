@@ -1,4 +1,4 @@
-//! A line that goes on from a world, and the copy of a line.
+//! A line that goes on from a world.
 
 ghost use Rattle.std.specs.Prelude.{◌≡◌, ◌==◌, ℕ, List, true, is_some, map, not, find, None, IfSome, MatchResult};
 ghost use Rattle.std.specs.List.{list_any};
@@ -51,18 +51,6 @@ impl LineState {
             last_walk: 0,
             stations,
         })
-    }
-
-    /// Makes the line a copy of another one with the same slaves. It takes no memory.
-    pub fn copy_from(&mut self, other: &LineState)
-        requires { map (λ s. s.description) self.old.world.slaves ≡ map (λ s. s.description) other.now.world.slaves }
-        ensures { self.new ≡ other.now }
-    {
-        self.capacity = other.capacity;
-        self.count = other.count;
-        self.halted = other.halted;
-        self.last_walk = other.last_walk;
-        self.stations.copy_from(&other.stations);
     }
 }
 
