@@ -1,8 +1,9 @@
 -- The heads of parts, and the text without them.
-use Rattle.std.specs.Prelude.{◌==◌, if◌then◌else◌, not}
+use Rattle.std.specs.Prelude.{◌==◌, not}
 use Rattle.std.specs.List.{AllByRecursion, filter, flat_map}
-use Rattle.std.proofs.Common.{◌≡◌, ◌≤◌, ℕ, zero, suc, ◌+◌, Bool, true, false, cond, List, [], ◌∷◌, ◌++◌, length, map, take, sym, refl, ap, subst, ◌∙◌, Option, Some, None, arith, eqb-true}
-use Rattle.std.proofs.lemmas.List.{append-nil, append_assoc, map-append, length-append}
+use Rattle.std.proofs.Common.{◌≡◌, ℕ, ◌+◌, Bool, true, false, cond, List, [], ◌∷◌, ◌++◌, length, map, sym, refl, ap, subst, ◌∙◌, Option, Some, None, arith, eqb-true}
+use Rattle.std.proofs.lemmas.List.{append-nil, map-append, length-append, length-take-le}
+use Rattle.std.proofs.lemmas.Bool.{and_parts}
 use Rattle.std.proofs.lemmas.Grind.{flat_map-append}
 use Rattle.std.proofs.lemmas.Option.{same_Some, none-some}
 use Rattle.dp_line.specs.World.{World}
@@ -18,7 +19,7 @@ use Rattle.dp_shared.specs.declared.line_view.Question.TheVariants as asks
 use Rattle.dp_shared.specs.declared.line_view.Answer.{Answer}
 use Rattle.dp_shared.specs.declared.line_view.Answer.TheVariants as answers
 use Rattle.dp_trail.specs.Trails.{HeadsFollow, asks_behind, asks_head, found, found_by, heads_follow, parts_text, seen_text, without_heads, written_by}
-use Rattle.dp_trail.proofs.Trailing.{Seen, entry_of, first_of, second_of}
+use Rattle.dp_trail.proofs.Trailing.{Seen, entry_of}
 
 -- ---- the text without heads
 
@@ -77,21 +78,16 @@ text_without_heads version number looks = ap (λ (r : List ℕ). line_text (head
 follows_there : (n : ℕ) (earlier later : List Look) (look : Look) → heads_follow n (earlier ++ look ∷ later) ≡ true → asks_behind (n + length (found earlier)) look.question ≡ true
 unfolding found
 follows_there n [] later look follow =
-    subst (λ (k : ℕ). asks_behind k look.question ≡ true) (omega arith) (first_of (asks_behind n look.question) (heads_follow (n + length (found_by look.question look.answer)) later) follow)
+    subst (λ (k : ℕ). asks_behind k look.question ≡ true) (omega arith) (and_parts (asks_behind n look.question) (heads_follow (n + length (found_by look.question look.answer)) later) follow).0
 follows_there n (l ∷ earlier) later look follow =
     let more = length-append (found_by l.question l.answer) (found earlier) in
     let next : ℕ = n + length (found_by l.question l.answer) in
     subst (λ (k : ℕ). asks_behind k look.question ≡ true) (omega arith)
-    (follows_there next earlier later look (second_of (asks_behind n l.question) (heads_follow next (earlier ++ look ∷ later)) follow))
+    (follows_there next earlier later look (and_parts (asks_behind n l.question) (heads_follow next (earlier ++ look ∷ later)) follow).1)
 
 there : {X : Type 0} (P : X → Type 0) (xs ys : List X) (x : X) → AllByRecursion P (xs ++ x ∷ ys) → P x
 there P [] ys x all = all.0
 there P (z ∷ xs) ys x all = there P xs ys x all.1
-
-long_as : (count : ℕ) (entries : List Entry) → count ≤ length entries → length (take count entries) ≡ count
-long_as zero entries within = refl
-long_as (suc count) [] within = absurd (omega (arith, within))
-long_as (suc count) (entry ∷ entries) within = ap suc (long_as count entries (omega (arith, within)))
 
 abbrev head_reported : Answer → Option Head
 head_reported (answers.Head head) = head
@@ -111,5 +107,5 @@ head_of content pass earlier later look count head fits follow is asked answered
     let seen : Some head ≡ head_if count (world_after content look.count) (first_entries content look.count) = ap head_reported
     (sym answered ∙ fit.value ∙ ap (answer_in content.book.room (world_after content look.count) (first_entries content look.count)) asked) in
     let got = head_is (length (first_entries content look.count) == count) (world_after content look.count) (first_entries content look.count) head seen in
-    let same : look.count ≡ count = sym (long_as look.count content.book.entries fit.there) ∙ eqb-true (length (first_entries content look.count)) count got.0 in
+    let same : look.count ≡ count = sym (length-take-le look.count content.book.entries fit.there) ∙ eqb-true (length (first_entries content look.count)) count got.0 in
     (omega (arith, behind), subst (λ (k : ℕ). head ≡ head_behind (world_after content k) (first_entries content k)) same got.1)

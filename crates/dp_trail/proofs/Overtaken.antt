@@ -1,6 +1,7 @@
 -- On an ordinary line no look misses an entry.
 use Rattle.std.specs.List.{AllByRecursion}
-use Rattle.std.proofs.Common.{◌≡◌, ◌≤◌, ℕ, ◌+◌, List, [], ◌∷◌, ◌++◌, length, take, Option, Some, None, IsSome, refl, zero, suc, sym, ap, subst, ◌∙◌, arith}
+use Rattle.std.proofs.Common.{◌≡◌, ◌≤◌, ℕ, ◌+◌, List, [], ◌∷◌, ◌++◌, length, take, Option, Some, None, IsSome, refl, sym, ap, subst, ◌∙◌, arith}
+use Rattle.std.proofs.lemmas.List.{length-take-le}
 use Rattle.dp_line.specs.World.{World, description_of, opening_fault, start_of}
 use Rattle.dp_line.specs.Effects.{effect}
 use Rattle.dp_line.specs.declared.description.LineSpec.{LineSpec}
@@ -38,11 +39,6 @@ last_of : {X : Type 0} (P : X → Type 0) (xs : List X) (x : X) → AllByRecursi
 last_of P [] x all = all.0
 last_of P (y ∷ xs) x all = last_of P xs x all.1
 
-long_as : (count : ℕ) (entries : List Entry) → count ≤ length entries → length (take count entries) ≡ count
-long_as zero entries there = refl
-long_as (suc count) [] there = absurd (omega (arith, there))
-long_as (suc count) (entry ∷ entries) there = ap suc (long_as count entries (omega (arith, there)))
-
 abbrev entry_reported : Answer → Option Entry
 entry_reported (answers.Entry entry) = entry
 entry_reported answer = None
@@ -64,7 +60,7 @@ never_missed line state rule seat index pass seen accepted at missed = by (rule.
         let fit : FitsLook content missed.last = last_of (FitsLook content) missed.earlier missed.last (subst (AllByRecursion (FitsLook content)) missed.in_order fits.looks) in
         let there = fit.there in
         let behind = missed.behind in
-        let long : length (take missed.last.count content.book.entries) ≡ missed.last.count = long_as missed.last.count content.book.entries there in
+        let long : length (take missed.last.count content.book.entries) ≡ missed.last.count = length-take-le missed.last.count content.book.entries there in
         let none_lost_here : forgotten content.book.room (length (take missed.last.count content.book.entries)) ≡ 0 = none_lost content.book.room (length (take missed.last.count content.book.entries)) (omega (arith, long, there, all, room)) in
         let reported : answers.Entry None ≡ answer_in content.book.room (world_after content missed.last.count) (first_entries content missed.last.count) (asks.Entry (seen + 1)) =
         sym missed.none.1 ∙ fit.value ∙ ap (answer_in content.book.room (world_after content missed.last.count) (first_entries content missed.last.count)) missed.none.0 in

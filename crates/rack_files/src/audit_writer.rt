@@ -138,7 +138,11 @@ impl<H: NewFiles + Wait + Log + Clock> Write for AuditWriter<'_, '_, H> {
     }
 }
 
-impl<H: NewFiles + Wait + Log + Clock> WriteParts for AuditWriter<'_, '_, H> {}
+impl<H: NewFiles + Wait + Log + Clock> WriteParts for AuditWriter<'_, '_, H> {
+    fn part_is_due(&self) -> bool {
+        false
+    }
+}
 
 /// Creates a file to append to. Fails with `AlreadyExists` if the path exists.
 pub(crate) fn create_file(

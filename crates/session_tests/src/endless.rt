@@ -47,6 +47,10 @@ impl Write for Parts {
 }
 
 impl WriteParts for Parts {
+    ghost use Rattle.std.specs.Prelude.{nat_le};
+
+    ghost due = { λ writer. nat_le writer.most writer.rows };
+
     fn part_is_due(&self) -> bool {
         self.rows >= self.most
     }

@@ -103,7 +103,11 @@ impl<H: Wait> Write for Rows<'_, H> {
     }
 }
 
-impl<H: Wait> WriteParts for Rows<'_, H> {}
+impl<H: Wait> WriteParts for Rows<'_, H> {
+    fn part_is_due(&self) -> bool {
+        false
+    }
+}
 
 /// Returns the octets of each read, from words that are separated by spaces.
 fn reads_in(alloc: Global, words: &str) -> Result<Vec<Octets>, Fail> {

@@ -11,6 +11,13 @@ invariant_of-self g c =
     (c.args.self.now.places, c.args.self.now.counted, c.args.self.now.heads, subst (λ (k : ℕ). IsWhole (g.W.Write.contents c.args.self.now.opened.value) (g.W.Write.contents c.args.self.now.writer) (parts_text c.args.self.now.version k c.args.self.now.pass.view.looks)) (sym c.in-NotDue.ensures.line) (c.args.self.now.whole c.requires.unbroken)) in
     record { ours = c.in-NotDue.ensures.ours ∙ c.args.self.now.ours; places = tail.0; counted = tail.1; heads = tail.2; begun = begun_of_whole _ _ _ tail.3; whole = λ _. tail.3 }
 
+pub invariant_of-self-in-NoMemory : goal.invariant_of-self-in-NoMemory
+invariant_of-self-in-NoMemory g c =
+    let tail = after_not_due c.args.self.now.version c.begin_next_part.new.pass.line c.args.self.now.seen (g.W.Write.contents c.args.self.now.opened.value) (g.W.Write.contents c.args.self.now.writer) (g.W.Write.contents c.begin_next_part.new.writer)
+    c.args.self.now.pass.view c.begin_next_part.new.pass.view (subst (λ (k : ℕ). Parts parts.NoMemory k c.args.self.now.seen c.args.self.now.pass.view c.begin_next_part.new.pass.view (g.W.Write.contents c.args.self.now.writer) (g.W.Write.contents c.begin_next_part.new.writer)) (sym c.in-NoMemory.ensures.line) c.in-NoMemory.ensures.part)
+    (c.args.self.now.places, c.args.self.now.counted, c.args.self.now.heads, subst (λ (k : ℕ). IsWhole (g.W.Write.contents c.args.self.now.opened.value) (g.W.Write.contents c.args.self.now.writer) (parts_text c.args.self.now.version k c.args.self.now.pass.view.looks)) (sym c.in-NoMemory.ensures.line) (c.args.self.now.whole c.requires.unbroken)) in
+    record { ours = c.in-NoMemory.ensures.ours ∙ c.args.self.now.ours; places = tail.0; counted = tail.1; heads = tail.2; begun = begun_of_whole _ _ _ tail.3; whole = λ _. tail.3 }
+
 pub invariant_of-self-in-NotYet : goal.invariant_of-self-in-NotYet
 invariant_of-self-in-NotYet g c =
     let tail = after_not_yet c.args.self.now.version c.begin_next_part.new.pass.line c.args.self.now.seen (g.W.Write.contents c.args.self.now.opened.value) (g.W.Write.contents c.args.self.now.writer) (g.W.Write.contents c.begin_next_part.new.writer)
