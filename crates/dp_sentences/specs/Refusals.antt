@@ -101,10 +101,13 @@ abbrev pub other_telegram_text : ℕ → Option ℕ → List ℕ → List ℕ
 other_telegram_text place point octets =
     codes "repeat: FCB as in entry " ++ decimal place ++ codes ", but another telegram: " ++ undone_words point octets ++ codes "."
 
--- Repeat: a request with the same octets as the one at this place is a retry
+-- Repeat: a request with the same octets as the one at this place is a retry. Place 0 is that of a request before the text that is explained, of which
+-- nothing is known
 abbrev pub repeat_text : Bool → ℕ → Option ℕ → List ℕ → List ℕ
 repeat_text is_same place point octets =
-    if is_same then codes "retry of entry " ++ decimal place ++ codes ": its reply is sent again." else other_telegram_text place point octets
+    if place == 0 then codes "repeat: the reply to an earlier request is sent again."
+    else if is_same then codes "retry of entry " ++ decimal place ++ codes ": its reply is sent again."
+    else other_telegram_text place point octets
 
 -- Status
 abbrev pub status_text : ℕ → State → List ℕ

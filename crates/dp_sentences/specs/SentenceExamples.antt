@@ -14,6 +14,7 @@ use Rattle.dp_slave.specs.declared.view.SlaveView.{SlaveView}
 use Rattle.dp_line.specs.LineExamples.{ask, slave_5}
 use Rattle.dp_sentences.specs.declared.ending.Ending.TheVariants as endings
 use Rattle.dp_sentences.specs.Meetings.{MeetingView}
+use Rattle.dp_sentences.specs.Notes.{unnoted}
 use Rattle.dp_line.specs.declared.event.Event.TheVariants.{Operator}
 use Rattle.dp_line.specs.declared.event.Op.TheVariants.{Busy, Tick}
 use Rattle.dp_decode.specs.Kinds.{asked_text, kind_text, telegram_text}
@@ -152,6 +153,19 @@ pub another_configuration :
     ≡ codes "repeat: FCB as in entry 7, but another telegram: Chk_Cfg not done."
 unfolding sentence_on_literals
 another_configuration = refl
+
+-- no request is noted, as at the start of a part of a text
+pub of_an_earlier_request :
+    slave_text false (asks_at slave_5 held data_exchange (3 ∷ 4 ∷ [])) rules.Repeat
+    ≡ codes "repeat: the reply to an earlier request is sent again."
+unfolding sentence_on_literals
+of_an_earlier_request = refl
+
+pub of_a_request_without_a_place :
+    slave_text false (record (asks_at slave_5 held data_exchange (3 ∷ 4 ∷ [])) { noted = Some (unnoted 5 2) }) rules.Repeat
+    ≡ codes "repeat: the reply to an earlier request is sent again."
+unfolding sentence_on_literals
+of_a_request_without_a_place = refl
 
 -- ---- Set_Prm
 

@@ -109,6 +109,10 @@ a_retry = refl
 pub another_telegram : answered_as scene 1 exchange rules.Repeat ≡ ways.OtherRepeat
 another_telegram = refl
 
+-- the repeat of a request that is not noted, as at the start of a part of a text
+pub a_repeat_of_an_earlier_request : answered_as (record scene { notes = unused }) 1 exchange rules.Repeat ≡ ways.Retry
+a_repeat_of_an_earlier_request = refl
+
 pub wrong_parameters : answered_as scene 1 wrong_lock rules.Done ≡ ways.WrongSetPrm
 wrong_parameters = refl
 
@@ -164,6 +168,9 @@ a_retry_is_no_fault = refl
 
 pub another_telegram_is_a_fault : is_fault scene (ask 1 exchange) (reply acknowledged rules.Repeat) ≡ true
 another_telegram_is_a_fault = refl
+
+pub a_repeat_of_an_earlier_request_is_no_fault : is_fault (record scene { notes = unused }) (ask 1 exchange) (reply acknowledged rules.Repeat) ≡ false
+a_repeat_of_an_earlier_request_is_no_fault = refl
 
 pub a_poll_is_no_fault : is_fault scene (ask 1 poll) (Silence rules.NoStation) ≡ false
 a_poll_is_no_fault = refl

@@ -25,7 +25,7 @@ use Rattle.dp_line.specs.World.{World, described_at, is_last_place}
 use Rattle.dp_sentences.specs.declared.notes.Noted.{Noted}
 use Rattle.dp_sentences.specs.declared.way.Answered.{Answered}
 use Rattle.dp_sentences.specs.declared.way.Answered.TheVariants as ways
-use Rattle.dp_sentences.specs.Notes.{has_octets, note_of}
+use Rattle.dp_sentences.specs.Notes.{has_octets, note_of, place_of_note}
 use Rattle.dp_sentences.specs.Scenes.{SceneView}
 use Rattle.dp_sentences.specs.Shown.{shown_at}
 use Rattle.dp_sentences.specs.Services.{freeze_is_asked, has_wrong_configuration, has_wrong_parameters, sync_is_asked}
@@ -36,11 +36,15 @@ use Rattle.dp_sentences.specs.Services.{freeze_is_asked, has_wrong_configuration
 abbrev pub way_without_station : List ℕ → Answered
 way_without_station octets = if is_live_list_poll octets rules.NoStation then ways.LiveListPoll else ways.ByRule rules.NoStation
 
--- Repeat: a retry has the octets of the request whose reply it gets
+-- Repeat: a retry has the octets of the request whose reply it gets. If this request came before the text that is explained, its octets are not known,
+-- and the repeat counts as a retry
+abbrev pub is_retry : Option Noted → List ℕ → Bool
+is_retry noted octets = place_of_note noted == 0 || has_octets noted octets
+
 abbrev pub way_of_repeat : List Noted → ℕ → List ℕ → Option Telegram → Answered
 way_of_repeat notes master octets None = ways.OtherRepeat
 way_of_repeat notes master octets (Some telegram) =
-    if has_octets (note_of notes (address_of telegram.da) master) octets then ways.Retry else ways.OtherRepeat
+    if is_retry (note_of notes (address_of telegram.da) master) octets then ways.Retry else ways.OtherRepeat
 
 -- Done: a slave acknowledges Set_Prm and Chk_Cfg before it judges them (IEC 61158-6-3, Set_Prm request and Chk_Cfg request)
 abbrev pub way_of_service : SlaveSpec → Option ℕ → List ℕ → Answered

@@ -4,6 +4,7 @@ ghost use Rattle.std.specs.Prelude.{◌≡◌, ◌++◌, map, position, OnOk, If
 ghost use Rattle.std.specs.Option.{option_copied};
 ghost use Rattle.dp_cfg.specs.Choosing.{same_octets};
 ghost use Rattle.dp_sentences.specs.Notes.{unnoted, first_notes, is_note_of, note_of, noted_at, is_judged_anew, noted_telegram, notes_after};
+ghost use Rattle.dp_sentences.specs.Ways.{is_retry};
 
 use crate::frames::telegram_in;
 use crate::read_event::ReadEvent;
@@ -51,6 +52,13 @@ impl Noted {
         ensures { result ≡ same_octets self.now.octets.items octets.now }
     {
         same_octets(self.octets.as_slice(), octets)
+    }
+
+    /// Returns whether a repeat of these octets is a retry of the request, or the request is not known.
+    pub(crate) fn is_retried_by(&self, octets: &[u8]) -> bool
+        ensures { result ≡ is_retry (Some self.now) octets.now }
+    {
+        self.place == 0 || self.has_octets(octets)
     }
 }
 

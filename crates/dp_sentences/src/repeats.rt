@@ -62,7 +62,7 @@ impl<'a> fmt::Display for OtherTelegram<'a> {
 pub(crate) struct Repeated<'a> {
     /// Whether both requests have the same octets.
     pub(crate) is_same: bool,
-    /// The place of the request whose reply it gets, from 1; 0 if there is none.
+    /// The place of the request whose reply it gets, from 1; 0 if this request is not known.
     pub(crate) place: u64,
     /// The point and the data of the request.
     pub(crate) point: Option<u8>,
@@ -74,7 +74,9 @@ impl<'a> fmt::Display for Repeated<'a> {
 
     fn fmt<W: fmt::Write>(&self, f: &mut fmt::Formatter<W>) -> fmt::Result {
         let place = self.place;
-        if self.is_same {
+        if place == 0 {
+            f.write_str("repeat: the reply to an earlier request is sent again.")
+        } else if self.is_same {
             write!(f, "retry of entry {place}: its reply is sent again.")
         } else {
             let other = OtherTelegram {

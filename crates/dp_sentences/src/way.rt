@@ -12,7 +12,7 @@ pub enum Answered {
     ByRule(Rule),
     /// By NoStation: an FDL status request to an address that no slave has.
     LiveListPoll,
-    /// By Repeat: it has the octets of the request whose reply it got.
+    /// By Repeat: it has the octets of the request whose reply it got, or this request is not known.
     Retry,
     /// By Repeat: it has other octets than the request whose reply it got.
     OtherRepeat,

@@ -77,13 +77,13 @@ fn way_of_repeat(notes: &[Noted], master: u8, request: &ReadOctets<'_>) -> Answe
     };
     match note_of(notes, telegram.destination(), master) {
         Some(noted) => {
-            if noted.has_octets(request.octets()) {
+            if noted.is_retried_by(request.octets()) {
                 Answered::Retry
             } else {
                 Answered::OtherRepeat
             }
         }
-        None => Answered::OtherRepeat,
+        None => Answered::Retry,
     }
 }
 
