@@ -14,9 +14,11 @@ use Rattle.dp_explain.specs.declared.rows_fault.RowsFault.{RowsFault}
 use Rattle.dp_explain.specs.declared.rows_fault.RowsFault.TheVariants as rows
 use Rattle.dp_explain.specs.Explained.{explained, summary_written, verdict_written}
 use Rattle.dp_explain.specs.ExplainedRows.{ExplainsRows, Reads}
-use Rattle.dp_explain.specs.Followed.{FollowerView, followed_summary, followed_text}
-use Rattle.dp_explain.specs.FollowedText.{FollowsText, IsFollowed}
+use Rattle.dp_explain.specs.Entries.{ExplainsEntries, entries_verdict, followed_entries}
+use Rattle.dp_explain.specs.Followed.{Followed, FollowerView, followed_summary, followed_text}
+use Rattle.dp_explain.specs.FollowedText.{FollowsEntries, FollowsRows, FollowsText, IsFollowed}
 use Rattle.dp_explain.specs.Following.{stored_with}
+use Rattle.dp_explain.specs.TextRows.{TextRead}
 use Rattle.dp_explain.proofs.Following.{reported_by_rows}
 use Rattle.dp_explain.proofs.Writing.{front_cut}
 
@@ -44,35 +46,72 @@ then_explains verdict row old new newer text more (Err (rows.Read faults.OutOfMe
 then_explains verdict row old new newer text more (Err (rows.Read faults.CannotRead)) written others = then_cut old new newer text more written others
 then_explains verdict row old new newer text more (Err (rows.Read faults.NotText)) written others = (then_cut old new newer text more written others.0, others.1)
 
+-- what is written of rows, then the summary of them and their verdict
+abbrev all_written : Choice → Description → Followed → Result ℕ AuditFault → List ℕ
+all_written choice line all judged = (all.reported ++ summary_written choice (followed_summary line all.ended all.last.known)) ++ verdict_written choice judged
+
 -- the rows are written, and then what follows the last one
-pub explains : (choice : Choice) (line : Description) (text row : List ℕ) (verdict : Result ℕ AuditFault) (last : FollowerView) (ended stored old new newer : Option (List ℕ)) (result : Result ℕ RowsFault)
-    → IsFollowed choice line text verdict last ended stored old new → ended ≡ Some []
+explains_by : (choice : Choice) (line : Description) (all : Followed) (judged : Result ℕ AuditFault) (row : List ℕ) (verdict : Result ℕ AuditFault) (last : FollowerView) (ended stored old new newer : Option (List ℕ)) (result : Result ℕ RowsFault)
+    → IsFollowed all judged verdict last ended stored old new → ended ≡ Some []
     → ExplainsRows verdict row (summary_written choice (followed_summary line (unwrap_or stored []) last.known) ++ verdict_written choice verdict) new newer result
-    → ExplainsRows (checked line text) row (explained line text choice) old newer result
-explains choice line text row verdict last ended stored old new newer result is none others =
-    let all = followed_text choice line text in
-    let whole : all.reported ++ (summary_written choice (followed_summary line (unwrap_or stored []) last.known) ++ verdict_written choice verdict) ≡ explained line text choice =
-    ap (λ (t : List ℕ). all.reported ++ t) (end_same choice line verdict (checked line text) stored ended all.ended last all.last is.judged is.known is.ended_so none)
-    ∙ sym (append_assoc all.reported (summary_written choice (followed_summary line all.ended all.last.known)) (verdict_written choice (checked line text)))
-    ∙ sym (reported_by_rows choice line text) in
-    subst (λ (v : Result ℕ AuditFault). ExplainsRows v row (explained line text choice) old newer result) is.judged
+    → ExplainsRows judged row (all_written choice line all judged) old newer result
+explains_by choice line all judged row verdict last ended stored old new newer result is none others =
+    let whole : all.reported ++ (summary_written choice (followed_summary line (unwrap_or stored []) last.known) ++ verdict_written choice verdict) ≡ all_written choice line all judged =
+    ap (λ (t : List ℕ). all.reported ++ t) (end_same choice line verdict judged stored ended all.ended last all.last is.verdict_is is.known is.ended_so none)
+    ∙ sym (append_assoc all.reported (summary_written choice (followed_summary line all.ended all.last.known)) (verdict_written choice judged)) in
+    subst (λ (v : Result ℕ AuditFault). ExplainsRows v row (all_written choice line all judged) old newer result) is.verdict_is
     (subst (λ (t : List ℕ). ExplainsRows verdict row t old newer result) whole
     (then_explains verdict row old new newer all.reported (summary_written choice (followed_summary line (unwrap_or stored []) last.known) ++ verdict_written choice verdict) result is.reported others))
 
 -- only a prefix of the rows is written
-cut_is : (choice : Choice) (line : Description) (text : List ℕ) (old new : Option (List ℕ)) → WritesPrefix old new (followed_text choice line text).reported → WritesPrefix old new (explained line text choice)
-cut_is choice line text old new cut =
-    let all = followed_text choice line text in
-    subst (WritesPrefix old new) (sym (reported_by_rows choice line text))
-    (front_cut old new (all.reported ++ summary_written choice (followed_summary line all.ended all.last.known)) (verdict_written choice (checked line text))
-    (front_cut old new all.reported (summary_written choice (followed_summary line all.ended all.last.known)) cut))
+cut_is : (choice : Choice) (line : Description) (all : Followed) (judged : Result ℕ AuditFault) (old new : Option (List ℕ)) → WritesPrefix old new all.reported → WritesPrefix old new (all_written choice line all judged)
+cut_is choice line all judged old new cut =
+    front_cut old new (all.reported ++ summary_written choice (followed_summary line all.ended all.last.known)) (verdict_written choice judged)
+    (front_cut old new all.reported (summary_written choice (followed_summary line all.ended all.last.known)) cut)
+
+cut_by : (choice : Choice) (line : Description) (all : Followed) (judged : Result ℕ AuditFault) (row : List ℕ) (last : FollowerView) (ended stored old new : Option (List ℕ)) (fault : RowsFault) → FollowsRows all judged last ended stored old new (Err fault)
+    → ExplainsRows judged row (all_written choice line all judged) old new (Err fault)
+cut_by choice line all judged row last ended stored old new (rows.Explain fault) cut = cut_is choice line all judged old new cut
+cut_by choice line all judged row last ended stored old new (rows.Read faults.OutOfMemory) cut = cut_is choice line all judged old new cut
+cut_by choice line all judged row last ended stored old new (rows.Read faults.CannotRead) cut = cut_is choice line all judged old new cut
+cut_by choice line all judged row last ended stored old new (rows.Read faults.NotText) never = absurd never
+
+-- ---- a whole text
+
+pub explains : (choice : Choice) (line : Description) (text row : List ℕ) (verdict : Result ℕ AuditFault) (last : FollowerView) (ended stored old new newer : Option (List ℕ)) (result : Result ℕ RowsFault)
+    → FollowsText choice line text last ended stored old new (Ok verdict) → ended ≡ Some []
+    → ExplainsRows verdict row (summary_written choice (followed_summary line (unwrap_or stored []) last.known) ++ verdict_written choice verdict) new newer result
+    → ExplainsRows (checked line text) row (explained line text choice) old newer result
+explains choice line text row verdict last ended stored old new newer result is none others =
+    subst (λ (t : List ℕ). ExplainsRows (checked line text) row t old newer result) (sym (reported_by_rows choice line text))
+    (explains_by choice line (followed_text choice line text) (checked line text) row verdict last ended stored old new newer result is none others)
 
 pub explains_cut : (choice : Choice) (line : Description) (text row : List ℕ) (last : FollowerView) (ended stored old new : Option (List ℕ)) (fault : RowsFault) → FollowsText choice line text last ended stored old new (Err fault)
     → ExplainsRows (checked line text) row (explained line text choice) old new (Err fault)
-explains_cut choice line text row last ended stored old new (rows.Explain fault) cut = cut_is choice line text old new cut
-explains_cut choice line text row last ended stored old new (rows.Read faults.OutOfMemory) cut = cut_is choice line text old new cut
-explains_cut choice line text row last ended stored old new (rows.Read faults.CannotRead) cut = cut_is choice line text old new cut
-explains_cut choice line text row last ended stored old new (rows.Read faults.NotText) never = absurd never
+explains_cut choice line text row last ended stored old new fault cut =
+    subst (λ (t : List ℕ). ExplainsRows (checked line text) row t old new (Err fault)) (sym (reported_by_rows choice line text))
+    (cut_by choice line (followed_text choice line text) (checked line text) row last ended stored old new fault cut)
+
+-- ---- rows of entries
+
+pub explains_entries : (choice : Choice) (line : Description) (first : FollowerView) (before after : TextRead) (verdict : Result ℕ AuditFault) (last : FollowerView) (ended stored old new newer : Option (List ℕ)) (result : Result ℕ RowsFault)
+    → FollowsEntries choice first before after last ended stored old new (Ok verdict) → ended ≡ Some []
+    → ExplainsRows verdict after.row (summary_written choice (followed_summary line (unwrap_or stored []) last.known) ++ verdict_written choice verdict) new newer result
+    → ExplainsEntries choice line first before after old newer result
+explains_entries choice line first before after verdict last ended stored old new newer result follows none others = record {
+  entries = follows.entries;
+  read = follows.read;
+  explains =
+      explains_by choice line (followed_entries choice first follows.entries) (entries_verdict choice first follows.entries) after.row verdict last ended stored old new newer result follows.follows none others;
+}
+
+pub entries_cut : (choice : Choice) (line : Description) (first : FollowerView) (before after : TextRead) (last : FollowerView) (ended stored old new : Option (List ℕ)) (fault : RowsFault)
+    → FollowsEntries choice first before after last ended stored old new (Err fault) → ExplainsEntries choice line first before after old new (Err fault)
+entries_cut choice line first before after last ended stored old new fault follows = record {
+  entries = follows.entries;
+  read = follows.read;
+  explains = cut_by choice line (followed_entries choice first follows.entries) (entries_verdict choice first follows.entries) after.row last ended stored old new fault follows.follows;
+}
 
 -- ---- what follows the last entry
 

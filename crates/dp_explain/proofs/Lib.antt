@@ -11,13 +11,16 @@ pub mod Rows
 pub mod RightRows
 pub mod Following
 pub mod FollowedRow
-pub mod FollowedRows
+pub mod Behind
 pub mod Ending
 pub mod Reading
 pub mod ReadLines
 pub mod WrongRow
 pub mod ReadRows
 pub mod CheckedRows
+pub mod ReadEntries
+pub mod EntryLines
+pub mod FollowedRows
 pub mod ReportedAgain
 pub mod Reached
 pub mod Standings

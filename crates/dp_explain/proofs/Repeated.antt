@@ -1,5 +1,5 @@
 -- The request that is noted for a repeat is the one whose reply is sent again.
-use Rattle.std.proofs.Common.{◌≡◌, ◌≢◌, ℕ, ◌+◌, Bool, true, false, cond, eqb, List, [], ◌∷◌, ◌++◌, map, Option, Some, None, refl, sym, ap, subst, ◌∙◌, append_assoc}
+use Rattle.std.proofs.Common.{◌≡◌, ◌≢◌, ℕ, ◌+◌, Bool, true, false, cond, eqb, List, [], ◌∷◌, ◌++◌, map, Option, Some, None, refl, sym, ap, subst, ◌∙◌, append_assoc, arith}
 use Rattle.std.specs.Prelude.{◌&&◌, find, is_none, is_some, option_map}
 use Rattle.std.specs.Option.{IsSomeAnd, option_and_then}
 use Rattle.std.specs.List.{AllByRecursion, cons_option, filter_map, list_any, range_with_len}
@@ -30,7 +30,7 @@ use Rattle.dp_line.specs.ReplyText.{reply_text}
 use Rattle.dp_line.specs.Served.{memory_after_reply, served}
 use Rattle.dp_line.specs.Effects.{effect, outcome_of, slave_after}
 use Rattle.dp_audit.specs.declared.entry.Entry.{Entry}
-use Rattle.dp_audit.specs.Legal.{Follows, IsLegal, after_entries}
+use Rattle.dp_audit.specs.Legal.{Follows, IsLegal, after_entries, after_entry}
 use Rattle.dp_sentences.specs.declared.notes.Noted.{Noted}
 use Rattle.dp_sentences.specs.Notes.{has_octets, note_of, notes_after}
 use Rattle.dp_sentences.specs.Releases.{release_of}
@@ -367,6 +367,28 @@ repeats line places before entry master octets reply telegram legal request spel
     some_and (λ noted. IsLastReplied before (address_of telegram.da) master noted.place noted.octets (frame_count_bit telegram.fc) reply.items) (note_of notes (address_of telegram.da) master) kept.note kept.found
     (subst (λ (r : List ℕ). IsLastReplied before (address_of telegram.da) master kept.note.place kept.note.octets (frame_count_bit telegram.fc) r) text
     (subst (λ (b : Bool). IsLastReplied before (address_of telegram.da) master kept.note.place kept.note.octets b again.last.reply) again.bit kept.last))
+
+-- the request has a place from 1
+legal_at : (world : World) (front : List Entry) (asked : Entry) (behind : List Entry) → IsLegal world (front ++ asked ∷ behind) → asked.place ≡ (after_entries world front).count + 1
+legal_at world [] asked behind legal = legal.0.place
+legal_at world (entry ∷ front) asked behind legal = legal_at (after_entry world entry) front asked behind legal.1
+
+and_holds : (P : Noted → Type 0) (found : Option Noted) (note : Noted) → found ≡ Some note → IsSomeAnd found P → P note
+and_holds P found note is holds = subst (λ (f : Option Noted). IsSomeAnd f P) is holds
+
+not_first : (place count : ℕ) → place ≡ count + 1 → place ≢ 0
+not_first place count is none = omega arith
+
+pub placed : (line : Description) (places : ℕ) (before : List Entry) (entry : Entry) (master : ℕ) (octets reply : ArrayVec ℕ) (telegram : Telegram) (noted : Noted) → IsLegal (start_of (record line { capacity = places })) (before ++ entry ∷ [])
+    → entry.event ≡ Request master octets → telegram_spelt octets.items ≡ Some telegram → entry.outcome ≡ Reply reply rules.Repeat
+    → note_of (known_behind_entries (first_known line places) before).scene.notes (address_of telegram.da) master ≡ Some noted → noted.place ≢ 0
+placed line places before entry master octets reply telegram noted legal request spelt reported found =
+    let start = start_of (record line { capacity = places }) in
+    let last =
+    and_holds (λ note. IsLastReplied before (address_of telegram.da) master note.place note.octets (frame_count_bit telegram.fc) reply.items) _ noted found
+    (repeats line places before entry master octets reply telegram legal request spelt reported) in
+    not_first noted.place (after_entries start last.front).count
+    (sym last.at ∙ legal_at start last.front last.asked last.behind (subst (IsLegal start) last.split (last_of start before entry legal).legal))
 
 -- ---- the row names this request
 

@@ -14,12 +14,15 @@ pub mod JsonCounts
 pub mod JsonExamples
 pub mod Explained
 pub mod Followed
+pub mod Behind
 pub mod Following
 pub mod ReadFaults
 pub mod TextRows
 pub mod ExplainedRows
+pub mod Entries
 pub mod FollowedText
 pub mod StatisticsExamples
+pub mod BehindExamples
 pub mod JournalReported
 pub mod Standing
 pub mod Repeats

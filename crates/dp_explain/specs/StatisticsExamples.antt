@@ -17,10 +17,10 @@ use Rattle.dp_explain.specs.Tallies.{all_ways, way_number}
 use Rattle.dp_explain.specs.StatisticsRows.{all_items, station_rows, statistics_text}
 use Rattle.dp_explain.specs.Known.{KnownView, first_known, known_after, last_statistics}
 
-abbrev line : Description
+abbrev pub line : Description
 line = record { number = 1; capacity = 1000; masters = 1 ∷ 2 ∷ []; slaves = slave_5 ∷ [] }
 
-abbrev known : KnownView → List Event → KnownView
+abbrev pub known : KnownView → List Event → KnownView
 known before [] = before
 known before (event ∷ events) = known (known_after before event) events
 
@@ -28,16 +28,16 @@ abbrev statistics : List Event → List AddressCounts
 statistics events = last_statistics (known (first_known line 1000) events)
 
 -- how often an item was counted at a receiver and at a sender, and for how long each was held or held slaves
-abbrev received : ℕ → Item → List AddressCounts → ℕ
+abbrev pub received : ℕ → Item → List AddressCounts → ℕ
 received address item all = option_map_or (λ counts. item_count counts.receiver item) (slice_get all address) 0
 
 abbrev sent : ℕ → Item → List AddressCounts → ℕ
 sent address item all = option_map_or (λ counts. item_count counts.sender item) (slice_get all address) 0
 
-abbrev held : ℕ → List AddressCounts → ℕ
+abbrev pub held : ℕ → List AddressCounts → ℕ
 held address all = option_map_or (λ counts. counts.receiver.held) (slice_get all address) 0
 
-abbrev held_by : ℕ → List AddressCounts → ℕ
+abbrev pub held_by : ℕ → List AddressCounts → ℕ
 held_by address all = option_map_or (λ counts. counts.sender.held) (slice_get all address) 0
 
 -- FDL status of station 9, of both masters, and of slave 5

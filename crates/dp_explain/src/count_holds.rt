@@ -3,6 +3,7 @@
 ghost use Rattle.std.specs.Prelude.{◌≡◌};
 ghost use Rattle.dp_sentences.specs.Changes.{asked_addresses, let_go, touched};
 ghost use Rattle.dp_sentences.specs.Shown.{shown_at};
+ghost use Rattle.dp_explain.specs.Behind.{all_holds_begun, shown_hold_begun};
 ghost use Rattle.dp_explain.specs.Statistics.{moment, began_at, hold_counted, hold_begun, change_counted, changes_counted, lasting_counted, all_lasting_counted};
 
 use crate::statistics::{AddressCounts, Count, Item, count_at, count_at_both};
@@ -129,6 +130,44 @@ pub(crate) fn count_holds(statistics: &mut [AddressCounts], passed: &Passed<'_>,
             count_asked(statistics, passed, whom)
         }
         Event::Operator(_) => count_released(statistics, passed, outcome),
+    }
+}
+
+/// Notes that the hold of a slave begins at this time, if somebody holds it.
+fn begin_shown_hold(statistics: &mut [AddressCounts], line: &LineState, time: u64, slave: u8)
+    ensures { statistics.new ≡ shown_hold_begun time slave (shown_at line.now.world slave) statistics.old }
+{
+    match slave_at(line, slave) {
+        Some(shown) => begin_hold(statistics, time, slave, shown.holder()),
+        None => {}
+    }
+}
+
+/// Notes that the holds of these slaves begin at this time.
+pub(crate) fn begin_all_holds(
+    statistics: &mut Vec<AddressCounts>,
+    line: &LineState,
+    time: u64,
+    slaves: &[SlaveSpec],
+)
+    ensures { statistics.new.items ≡ all_holds_begun line.now.world time slaves.now statistics.old.items }
+{
+    begin_all_holds_in(statistics.as_mut_slice(), line, time, slaves);
+}
+
+/// Notes that the holds of these slaves begin, in this slice of counts. See [`begin_all_holds`].
+fn begin_all_holds_in(
+    statistics: &mut [AddressCounts],
+    line: &LineState,
+    time: u64,
+    slaves: &[SlaveSpec],
+)
+    ensures { statistics.new ≡ all_holds_begun line.now.world time slaves.now statistics.old }
+{
+    let mut left = slaves;
+    while let [slave, others @ ..] = left {
+        begin_shown_hold(statistics, line, time, slave.address);
+        left = others;
     }
 }
 

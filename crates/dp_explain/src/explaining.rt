@@ -1,4 +1,4 @@
-//! The explanation of an audit text that is read row by row.
+//! The explanation of an audit text that is read row by row, from its header or from a later entry on.
 //!
 //! The rows of the text are followed one after another, and each is checked before its entry is explained, so the
 //! explanation of a text that isn't legal stops where the check does. One pass goes over the text. The holds that ended
@@ -7,14 +7,16 @@
 //! The summary is always of the whole text, whatever is chosen: someone who asks for the entries of one slave sees
 //! its holds there.
 
-ghost use Rattle.std.specs.Prelude.{◌≡◌, true, false, ◌∷◌, ◌++◌, [], None, unwrap_or, IfSome, OnOk};
+ghost use Rattle.std.specs.Prelude.{◌≡◌, true, false, ◌∷◌, ◌++◌, [], None, unwrap_or, is_err, IfOk, IfSome, OnOk};
+ghost use Rattle.std.specs.Io.KnownBytes.{Keeps};
 ghost use Rattle.dp_line.specs.World.{description_of, opening_fault};
 ghost use Rattle.dp_audit.specs.Check.{checked};
 ghost use Rattle.dp_explain.specs.Explained.{explained, summary_written, verdict_written};
 ghost use Rattle.dp_explain.specs.Followed.{first_follower, followed_summary};
-ghost use Rattle.dp_explain.specs.FollowedText.{FollowsText};
+ghost use Rattle.dp_explain.specs.FollowedText.{FollowsEntries, FollowsText};
 ghost use Rattle.dp_explain.specs.TextRows.{Begins, known_text, octets_read};
 ghost use Rattle.dp_explain.specs.ExplainedRows.{Decides, ExplainsRows};
+ghost use Rattle.dp_explain.specs.Entries.{is_between_rows, ExplainsEntries};
 
 use crate::choice::Choice;
 use crate::ended_holds::EndedHolds;
@@ -76,6 +78,30 @@ pub fn explain_rows<R: BufRead, W: Write>(
     }
 }
 
+/// Explains rows of entries from a follower on that has taken all entries before them, or was opened behind a head. The
+/// current row is whole, or nothing of it was read. Reads the rows behind it one after another, up to the first wrong one,
+/// and writes the rows of each chosen entry, a summary and the verdict, as [`explain_rows`] does. Returns the exit status.
+/// The summary has the holds that ended in these rows, and counts all entries that the follower has taken.
+///
+/// It counts the holds that last to the end, so don't use the follower after it. The faults are those of [`explain_rows`].
+pub fn explain_entries<R: BufRead, W: Write>(
+    follower: &mut Follower<'_>,
+    line: &LineSpec,
+    rows: &mut TextRows<R>,
+    choice: &Choice,
+    writer: &mut W,
+) -> Result<u8, RowsFault>
+    requires right { follower.old.fault ≡ None }
+    requires between { is_between_rows rows.old.text ≡ true }
+    ensures { ExplainsEntries choice.now (description_of line.now) follower.old rows.old.text rows.new.text (W.contents writer.old) (W.contents writer.new) result }
+{
+    let mut ended = follower.stored_holds();
+    match follow_entries(follower, rows, choice, &mut ended, writer) {
+        Ok(verdict) => end_rows(follower, line, &ended, verdict, rows.row(), choice, writer),
+        Err(fault) => Err(fault),
+    }
+}
+
 /// Follows the rows of a text, until the first wrong one, and stores the holds that they ended. Returns the verdict on
 /// the text.
 fn follow_text<R: BufRead, W: Write>(
@@ -99,6 +125,25 @@ fn follow_text<R: BufRead, W: Write>(
     if !is_header_of(rows.row(), line) {
         return Ok(Err(AuditFault::BadLine(1)));
     }
+    follow_entries(follower, rows, choice, ended, writer)
+}
+
+/// Follows the rows behind those that were read, until the first wrong one, and stores the holds that they ended. Returns
+/// the verdict on them.
+fn follow_entries<R: BufRead, W: Write>(
+    follower: &mut Follower<'_>,
+    rows: &mut TextRows<R>,
+    choice: &Choice,
+    ended: &mut EndedHolds,
+    writer: &mut W,
+) -> Result<Verdict, RowsFault>
+    requires right { follower.old.fault ≡ None }
+    requires between { is_between_rows rows.old.text ≡ true }
+    ensures followed { FollowsEntries choice.now follower.old rows.old.text rows.new.text follower.new ended.old ended.new (W.contents writer.old) (W.contents writer.new) result }
+    ensures kept { Keeps (known_text rows.old.text (R.remaining rows.old.reader)) (known_text rows.new.text (R.remaining rows.new.reader)) }
+    ensures end { OnOk result (rows.new.text.whole ≡ false → IfSome (known_text rows.old.text (R.remaining rows.old.reader)) (λ text. text ≡ octets_read rows.new.text)) }
+    ensures wrong { IfOk result (λ verdict. rows.new.text.whole ≡ true → is_err verdict ≡ true) }
+{
     loop {
         let count = follower.count();
         match rows.read_row() {

@@ -4,14 +4,16 @@
 //! it is still written, and nothing that is stored grows with it. An event is taken by two lines, because what is written
 //! of it is about the state before and after it: the row is checked on one line, and the other one follows behind.
 
-ghost use Rattle.std.specs.Prelude.{◌≡◌, None, MatchResult};
+ghost use Rattle.std.specs.Prelude.{◌≡◌, ◌≢◌, [], None, Some, Err, IfOk, IfErr, IsOkAnd, MatchResult};
 ghost use Rattle.dp_text.specs.Words.{lines_of};
 ghost use Rattle.dp_line.specs.World.{description_of, opening_fault};
+ghost use Rattle.dp_checkpoint.specs.HeadLines.{line_read};
 ghost use Rattle.dp_audit.specs.Check.{places_of_lines};
 ghost use Rattle.dp_sentences.specs.Releases.{release_of};
 ghost use Rattle.dp_explain.specs.Holds.{holds_lasting};
 ghost use Rattle.dp_explain.specs.Known.{first_world, outcome_with};
 ghost use Rattle.dp_explain.specs.Explained.{counts_text, Leaves};
+ghost use Rattle.dp_explain.specs.Behind.{follower_behind};
 ghost use Rattle.dp_explain.specs.Followed.{after_row, first_follower, holds_of_row, text_of_row, FollowsRow};
 ghost use Rattle.dp_explain.specs.Following.{first_fault, StoresHolds};
 
@@ -24,6 +26,7 @@ use crate::holds::{HoldsEnded, HoldsLasting};
 use crate::output::write_rows;
 use crate::tally::SenderCounts;
 use dp_audit::{AuditFault, open_line, take_row};
+use dp_checkpoint::{HeadFault, read_head};
 use dp_line::{LineSpec, LineState, Outcome, SlaveSpec, Step};
 use dp_sentences::{Release, Taken};
 use dp_text::Text;
@@ -100,6 +103,46 @@ impl<'a> Follower<'a> {
         })
     }
 
+    /// Opens the line that goes on from the head of a part, before the first entry behind it. `head` is the text of the head,
+    /// or a text that begins with it; `buffer` is a buffer. Of the entries before the head nothing is known but the line and
+    /// the time behind them. So a slave that is held counts as held since the head. A row is numbered as in a text from the
+    /// opening on: the first one behind a head of place P is row P + 2.
+    ///
+    /// Returns `WrongRow` with the first wrong row of the head, or else `Unsound` if no line goes on from it; or
+    /// `OutOfMemory`.
+    pub fn open_behind(
+        alloc: Global,
+        line: &'a LineSpec,
+        head: &[u8],
+        buffer: &mut Text,
+    ) -> Result<Follower<'a>, HeadFault>
+        requires { opening_fault (description_of line.now) ≡ None }
+        ensures ok { IfOk result (λ follower. IsOkAnd (line_read (description_of line.now) head.now) (λ read. follower ≡ follower_behind (description_of line.now) read.0)) }
+        ensures err { IfErr result (λ fault. fault ≢ HeadFault.OutOfMemory → line_read (description_of line.now) head.now ≡ Err fault) }
+    {
+        let before = match read_head(alloc, line, head, buffer) {
+            Ok(read) => read,
+            Err(fault) => return Err(fault),
+        };
+        let after = match read_head(alloc, line, head, buffer) {
+            Ok(read) => read,
+            Err(fault) => return Err(fault),
+        };
+        let Ok(history) = History::behind(alloc, line, &before.line, before.time) else {
+            return Err(HeadFault::OutOfMemory);
+        };
+        Ok(Follower {
+            before: before.line,
+            after: after.line,
+            history,
+            fault: None,
+            answer: Step::blank(),
+            written: Text::new(),
+            rows: String::new(alloc),
+            line: String::new(alloc),
+        })
+    }
+
     /// Returns the number of entries so far.
     pub fn count(&self) -> u32
         ensures { result ≡ self.now.known.scene.world.count }
@@ -128,7 +171,7 @@ impl<'a> Follower<'a> {
         self.history.time()
     }
 
-    /// Returns the last release of the slave at this address; None if it was not released.
+    /// Returns the last release of the slave at this address; None if none of the entries so far released it.
     pub fn release(&self, address: u8) -> Option<Release>
         ensures { result ≡ release_of self.now.known.scene.releases address }
     {
@@ -204,6 +247,13 @@ impl<'a> Follower<'a> {
         self.history.take_event(&taken, outcome);
         self.before.take_into(&event, &mut self.answer);
         first_fault(written, stored)
+    }
+
+    /// Returns an empty list of holds, which are stored.
+    pub(crate) fn stored_holds(&self) -> EndedHolds
+        ensures { result ≡ Some [] }
+    {
+        EndedHolds::stored(*self.rows.allocator())
     }
 
     /// Writes the holds of these slaves that last.

@@ -4,6 +4,7 @@ ghost use Rattle.std.specs.Prelude.{◌≡◌, ℕ, IfOk, if◌then◌else◌};
 ghost use Rattle.dp_line.specs.World.{description_of};
 ghost use Rattle.dp_sentences.specs.Blocks.{block_text};
 ghost use Rattle.dp_sentences.specs.Releases.{release_of};
+ghost use Rattle.dp_explain.specs.Behind.{known_behind_head};
 ghost use Rattle.dp_explain.specs.Known.{first_known, first_world, known_with};
 ghost use Rattle.dp_explain.specs.Explained.{chosen_text, counts_text, Leaves};
 ghost use Rattle.dp_explain.specs.Following.{known_at};
@@ -11,7 +12,7 @@ ghost use Rattle.dp_explain.specs.Json.{entry_json};
 
 use crate::choice::{Choice, is_chosen};
 use crate::count_event::count_statistics;
-use crate::count_holds::{count_all_lasting, moment};
+use crate::count_holds::{begin_all_holds, count_all_lasting, moment};
 use crate::counts_tables::CountsTables;
 use crate::explain_fault::ExplainFault;
 use crate::json_entry::write_entry_line;
@@ -58,6 +59,23 @@ impl<'a> History<'a> {
             tally,
             statistics,
         })
+    }
+
+    /// Returns what is known behind a head of this world and time: nothing of the entries before it, and the slaves that are
+    /// held are so since this time. `AllocError` if memory runs out.
+    pub(crate) fn behind(
+        alloc: Global,
+        line: &'a LineSpec,
+        state: &LineState,
+        time: Option<u64>,
+    ) -> Result<History<'a>, AllocError>
+        ensures { IfOk result (λ history. known_at history state.now.world ≡ known_behind_head (description_of line.now) (record { world = state.now.world; time = time })) }
+    {
+        let mut history = History::new(alloc, line)?;
+        let slaves = line.slaves.as_slice();
+        begin_all_holds(&mut history.statistics, state, moment(time), slaves);
+        history.time = time;
+        Ok(history)
     }
 
     /// Returns the sum of the ticks, in units of 10 ms; None before the first tick.

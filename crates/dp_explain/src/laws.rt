@@ -90,8 +90,8 @@ pub fn every_hold_that_ended_is_written()
 
 /// The request that is noted for a repeat is the one whose reply is sent again, at each entry of a legal journal since the
 /// line was opened. It is the last SRD before the repeat from the same master to the same slave that the slave judged
-/// and replied to, other than by a repeat. The note has its place and its octets; it has the FCB of the repeat, and its
-/// reply is the one that is sent again. The row of a repeat with the same octets is that of a retry of this place, and the
+/// and replied to, other than by a repeat. The note has its place, from 1, and its octets; it has the FCB of the repeat, and
+/// its reply is the one that is sent again. The row of a repeat with the same octets is that of a retry of this place, and the
 /// row of any other repeat is that of another telegram. A request that gets a reply, as a repeat does, always is a
 /// telegram whose access points can be read. The line may have any number of places, as an endless line has.
 pub fn a_repeat_names_the_place_of_its_request()
@@ -107,6 +107,13 @@ pub fn a_repeat_names_the_place_of_its_request()
         → entry.outcome ≡ Outcome.Reply reply Rule.Repeat
         → IsSomeAnd (note_of (known_behind_entries (first_known line places) before).scene.notes (address_of telegram.da) master)
         (λ noted. IsLastReplied before (address_of telegram.da) master noted.place noted.octets (frame_count_bit telegram.fc) reply.items) }
+    ensures placed { (line : Description) (places : ℕ) (before : List Entry) (entry : Entry) (master : ℕ) (octets reply : ArrayVec ℕ) (telegram : Telegram) (noted : Noted)
+        → IsLegal (start_of (record line { capacity = places })) (before ++ entry ∷ [])
+        → entry.event ≡ Event.Request master octets
+        → telegram_spelt octets.items ≡ Some telegram
+        → entry.outcome ≡ Outcome.Reply reply Rule.Repeat
+        → note_of (known_behind_entries (first_known line places) before).scene.notes (address_of telegram.da) master ≡ Some noted
+        → noted.place ≢ 0 }
     ensures retry { (line : Description) (places : ℕ) (before : List Entry) (entry : Entry) (master : ℕ) (octets reply : ArrayVec ℕ) (telegram : Telegram) (parts : Parts) (noted : Noted)
         → IsLegal (start_of (record line { capacity = places })) (before ++ entry ∷ [])
         → entry.event ≡ Event.Request master octets

@@ -4,12 +4,13 @@
 //!
 //! [`TextRows`] reads the rows of a text from any reader. [`explain_rows`] explains a text that is read so, and
 //! [`check_rows`] checks one. A [`Follower`] takes the rows of a text one after another, so it explains a text that is
-//! still being written. Explanations go to any writer, and each row is checked before it is explained. For a program each
-//! entry can be a line of JSON (`Choice::json`), which is made of the same rows.
+//! still being written. It begins at the header of a text or behind the head of a part, and [`explain_entries`] explains
+//! the rows from there on. Explanations go to any writer, and each row is checked before it is explained. For a program
+//! each entry can be a line of JSON (`Choice::json`), which is made of the same rows.
 //!
 //! An event is taken by two lines, one of which is one event behind the other. They, the counts of 128 addresses, one row
-//! of the text, the rows of one entry and its line of JSON are all that takes memory; [`explain_rows`] stores one more row
-//! for each hold that ended.
+//! of the text, the rows of one entry and its line of JSON are all that takes memory; [`explain_rows`] and
+//! [`explain_entries`] store one more row for each hold that ended.
 #![tactic(auto)]
 
 mod checking;
@@ -54,7 +55,7 @@ pub use checking::check_rows;
 pub use choice::Choice;
 pub use explain::set_verdict;
 pub use explain_fault::ExplainFault;
-pub use explaining::explain_rows;
+pub use explaining::{explain_entries, explain_rows};
 pub use follow_fault::FollowFault;
 pub use follower::Follower;
 pub use json_counts::Ways;

@@ -1,14 +1,14 @@
 use Rattle.std.proofs.Common.{◌≡◌, true, ◌-◌}
-use Rattle.dp_line.specs.World.{description_of}
+use Rattle.dp_explain.specs.Entries.{is_between_rows}
 use Rattle.dp_explain.specs.TextRows.{octets_read}
 use Rattle.dp_explain.proofs.FollowedRows.{AreFollowed}
 use Rattle.dp_explain.proofs.ReadRows.{ReadSince}
-use Rattle.dp_explain.proofs.explaining.follow_text.Given as goal
+use Rattle.dp_explain.proofs.explaining.follow_entries.Given as goal
 
 abbrev pub invariant-loop-rows : goal.invariant-loop-rows
 invariant-loop-rows g l = record {
-  right : AreFollowed l.choice (description_of l.line) (octets_read l.rows.text) l.follower l.ended l.fn.ended (g.W.Write.contents l.fn.writer) (g.W.Write.contents l.writer);
-  whole : l.rows.text.whole ≡ true;
+  right : AreFollowed l.choice l.fn.follower (octets_read l.fn.rows.text) (octets_read l.rows.text) l.follower l.fn.ended l.ended (g.W.Write.contents l.fn.writer) (g.W.Write.contents l.writer);
+  between : is_between_rows l.rows.text ≡ true;
   since : ReadSince (g.R.Read.remaining l.fn.rows.reader) l.fn.rows.text (g.R.Read.remaining l.rows.reader) l.rows.text;
 }
 
