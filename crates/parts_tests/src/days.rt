@@ -1,13 +1,29 @@
-//! A day of a line, cut after each of its entries: checked from there on.
+//! A day of a line, cut after each of its entries: checked and explained from there on.
 
 use crate::parts::described;
 use dp_audit::{take_row, time_after};
 use dp_checkpoint::push_head;
+use dp_explain::{Choice, Follower};
 use dp_line::{LineSpec, LineState, Step};
 use dp_parts::check_parts;
 use dp_text::Text;
 use std::alloc::Global;
 use std::test::Fail;
+
+/// Every entry, in rows.
+const EVERY_ENTRY: Choice = Choice {
+    from: None,
+    to: None,
+    slave: None,
+    master: None,
+    refused: false,
+    faults: false,
+    summary: false,
+    json: false,
+};
+
+/// The row of a repeat whose request stands before the cut.
+const UNKNOWN: &str = "the reply to an earlier request is sent again";
 
 /// The entries of examples/day-of-a-line.audit.
 const DAY: &str = "\
@@ -58,21 +74,77 @@ fn heads_of(alloc: Global, line: &LineSpec, text: &str) -> Result<Vec<Vec<u8>>, 
     Ok(heads)
 }
 
-/// What follows each head is legal.
+/// Explains rows from a follower on, and compares the rows of each entry with these, which were explained from the opening on.
+fn explained(
+    alloc: Global,
+    follower: &mut Follower<'_>,
+    rows: &str,
+    wanted: &[Vec<u8>],
+) -> Result<(), Fail> {
+    for (index, row) in rows.lines().enumerate() {
+        let mut written = Vec::new(alloc);
+        follower.take_row(row.as_bytes(), &EVERY_ENTRY, &mut written)?;
+        let text = String::from_utf8(written)?;
+        let of_whole = wanted.get(index).ok_or("no entry")?;
+        if !is_the_same(
+            alloc,
+            text.as_str(),
+            std::str::from_utf8(of_whole.as_slice())?,
+        )? {
+            Err(text)?;
+        }
+    }
+    Ok(())
+}
+
+/// Whether these rows of an entry are those that it has in the whole text, but for an entry before the cut that they name there:
+/// the request of a repeat, or the release of the slave.
+fn is_the_same(alloc: Global, rows: &str, of_whole: &str) -> Result<bool, Fail> {
+    if rows == of_whole || rows.contains(UNKNOWN) {
+        return Ok(true);
+    }
+    let Some((before, release)) = of_whole.split_once(" since entry ") else {
+        return Ok(false);
+    };
+    let (_, behind) = release.split_once(')').ok_or("no cause")?;
+    let without = format!(in alloc; "{before}{behind}")?;
+    Ok(without.as_str() == rows)
+}
+
+/// The rows of each entry of a text from its opening on.
+fn rows_of_entries(alloc: Global, line: &LineSpec, text: &str) -> Result<Vec<Vec<u8>>, Fail> {
+    let _opened = LineState::open(alloc, line)?;
+    let mut follower = Follower::open(alloc, line, "rack-audit 3 line 1")?;
+    let mut entries = Vec::new(alloc);
+    for row in text.lines() {
+        let mut written = Vec::new(alloc);
+        follower.take_row(row.as_bytes(), &EVERY_ENTRY, &mut written)?;
+        entries.push(written)?;
+    }
+    Ok(entries)
+}
+
+/// What follows each head is legal, and is explained as it is from the opening on.
 #[test]
 fn a_day_goes_on_behind_each_entry(rt: HostRuntime) -> Result<(), Fail> {
     let alloc = rt.alloc();
     let line = described(alloc, 1)?;
     let _opened = LineState::open(alloc, &line)?;
-    let mut rest = DAY;
-    for head in heads_of(alloc, &line, DAY)?.iter() {
+    let entries = rows_of_entries(alloc, &line, DAY)?;
+    for (count, head) in heads_of(alloc, &line, DAY)?.iter().enumerate() {
         let head = std::str::from_utf8(head.as_slice())?;
+        let rest = DAY
+            .splitn(count.saturating_add(1), '\n')
+            .last()
+            .ok_or("no row")?;
         let text = format!(in alloc; "{head}{rest}")?;
-        if check_parts(alloc, &line, text.as_bytes()) != Ok(28) {
-            Err(text)?;
+        match check_parts(alloc, &line, text.as_bytes()) {
+            Ok(last) if last as usize == entries.len() => {}
+            _ => Err(text)?,
         }
-        let (_, others) = rest.split_once('\n').ok_or("no row")?;
-        rest = others;
+        let mut follower = Follower::open_behind(alloc, &line, head.as_bytes(), &mut Text::new())?;
+        let behind = entries.get(count..).ok_or("no entry")?;
+        explained(alloc, &mut follower, rest, behind)?;
     }
     Ok(())
 }
