@@ -118,6 +118,7 @@ impl<'a> Follower<'a> {
     ) -> Result<Follower<'a>, HeadFault>
         requires { opening_fault (description_of line.now) ≡ None }
         ensures ok { IfOk result (λ follower. IsOkAnd (line_read (description_of line.now) head.now) (λ read. follower ≡ follower_behind (description_of line.now) read.0)) }
+        ensures right { IfOk result (λ follower. follower.fault ≡ None) }
         ensures err { IfErr result (λ fault. fault ≢ HeadFault.OutOfMemory → line_read (description_of line.now) head.now ≡ Err fault) }
     {
         let before = match read_head(alloc, line, head, buffer) {

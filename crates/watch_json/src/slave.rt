@@ -29,7 +29,7 @@ const ALL_POINTS: [Option<u8>; 8] = [
     Some(CHK_CFG),
 ];
 
-/// The end of the last hold of a slave; `null` if it was not released.
+/// The end of the last hold of a slave; `null` if no entry that was taken released it.
 #[derive(Clone, Copy)]
 struct ReleaseOrNull(Option<Release>);
 
@@ -249,7 +249,7 @@ impl<'a> fmt::Display for Abilities<'a> {
 /// A slave of a line.
 #[derive(Clone, Copy)]
 pub(crate) struct SlaveJson<'a> {
-    /// Its last release; None if it was not released.
+    /// Its last release; None if no entry that was taken released it.
     pub(crate) release: Option<Release>,
     pub(crate) spec: &'a SlaveSpec,
     pub(crate) slave: &'a Slave,
