@@ -8,3 +8,4 @@ mod Sending
 mod Checked
 mod FirstRow
 mod Reportings
+mod CheckedParts

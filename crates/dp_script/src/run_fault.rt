@@ -58,7 +58,7 @@ impl RunFault {
     }
 
     /// Returns the fault of a run whose explanation ended so.
-    pub(crate) const fn of_rows(fault: RowsFault) -> RunFault
+    pub const fn of_rows(fault: RowsFault) -> RunFault
         ensures { result ≡ run_fault_of_rows fault }
     {
         match fault {

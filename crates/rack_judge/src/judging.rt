@@ -6,7 +6,6 @@ ghost use Rattle.rack_file.specs.RackFile.{rack_in};
 ghost use Rattle.rack_file.specs.Rack.{rack_described};
 ghost use Rattle.dp_audit.specs.declared.fault.AuditFault.{AuditFault as Fault};
 ghost use Rattle.dp_explain.specs.TextRows.{known_text, octets_read};
-ghost use Rattle.dp_script.specs.ReadFaults.{run_fault_of_rows};
 ghost use Rattle.rack_judge.specs.Judging.{judged_by, judged_on};
 ghost use Rattle.rack_judge.specs.RowsJudged.{JudgesRows};
 ghost use Rattle.rack_judge.specs.Runs.{DecidesJudgement, RunsJudge};
@@ -46,21 +45,10 @@ pub fn run_judge<R: BufRead, W: Write>(
     match read_rack(alloc, rack) {
         Ok(rack) => match judge_on(alloc, &rack, rows, choice, writer) {
             Ok(status) => Ok(status),
-            Err(fault) => Err(run_fault_of(fault)),
+            Err(fault) => Err(RunFault::of_rows(fault)),
         },
         Err(RackFault::OutOfMemory) => Err(RunFault::OutOfMemory),
         Err(fault) => Err(RunFault::Rack(fault)),
-    }
-}
-
-/// Returns the fault of a run whose judgement ended so.
-const fn run_fault_of(fault: RowsFault) -> RunFault
-    ensures { result ≡ run_fault_of_rows fault }
-{
-    match fault {
-        RowsFault::Explain(ExplainFault::OutOfMemory) => RunFault::OutOfMemory,
-        RowsFault::Explain(ExplainFault::WriteFault) => RunFault::WriteFault,
-        RowsFault::Read(fault) => RunFault::of_read(fault),
     }
 }
 
