@@ -5,5 +5,6 @@
 
 mod difference;
 mod expected;
+mod two_lines;
 
 pub use difference::{Difference, difference_in};
