@@ -1,13 +1,18 @@
 -- A line whose audit text is followed for the page (own).
-use Rattle.std.specs.Prelude.{codes, ◌≡◌, ℕ, if◌then◌else◌, List, [], ◌++◌, true, false, Option, Some, None}
+use Rattle.std.specs.Prelude.{codes, ◌≡◌, ℕ, if◌then◌else◌, List, [], ◌++◌, true, false, Option, Some, None, Result, Ok, Err}
 use Rattle.dp_line.specs.declared.event.Event.{Event}
 use Rattle.dp_line.specs.World.{Description}
 use Rattle.dp_text.specs.Words.{lines_of}
 use Rattle.dp_audit.specs.declared.fault.AuditFault.{AuditFault}
 use Rattle.dp_audit.specs.declared.fault.AuditFault.TheVariants as faults
 use Rattle.dp_audit.specs.Check.{is_accepted_header}
+use Rattle.dp_checkpoint.specs.declared.head_fault.HeadFault.{HeadFault}
+use Rattle.dp_checkpoint.specs.Rows.{Left}
+use Rattle.dp_checkpoint.specs.Head.{Head}
+use Rattle.dp_parts.specs.Parts.{fault_of_head}
 use Rattle.dp_explain.specs.declared.choice.Choice.{Choice}
 use Rattle.dp_explain.specs.JsonValues.{string_json}
+use Rattle.dp_explain.specs.Behind.{follower_behind}
 use Rattle.dp_explain.specs.Followed.{FollowerView, after_row, event_taken, first_follower, text_of_row}
 use Rattle.dp_watch.specs.declared.kept_entry.KeptEntry.{KeptEntry}
 use Rattle.dp_watch.specs.declared.watched_line.Header.{Header}
@@ -55,29 +60,34 @@ text_begun line file kept = record {
 
 -- the first row has to be a header of the line
 abbrev pub header_judged : Description → List ℕ → Header
-header_judged line row = if is_accepted_header line row then headers.Accepted else headers.Wrong
+header_judged line row = if is_accepted_header line row then headers.Accepted else headers.Wrong (faults.BadLine 1)
 
 abbrev pub header_after : WatchedView → List ℕ → Header → Header
 header_after watched row headers.NotRead = header_judged watched.line row
-header_after watched row headers.Wrong = headers.Wrong
+header_after watched row (headers.Wrong fault) = headers.Wrong fault
 header_after watched row headers.Accepted = headers.Accepted
 
 -- the line is opened at an accepted header, and takes each row behind it
 abbrev pub follower_opened : WatchedView → List ℕ → Header → FollowerView
 follower_opened watched row headers.Accepted = first_follower watched.line (lines_of row)
-follower_opened watched row headers.Wrong = watched.follower
+follower_opened watched row (headers.Wrong fault) = watched.follower
 follower_opened watched row headers.NotRead = watched.follower
 
 abbrev pub follower_after : WatchedView → List ℕ → Header → FollowerView
 follower_after watched row headers.NotRead = follower_opened watched row (header_judged watched.line row)
-follower_after watched row headers.Wrong = watched.follower
+follower_after watched row (headers.Wrong fault) = watched.follower
 follower_after watched row headers.Accepted = after_row watched.follower row
 
 -- the event that is taken from a row: none before an accepted header
 abbrev pub event_behind : WatchedView → List ℕ → Header → Option Event
 event_behind watched row headers.NotRead = None
-event_behind watched row headers.Wrong = None
+event_behind watched row (headers.Wrong fault) = None
 event_behind watched row headers.Accepted = event_taken watched.follower row
+
+-- the line is opened behind the head with which a text begins, unless no line goes on from it
+abbrev pub behind_head : WatchedView → Result (Head × Left) HeadFault → WatchedView
+behind_head watched (Ok read) = record watched { header = headers.Accepted; follower = follower_behind watched.line read.0; begun = 0 }
+behind_head watched (Err fault) = record watched { header = headers.Wrong (fault_of_head watched.line fault); begun = 0 }
 
 -- the line of JSON of a note that the text in this file begins
 abbrev pub note_json : List ℕ → List ℕ → List ℕ
@@ -132,5 +142,5 @@ standing_by (Some faults.OutOfMemory) = standings.Legal
 
 abbrev pub standing_of : WatchedView → Header → Standing
 standing_of watched headers.NotRead = standings.Empty
-standing_of watched headers.Wrong = standings.BadLine 1
+standing_of watched (headers.Wrong fault) = standing_by (Some fault)
 standing_of watched headers.Accepted = standing_by watched.follower.fault

@@ -4,16 +4,20 @@ ghost use Rattle.std.specs.Prelude.{◌≡◌, [], None, IfOk, OnOk};
 ghost use Rattle.std.specs.Option.{option_copied};
 ghost use Rattle.dp_line.specs.World.{description_of, opening_fault};
 ghost use Rattle.dp_text.specs.Words.{lines_of};
+ghost use Rattle.dp_checkpoint.specs.HeadLines.{line_read};
 ghost use Rattle.dp_explain.specs.Followed.{after_row, event_taken, first_follower, text_of_row};
 ghost use Rattle.dp_watch.specs.Kept.{nothing_kept};
-ghost use Rattle.dp_watch.specs.Watched.{every_entry, follower_opened, header_judged, note_json, standing_by, standing_of, text_begun, IsKept, IsNoted, KeepsEvent, KeepsNote, TakesRow};
+ghost use Rattle.dp_watch.specs.Watched.{behind_head, every_entry, follower_opened, header_judged, note_json, standing_by, standing_of, text_begun, IsKept, IsNoted, KeepsEvent, KeepsNote, TakesRow};
 
 use crate::kept_entries::KeptEntries;
 use crate::kept_entry::{KeptEntry, is_notable};
 use crate::standing::Standing;
 use dp_audit::{AuditFault, is_header_of};
+use dp_checkpoint::HeadFault;
 use dp_explain::{Choice, FollowFault, Follower, Quoted};
 use dp_line::LineSpec;
+use dp_parts::fault_of_head;
+use dp_text::Text;
 use std::alloc::{AllocError, Global};
 use std::marker::Model;
 
@@ -34,10 +38,10 @@ const EVERY_ENTRY: Choice = Choice {
 pub(crate) enum Header {
     /// It has not come yet.
     NotRead,
-    /// It is a header of the line.
+    /// It is a header of the line, or the first row of a head of the line that was taken.
     Accepted,
-    /// It is no header of the line.
-    Wrong,
+    /// It is no header of the line, or begins no head of the line: the fault of the text.
+    Wrong(AuditFault),
 }
 
 /// A line whose audit text is followed. Contracts see what is known from its rows, and what is stored.
@@ -132,7 +136,7 @@ impl<'a> WatchedLine<'a> {
     {
         match self.header {
             Header::NotRead => Standing::Empty,
-            Header::Wrong => Standing::BadLine(1),
+            Header::Wrong(fault) => standing_by(Some(fault)),
             Header::Accepted => standing_by(self.follower.fault()),
         }
     }
@@ -183,8 +187,28 @@ impl<'a> WatchedLine<'a> {
         self.begun = 0;
         match self.header {
             Header::NotRead => self.take_header(row),
-            Header::Wrong => Ok(()),
+            Header::Wrong(_) => Ok(()),
             Header::Accepted => self.take_entry(row, number),
+        }
+    }
+
+    /// Takes the head of a part, with which a text begins of which no row was taken: the line is opened behind it. If no line
+    /// goes on from the head, it is a wrong row. `AllocError` if memory runs out.
+    pub(crate) fn take_head(&mut self, head: &[u8]) -> Result<(), AllocError>
+        ensures { OnOk result (self.new ≡ behind_head self.old (line_read self.old.line head.now)) }
+    {
+        self.begun = 0;
+        match Follower::open_behind(self.alloc, self.line, head, &mut Text::new()) {
+            Ok(follower) => {
+                self.follower = follower;
+                self.header = Header::Accepted;
+                Ok(())
+            }
+            Err(HeadFault::OutOfMemory) => Err(AllocError),
+            Err(fault) => {
+                self.header = Header::Wrong(fault_of_head(self.line, fault));
+                Ok(())
+            }
         }
     }
 
@@ -198,7 +222,7 @@ impl<'a> WatchedLine<'a> {
         if is_header_of(row, self.line) {
             self.accept_header(row)
         } else {
-            self.header = Header::Wrong;
+            self.header = Header::Wrong(AuditFault::BadLine(1));
             Ok(())
         }
     }

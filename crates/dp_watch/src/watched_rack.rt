@@ -3,7 +3,8 @@
 ghost use Rattle.std.specs.Prelude.{◌≡◌, OnOk};
 ghost use Rattle.std.specs.Option.{option_copied};
 ghost use Rattle.dp_watch.specs.Rack.{next_number, ChangesLine};
-ghost use Rattle.dp_watch.specs.Watched.{text_begun, KeepsNote, TakesRow};
+ghost use Rattle.dp_checkpoint.specs.HeadLines.{line_read};
+ghost use Rattle.dp_watch.specs.Watched.{behind_head, text_begun, KeepsNote, TakesRow};
 
 use crate::watched_line::WatchedLine;
 use std::alloc::AllocError;
@@ -61,6 +62,21 @@ impl<'a> WatchedRack<'a> {
         self.number = self.number.saturating_add(1);
         if index < self.lines.len() {
             self.lines[index].set_begun(octets);
+        }
+    }
+
+    /// Takes the head of a part, with which the text of the line at this index begins. See [`WatchedLine`]. `AllocError` if
+    /// memory runs out.
+    pub fn take_head(&mut self, index: usize, head: &[u8]) -> Result<(), AllocError>
+        ensures number { self.new.number ≡ next_number self.old.number }
+        ensures lines { OnOk result (ChangesLine index (λ old new. new ≡ behind_head old (line_read old.line head.now))
+            self.old.lines.items self.new.lines.items) }
+    {
+        self.number = self.number.saturating_add(1);
+        if index < self.lines.len() {
+            self.lines[index].take_head(head)
+        } else {
+            Ok(())
         }
     }
 
