@@ -10,5 +10,5 @@ client=$top/tests/watch_client.py
 . "$top/tests/cases.sh"
 
 try_beside slow_clients silent_clients memory_stays
-try_all no_folder text_that_grows entries_of_a_day changes_only next_texts parts wrong_rows other_names newest_text \
+try_all no_folder text_that_grows entries_of_a_day changes_only next_texts parts later_parts wrong_rows other_names newest_text \
   notable_entries slaves_and_masters names_of_files requests_of_others ports served_rack refused_rack nothing_is_written three_faults

@@ -266,6 +266,40 @@ def parts(program, folder):
         watched.expect("the next text", standing, ("line-1-2.000001.audit", "legal", 0, 2))
 
 
+def head(place):
+    """The head of a part of the rack of ticks behind so many of one unit."""
+    rows = (f"rack-audit 3 line 1 from {place}", f"line running {place}", "slave 5 WaitPrm none 0 off --------", "set 5 11 none 0 ---",
+            "prm 5 none", "in 5 0000 0000", "out 5 0000 0000", "diag 5 ------- -", "last 5 1 none")
+    return ("\n".join(rows) + "\n").encode()
+
+
+def later_parts(program, folder):
+    """A text is followed from a later part on, each further head is checked, and parts that were deleted are left out."""
+    audit, name = Folder(folder), "line-1-{}.{:06}.audit".format
+    audit.write(name(1, 3), head(40), ticks(41, 2))
+    with Watched(program, tick_rack(folder), audit.path) as watched:
+        line = watched.expect("part 3", standing, (name(1, 3), "legal", 0, 42))
+        expect("entries and time", ([41, 42], 42), ([entry["place"] for entry in entries(line)], line["time"]))
+        audit.write(name(1, 4), head(42)[:90])
+        watched.expect("the beginning of a head", standing, (name(1, 4), "legal", 0, 42))
+        audit.write(name(1, 4), head(42)[90:], ticks(43, 1))
+        line = watched.expect("part 4", standing, (name(1, 4), "legal", 0, 43))
+        expect("no note", [], notes(line))
+        audit.write(name(1, 7), head(50), ticks(51, 1))
+        line = watched.expect("part 7 behind part 4", standing, (name(1, 7), "legal", 0, 51))
+        note = f"{name(1, 7)} begins; the parts before it were deleted before they were read"
+        expect("a note", [(name(1, 7), note)], notes(line))
+        expect("the places", [41, 42, 43, 51], [entry["place"] for entry in entries(line)])
+        audit.write(name(1, 8), head(51).replace(b"WaitPrm", b"WaitCfg"), ticks(52, 1))
+        watched.expect("another head", standing, (name(1, 8), "not the policy", 53, 51))
+        audit.write(name(1, 10), head(60))
+        audit.write(name(2, 2), head(5).replace(b"0 off -", b"0 off"))
+        line = watched.expect("a wrong head", standing, (name(2, 2), "bad line", 3, 0))
+        expect("another note", (name(2, 2), f"{name(2, 2)} begins; {name(1, 8)} ended without a halt"), notes(line)[-1])
+        audit.write(name(3, 1), b"rack-audit 3 line 1\n", ticks(1, 2))
+        watched.expect("the next text", standing, (name(3, 1), "legal", 0, 2))
+
+
 def wrong_rows(program, folder):
     """A line stops before its first wrong row; its next text is followed again."""
     rack, rows, _ = day()
@@ -662,7 +696,7 @@ def snapshot(path):
     return [(name, os.stat(os.path.join(path, name)).st_mtime_ns, read(os.path.join(path, name))) for name in sorted(os.listdir(path))]
 
 
-CASES = (no_folder, text_that_grows, entries_of_a_day, changes_only, next_texts, parts, wrong_rows, other_names, newest_text, notable_entries,
+CASES = (no_folder, text_that_grows, entries_of_a_day, changes_only, next_texts, parts, later_parts, wrong_rows, other_names, newest_text, notable_entries,
          slaves_and_masters, names_of_files, requests_of_others, slow_clients, silent_clients, memory_stays, ports, served_rack, refused_rack,
          nothing_is_written, three_faults)
 

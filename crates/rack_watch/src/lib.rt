@@ -13,6 +13,7 @@ mod following;
 mod found_texts;
 mod host;
 mod line_text;
+mod part_rows;
 mod processor_share;
 mod shared_rack;
 mod text_file;

@@ -1,7 +1,8 @@
 //! Following the audit texts of one line.
 
-use crate::found_texts::{find_texts, first_of, newest_of};
+use crate::found_texts::{find_texts, first_of, later_part, newest_of};
 use crate::host::WatchHost;
+use crate::part_rows::PartRows;
 use crate::text_file::TextFile;
 use crate::watch_fault::WatchFault;
 use dp_explain::TextRows;
@@ -36,6 +37,8 @@ pub(crate) struct LineText<'a, H> {
     index: usize,
     /// The rows of the text; None before the first text, and after a wrong row.
     rows: Option<Rows<'a, H>>,
+    /// Which of the rows are those of heads.
+    parts: PartRows,
     /// The name of the file that was read last.
     name: Option<AuditName>,
     /// The number of bytes of a row whose LF has not come.
@@ -60,6 +63,7 @@ impl<'a, H: WatchHost> LineText<'a, H> {
             line,
             index,
             rows: None,
+            parts: PartRows::new(alloc),
             name: None,
             begun: 0,
             seen: Vec::new(alloc),
@@ -90,7 +94,7 @@ impl<'a, H: WatchHost> LineText<'a, H> {
             return Ok(());
         };
         let mut rack = followed.rack.lock(followed.host);
-        rack.take_row(self.index, rows.row())?;
+        self.parts.take_row(&mut rack, self.index, rows.row())?;
         self.begun = 0;
         let is_right = match rack.lines.get(self.index) {
             Some(line) => is_right(line.standing()),
@@ -139,7 +143,8 @@ impl<'a, H: WatchHost> LineText<'a, H> {
         Ok(())
     }
 
-    /// Goes on with the next text of the line if there is one. Returns whether there is.
+    /// Goes on with the next text of the line, or with a later part of the text if those before it were deleted. Returns
+    /// whether there is one.
     ///
     /// At first this is the text that was changed last. Later it is each text that was not there before, the lowest number
     /// first.
@@ -147,6 +152,9 @@ impl<'a, H: WatchHost> LineText<'a, H> {
         &mut self,
         followed: &Followed<'a, '_, H>,
     ) -> Result<bool, WatchFault> {
+        if self.begin_later_part(followed)? {
+            return Ok(true);
+        }
         let texts = find_texts(
             followed.host,
             followed.alloc,
@@ -174,25 +182,54 @@ impl<'a, H: WatchHost> LineText<'a, H> {
         } else {
             self.seen.push(next.name.number)?;
         }
-        self.begin_text(followed, next.name, file)?;
+        let note = match self.name {
+            None => None,
+            Some(before) => Some(self.note(followed, next.name, before)?),
+        };
+        self.begin_text(followed, next.name, file, note)?;
         Ok(true)
     }
 
-    /// Begins a text: the line is opened again.
+    /// Goes on with the lowest later part of the text that is followed, if the next part is not there: it was deleted before it
+    /// was read. Returns whether that is so.
+    fn begin_later_part(&mut self, followed: &Followed<'a, '_, H>) -> Result<bool, WatchFault> {
+        let Some(later) = self.later_part(followed) else {
+            return Ok(false);
+        };
+        let Ok(file) = TextFile::open(followed.host, followed.alloc, followed.folder, later) else {
+            return Ok(false);
+        };
+        let note = format!(in followed.alloc;
+            "{later} begins; the parts before it were deleted before they were read"
+        )?;
+        self.begin_text(followed, later, file, Some(note))?;
+        Ok(true)
+    }
+
+    /// Returns the lowest later part of the text that is followed, if it is not the next one. A text that has one file, or a
+    /// wrong row, has none.
+    fn later_part(&self, followed: &Followed<'a, '_, H>) -> Option<AuditName> {
+        if self.rows.is_none() {
+            return None;
+        }
+        let name = self.name?;
+        let next = name.next_part()?;
+        let later = later_part(followed.host, followed.folder, name)?;
+        if later == next { None } else { Some(later) }
+    }
+
+    /// Begins a text, or a later part: the line is opened again.
     fn begin_text(
         &mut self,
         followed: &Followed<'a, '_, H>,
         name: AuditName,
         file: TextFile<'a, H>,
+        note: Option<String>,
     ) -> Result<(), WatchFault> {
         let Ok(reader) = BufReader::new(followed.alloc, file) else {
             return Err(WatchFault::OutOfMemory);
         };
         let shown = format!(in followed.alloc; "{name}")?;
-        let note = match self.name {
-            None => None,
-            Some(before) => Some(self.note(followed, name, before)?),
-        };
         let mut rack = followed.rack.lock(followed.host);
         rack.begin_text(
             self.index,
@@ -200,6 +237,7 @@ impl<'a, H: WatchHost> LineText<'a, H> {
             note.as_ref().map(|note| note.as_str()),
         )?;
         self.rows = Some(TextRows::new(followed.alloc, reader));
+        self.parts = PartRows::new(followed.alloc);
         self.name = Some(name);
         self.begun = 0;
         Ok(())
@@ -217,12 +255,16 @@ impl<'a, H: WatchHost> LineText<'a, H> {
             Some(line) => line.follower().line().is_halted(),
             None => false,
         };
-        if is_halted {
-            format!(in followed.alloc; "{name} begins; every slave waits for its parameters")
+        // The head of a later part has the state of its slaves.
+        let opening = if name.part.unwrap_or(1) == 1 {
+            "; every slave waits for its parameters"
         } else {
-            format!(in followed.alloc;
-                "{name} begins; every slave waits for its parameters; {before} ended without a halt"
-            )
+            ""
+        };
+        if is_halted {
+            format!(in followed.alloc; "{name} begins{opening}")
+        } else {
+            format!(in followed.alloc; "{name} begins{opening}; {before} ended without a halt")
         }
     }
 }
