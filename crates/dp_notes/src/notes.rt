@@ -138,6 +138,19 @@ impl<'a, L: Log + Clock> Notes<'a, L> {
         self.log_row(rt, format_args!("line {line} goes on in {file}"));
     }
 
+    /// Reports that a file of the audit text of a line cannot be deleted.
+    pub fn cannot_delete<W: Wait>(
+        &self,
+        rt: &W,
+        line: u8,
+        file: impl Display + Drop,
+        error: Error,
+    ) {
+        let _one_row_at_a_time = self.noted.lock(rt);
+        let time = TimeOfDay::now(self.log);
+        warn!(self.log; target: "rackd", "{time} line {line}: cannot delete {file}: {error}");
+    }
+
     /// Reports that the program was held up, so that these milliseconds don't pass on a line.
     pub fn held_up<W: Wait>(&self, rt: &W, line: u8, milliseconds: u64) {
         let _one_row_at_a_time = self.noted.lock(rt);

@@ -1,3 +1,4 @@
 pub mod AuditPaths
 pub mod AuditNames
+pub mod Parts
 pub mod FileFaults

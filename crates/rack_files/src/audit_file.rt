@@ -15,6 +15,7 @@ use dp_cause::Cause;
 use dp_notes::Notes;
 use dp_shared::Line;
 use dp_trail::{Naming, Tail, Trail, TrailBreak, TrailFault};
+use rack_service::Parts;
 use std::alloc::Global;
 use std::fs::{self, File, Files};
 use std::io::{self, ErrorKind};
@@ -76,7 +77,7 @@ pub fn make_folder<'a>(files: &impl Files, folder: &'a str) -> Result<(), FileFa
 /// Begins the audit text of a line in a new file of the folder, and writes its header. The text gets the lowest number that is
 /// free for the line. No existing file is changed.
 ///
-/// `number` is the number of the line. `megabytes` is the minimum size of a part, or `None` if the text has one file.
+/// `number` is the number of the line. `parts` is `None` if the text has one file.
 ///
 /// Returns `CannotMake` with the path of the file that cannot be created or does not take the header, or `OutOfMemory`.
 pub fn begin_text<'a, 's, H: FileHost>(
@@ -84,7 +85,7 @@ pub fn begin_text<'a, 's, H: FileHost>(
     notes: &'s Notes<'s, H>,
     alloc: Global,
     folder: &'a str,
-    megabytes: Option<u16>,
+    parts: Option<Parts>,
     line: &'s Line,
     number: u8,
 ) -> Result<AuditFile<'a, FileTail<'a, 's, H>>, FileFault<'a>>
@@ -98,10 +99,10 @@ pub fn begin_text<'a, 's, H: FileHost>(
             number: of_text,
             part: None,
         };
-        let path = text.in_part(megabytes.map(|_| 1));
+        let path = text.in_part(parts.map(|_| 1));
         match create_first(host, alloc, text, path) {
             Ok(file) => {
-                let writer = AuditWriter::new(host, notes, alloc, text, number, megabytes, file);
+                let writer = AuditWriter::new(host, notes, alloc, text, number, parts, file);
                 return begin_trail(host, alloc, line, writer, text, path);
             }
             Err(error) => match error.kind() {

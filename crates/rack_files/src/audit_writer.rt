@@ -1,10 +1,14 @@
 //! Writing an audit text to its files.
 
+ghost use Rattle.std.specs.Prelude.{◌≡◌};
+ghost use Rattle.rack_files.specs.Parts.{after, first_part, is_due, is_due_in, is_full, part_to_delete};
+
 use crate::audit_path::AuditPath;
 use crate::file_host::NewFiles;
 use dp_notes::Notes;
 use dp_trail::WriteParts;
 use log::Log;
+use rack_service::Parts;
 use std::alloc::Global;
 use std::fs::File;
 use std::io::{Error, ErrorKind, Result, Write};
@@ -18,6 +22,8 @@ struct Part {
     number: u32,
     /// The minimum size in bytes of every part except the last.
     minimum: u64,
+    /// How many of the newest parts stay, or `None` if no part is deleted.
+    keep: Option<u16>,
     /// How many bytes were written to the part.
     written: u64,
     /// Whether the last byte that was written ends a row.
@@ -26,18 +32,57 @@ struct Part {
 
 impl Part {
     /// Returns the first part, to which nothing was written.
-    fn first(megabytes: u16) -> Part {
+    fn first(parts: Parts) -> Part
+        ensures { result ≡ first_part parts }
+    {
         Part {
             number: 1,
-            minimum: u64::from(megabytes) * 1_000_000,
+            minimum: u64::from(parts.megabytes) * 1_000_000,
+            keep: parts.keep,
             written: 0,
             ends_row: false,
         }
     }
 
-    /// Returns whether the next byte belongs to the next part.
-    fn is_full(&self) -> bool {
+    /// Returns whether the part ends with a whole row and has its minimum size.
+    fn is_full(&self) -> bool
+        ensures { result ≡ is_full self.now }
+    {
         self.ends_row && self.written >= self.minimum
+    }
+
+    /// Returns whether the next part is to begin. No part follows that of the highest number.
+    fn is_due(&self) -> bool
+        ensures { result ≡ is_due self.now }
+    {
+        self.is_full() && self.number < u32::MAX
+    }
+
+    /// Returns the next part, to which nothing was written, or `None` if this one has the highest number.
+    fn next(&self) -> Option<Part>
+        ensures { result ≡ after self.now }
+    {
+        let number = self.number.checked_add(1)?;
+        Some(Part {
+            number,
+            minimum: self.minimum,
+            keep: self.keep,
+            written: 0,
+            ends_row: false,
+        })
+    }
+
+    /// Returns the number of the part that is deleted once this part has its head. The newest `keep` parts stay, with this one.
+    /// Returns `None` if no part is deleted.
+    fn part_to_delete(&self) -> Option<u32>
+        ensures { result ≡ part_to_delete self.now.number self.now.keep }
+    {
+        let keep = u32::from(self.keep?);
+        if keep < self.number {
+            Some(self.number - keep)
+        } else {
+            None
+        }
     }
 
     /// Counts bytes that were written to the part.
@@ -51,8 +96,10 @@ impl Part {
 
 /// Writes an audit text to a file, or to one file per part.
 ///
-/// A part ends after the first row with which it reaches its minimum size. The file of the next part is created when the next
-/// row is written.
+/// A part is full after the first row with which it reaches its minimum size. Then the trail begins the next part, whose file is
+/// created with it. Once that part has its head, the oldest part is deleted if only the newest parts are to stay.
+///
+/// Only files of this text are deleted. The text has a number that was free, so this run of the program created each of them.
 #[derive(Drop)]
 pub struct AuditWriter<'a, 's, H> {
     host: &'s H,
@@ -66,14 +113,14 @@ pub struct AuditWriter<'a, 's, H> {
 
 impl<'a, 's, H: NewFiles + Wait + Log + Clock> AuditWriter<'a, 's, H> {
     /// Returns a writer to this file. `path` is the path of the text as if it had one file, and `line` is the number of the line.
-    /// `megabytes` is the minimum size of a part; the file is then the first part. It is `None` if the text has one file.
+    /// `parts` is `None` if the text has one file. Otherwise the file is that of the first part.
     pub(crate) fn new(
         host: &'s H,
         notes: &'s Notes<'s, H>,
         alloc: Global,
         path: AuditPath<'a>,
         line: u8,
-        megabytes: Option<u16>,
+        parts: Option<Parts>,
         file: File,
     ) -> AuditWriter<'a, 's, H> {
         AuditWriter {
@@ -82,7 +129,7 @@ impl<'a, 's, H: NewFiles + Wait + Log + Clock> AuditWriter<'a, 's, H> {
             alloc,
             path,
             line,
-            part: megabytes.map(|megabytes| Part::first(megabytes)),
+            part: parts.map(|parts| Part::first(parts)),
             file: Some(file),
         }
     }
@@ -92,34 +139,17 @@ impl<'a, 's, H: NewFiles + Wait + Log + Clock> AuditWriter<'a, 's, H> {
         self.part.map(|part| part.number)
     }
 
-    /// Creates the file of the next part if the current part is full. The current file is closed first.
-    fn begin_next_part(&mut self) -> Result<()> {
-        let Some(part) = &mut self.part else {
-            return Ok(());
-        };
-        if !part.is_full() {
-            return Ok(());
-        }
-        let Some(number) = part.number.checked_add(1) else {
-            return Err(Error::from(ErrorKind::Other));
-        };
-        *part = Part {
-            number,
-            minimum: part.minimum,
-            written: 0,
-            ends_row: false,
-        };
-        self.file = None;
+    /// Deletes the file of a part. Logs the cause if it cannot be deleted.
+    fn delete_part(&self, number: u32) {
         let path = self.path.in_part(Some(number));
-        self.file = Some(create_file(self.host, self.alloc, path)?);
-        self.notes.goes_on(self.host, self.line, path);
-        Ok(())
+        if let Err(error) = remove_file(self.host, self.alloc, path) {
+            self.notes.cannot_delete(self.host, self.line, path, error);
+        }
     }
 }
 
 impl<H: NewFiles + Wait + Log + Clock> Write for AuditWriter<'_, '_, H> {
     fn write(&mut self, buf: &[u8]) -> Result<usize> {
-        self.begin_next_part()?;
         let Some(file) = &mut self.file else {
             return Err(Error::from(ErrorKind::Other));
         };
@@ -139,8 +169,39 @@ impl<H: NewFiles + Wait + Log + Clock> Write for AuditWriter<'_, '_, H> {
 }
 
 impl<H: NewFiles + Wait + Log + Clock> WriteParts for AuditWriter<'_, '_, H> {
+    ghost due = { λ writer. is_due_in writer.part };
+
     fn part_is_due(&self) -> bool {
-        false
+        match &self.part {
+            Some(part) => part.is_due(),
+            None => false,
+        }
+    }
+
+    /// Creates the file of the next part. The current file is closed first. Does nothing if the text has one file.
+    fn begin_part(&mut self) -> Result<()> {
+        let Some(part) = &mut self.part else {
+            return Ok(());
+        };
+        let Some(next) = part.next() else {
+            return Err(Error::from(ErrorKind::Other));
+        };
+        *part = next;
+        self.file = None;
+        let path = self.path.in_part(Some(next.number));
+        self.file = Some(create_file(self.host, self.alloc, path)?);
+        self.notes.goes_on(self.host, self.line, path);
+        Ok(())
+    }
+
+    /// Deletes the oldest part if there is one more than those that are to stay.
+    fn end_head(&mut self) {
+        let Some(part) = &self.part else {
+            return;
+        };
+        if let Some(number) = part.part_to_delete() {
+            self.delete_part(number);
+        }
     }
 }
 
@@ -152,6 +213,14 @@ pub(crate) fn create_file(
 ) -> Result<File> {
     match format!(in alloc; "{path}") {
         Ok(path) => files.new_file(path.as_str()),
+        Err(_) => Err(Error::from(ErrorKind::OutOfMemory)),
+    }
+}
+
+/// Removes the file at a path.
+fn remove_file(files: &impl NewFiles, alloc: Global, path: AuditPath<'_>) -> Result<()> {
+    match format!(in alloc; "{path}") {
+        Ok(path) => files.remove_file(path.as_str()),
         Err(_) => Err(Error::from(ErrorKind::OutOfMemory)),
     }
 }

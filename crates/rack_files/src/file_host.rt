@@ -1,18 +1,21 @@
 //! What audit files require of the host.
 
 use log::Log;
-use std::fs::{File, Files, OpenOptions};
+use std::fs::{self, File, Files, OpenOptions};
 use std::io::Result;
 use std::sync::Wait;
 use std::time::Clock;
 
-/// Creates new files.
+/// Creates new files, and removes files.
 ///
 /// It is separate from `Files` because that trait has an associated type. The check does not know that this type may be sent to
 /// another thread, and an audit file is shared by all threads that serve its line.
 pub trait NewFiles {
     /// Creates a file and opens it for appending. Fails with `AlreadyExists` if the path exists.
     fn new_file(&self, path: &str) -> Result<File>;
+
+    /// Removes the file at a path. Fails with `NotFound` if there is none.
+    fn remove_file(&self, path: &str) -> Result<()>;
 }
 
 impl<F: Files<File = File>> NewFiles for F {
@@ -20,6 +23,10 @@ impl<F: Files<File = File>> NewFiles for F {
         let mut options = OpenOptions::new();
         options.append(true).create_new(true);
         options.open(self, path)
+    }
+
+    fn remove_file(&self, path: &str) -> Result<()> {
+        fs::remove_file(self, path)
     }
 }
 

@@ -1,8 +1,8 @@
 //! The files that get the audit texts of lines while these are served.
 //!
 //! The folder is made first (`make_folder`). The text of a line is begun in a new file with its header (`begin_text`). Its trail
-//! writes each entry, for an endless line to one file per part (`audit_writer`). When serving has ended, the text is completed
-//! (`complete_text`). A reader of the folder reads names of files by [`AuditName`].
+//! writes each entry, for an endless line to one file per part, of which old ones may be deleted (`audit_writer`). When serving has
+//! ended, the text is completed (`complete_text`). A reader of the folder reads names of files by [`AuditName`].
 #![tactic(auto)]
 
 mod audit_file;

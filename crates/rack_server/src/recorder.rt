@@ -20,6 +20,7 @@ use rack_files::{
     AuditFile, FileFault, FileTail, FileTrail, IncompleteFile, begin_text, complete_text,
     make_folder,
 };
+use rack_service::Parts;
 use rack_sockets::AcceptGate;
 use std::alloc::Global;
 use std::net::Net;
@@ -53,8 +54,8 @@ impl<N: Net, T: RecordEntries> RecordEntries for Recorder<'_, '_, N, T> {
     }
 }
 
-/// Makes the folder, begins a new audit text in it for each line, and returns the recorders. `megabytes` is the minimum size of
-/// a part, or `None` if each text has one file.
+/// Makes the folder, begins a new audit text in it for each line, and returns the recorders. `parts` is `None` if each text has
+/// one file.
 ///
 /// Returns `CannotMake` with the path that cannot be made, or `OutOfMemory`.
 pub(crate) fn record_lines<'a, 's, H: Host>(
@@ -63,7 +64,7 @@ pub(crate) fn record_lines<'a, 's, H: Host>(
     alloc: Global,
     gate: &'s AcceptGate,
     folder: &'a str,
-    megabytes: Option<u16>,
+    parts: Option<Parts>,
     lines: &[ServedLine],
     ports: &'s [Port],
 ) -> Result<Vec<UnnamedRecorder<'a, 's, H>>, FileFault<'a>>
@@ -81,7 +82,7 @@ pub(crate) fn record_lines<'a, 's, H: Host>(
     for line in lines {
         let port = &ports[all.len()];
         let number = line.spec.number;
-        let file = match begin_text(host, notes, alloc, folder, megabytes, &port.line, number) {
+        let file = match begin_text(host, notes, alloc, folder, parts, &port.line, number) {
             Ok(file) => file,
             Err(fault) => return Err(fault),
         };

@@ -30,7 +30,7 @@ use dp_sessions::Port;
 use dp_shared::WorkerSeat;
 use dp_trail::{Naming, NoTrail, RecordEntries};
 use rack_files::IncompleteFile;
-use rack_service::Service;
+use rack_service::{Parts, Service};
 use rack_sockets::{AcceptGate, InputEnd, SocketContext};
 use std::alloc::Global;
 use std::io::Write;
@@ -112,9 +112,9 @@ pub(crate) fn serve_connections<'a, 's, H: Host + Sync, W: Write>(
     let Some(folder) = service.audit else {
         return serve_unrecorded(&context, lines, listening, ports, seats, writer);
     };
-    let megabytes = service.endless;
+    let parts = service.endless;
     serve_recorded(
-        &context, folder, megabytes, lines, listening, ports, seats, writer,
+        &context, folder, parts, lines, listening, ports, seats, writer,
     )
 }
 
@@ -147,12 +147,11 @@ fn serve_unrecorded<'a, 's, H: Host + Sync, W: Write>(
     }
 }
 
-/// Serves the connections of all lines, and records each line in the folder. `megabytes` is the minimum size of a part of an
-/// audit text, or `None` if each text has one file.
+/// Serves the connections of all lines, and records each line in the folder. `parts` is `None` if each audit text has one file.
 fn serve_recorded<'a, 's, H: Host + Sync, W: Write>(
     context: &'s ServerContext<'s, H>,
     folder: &'a str,
-    megabytes: Option<u16>,
+    parts: Option<Parts>,
     lines: &'s [ServedLine],
     listening: Vec<Listeners<TcpListener>>,
     ports: &'s [Port],
@@ -170,7 +169,7 @@ fn serve_recorded<'a, 's, H: Host + Sync, W: Write>(
 {
     let (rt, alloc) = (context.sockets.rt, context.alloc);
     let (gate, notes) = (context.sockets.gate, context.sockets.notes);
-    let recorders = match record_lines(rt, notes, alloc, gate, folder, megabytes, lines, ports) {
+    let recorders = match record_lines(rt, notes, alloc, gate, folder, parts, lines, ports) {
         Ok(recorders) => recorders,
         Err(fault) => return Err(ServeFault::from(fault)),
     };

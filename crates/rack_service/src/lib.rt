@@ -6,4 +6,4 @@ mod forms;
 mod service;
 
 pub use forms::{operator_form, script_form};
-pub use service::{LogDetail, Service};
+pub use service::{LogDetail, Parts, Service};

@@ -12,6 +12,15 @@ pub enum LogDetail {
     Requests,
 }
 
+/// The parts of an audit text. Each part has a file of its own.
+#[derive(Clone, Copy)]
+pub struct Parts {
+    /// The least megabytes of a part, 1 to 4,096. A megabyte has 1,000,000 bytes.
+    pub megabytes: u16,
+    /// How many of the newest parts of each line stay, 2 to 10,000; None if no part is deleted.
+    pub keep: Option<u16>,
+}
+
 /// How a rack is served.
 #[derive(Clone, Copy)]
 pub struct Service<'a> {
@@ -19,9 +28,8 @@ pub struct Service<'a> {
     pub sessions: Option<u32>,
     /// The folder in which each line has a file for its audit text while it is served; None if there is no such file.
     pub audit: Option<&'a str>,
-    /// The least megabytes of a part of an audit text, 1 to 4,096, if the lines are endless; None if each line has the
-    /// places of the rack file.
-    pub endless: Option<u16>,
+    /// The parts of the audit texts if the lines are endless; None if each line has the places of the rack file.
+    pub endless: Option<Parts>,
     /// The port of the page that shows the rack, 0 if the system chooses one; None if there is no page.
     pub page: Option<u16>,
     /// The most milliseconds from tick to tick, 10 to 60,000, by which the time of each line passes; None if time passes

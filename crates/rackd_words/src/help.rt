@@ -161,8 +161,8 @@ pub(crate) const SERVE: Help = Help {
     about: "Serve the lines of a rack to masters and operators at TCP ports of 127.0.0.1",
     usage: "\
 rackd serve RACK [--sessions N] [--until-input-ends] [--ports FILE]
-             [--audit FOLDER [--endless [--part MB]] [--page N]] [--tick MS] [--step MS]
-             [--log [WHAT]]
+             [--audit FOLDER [--endless [--part MB] [--keep N]] [--page N]] [--tick MS]
+             [--step MS] [--log [WHAT]]
        rackd serve --help",
     details: "\
 The rack file gives each line two ports: 'listen' for masters and 'operator' for its operator.
@@ -193,7 +193,9 @@ give it the text of one line, from the header 'rack-audit ..' on.
 
 With --endless, memory has only the newest entries of each line: at least half as many as its
 capacity, and at least 8208. The files are line-N-K.000001.audit, line-N-K.000002.audit and so on,
-and standard output gets only 'ready'.
+and standard output gets only 'ready'. With --keep, rackd deletes the oldest of these files once the
+next one has begun, so that the newest N of each line stay. It deletes only files that it has
+created since it started.
 
 With --page, a page in a browser shows the rack, as 'watch' does. Standard output gets its address
 before 'ready'.
@@ -301,6 +303,11 @@ Let lines continue after the capacity in the rack file, up to place
 pub(crate) const PART: &str = "\
 Begin the next file of an audit text after MB megabytes: 1 to 4096;
 requires --endless [default: 16]";
+
+pub(crate) const KEEP: &str = "\
+Keep the newest N files of each audit text, and delete older ones when
+the next one has begun: 2 to 10000; requires --endless
+[default: delete none]";
 
 pub(crate) const PAGE: &str = "\
 Show the rack at port N of 127.0.0.1 in a browser: 0 to 65535, where 0

@@ -10,17 +10,17 @@ use crate::gsd::{ADDRESS, GSD, LINE, MODULE, described_slave_of, describing};
 use crate::invocation::{Invocation, WordsFault};
 use crate::judge::{RETRIES, judge_word, judging_of, unknown_rule};
 use crate::serve::{
-    ENDLESS, FOLDER, LOG, PAGE, PART, PORTS, SESSIONS, STEP, TICK, UNTIL_INPUT_ENDS, serving,
+    ENDLESS, FOLDER, KEEP, LOG, PAGE, PART, PORTS, SESSIONS, STEP, TICK, UNTIL_INPUT_ENDS, serving,
 };
 use clap::error::ErrorKind as Refused;
 use clap::{ArgMatches, Command};
-use rack_service::{LogDetail, Service};
+use rack_service::{LogDetail, Parts, Service};
 use std::alloc::{AllocError, Global};
 use std::env::{self, Env};
 use std::io::ErrorKind;
 
 /// The arguments that are numbers, and their names in messages.
-const NUMBERS: [(&str, &str); 18] = [
+const NUMBERS: [(&str, &str); 19] = [
     (FROM, "--from <N>"),
     (TO, "--to <N>"),
     (SLAVE, "--slave <A>"),
@@ -28,6 +28,7 @@ const NUMBERS: [(&str, &str); 18] = [
     (RETRIES, "--retries <N>"),
     (SESSIONS, "--sessions <N>"),
     (PART, "--part <MB>"),
+    (KEEP, "--keep <N>"),
     (PAGE, "--page <N>"),
     (PAGE_PORT, "--port <N>"),
     (PORT, "<PORT>"),
@@ -311,7 +312,7 @@ fn service_of<'a>(words: &ArgMatches<'a>) -> Service<'a> {
     Service {
         sessions: words.get_one(SESSIONS),
         audit: words.get_str(FOLDER),
-        endless: part_of(words),
+        endless: parts_of(words),
         page: words.get_one(PAGE),
         ports: words.get_str(PORTS),
         until_input_ends: words.get_flag(UNTIL_INPUT_ENDS),
@@ -321,10 +322,13 @@ fn service_of<'a>(words: &ArgMatches<'a>) -> Service<'a> {
     }
 }
 
-/// Returns the least megabytes of a part of an audit text if `--endless` is given.
-fn part_of(words: &ArgMatches<'_>) -> Option<u16> {
+/// Returns the parts of audit texts if `--endless` is given.
+fn parts_of(words: &ArgMatches<'_>) -> Option<Parts> {
     if words.get_flag(ENDLESS) {
-        Some(words.get_one(PART).unwrap_or(USUAL_PART))
+        Some(Parts {
+            megabytes: words.get_one(PART).unwrap_or(USUAL_PART),
+            keep: words.get_one(KEEP),
+        })
     } else {
         None
     }

@@ -20,6 +20,13 @@ pub(crate) const PART: &str = "part";
 /// The most megabytes of a part of an audit text.
 const MOST_PART: u64 = 4_096;
 
+pub(crate) const KEEP: &str = "keep";
+
+/// The least and the most parts that `--keep` may name.
+const LEAST_KEPT: u64 = 2;
+
+const MOST_KEPT: u64 = 10_000;
+
 pub(crate) const PAGE: &str = "page";
 
 pub(crate) const PORTS: &str = "ports";
@@ -54,6 +61,8 @@ pub(crate) fn serving<'a>(alloc: Global) -> Result<Command<'a>, AllocError> {
     let words = words.arg(endless)?;
     let part = part(alloc)?;
     let words = words.arg(part)?;
+    let keep = keep(alloc)?;
+    let words = words.arg(keep)?;
     let page = page(alloc)?;
     let words = words.arg(page)?.arg(ports(alloc))?;
     let words = words.arg(flag(alloc, UNTIL_INPUT_ENDS).help(help::UNTIL_INPUT_ENDS))?;
@@ -89,6 +98,14 @@ fn part<'a>(alloc: Global) -> Result<Arg<'a>, AllocError> {
     number(alloc, PART, 1, MOST_PART)
         .value_name("MB")
         .help(help::PART)
+        .requires_arg(ENDLESS)
+}
+
+/// Returns the option `--keep N`, which requires `--endless`.
+fn keep<'a>(alloc: Global) -> Result<Arg<'a>, AllocError> {
+    number(alloc, KEEP, LEAST_KEPT, MOST_KEPT)
+        .value_name("N")
+        .help(help::KEEP)
         .requires_arg(ENDLESS)
 }
 
