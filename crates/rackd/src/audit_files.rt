@@ -103,6 +103,15 @@ impl<'a, 'p, 'h, R: Read + Drop, H: Runtime + AllocGlobal + Files<File = R>> Aud
         }
     }
 
+    /// Returns the fault of the text, of which no later part that has no path here was read.
+    pub(crate) fn first_fault(&self) -> Fault<'a> {
+        let path = path_at(self.paths, self.index);
+        match self.cause {
+            Some(cause) => Fault::CannotRead(path, cause),
+            None => Fault::CannotRead(path, Cause::NotText),
+        }
+    }
+
     /// Returns the path of the file that is read.
     fn path(&self) -> &str {
         match &self.part {
@@ -210,20 +219,14 @@ impl<R: Read + Drop, H: Runtime + AllocGlobal + Files<File = R>> Read
     }
 }
 
-/// Opens all files of an audit text, and returns its rows. `shows` is whether its progress is shown, if it is long.
-pub(crate) fn open_rows<'a, 'p, 'h, H: Runtime + AllocGlobal + Files<File = R>, R: Read + Drop>(
+/// Opens all files of an audit text. `shows` is whether the progress of reading it is shown, if it is long.
+pub(crate) fn open_files<'a, 'p, 'h, H: Runtime + AllocGlobal + Files<File = R>, R: Read + Drop>(
     host: &'h H,
     paths: &'p [&'a str],
     shows: bool,
-) -> Result<FileRows<'a, 'p, 'h, H, R>, Fault<'a>>
-    ensures { IfOk result (λ rows. rows.text.past ≡ []) }
-{
+) -> Result<AuditFiles<'a, 'p, 'h, H, R>, Fault<'a>> {
     let files = AuditFiles::open(host, paths)?;
-    if shows {
-        Ok(rows_of(files.shown())?)
-    } else {
-        Ok(rows_of(files)?)
-    }
+    if shows { Ok(files.shown()) } else { Ok(files) }
 }
 
 /// Returns the rows of an audit text in these files.
@@ -239,16 +242,16 @@ pub(crate) fn rows_of<'a, 'p, 'h, H: Runtime + AllocGlobal + Files<File = R>, R:
     }
 }
 
-/// Returns the exit status of what was done with an audit text. If the text could not be read, reports this here, with the
-/// path of the file.
+/// Returns the exit status of what was done with the audit text of these files. If the text could not be read, reports this
+/// here, with the path of the file.
 pub(crate) fn reported_read<'a, H: Runtime + AllocGlobal + Files<File = R>, R: Read + Drop>(
     errors: &impl Eprint,
-    rows: &FileRows<'_, '_, '_, H, R>,
+    files: &AuditFiles<'_, '_, '_, H, R>,
     done: Result<ExitCode, Fault<'a>>,
 ) -> Result<ExitCode, Fault<'a>> {
     match done {
         Err(Fault::Run(RunFault::CannotRead | RunFault::NotText)) => {
-            Ok(report(errors, rows.reader().get_ref().fault()))
+            Ok(report(errors, files.fault()))
         }
         _ => done,
     }

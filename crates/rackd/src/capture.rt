@@ -1,14 +1,16 @@
 //! Writes the telegrams of audit texts for Wireshark.
 
-ghost use Rattle.std.specs.Prelude.{◌≡◌, []};
+ghost use Rattle.std.specs.Prelude.{◌≡◌};
+ghost use Rattle.dp_explain.specs.TextRows.{nothing_read};
 
-use crate::audit_files::{FileRows, open_rows, reported_read};
+use crate::audit_files::{open_files, reported_read};
+use crate::audit_text::{AuditText, FileEntries, FirstRow, entries_from_header, files_of};
 use crate::commands::Terminals;
 use crate::ending::Fault;
 use crate::files::read_file;
 use crate::output::{buffered, has_reader};
 use crate::reporting::reported;
-use crate::texts::{lacks_header, noted_header};
+use crate::texts::{noted_first_part, rack_of};
 use rack_capture::run_capture;
 use std::fs::Files;
 use std::io::Read;
@@ -27,14 +29,24 @@ pub(crate) fn capture_files<'a, H: Runtime + AllocGlobal>(
         return Err(Fault::OutputIsTerminal);
     }
     let rack = read_file(rt, rack)?;
-    let mut rows = open_rows(rt, audit, terminals.errors)?;
-    let captured = capture_out(rt, rack.as_str(), &mut rows);
-    reported(
-        rt,
-        rt.alloc(),
-        rack.as_str(),
-        reported_read(rt, &rows, captured),
-    )
+    let captured = capture_on(rt, rack.as_str(), audit, terminals.errors);
+    reported(rt, rt.alloc(), rack.as_str(), captured)
+}
+
+/// Writes the telegrams of the audit text of these files on a rack.
+fn capture_on<'a, H: Runtime + AllocGlobal>(
+    rt: &H,
+    rack: &str,
+    audit: &[&'a str],
+    shows: bool,
+) -> Result<ExitCode, Fault<'a>> {
+    let files = open_files(rt, audit, shows)?;
+    let described = rack_of(rt.alloc(), rack)?;
+    let text = AuditText::read(rt.alloc(), &described, files)?;
+    let first_row = text.first_row();
+    let mut rows = entries_from_header(rt.alloc(), text)?;
+    let captured = capture_out(rt, rack, first_row, &mut rows);
+    reported_read(rt, files_of(&rows), captured)
 }
 
 /// Writes the capture of an audit text on a rack to standard output. If its reader ends before, the rest is not written, and
@@ -42,16 +54,16 @@ pub(crate) fn capture_files<'a, H: Runtime + AllocGlobal>(
 fn capture_out<'a, H: Runtime + AllocGlobal + Files<File = R>, R: Read + Drop>(
     rt: &H,
     rack: &str,
-    rows: &mut FileRows<'_, '_, '_, H, R>,
+    first_row: FirstRow,
+    rows: &mut FileEntries<'_, '_, '_, H, R>,
 ) -> Result<ExitCode, Fault<'a>>
-    requires { rows.old.text.past ≡ [] }
+    requires { rows.old.text ≡ nothing_read }
 {
-    let is_headless = lacks_header(rows)?;
     let mut output = buffered(rt, rt.alloc())?;
     let captured = run_capture(rt.alloc(), rack, rows, &mut output);
-    rows.reader().get_ref().clear_progress();
+    files_of(rows).clear_progress();
     if !has_reader(output)? {
         return Ok(ExitCode::SUCCESS);
     }
-    Ok(noted_header(rt, is_headless, captured?))
+    Ok(noted_first_part(rt, first_row, captured?))
 }

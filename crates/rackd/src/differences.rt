@@ -1,10 +1,12 @@
 //! Reports the row of an audit text that is not what the policy gives.
 
-use crate::audit_files::{AuditFiles, rows_of};
+use crate::audit_files::AuditFiles;
+use crate::audit_text::AuditText;
+use crate::stations::line_of;
 use audit_differences::{Difference, difference_in};
-use dp_explain::ReadFault;
+use dp_explain::{ReadFault, TextRows};
 use dp_script::RunFault;
-use rack_file::read_rack;
+use rack_file::Rack;
 use row_queue::Escaped;
 use std::fs::Files;
 use std::io::Read;
@@ -17,17 +19,20 @@ const ANOTHER_RACK: &str = "  a check on another rack file than the line's own f
 /// text are opened and read again. Nothing is reported if that fails.
 pub(crate) fn note_difference<R: Read + Drop, H: Runtime + AllocGlobal + Files<File = R>>(
     rt: &H,
-    rack: &str,
+    rack: &Rack,
     audit: &[&str],
 ) -> Result<(), RunFault> {
-    let Ok(rack) = read_rack(rt.alloc(), rack) else {
-        return Err(RunFault::OutOfMemory);
-    };
     let Ok(files) = AuditFiles::open(rt, audit) else {
         return Ok(());
     };
-    let mut rows = rows_of(files)?;
-    match difference_in(rt.alloc(), &rack, &mut rows) {
+    let Ok(text) = AuditText::read(rt.alloc(), rack, files) else {
+        return Ok(());
+    };
+    let Some(line) = line_of(rack, text.front.as_slice()) else {
+        return Ok(());
+    };
+    let mut rows = TextRows::new(rt.alloc(), text.reader);
+    match difference_in(rt.alloc(), line, text.front.as_slice(), &mut rows) {
         Ok(Some(difference)) => report_difference(rt, &difference),
         Ok(None) => {}
         Err(ReadFault::OutOfMemory) => return Err(RunFault::OutOfMemory),

@@ -3,15 +3,17 @@
 use crate::audit_files::{AuditFiles, FileRows, reported_read, rows_of};
 use crate::ending::Fault;
 use crate::files::read_file;
+use crate::followed_parts::FollowedParts;
 use crate::output::{buffered, reaches_reader};
 use crate::reporting::reported;
-use crate::stations::check_line;
-use crate::texts::{choice_of, note_header};
+use crate::stations::{check_line, line_of};
+use crate::texts::{choice_of, note_header, rack_of};
 use dp_audit::AuditFault;
-use dp_explain::{Choice, ExplainFault, FollowFault, Follower, TextRows};
+use dp_explain::{Choice, ExplainFault, FollowFault, TextRows};
 use dp_line::LineSpec;
-use dp_script::{RunFault, line_named, report_verdict_by};
-use rack_file::{Rack, read_rack};
+use dp_parts::{is_part_header, rows_behind_header};
+use dp_script::{RunFault, report_verdict_by};
+use rack_file::Rack;
 use rackd_words::Entries;
 use std::fs::Files;
 use std::io::{BufRead, Read, Write};
@@ -46,13 +48,10 @@ fn follow_on<'a, H: Runtime + AllocGlobal + Wait + Clock>(
     entries: Entries,
 ) -> Result<ExitCode, Fault<'a>> {
     let files = AuditFiles::open(rt, audit)?;
-    let rack = match read_rack(rt.alloc(), rack) {
-        Ok(rack) => rack,
-        Err(fault) => return Err(Fault::Run(RunFault::Rack(fault))),
-    };
+    let rack = rack_of(rt.alloc(), rack)?;
     let mut rows = rows_of(files.followed())?;
     let followed = follow_rows(rt, &rack, entries, &mut rows);
-    reported_read(rt, &rows, followed)
+    reported_read(rt, rows.reader().get_ref(), followed)
 }
 
 /// Follows a text on the line of the rack that its first row names.
@@ -67,16 +66,16 @@ fn follow_rows<'a, H: Runtime + AllocGlobal + Files<File = R> + Wait + Clock, R:
         return Ok(ExitCode::SUCCESS);
     }
     let choice = choice_of(entries);
-    match line_named(&rack.lines, rows.row()) {
+    match line_of(rack, rows.row()) {
         Some(line) => {
-            check_line(&line.spec, entries)?;
-            follow_line(rt, &line.spec, rows, &choice, &mut output)
+            check_line(line, entries)?;
+            follow_line(rt, line, rows, &choice, &mut output)
         }
         None => end_at_header(rt, rows.row(), &choice, &mut output),
     }
 }
 
-/// Follows a text on its line, behind its header.
+/// Follows a text on its line, from its header or the header of a later part on.
 fn follow_line<'a, H: Runtime + AllocGlobal + Wait + Clock, R: BufRead, W: Write>(
     rt: &H,
     line: &LineSpec,
@@ -84,27 +83,57 @@ fn follow_line<'a, H: Runtime + AllocGlobal + Wait + Clock, R: BufRead, W: Write
     choice: &Choice,
     output: &mut W,
 ) -> Result<ExitCode, Fault<'a>> {
-    // No line of an accepted rack has a fault.
-    if line.fault().is_some() {
-        return end_at_header(rt, rows.row(), choice, output);
+    let mut front = Vec::new(rt.alloc());
+    if !read_front(rt, line, rows, &mut front, output)? {
+        return Ok(ExitCode::SUCCESS);
     }
-    let Ok(header) = std::str::from_utf8(rows.row()) else {
-        return end_at_header(rt, rows.row(), choice, output);
-    };
-    let Ok(mut follower) = Follower::open(rt.alloc(), line, header) else {
-        return Err(Fault::Run(RunFault::OutOfMemory));
+    let mut parts = match FollowedParts::open(rt.alloc(), line, front.as_slice()) {
+        Ok(parts) => parts,
+        Err(AuditFault::OutOfMemory) => return Err(Fault::Run(RunFault::OutOfMemory)),
+        Err(fault) => return end_at(fault, choice, output),
     };
     for _ in rt.forever() {
         if !read_next(rt, rows, output)? {
             return Ok(ExitCode::SUCCESS);
         }
-        match follower.take_row(rows.row(), choice, output) {
+        match parts.take_row(rows.row(), choice, output) {
             Ok(()) => {}
             Err(FollowFault::Wrong(fault)) => return end_at(fault, choice, output),
             Err(FollowFault::Explain(fault)) => return end_early(fault, output),
         }
     }
     unreachable!()
+}
+
+/// Appends the first row of a text, which was read, and the other rows of a head if it is the header of a later part. Returns
+/// whether they are there: they are not if standard output has no reader any more.
+fn read_front<H: Wait + Clock, R: BufRead, W: Write>(
+    rt: &H,
+    line: &LineSpec,
+    rows: &mut TextRows<R>,
+    front: &mut Vec<u8>,
+    output: &mut W,
+) -> Result<bool, RunFault> {
+    push_row(front, rows.row())?;
+    // No line of an accepted rack has a fault.
+    if !is_part_header(line, rows.row()) || line.fault().is_some() {
+        return Ok(true);
+    }
+    for _ in 0..rows_behind_header(line) {
+        if !read_next(rt, rows, output)? {
+            return Ok(false);
+        }
+        push_row(front, rows.row())?;
+    }
+    Ok(true)
+}
+
+/// Appends a row, with its LF.
+fn push_row(text: &mut Vec<u8>, row: &[u8]) -> Result<(), RunFault> {
+    if text.extend_from_slice(row).is_err() || text.push(b'\n').is_err() {
+        return Err(RunFault::OutOfMemory);
+    }
+    Ok(())
 }
 
 /// Reads the next row. At the end of the text it writes out what was written to `output`, and waits for more of the text.

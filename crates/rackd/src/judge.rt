@@ -1,14 +1,16 @@
 //! Judges the masters of audit texts.
 
-ghost use Rattle.std.specs.Prelude.{◌≡◌, []};
+ghost use Rattle.std.specs.Prelude.{◌≡◌};
+ghost use Rattle.dp_explain.specs.TextRows.{nothing_read};
 
-use crate::audit_files::{FileRows, open_rows, reported_read};
+use crate::audit_files::{open_files, reported_read};
+use crate::audit_text::{AuditText, FileEntries, FirstRow, entries_from_header, files_of};
 use crate::ending::Fault;
 use crate::files::read_file;
 use crate::output::{buffered, has_reader};
 use crate::reporting::reported;
 use crate::stations::check_stations;
-use crate::texts::{lacks_header, noted_header};
+use crate::texts::{noted_first_part, rack_of};
 use dp_judge::JudgeRule;
 use dp_script::RunFault;
 use rack_judge::{Form, JudgeChoice, run_judge};
@@ -38,14 +40,30 @@ pub(crate) fn judge_files<'a, H: Runtime + AllocGlobal>(
         retries: judging.retries,
         form: form_of(judging.findings),
     };
-    let mut rows = open_rows(rt, audit, shows)?;
-    let judged = judge_out(rt, rack.as_str(), &choice, &mut rows);
-    reported(
-        rt,
-        rt.alloc(),
-        rack.as_str(),
-        reported_read(rt, &rows, judged),
-    )
+    let judged = judge_on(rt, rack.as_str(), audit, &choice, shows);
+    reported(rt, rt.alloc(), rack.as_str(), judged)
+}
+
+/// Judges the masters of the audit text of these files on a rack.
+fn judge_on<'a, H: Runtime + AllocGlobal>(
+    rt: &H,
+    rack: &str,
+    audit: &[&'a str],
+    choice: &JudgeChoice<'_>,
+    shows: bool,
+) -> Result<ExitCode, Fault<'a>> {
+    let files = open_files(rt, audit, shows)?;
+    let described = rack_of(rt.alloc(), rack)?;
+    let text = AuditText::read(rt.alloc(), &described, files)?;
+    check_stations(
+        &described,
+        text.front.as_slice(),
+        only_master(choice.master),
+    )?;
+    let first_row = text.first_row();
+    let mut rows = entries_from_header(rt.alloc(), text)?;
+    let judged = judge_out(rt, rack, choice, first_row, &mut rows);
+    reported_read(rt, files_of(&rows), judged)
 }
 
 /// Judges an audit text on a rack, and writes the findings on standard output. If its reader ends before, the rest is not
@@ -54,21 +72,18 @@ fn judge_out<'a, H: Runtime + AllocGlobal + Files<File = R>, R: Read + Drop>(
     rt: &H,
     rack: &str,
     choice: &JudgeChoice<'_>,
-    rows: &mut FileRows<'_, '_, '_, H, R>,
+    first_row: FirstRow,
+    rows: &mut FileEntries<'_, '_, '_, H, R>,
 ) -> Result<ExitCode, Fault<'a>>
-    requires { rows.old.text.past ≡ [] }
+    requires { rows.old.text ≡ nothing_read }
 {
-    let is_headless = lacks_header(rows)?;
-    if rows.is_whole() {
-        check_stations(rt.alloc(), rack, rows.row(), only_master(choice.master))?;
-    }
     let mut output = buffered(rt, rt.alloc())?;
     let judged = run_judge(rt.alloc(), rack, rows, choice, &mut output);
-    rows.reader().get_ref().clear_progress();
+    files_of(rows).clear_progress();
     if !has_reader(output)? {
         return Ok(ExitCode::SUCCESS);
     }
-    Ok(noted_header(rt, is_headless, judged?))
+    Ok(noted_first_part(rt, first_row, judged?))
 }
 
 /// Returns the choice of all entries of this master, which has to be a master of the line.

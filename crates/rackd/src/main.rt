@@ -11,6 +11,7 @@
 
 mod answers;
 mod audit_files;
+mod audit_text;
 mod cable;
 mod capture;
 mod commands;
@@ -18,6 +19,7 @@ mod differences;
 mod ending;
 mod files;
 mod follow;
+mod followed_parts;
 mod gsd;
 mod judge;
 mod missing_port;

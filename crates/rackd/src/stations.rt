@@ -2,31 +2,38 @@
 
 use crate::ending::Fault;
 use dp_line::LineSpec;
-use dp_script::{RunFault, line_named};
-use rack_file::{RackFault, read_rack};
+use dp_parts::is_part_header;
+use dp_script::line_named;
+use dp_text::Lines;
+use rack_file::Rack;
 use rackd_words::Entries;
-use std::alloc::Global;
 
-/// Returns a fault if the line that this header of an audit text names lacks the slave or the master whose entries are asked
-/// for. A rack that is not accepted, and a header that names no line of it, are left to the explanation.
+/// Returns a fault if the line that the first row of an audit text names lacks the slave or the master whose entries are asked
+/// for. `front` is the beginning of the text. A first row that names no line of the rack is left to the explanation.
 pub(crate) fn check_stations<'a>(
-    alloc: Global,
-    rack: &str,
-    header: &[u8],
+    rack: &Rack,
+    front: &[u8],
     entries: Entries,
 ) -> Result<(), Fault<'a>> {
-    if entries.slave.is_none() && entries.master.is_none() {
-        return Ok(());
-    }
-    let rack = match read_rack(alloc, rack) {
-        Ok(rack) => rack,
-        Err(RackFault::OutOfMemory) => return Err(Fault::Run(RunFault::OutOfMemory)),
-        Err(_) => return Ok(()),
-    };
-    match line_named(&rack.lines, header) {
-        Some(line) => check_line(&line.spec, entries),
+    match line_of(rack, front) {
+        Some(line) => check_line(line, entries),
         None => Ok(()),
     }
+}
+
+/// Returns the line of the rack that the first row of an audit text, or of a later part of one, names. `front` begins with the
+/// row.
+pub(crate) fn line_of<'a>(rack: &'a Rack, front: &[u8]) -> Option<&'a LineSpec> {
+    let row = Lines::new(front).next()?;
+    if let Some(line) = line_named(&rack.lines, row) {
+        return Some(&line.spec);
+    }
+    for line in rack.lines.as_slice() {
+        if is_part_header(&line.spec, row) {
+            return Some(&line.spec);
+        }
+    }
+    None
 }
 
 /// Returns a fault if a line lacks the slave or the master whose entries are asked for.

@@ -1,8 +1,12 @@
 //! Runs scripts, and checks and explains audit texts.
 
 ghost use Rattle.std.specs.Prelude.{◌≡◌, []};
+ghost use Rattle.dp_explain.specs.TextRows.{nothing_read};
 
-use crate::audit_files::{FileRows, open_rows, reported_read};
+use crate::audit_files::{FileRows, open_files, reported_read};
+use crate::audit_text::{
+    AuditText, Beginning, FileEntries, FirstRow, HEADER, entries_of, files_of,
+};
 use crate::differences::note_difference;
 use crate::ending::Fault;
 use crate::files::{read_fault, read_file};
@@ -10,16 +14,26 @@ use crate::output::{buffered, flushed, has_reader};
 use crate::reporting::{report, reported};
 use crate::script_form::form_in;
 use crate::stations::check_stations;
-use dp_explain::TextRows;
-use dp_script::{Choice, RunFault, run_check, run_explain, run_text, split_input};
+use dp_audit::AuditFault;
+use dp_explain::{Follower, TextRows, explain_entries};
+use dp_line::LineSpec;
+use dp_parts::{PartsCheck, fault_of_head};
+use dp_script::{
+    Choice, RunFault, report_verdict_by, run_check, run_explain, run_parts_check, run_text,
+    split_input,
+};
+use dp_text::Text;
+use rack_file::{Rack, read_rack};
 use rackd_words::Entries;
+use std::alloc::Global;
 use std::fs::Files;
-use std::io::{self, BufRead, Read};
+use std::io::{self, Read};
 use std::process::ExitCode;
 use std::rt::Runtime;
 
-/// The first characters of every audit text.
-const HEADER: &str = "rack-audit ";
+/// What is reported of a text that begins with a later part, where only a check and an explanation begin.
+const LATER_PART: &str =
+    "  row 1: the head of a later part; give the files of the text from the first part on";
 
 /// What is reported of a text that is not legal and has no header.
 const NO_HEADER: &str = "  row 1: no header; does the text begin with \"ready\"?";
@@ -53,14 +67,8 @@ pub(crate) fn check_files<'a, H: Runtime + AllocGlobal>(
     shows: bool,
 ) -> Result<ExitCode, Fault<'a>> {
     let rack = read_file(rt, rack)?;
-    let mut rows = open_rows(rt, audit, shows)?;
-    let checked = check_out(rt, rack.as_str(), audit, &mut rows);
-    reported(
-        rt,
-        rt.alloc(),
-        rack.as_str(),
-        reported_read(rt, &rows, checked),
-    )
+    let checked = check_on(rt, rack.as_str(), audit, shows);
+    reported(rt, rt.alloc(), rack.as_str(), checked)
 }
 
 /// Explains the audit text of these files on the rack of another. `shows` is whether the progress of a long text is shown.
@@ -72,14 +80,8 @@ pub(crate) fn explain_files<'a, H: Runtime + AllocGlobal>(
     shows: bool,
 ) -> Result<ExitCode, Fault<'a>> {
     let rack = read_file(rt, rack)?;
-    let mut rows = open_rows(rt, audit, shows)?;
-    let explained = explain_out(rt, rack.as_str(), entries, &mut rows);
-    reported(
-        rt,
-        rt.alloc(),
-        rack.as_str(),
-        reported_read(rt, &rows, explained),
-    )
+    let explained = explain_on(rt, rack.as_str(), audit, entries, shows);
+    reported(rt, rt.alloc(), rack.as_str(), explained)
 }
 
 /// Returns the exit status of a script. If one of its lines is not accepted, reports this here, with the form of its command
@@ -110,64 +112,219 @@ fn run_out<'a>(
     Ok(ExitCode::SUCCESS)
 }
 
-/// Checks an audit text on a rack, and writes the result on standard output.
-fn check_out<'a, H: Runtime + AllocGlobal + Files<File = R>, R: Read + Drop>(
+/// Returns the rack that a text describes.
+pub(crate) fn rack_of<'a>(alloc: Global, rack: &str) -> Result<Rack, Fault<'a>> {
+    match read_rack(alloc, rack) {
+        Ok(rack) => Ok(rack),
+        Err(fault) => Err(Fault::Run(RunFault::Rack(fault))),
+    }
+}
+
+/// Checks the audit text of these files on a rack.
+fn check_on<'a, H: Runtime + AllocGlobal>(
     rt: &H,
     rack: &str,
     audit: &[&'a str],
-    rows: &mut FileRows<'_, '_, '_, H, R>,
-) -> Result<ExitCode, Fault<'a>>
-    requires { rows.old.text.past ≡ [] }
+    shows: bool,
+) -> Result<ExitCode, Fault<'a>> {
+    let alloc = rt.alloc();
+    let files = open_files(rt, audit, shows)?;
+    let described = rack_of(alloc, rack)?;
+    let text = AuditText::read(alloc, &described, files)?;
+    let first_row = text.first_row();
+    let AuditText {
+        beginning,
+        front,
+        reader,
+    } = text;
+    match beginning {
+        Beginning::NoPart => {
+            let mut rows = entries_of(alloc, None, front, reader)?;
+            let checked = check_out(rt, rack, &mut rows);
+            let ended = end_check(rt, &described, audit, first_row, checked);
+            reported_read(rt, files_of(&rows), ended)
+        }
+        Beginning::FirstPart(check) | Beginning::LaterPart(_, check) => {
+            let mut rows = TextRows::new(alloc, reader);
+            let checked = check_parts_out(rt, check, &mut rows);
+            let ended = end_check(rt, &described, audit, first_row, checked);
+            reported_read(rt, rows.reader().get_ref(), ended)
+        }
+        Beginning::WrongHead(fault) => end_at(rt, fault, &every_entry()),
+    }
+}
+
+/// Checks an audit text that has no parts, and writes the verdict on standard output. Returns the exit status.
+fn check_out<'a, H: Runtime + AllocGlobal + Files<File = R>, R: Read + Drop>(
+    rt: &H,
+    rack: &str,
+    rows: &mut FileEntries<'_, '_, '_, H, R>,
+) -> Result<u8, Fault<'a>>
+    requires { rows.old.text ≡ nothing_read }
 {
-    let is_headless = lacks_header(rows)?;
     let mut output = buffered(rt, rt.alloc())?;
     let checked = run_check(rt.alloc(), rack, rows, &mut output);
+    files_of(rows).clear_progress();
+    flushed(output)?;
+    Ok(checked?)
+}
+
+/// Checks the rows of an audit text behind its beginning, and writes the verdict on standard output. Returns the exit status.
+fn check_parts_out<'a, H: Runtime + AllocGlobal + Files<File = R>, R: Read + Drop>(
+    rt: &H,
+    check: PartsCheck,
+    rows: &mut FileRows<'_, '_, '_, H, R>,
+) -> Result<u8, Fault<'a>>
+    requires { rows.old.text ≡ nothing_read }
+{
+    let mut check = check;
+    let mut output = buffered(rt, rt.alloc())?;
+    let checked = run_parts_check(&mut check, rows, &mut output);
     rows.reader().get_ref().clear_progress();
     flushed(output)?;
+    Ok(checked?)
+}
+
+/// Returns the exit status of a check. If the text is not legal, reports the row that is wrong, and that the text lacks a
+/// header.
+fn end_check<'a, H: Runtime + AllocGlobal>(
+    rt: &H,
+    rack: &Rack,
+    audit: &[&'a str],
+    first_row: FirstRow,
+    checked: Result<u8, Fault<'a>>,
+) -> Result<ExitCode, Fault<'a>> {
     let status = checked?;
     if status != 0 {
         note_difference(rt, rack, audit)?;
     }
-    Ok(noted_header(rt, is_headless, status))
+    Ok(noted_header(rt, first_row, status))
 }
 
-/// Explains an audit text on a rack, and writes the explanation on standard output. If its reader ends before, the rest is
-/// not written, and that is no fault.
+/// Writes the verdict on a text that has this fault, and returns its exit status.
+fn end_at<'a>(
+    rt: &(impl Runtime + AllocGlobal),
+    fault: AuditFault,
+    choice: &Choice,
+) -> Result<ExitCode, Fault<'a>> {
+    let mut output = buffered(rt, rt.alloc())?;
+    let status = report_verdict_by(choice, Err(fault), &mut output)?;
+    flushed(output)?;
+    Ok(ExitCode::from(status))
+}
+
+/// Explains the audit text of these files on a rack.
+fn explain_on<'a, H: Runtime + AllocGlobal>(
+    rt: &H,
+    rack: &str,
+    audit: &[&'a str],
+    entries: Entries,
+    shows: bool,
+) -> Result<ExitCode, Fault<'a>> {
+    let alloc = rt.alloc();
+    let files = open_files(rt, audit, shows)?;
+    let described = rack_of(alloc, rack)?;
+    let text = AuditText::read(alloc, &described, files)?;
+    let first_row = text.first_row();
+    let AuditText {
+        beginning,
+        front,
+        reader,
+    } = text;
+    check_stations(&described, front.as_slice(), entries)?;
+    let choice = choice_of(entries);
+    match beginning {
+        Beginning::NoPart => {
+            let rows = entries_of(alloc, None, front, reader)?;
+            explain_out(rt, rack, &choice, first_row, rows)
+        }
+        Beginning::FirstPart(check) => {
+            let rows = entries_of(alloc, Some(check), front, reader)?;
+            explain_out(rt, rack, &choice, first_row, rows)
+        }
+        Beginning::LaterPart(index, check) => {
+            let rows = entries_of(alloc, Some(check), Vec::new(alloc), reader)?;
+            match described.lines.get(index) {
+                Some(line) => explain_behind_out(rt, &line.spec, front.as_slice(), &choice, rows),
+                None => Err(Fault::Run(RunFault::CannotRead)),
+            }
+        }
+        Beginning::WrongHead(fault) => end_at(rt, fault, &choice),
+    }
+}
+
+/// Explains an audit text from its header on, and writes the explanation on standard output. If its reader ends before, the
+/// rest is not written, and that is no fault.
 fn explain_out<'a, H: Runtime + AllocGlobal + Files<File = R>, R: Read + Drop>(
     rt: &H,
     rack: &str,
-    entries: Entries,
-    rows: &mut FileRows<'_, '_, '_, H, R>,
+    choice: &Choice,
+    first_row: FirstRow,
+    rows: FileEntries<'_, '_, '_, H, R>,
 ) -> Result<ExitCode, Fault<'a>>
-    requires { rows.old.text.past ≡ [] }
+    requires { rows.text ≡ nothing_read }
 {
-    let is_headless = lacks_header(rows)?;
-    if rows.is_whole() {
-        check_stations(rt.alloc(), rack, rows.row(), entries)?;
-    }
-    let choice = choice_of(entries);
+    let mut rows = rows;
     let mut output = buffered(rt, rt.alloc())?;
-    let explained = run_explain(rt.alloc(), rack, rows, &choice, &mut output);
-    rows.reader().get_ref().clear_progress();
-    if !has_reader(output)? {
+    let explained = run_explain(rt.alloc(), rack, &mut rows, choice, &mut output);
+    files_of(&rows).clear_progress();
+    let ended = end_explanation(rt, first_row, has_reader(output)?, explained);
+    reported_read(rt, files_of(&rows), ended)
+}
+
+/// Explains an audit text behind the head of a part of this line, and writes the explanation on standard output.
+fn explain_behind_out<'a, H: Runtime + AllocGlobal + Files<File = R>, R: Read + Drop>(
+    rt: &H,
+    line: &LineSpec,
+    head: &[u8],
+    choice: &Choice,
+    rows: FileEntries<'_, '_, '_, H, R>,
+) -> Result<ExitCode, Fault<'a>>
+    requires { rows.text ≡ nothing_read }
+{
+    // No line of an accepted rack has a fault.
+    if line.fault().is_some() {
+        return Err(Fault::Run(RunFault::CannotRead));
+    }
+    let mut follower = match Follower::open_behind(rt.alloc(), line, head, &mut Text::new()) {
+        Ok(follower) => follower,
+        Err(fault) => return end_at(rt, fault_of_head(line, fault), choice),
+    };
+    let mut rows = rows;
+    let mut output = buffered(rt, rt.alloc())?;
+    let explained = explain_entries(&mut follower, line, &mut rows, choice, &mut output).map_err(
+        |fault| RunFault::of_rows(fault),
+    );
+    files_of(&rows).clear_progress();
+    let ended = end_explanation(rt, FirstRow::PartHeader, has_reader(output)?, explained);
+    reported_read(rt, files_of(&rows), ended)
+}
+
+/// Returns the exit status of an explanation. `is_read` is whether standard output has a reader.
+fn end_explanation<'a>(
+    rt: &impl Eprint,
+    first_row: FirstRow,
+    is_read: bool,
+    explained: Result<u8, RunFault>,
+) -> Result<ExitCode, Fault<'a>> {
+    if !is_read {
         return Ok(ExitCode::SUCCESS);
     }
-    Ok(noted_header(rt, is_headless, explained?))
+    Ok(noted_header(rt, first_row, explained?))
 }
 
-/// Reads the first row of a text. Returns whether no audit text begins so.
-pub(crate) fn lacks_header<R: BufRead>(rows: &mut TextRows<R>) -> Result<bool, RunFault>
-    ensures { rows.new.text.past ≡ rows.old.text.past }
-{
-    match rows.complete_row() {
-        Ok(whole) => Ok(!begins_header(rows.row(), whole)),
-        Err(fault) => Err(RunFault::of_read(fault)),
+/// Returns the choice of every entry, in rows.
+fn every_entry() -> Choice {
+    Choice {
+        from: None,
+        to: None,
+        slave: None,
+        master: None,
+        faults: false,
+        refused: false,
+        summary: false,
+        json: false,
     }
-}
-
-/// Returns whether an audit text may begin with this row. If the row is not whole, it may end within the header.
-fn begins_header(row: &[u8], whole: bool) -> bool {
-    row.starts_with(HEADER.as_bytes()) || !whole && HEADER.as_bytes().starts_with(row)
 }
 
 /// Returns the entries that the words choose.
@@ -184,17 +341,27 @@ pub(crate) fn choice_of(entries: Entries) -> Choice {
     }
 }
 
-/// Returns the exit status of an audit text. If the text is not legal and lacks a header, reports that.
-pub(crate) fn noted_header(rt: &impl Eprint, is_headless: bool, status: u8) -> ExitCode {
-    if status != 0 && is_headless {
+/// Returns the exit status of an audit text that was read from this first row on. If the text is not legal and lacks a header,
+/// reports that.
+pub(crate) fn noted_header(rt: &impl Eprint, first_row: FirstRow, status: u8) -> ExitCode {
+    if status != 0 && first_row == FirstRow::Other {
         let _ = rt.eprintln(NO_HEADER);
     }
     ExitCode::from(status)
 }
 
+/// Returns the exit status of an audit text that has to begin with its first part, as [`noted_header`] does. If the text
+/// begins with a later part, reports that.
+pub(crate) fn noted_first_part(rt: &impl Eprint, first_row: FirstRow, status: u8) -> ExitCode {
+    if first_row == FirstRow::PartHeader {
+        let _ = rt.eprintln(LATER_PART);
+    }
+    noted_header(rt, first_row, status)
+}
+
 /// Reports that a text does not begin as an audit text, unless it does.
 pub(crate) fn note_header(rt: &impl Eprint, text: &[u8]) {
-    if !text.starts_with(HEADER.as_bytes()) {
+    if !text.starts_with(HEADER) {
         let _ = rt.eprintln(NO_HEADER);
     }
 }
