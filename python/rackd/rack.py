@@ -3,6 +3,7 @@ from __future__ import annotations
 
 import itertools
 import os
+import re
 import select
 import shutil
 import subprocess
@@ -92,9 +93,24 @@ class Line:
         return port
 
     def journal(self) -> Journal:
-        """Returns the journal of this line as it is: with each event whose answer a client has got."""
-        text = b"".join(path.read_bytes() for path in self.files())
-        return Journal(self._rack.program, self._rack.text, text)
+        """Returns the journal of this line as it is: with each event whose answer a client has got.
+
+        If the rack deletes old parts of it (`--keep`), it begins with the oldest entry that is there.
+        """
+        parts = self._parts()
+        # a later part whose head may not be whole yet
+        if len(parts) > 1 and not re.search(rb"^[0-9]", parts[-1], re.MULTILINE):
+            parts.pop()
+        return Journal(self._rack.program, self._rack.text, b"".join(parts))
+
+    def _parts(self) -> List[bytes]:
+        """Returns what the files of the journal have."""
+        while True:
+            try:
+                return [path.read_bytes() for path in self.files()]
+            except FileNotFoundError:
+                # the rack has deleted an old part meanwhile
+                continue
 
     def files(self) -> List[Path]:
         """Returns the files of the journal: one, or the parts of an endless one in their order."""

@@ -1,8 +1,11 @@
 """The journal. Rules are those of docs/POLICY.md, and sentences those of docs/FORMATS.md, "Explained"."""
+import re
 import unittest
+from unittest.mock import patch
 
 from support import CFG, IDENT, rack_text
 from rackd import RS, Change, Journal, NoReply, Part, Rack, RackFault
+from rackd.frames import sd1, sd2
 
 
 class AtARack(unittest.TestCase):
@@ -99,19 +102,30 @@ class OfText(unittest.TestCase):
         self.assertEqual((journal.verdict, len(journal)), ("not the policy", 1))
 
     def test_endless_parts(self) -> None:
-        with Rack(rack_text(), options=["--endless", "--part", "1"]) as rack:
-            operator = rack.line(1).operator()
-            for _ in range(30):
-                operator.tick()
-            files = rack.line(1).files()
-            self.assertEqual([path.name for path in files], ["line-1-1.000001.audit"])
-            # the text of a first part that is full, and that of the next
-            rows = files[0].read_bytes().splitlines(keepends=True)
-            files[0].write_bytes(b"".join(rows[:21]))
-            next_part = files[0].with_name("line-1-1.000002.audit")
-            next_part.write_bytes(b"".join(rows[21:]))
-            self.assertEqual(rack.line(1).files(), [files[0], next_part])
-            self.assertEqual(len(rack.line(1).journal()), 30)
+        with Rack(rack_text(), options=["--endless", "--part", "1", "--keep", "2"]) as rack:
+            line = rack.line(1)
+            newest = rack.audit / "line-1-1.000003.audit"
+            # there is no station 50, so these get no reply; their rows have some 540 octets
+            silent = sd2(50, 1, 0x6D, bytes(240)) * 50
+            with line.port(1) as port:
+                while not newest.exists():
+                    port.write(silent + sd1(5, 1, 0x49))
+                    self.assertEqual(len(port.read(6)), 6)
+            files = line.files()
+            self.assertEqual(files, [newest.with_name("line-1-1.000002.audit"), newest])
+            texts = [path.read_bytes() for path in files]
+            before, between = (int(text.split(b"\n")[0].removeprefix(b"rack-audit 3 line 1 from ")) for text in texts)
+            journal = line.journal()
+            rows = len(re.findall(rb"^[0-9]", b"".join(texts), re.MULTILINE))
+            self.assertEqual((journal.verdict, len(journal), journal[0].place), ("legal", rows, before + 1))
+            # a part that is deleted before it is read
+            gone = newest.with_name("line-1-1.000001.audit")
+            with patch.object(line, "files", side_effect=[[gone, *files], files]):
+                self.assertEqual(len(line.journal()), rows)
+            # the head of a part that has just begun is not whole
+            newest.write_bytes(texts[1][:100])
+            self.assertEqual([entry.place for entry in line.journal()], list(range(before + 1, between + 1)))
+            newest.write_bytes(texts[1])
 
 
 if __name__ == "__main__":
