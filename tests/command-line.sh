@@ -212,9 +212,9 @@ hold 'the help of slave: usage, arguments' has slave.help 'Usage: rackd slave GS
   $'\nExamples:\n  rackd '
 hold 'the help of serve: usage, options, ranges' has serve.help \
   'Usage: rackd serve RACK [--sessions N] [--until-input-ends] [--ports FILE]' \
-  '[--audit FOLDER [--endless [--part MB]] [--page N]] [--tick MS] [--step MS]' '[--log [WHAT]]' \
+  '[--audit FOLDER [--endless [--part MB] [--keep N]] [--page N]] [--tick MS]' '[--step MS] [--log [WHAT]]' \
   '--sessions <N>' '1 to 1000000 [default: no limit]' '--audit <FOLDER>' '--endless' '4294967295; requires --audit' \
-  '--part <MB>' '1 to 4096' 'requires --endless [default: 16]' '--page <N>' '0 to 65535' 'requires --audit [default: no page]' \
+  '--part <MB>' '1 to 4096' 'requires --endless [default: 16]' '--keep <N>' '2 to 10000; requires --endless' '[default: delete none]' '--page <N>' '0 to 65535' 'requires --audit [default: no page]' \
   '--ports <FILE>' '--until-input-ends' \
   '--tick <MS>' '10 to 60000' '--step <MS>' '1 to 86400000' '--log [<WHAT>]' "'sessions'" "'requests'" "'ready'" 'line 1 listen 7101 operator 7201' E5 8208 \
   $'\nExamples:\n  rackd '
@@ -313,6 +313,10 @@ for words in word -x --hel --help=1 --version=1 '' '--line 1' 'help word' 'help 
   'serve rack --audit a --endless --endless' 'serve rack --audit a --endless 1' 'serve rack --audit a --endless --part' \
   'serve rack --audit a --endless --part 0' 'serve rack --audit a --endless --part 4097' \
   'serve rack --audit a --endless --part 05' 'serve rack --audit a --endless --part +5' \
+  'serve rack --keep 2' 'serve rack --audit a --keep 2' 'serve rack --audit a --endless --keep' \
+  'serve rack --audit a --endless --keep 1' 'serve rack --audit a --endless --keep 10001' \
+  'serve rack --audit a --endless --keep 02' 'serve rack --audit a --endless --keep +5' \
+  'serve rack --audit a --endless --keep x' 'serve rack --audit a --endless --keep 2 --keep 3' \
   'serve rack --audit' 'serve rack --audit a --audit b' 'serve --audit a' 'serve --log' 'serve rack --log loud' \
   'serve rack --log --log' 'serve rack --tick' 'serve rack --tick 9' 'serve rack --tick 60001' 'serve rack --tick 010' \
   'serve rack --tick +10' 'serve rack --tick x' 'serve rack --tick 10 --tick 10' 'serve rack --step' 'serve rack --step 0' \
@@ -494,6 +498,9 @@ done
 run '' serve "$work/none" --sessions 1000000; expect 'serve: a million sessions, and no rack file' 2 '' "rackd: cannot read $work/none"$'\n  nothing is there'
 for part in 1 4096; do
   run '' serve "$work/none" --audit "$work/made" --endless --part "$part"; expect "serve: parts of $part megabytes, and no rack file" 2 '' "rackd: cannot read $work/none"$'\n  nothing is there'
+done
+for keep in 2 10000; do
+  run '' serve "$work/none" --audit "$work/made" --endless --keep "$keep"; expect "serve: the newest $keep parts, and no rack file" 2 '' "rackd: cannot read $work/none"$'\n  nothing is there'
 done
 run '' serve "$work/latin"; expect 'serve: a rack that is not UTF-8' 2 '' "rackd: cannot read $work/latin"$'\n  not UTF-8'
 run '' serve "$work"; expect 'serve: a folder' 2 '' "rackd: cannot read $work"$'\n  a folder'

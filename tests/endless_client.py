@@ -27,10 +27,14 @@ MEGABYTE = 1_000_000
 SLACK = 1024
 # Seconds that a check of a long text may take.
 CHECKING = 120
+# The octets that a part may have behind its size: a row of each of 16 masters, whose telegrams are long.
+BEHIND = 16 * 700
 # The tokens that a master sends at once, and the long telegrams, whose rows have some 540 bytes.
 TOKENS, LONG = 400, 20
 # The moments of kill_9, and how many of them are just behind the edge of a part.
 MOMENTS, AT_EDGES = 50, 30
+# The rows of the head of a part, of a line with 16 masters and three slaves.
+HEAD_ROWS = 2 + 3 * (6 + 16)
 
 
 def part_name(line, part, number=1):
@@ -38,12 +42,18 @@ def part_name(line, part, number=1):
     return f"line-{line}-{number}.{part:06}.audit"
 
 
+def entries_of(part):
+    """A later part without the rows of its head: those of entries begin with a digit."""
+    return b"".join(row for row in part.splitlines(keepends=True) if row[:1].isdigit())
+
+
 def text_of(folder, line=1, number=1):
-    """The audit text of a line, and the sizes of its parts."""
+    """The audit text of a line without the heads of its parts, the sizes of the parts, and the parts."""
     names = sorted(name for name in os.listdir(folder) if re.fullmatch(rf"line-{line}-{number}\.[0-9]{{6}}\.audit", name))
     expect("the names of the parts", [part_name(line, part + 1, number) for part in range(len(names))], names)
     parts = [content(os.path.join(folder, name)) for name in names]
-    return b"".join(parts), [len(part) for part in parts], parts
+    text = b"".join([*parts[:1], *(entries_of(part) for part in parts[1:])])
+    return text, [len(part) for part in parts], parts
 
 
 def paths_of(folder, line=1, number=1):
@@ -58,12 +68,10 @@ def is_legal(trial, rack, paths, rows):
 
 
 def are_cut_at_rows(parts, megabytes=1):
-    """Ends the case if a part doesn't end behind the first row at which it has its megabytes."""
+    """Ends the case if a part doesn't end with a row, or not about where it has its megabytes."""
     for place, part in enumerate(parts[:-1], 1):
         hold(f"part {place} ends with a row", part.endswith(b"\n"))
-        last = len(part) - (part[:-1].rfind(b"\n") + 1)
-        hold(f"part {place} has {len(part)} bytes, {last} of them in its last row",
-             len(part) >= megabytes * MEGABYTE > len(part) - last)
+        hold(f"part {place} has {len(part)} bytes", 0 <= len(part) - megabytes * MEGABYTE < BEHIND)
     hold("the last part isn't empty", parts[-1])
 
 
@@ -274,10 +282,24 @@ def killed(trial, moment):
         hold(f"master {load.master}: {load.answered} events before its last reply, {rows} rows", rows >= load.answered)
     path = trial.path("text")
     write(path, whole(text))
-    is_legal(trial, rack, [path], whole(text).count(b"\n") - 1)
+    rows = whole(text).count(b"\n") - 1
+    is_legal(trial, rack, [path], rows)
+    are_legal_parts(trial, rack, folder, parts, rows)
     for name in os.listdir(folder):
         os.remove(os.path.join(folder, name))
     return len(parts) - 1, exact.replies
+
+
+def are_legal_parts(trial, rack, folder, parts, rows):
+    """Ends the case if the parts that a kill left aren't legal, without a row that is not whole, and without a last part
+    whose head isn't."""
+    paths = paths_of(folder)
+    last = whole(parts[-1]) if parts[-1] else b""
+    if len(parts) > 1 and last.count(b"\n") - entries_of(last).count(b"\n") < HEAD_ROWS:
+        paths.pop()
+    else:
+        write(paths[-1], last)
+    is_legal(trial, rack, paths, rows)
 
 
 def writer_waits(trial):
