@@ -2,6 +2,7 @@
 
 use crate::audit_files::AuditFiles;
 use crate::audit_text::AuditText;
+use crate::ending::Fault;
 use crate::stations::line_of;
 use audit_differences::{Difference, difference_in};
 use dp_explain::{ReadFault, TextRows};
@@ -25,8 +26,10 @@ pub(crate) fn note_difference<R: Read + Drop, H: Runtime + AllocGlobal + Files<F
     let Ok(files) = AuditFiles::open(rt, audit) else {
         return Ok(());
     };
-    let Ok(text) = AuditText::read(rt.alloc(), rack, files) else {
-        return Ok(());
+    let text = match AuditText::read(rt.alloc(), rack, files) {
+        Ok(text) => text,
+        Err(Fault::Run(RunFault::OutOfMemory)) => return Err(RunFault::OutOfMemory),
+        Err(_) => return Ok(()),
     };
     let Some(line) = line_of(rack, text.front.as_slice()) else {
         return Ok(());
