@@ -1,11 +1,11 @@
 -- The part of an audit text that is being written (own).
-use Rattle.std.specs.Prelude.{ℕ, ◌+◌, ◌-◌, ◌*◌, ◌&&◌, Bool, false, if◌then◌else◌, nat_le, nat_lt, Option, Some, None}
+use Rattle.std.specs.Prelude.{ℕ, ◌+◌, ◌-◌, ◌*◌, ◌^◌, ◌==◌, ◌&&◌, Bool, false, if◌then◌else◌, nat_le, nat_lt, min, List, length, slice_get, Option, Some, None}
 use Rattle.rack_service.specs.declared.service.Parts.{Parts}
 use Rattle.rack_files.specs.declared.audit_writer.Part.{Part}
 
 -- the first part, to which nothing was written; a megabyte has 1,000,000 bytes
 abbrev pub first_part : Parts → Part
-first_part parts = record { number = 1; minimum = parts.megabytes * 1000000; keep = parts.keep; written = 0; ends_row = false }
+first_part parts = record { number = 1; minimum = parts.megabytes * 1000000; written = 0; ends_row = false }
 
 -- the part ends with a whole row and has its minimum size
 abbrev pub is_full : Part → Bool
@@ -24,7 +24,11 @@ is_due_in (Some part) = is_due part
 abbrev pub after : Part → Option Part
 after part = if nat_lt part.number 4294967295 then Some (record part { number = part.number + 1; written = 0; ends_row = false }) else None
 
--- the part that is deleted once the part of this number has its head, so that with it the newest of this many stay
-abbrev pub part_to_delete : ℕ → Option ℕ → Option ℕ
-part_to_delete number None = None
-part_to_delete number (Some keep) = if nat_lt keep number then Some (number - keep) else None
+-- whether a row has just ended, after this last byte: an LF ends a row
+abbrev pub has_ended : Bool → Option ℕ → Bool
+has_ended before None = before
+has_ended before (Some byte) = byte == 10
+
+-- the part once these bytes were written to it; its size stops at the largest number of 64 bits
+abbrev pub counted : Part → List ℕ → Part
+counted part bytes = record part { written = min (part.written + length bytes) (2 ^ 64 - 1); ends_row = has_ended part.ends_row (slice_get bytes (length bytes - 1)) }

@@ -7,10 +7,12 @@ ghost use Rattle.std.specs.Prelude.{◌≡◌, [], ◌∷◌, IfErr, IfOk, IfSom
 ghost use Rattle.rack_files.specs.AuditPaths.{IsOfLine, in_part};
 ghost use Rattle.rack_files.specs.FileFaults.{IsNotBegun, IsRecordingFault, cause_of_break};
 
+use crate::audit_name::AuditName;
 use crate::audit_path::AuditPath;
 use crate::audit_writer::{AuditWriter, create_file};
 use crate::file_fault::FileFault;
 use crate::file_host::FileHost;
+use crate::old_parts::OldParts;
 use dp_cause::Cause;
 use dp_notes::Notes;
 use dp_shared::Line;
@@ -77,13 +79,14 @@ pub fn make_folder<'a>(files: &impl Files, folder: &'a str) -> Result<(), FileFa
 /// Begins the audit text of a line in a new file of the folder, and writes its header. The text gets the lowest number that is
 /// free for the line. No existing file is changed.
 ///
-/// `number` is the number of the line. `parts` is `None` if the text has one file.
+/// `number` is the number of the line. `parts` is `None` if the text has one file, and `old_parts` is `None` if no part is deleted.
 ///
 /// Returns `CannotMake` with the path of the file that cannot be created or does not take the header, or `OutOfMemory`.
 pub fn begin_text<'a, 's, H: FileHost>(
     host: &'s H,
     notes: &'s Notes<'s, H>,
     alloc: Global,
+    old_parts: Option<&'s OldParts<'s, H>>,
     folder: &'a str,
     parts: Option<Parts>,
     line: &'s Line,
@@ -93,16 +96,18 @@ pub fn begin_text<'a, 's, H: FileHost>(
     ensures fault { IfErr result (IsRecordingFault (Some folder.entry) (number ∷ [])) }
 {
     for of_text in 1..=u32::MAX {
-        let text = AuditPath::File {
-            folder,
+        let name = AuditName {
             line: number,
             number: of_text,
             part: None,
         };
+        let text = name.path_in(folder);
         let path = text.in_part(parts.map(|_| 1));
         match create_first(host, alloc, text, path) {
             Ok(file) => {
-                let writer = AuditWriter::new(host, notes, alloc, text, number, parts, file);
+                let writer = AuditWriter::new(
+                    host, notes, alloc, old_parts, folder, name, parts, file,
+                );
                 return begin_trail(host, alloc, line, writer, text, path);
             }
             Err(error) => match error.kind() {

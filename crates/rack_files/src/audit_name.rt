@@ -1,7 +1,7 @@
 //! The names of the files of audit texts.
 
 ghost use Rattle.std.specs.Prelude.{◌≡◌, Some};
-ghost use Rattle.rack_files.specs.AuditNames.{audit_name_text, next_part, path_in};
+ghost use Rattle.rack_files.specs.AuditNames.{audit_name_text, next_part, part_to_delete, path_in};
 
 use crate::audit_path::{AuditPath, leading_zeros};
 use std::fmt;
@@ -76,6 +76,27 @@ impl AuditName {
                     line: self.line,
                     number: self.number,
                     part: Some(part + 1),
+                })
+            }
+        }
+    }
+
+    /// Returns the name of the part that is deleted once the part with this name has its head. With this one, the newest `keep`
+    /// parts stay. Returns None if no part is older than these.
+    pub(crate) fn part_to_delete(self, keep: u16) -> Option<AuditName>
+        ensures { result ≡ part_to_delete keep self }
+    {
+        match self.part {
+            None => None,
+            Some(part) => {
+                let keep = u32::from(keep);
+                if part <= keep {
+                    return None;
+                }
+                Some(AuditName {
+                    line: self.line,
+                    number: self.number,
+                    part: Some(part - keep),
                 })
             }
         }

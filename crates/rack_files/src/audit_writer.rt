@@ -1,10 +1,12 @@
 //! Writing an audit text to its files.
 
 ghost use Rattle.std.specs.Prelude.{◌≡◌};
-ghost use Rattle.rack_files.specs.Parts.{after, first_part, is_due, is_due_in, is_full, part_to_delete};
+ghost use Rattle.rack_files.specs.Parts.{after, counted, first_part, is_due, is_due_in, is_full};
 
+use crate::audit_name::AuditName;
 use crate::audit_path::AuditPath;
 use crate::file_host::NewFiles;
+use crate::old_parts::OldParts;
 use dp_notes::Notes;
 use dp_trail::WriteParts;
 use log::Log;
@@ -22,8 +24,6 @@ struct Part {
     number: u32,
     /// The minimum size in bytes of every part except the last.
     minimum: u64,
-    /// How many of the newest parts stay, or `None` if no part is deleted.
-    keep: Option<u16>,
     /// How many bytes were written to the part.
     written: u64,
     /// Whether the last byte that was written ends a row.
@@ -38,7 +38,6 @@ impl Part {
         Part {
             number: 1,
             minimum: u64::from(parts.megabytes) * 1_000_000,
-            keep: parts.keep,
             written: 0,
             ends_row: false,
         }
@@ -66,27 +65,15 @@ impl Part {
         Some(Part {
             number,
             minimum: self.minimum,
-            keep: self.keep,
             written: 0,
             ends_row: false,
         })
     }
 
-    /// Returns the number of the part that is deleted once this part has its head. The newest `keep` parts stay, with this one.
-    /// Returns `None` if no part is deleted.
-    fn part_to_delete(&self) -> Option<u32>
-        ensures { result ≡ part_to_delete self.now.number self.now.keep }
-    {
-        let keep = u32::from(self.keep?);
-        if keep < self.number {
-            Some(self.number - keep)
-        } else {
-            None
-        }
-    }
-
     /// Counts bytes that were written to the part.
-    fn count(&mut self, written: &[u8]) {
+    fn count(&mut self, written: &[u8])
+        ensures { self.new ≡ counted self.old written.now }
+    {
         self.written = self.written.saturating_add(written.len() as u64);
         if let Some(last) = written.last() {
             self.ends_row = *last == b'\n';
@@ -97,7 +84,7 @@ impl Part {
 /// Writes an audit text to a file, or to one file per part.
 ///
 /// A part is full after the first row with which it reaches its minimum size. Then the trail begins the next part, whose file is
-/// created with it. Once that part has its head, the oldest part is deleted if only the newest parts are to stay.
+/// created with it. Once that part has its head, the oldest part is put among the old parts, if parts are deleted.
 ///
 /// Only files of this text are deleted. The text has a number that was free, so this run of the program created each of them.
 #[derive(Drop)]
@@ -105,21 +92,25 @@ pub struct AuditWriter<'a, 's, H> {
     host: &'s H,
     notes: &'s Notes<'s, H>,
     alloc: Global,
-    path: AuditPath<'a>,
-    line: u8,
+    folder: &'a str,
+    /// The name of the text as if it had one file.
+    name: AuditName,
     part: Option<Part>,
     file: Option<File>,
+    /// The old parts, or `None` if no part is deleted.
+    old_parts: Option<&'s OldParts<'s, H>>,
 }
 
 impl<'a, 's, H: NewFiles + Wait + Log + Clock> AuditWriter<'a, 's, H> {
-    /// Returns a writer to this file. `path` is the path of the text as if it had one file, and `line` is the number of the line.
-    /// `parts` is `None` if the text has one file. Otherwise the file is that of the first part.
+    /// Returns a writer to this file of the folder. `name` is the name of the text as if it had one file. `parts` is `None` if the
+    /// text has one file. Otherwise the file is that of the first part.
     pub(crate) fn new(
         host: &'s H,
         notes: &'s Notes<'s, H>,
         alloc: Global,
-        path: AuditPath<'a>,
-        line: u8,
+        old_parts: Option<&'s OldParts<'s, H>>,
+        folder: &'a str,
+        name: AuditName,
         parts: Option<Parts>,
         file: File,
     ) -> AuditWriter<'a, 's, H> {
@@ -127,10 +118,11 @@ impl<'a, 's, H: NewFiles + Wait + Log + Clock> AuditWriter<'a, 's, H> {
             host,
             notes,
             alloc,
-            path,
-            line,
+            folder,
+            name,
             part: parts.map(|parts| Part::first(parts)),
             file: Some(file),
+            old_parts,
         }
     }
 
@@ -139,11 +131,12 @@ impl<'a, 's, H: NewFiles + Wait + Log + Clock> AuditWriter<'a, 's, H> {
         self.part.map(|part| part.number)
     }
 
-    /// Deletes the file of a part. Logs the cause if it cannot be deleted.
-    fn delete_part(&self, number: u32) {
-        let path = self.path.in_part(Some(number));
-        if let Err(error) = remove_file(self.host, self.alloc, path) {
-            self.notes.cannot_delete(self.host, self.line, path, error);
+    /// Returns the name of the file that is being written or could not be created.
+    fn name(&self) -> AuditName {
+        AuditName {
+            line: self.name.line,
+            number: self.name.number,
+            part: self.part(),
         }
     }
 }
@@ -188,19 +181,16 @@ impl<H: NewFiles + Wait + Log + Clock> WriteParts for AuditWriter<'_, '_, H> {
         };
         *part = next;
         self.file = None;
-        let path = self.path.in_part(Some(next.number));
+        let path = self.name().path_in(self.folder);
         self.file = Some(create_file(self.host, self.alloc, path)?);
-        self.notes.goes_on(self.host, self.line, path);
+        self.notes.goes_on(self.host, self.name.line, path);
         Ok(())
     }
 
-    /// Deletes the oldest part if there is one more than those that are to stay.
+    /// Has the oldest part deleted if there is one more than those that are to stay.
     fn end_head(&mut self) {
-        let Some(part) = &self.part else {
-            return;
-        };
-        if let Some(number) = part.part_to_delete() {
-            self.delete_part(number);
+        if let Some(old_parts) = self.old_parts {
+            old_parts.put_oldest(self.name());
         }
     }
 }
@@ -213,14 +203,6 @@ pub(crate) fn create_file(
 ) -> Result<File> {
     match format!(in alloc; "{path}") {
         Ok(path) => files.new_file(path.as_str()),
-        Err(_) => Err(Error::from(ErrorKind::OutOfMemory)),
-    }
-}
-
-/// Removes the file at a path.
-fn remove_file(files: &impl NewFiles, alloc: Global, path: AuditPath<'_>) -> Result<()> {
-    match format!(in alloc; "{path}") {
-        Ok(path) => files.remove_file(path.as_str()),
         Err(_) => Err(Error::from(ErrorKind::OutOfMemory)),
     }
 }

@@ -1,8 +1,8 @@
 //! The files that get the audit texts of lines while these are served.
 //!
 //! The folder is made first (`make_folder`). The text of a line is begun in a new file with its header (`begin_text`). Its trail
-//! writes each entry, for an endless line to one file per part, of which old ones may be deleted (`audit_writer`). When serving has
-//! ended, the text is completed (`complete_text`). A reader of the folder reads names of files by [`AuditName`].
+//! writes each entry, for an endless line to one file per part (`audit_writer`), of which old ones may be deleted (`OldParts`).
+//! When serving has ended, the text is completed (`complete_text`). A reader of the folder reads names of files by [`AuditName`].
 #![tactic(auto)]
 
 mod audit_file;
@@ -11,6 +11,8 @@ mod audit_path;
 mod audit_writer;
 mod file_fault;
 mod file_host;
+mod found_parts;
+mod old_parts;
 
 pub use audit_file::{
     AuditFile, FileTail, FileTrail, IncompleteFile, begin_text, complete_text, make_folder,
@@ -20,3 +22,5 @@ pub use audit_path::AuditPath;
 pub use audit_writer::AuditWriter;
 pub use file_fault::FileFault;
 pub use file_host::{FileHost, NewFiles};
+pub use found_parts::later_part;
+pub use old_parts::OldParts;
