@@ -17,7 +17,7 @@ use dp_notes::Notes;
 use dp_sessions::Port;
 use dp_trail::{Naming, RecordEntries, Trail, TrailBreak};
 use rack_files::{
-    AuditFile, FileFault, FileTail, FileTrail, IncompleteFile, begin_text, complete_text,
+    AuditFile, FileFault, FileTail, FileTrail, IncompleteFile, OldParts, begin_text, complete_text,
     make_folder,
 };
 use rack_service::Parts;
@@ -55,7 +55,7 @@ impl<N: Net, T: RecordEntries> RecordEntries for Recorder<'_, '_, N, T> {
 }
 
 /// Makes the folder, begins a new audit text in it for each line, and returns the recorders. `parts` is `None` if each text has
-/// one file.
+/// one file, and `old_parts` is `None` if no part is deleted.
 ///
 /// Returns `CannotMake` with the path that cannot be made, or `OutOfMemory`.
 pub(crate) fn record_lines<'a, 's, H: Host>(
@@ -63,6 +63,7 @@ pub(crate) fn record_lines<'a, 's, H: Host>(
     notes: &'s Notes<'s, H>,
     alloc: Global,
     gate: &'s AcceptGate,
+    old_parts: Option<&'s OldParts<'s, H>>,
     folder: &'a str,
     parts: Option<Parts>,
     lines: &[ServedLine],
@@ -82,7 +83,9 @@ pub(crate) fn record_lines<'a, 's, H: Host>(
     for line in lines {
         let port = &ports[all.len()];
         let number = line.spec.number;
-        let file = match begin_text(host, notes, alloc, folder, parts, &port.line, number) {
+        let file = match begin_text(
+            host, notes, alloc, old_parts, folder, parts, &port.line, number,
+        ) {
             Ok(file) => file,
             Err(fault) => return Err(fault),
         };

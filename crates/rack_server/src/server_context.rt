@@ -1,5 +1,6 @@
 //! What the threads that serve a rack share.
 
+use rack_files::OldParts;
 use rack_sockets::{InputEnd, SocketContext};
 use std::alloc::Global;
 use std::sync::atomic::AtomicU32;
@@ -18,6 +19,8 @@ pub(crate) struct ServerContext<'a, H> {
     pub(crate) ports: Option<&'a str>,
     /// The input with whose end serving stops, if there is one.
     pub(crate) input: Option<&'a InputEnd>,
+    /// The old parts of audit texts, or `None` if no part is deleted.
+    pub(crate) old_parts: Option<&'a OldParts<'a, H>>,
     /// How many connections each port accepts.
     pub(crate) sessions: u64,
     /// The most milliseconds from tick to tick, or `None` if no line has a clock for its time.

@@ -29,10 +29,10 @@ use dp_notes::{LineNumbers, Notes};
 use dp_sessions::Port;
 use dp_shared::WorkerSeat;
 use dp_trail::{Naming, NoTrail, RecordEntries};
-use rack_files::IncompleteFile;
+use rack_files::{IncompleteFile, OldParts};
 use rack_service::{Parts, Service};
 use rack_sockets::{AcceptGate, InputEnd, SocketContext};
-use std::alloc::Global;
+use std::alloc::{AllocError, Global};
 use std::io::Write;
 use std::marker::Brand;
 use std::net::TcpListener;
@@ -99,11 +99,15 @@ pub(crate) fn serve_connections<'a, 's, H: Host + Sync, W: Write>(
     ensures incomplete { IfOk result (λ outcome. IfSome outcome.incomplete (λ file. IsFileIn service.entry.audit (line_numbers lines.now) file.path)) }
     ensures err { IfErr result (λ fault. (endless : Bool) → ServesLines service.entry.audit endless lines.now (W.contents writer.old) (W.contents writer.new) (Err fault)) }
 {
+    let Ok(old_parts) = old_parts_of(rt, notes, alloc, service) else {
+        return Err(ServeFault::OutOfMemory);
+    };
     let context = ServerContext {
         sockets: SocketContext { rt, gate, notes },
         alloc,
         ports: service.ports,
         input,
+        old_parts: old_parts.as_ref(),
         sessions: sessions_of(service),
         tick: service.tick,
         step: service.step,
@@ -116,6 +120,24 @@ pub(crate) fn serve_connections<'a, 's, H: Host + Sync, W: Write>(
     serve_recorded(
         &context, folder, parts, lines, listening, ports, seats, writer,
     )
+}
+
+/// Returns the old parts of the audit texts, or `None` if no part is deleted.
+///
+/// Returns an error if memory is refused.
+fn old_parts_of<'s, H: Host>(
+    host: &'s H,
+    notes: &'s Notes<'s, H>,
+    alloc: Global,
+    service: Service<'_>,
+) -> Result<Option<OldParts<'s, H>>, AllocError> {
+    let (Some(folder), Some(parts)) = (service.audit, service.endless) else {
+        return Ok(None);
+    };
+    match parts.keep {
+        Some(keep) => Ok(Some(OldParts::new(host, notes, alloc, folder, keep)?)),
+        None => Ok(None),
+    }
 }
 
 /// Serves the connections of all lines, which are not recorded.
@@ -169,7 +191,10 @@ fn serve_recorded<'a, 's, H: Host + Sync, W: Write>(
 {
     let (rt, alloc) = (context.sockets.rt, context.alloc);
     let (gate, notes) = (context.sockets.gate, context.sockets.notes);
-    let recorders = match record_lines(rt, notes, alloc, gate, folder, parts, lines, ports) {
+    let old_parts = context.old_parts;
+    let recorders = match record_lines(
+        rt, notes, alloc, gate, old_parts, folder, parts, lines, ports,
+    ) {
         Ok(recorders) => recorders,
         Err(fault) => return Err(ServeFault::from(fault)),
     };
@@ -202,17 +227,25 @@ fn serve_named<'a, 's, J: Naming + Send + Sync, H: Host + Sync, W: Write>(
     ensures incomplete { IfOk result (λ outcome. IfSome outcome.incomplete (λ file. IsPartOfOne (paths_of recorders.entry.items) file.path)) }
     ensures err { IfErr result (λ fault. ServesConnections (W.contents writer.old) (W.contents writer.new) (Err fault)) }
 {
-    let (rt, alloc) = (context.sockets.rt, context.alloc);
+    let (rt, alloc, old_parts) = (context.sockets.rt, context.alloc, context.old_parts);
     let Some(recorders) = name_trails::<H, J>(alloc, recorders) else {
         return Err(OutputFault::OutOfMemory);
     };
     let served = serve_with_recorders(context, lines, listening, ports, seats, &recorders, writer);
     match served {
-        Ok(served) => Ok(ServingOutcome {
-            served,
-            incomplete: first_incomplete(rt, recorders),
-        }),
+        Ok(served) => {
+            let incomplete = first_incomplete(rt, recorders);
+            delete_rest(old_parts);
+            Ok(ServingOutcome { served, incomplete })
+        }
         Err(fault) => Err(fault),
+    }
+}
+
+/// Deletes the old parts that still wait, if parts are deleted.
+fn delete_rest<H: Host>(old_parts: Option<&OldParts<'_, H>>) {
+    if let Some(old_parts) = old_parts {
+        old_parts.delete_rest();
     }
 }
 
@@ -300,7 +333,8 @@ fn serve_at_gate<'a, H: Host + Sync, G: TimedGate + Sync, W: Write>(
     let schedule = schedule_of(context);
     let keepers = if schedule.wait(0).is_none() { 0 } else { 1 };
     let waiting = if context.input.is_none() { 0 } else { 1 };
-    let threads = seats.len() + 2 * lines.len() + keepers + waiting;
+    let deleting = if context.old_parts.is_none() { 0 } else { 1 };
+    let threads = seats.len() + 2 * lines.len() + keepers + waiting + deleting;
     if !can_start(context.sockets.rt, threads) {
         return Err(OutputFault::OutOfMemory);
     }

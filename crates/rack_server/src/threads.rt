@@ -12,6 +12,8 @@ use crossbeam_channel::{Receiver, RecvTimeoutError, bounded};
 use dp_sessions::{Gate, Job, PoolFault, Port, run_pool};
 use dp_shared::WorkerSeat;
 use dp_time::Schedule;
+use log::Log;
+use rack_files::{NewFiles, OldParts};
 use rack_sockets::{Accept, AcceptGate, Phase, stop_with_input};
 use std::alloc::Global;
 use std::io::{Read, Write};
@@ -42,13 +44,12 @@ pub(crate) fn can_start<H: Threads + Wait + Sync>(rt: &H, count: usize) -> bool 
 
 /// Starts a thread for each acceptor, and then serves the sessions of masters by one worker for each list of seats. It ends when
 /// each acceptor has accepted its number of connections and their sessions have ended. Meanwhile a thread keeps the time of the
-/// lines, if the schedule has ticks or steps.
+/// lines, if the schedule has ticks or steps, and another deletes old parts of audit texts, if parts are deleted.
 ///
 /// If there is an input, another thread waits for its end and stops serving then.
 ///
-/// Returns how many sessions of masters were served. If the thread of the clocks, of the input or of an acceptor cannot be started, no
-/// connection is accepted. If the thread of a worker cannot be started, no connection is accepted once the workers that started
-/// have ended.
+/// Returns how many sessions of masters were served. If the thread of a worker cannot be started, no connection is accepted once
+/// the workers that started have ended. If any other thread cannot be started, no connection is accepted.
 pub(crate) fn accept_and_serve<'a, H: Host + Sync, G: TimedGate + Sync>(
     context: &'a ServerContext<'a, H>,
     session_gate: &'a G,
@@ -113,6 +114,28 @@ fn serve_timed<'a, H: Host + Sync, G: TimedGate + Sync>(
         context.alloc,
         session_gate,
         schedule,
+        || -> Result<u32, PoolFault>
+            requires { (1 ≤ length seats.items) × (length seats.items ≤ 32)
+                × All (λ own. HasSeats ports.now own.items) seats.items }
+        { serve_and_delete(context, session_gate, acceptors, ports, seats, jobs) },
+    )
+}
+
+/// Serves the sessions of masters while old parts of audit texts are deleted, as [`accept_and_serve`] does.
+fn serve_and_delete<'a, H: Host + Sync, G: Gate + Sync>(
+    context: &'a ServerContext<'a, H>,
+    session_gate: &'a G,
+    acceptors: Acceptors<'a, H, G>,
+    ports: &[Port],
+    seats: Vec<Vec<WorkerSeat>>,
+    jobs: Receiver<MasterJob<'a, H>>,
+) -> Result<u32, PoolFault>
+    requires workers { (1 ≤ length seats.items) × (length seats.items ≤ 32) }
+    requires seats { All (λ own. HasSeats ports.now own.items) seats.items }
+{
+    serve_while_deleting(
+        context.sockets.rt,
+        context.old_parts,
         || -> Result<u32, PoolFault>
             requires { (1 ≤ length seats.items) × (length seats.items ≤ 32)
                 × All (λ own. HasSeats ports.now own.items) seats.items }
@@ -230,6 +253,35 @@ fn keep_time<G: TimedGate, H: Wait + Clock>(
         }
     }
     unreachable!()
+}
+
+/// Runs `serve` while a thread of its own deletes old parts of audit texts, if parts are deleted.
+///
+/// Returns `NoThread` if the thread is refused; `serve` is not run then.
+fn serve_while_deleting<
+    H: NewFiles + Threads + Wait + Log + Clock + Sync,
+    S: FnOnce() -> Result<u32, PoolFault>,
+>(rt: &H, old_parts: Option<&OldParts<'_, H>>, serve: S) -> Result<u32, PoolFault>
+    requires { S.pre serve }
+{
+    let Some(old_parts) = old_parts else {
+        return serve();
+    };
+    thread::scope(
+        thread::scope_env(),
+        rt,
+        |scope| -> Result<u32, PoolFault>
+            requires { S.pre serve }
+        {
+            let deleting = move || old_parts.delete_each();
+            if scope.spawn(deleting).is_err() {
+                return Err(PoolFault::NoThread);
+            }
+            let served = serve();
+            old_parts.end();
+            served
+        },
+    )
 }
 
 /// Runs `serve` while acceptors accept this number of connections each, in threads of their own. Connections are accepted once

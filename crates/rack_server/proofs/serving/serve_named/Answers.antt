@@ -11,4 +11,4 @@ serve_with_recorders-served-requires-sync-C g c κs within = search (sendable, c
 
 pub returns-in-Ok-clause-incomplete : goal.returns-in-Ok-clause-incomplete
 returns-in-Ok-clause-incomplete g c =
-    subst (λ ps. IfSome c.first_incomplete.result (λ file. IsPartOfOne ps file.path)) c.in-Some.ensures c.first_incomplete.ensures
+    subst (λ ps. IfSome c.first_incomplete-incomplete.result (λ file. IsPartOfOne ps file.path)) c.in-Some.ensures c.first_incomplete-incomplete.ensures
