@@ -45,34 +45,6 @@ pub(crate) fn find_texts(
     Ok(texts)
 }
 
-/// Returns the lowest part of a text in a folder that follows the part of this name; None if there is none.
-pub(crate) fn later_part(
-    host: &impl WatchHost,
-    folder: &str,
-    name: AuditName,
-) -> Option<AuditName> {
-    let mut later: Option<AuditName> = None;
-    for entry in fs::read_dir(host, folder).ok()? {
-        let Ok(entry) = entry else {
-            continue;
-        };
-        let Some(found) = AuditName::from_name(entry.file_name()) else {
-            continue;
-        };
-        if found.line != name.line || found.number != name.number || found.part <= name.part {
-            continue;
-        }
-        let is_lower = match later {
-            None => true,
-            Some(other) => found.part < other.part,
-        };
-        if is_lower {
-            later = Some(found);
-        }
-    }
-    later
-}
-
 /// Adds a file to the texts that were found.
 fn add_file(texts: &mut Vec<FoundText>, file: FoundText) -> Result<(), AllocError> {
     for text in texts.iter_mut() {

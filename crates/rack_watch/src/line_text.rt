@@ -1,6 +1,6 @@
 //! Following the audit texts of one line.
 
-use crate::found_texts::{find_texts, first_of, later_part, newest_of};
+use crate::found_texts::{find_texts, first_of, newest_of};
 use crate::host::WatchHost;
 use crate::part_rows::PartRows;
 use crate::text_file::TextFile;
@@ -8,7 +8,7 @@ use crate::watch_fault::WatchFault;
 use dp_explain::TextRows;
 use dp_text::LONGEST;
 use dp_watch::{Standing, WatchedRack};
-use rack_files::AuditName;
+use rack_files::{AuditName, later_part};
 use std::alloc::{AllocError, Global};
 use std::io::BufReader;
 use std::sync::Mutex;

@@ -7,7 +7,7 @@ use dp_text::Text;
 use dp_watch::{WatchedLine, WatchedRack};
 use std::alloc::{AllocError, Global};
 
-/// The rows of a text, of which those of heads are told from all others.
+/// The rows of a text: which are rows of heads, and which are all others.
 #[derive(Drop)]
 pub(crate) struct PartRows {
     alloc: Global,
