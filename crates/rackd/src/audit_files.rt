@@ -5,7 +5,7 @@ ghost use Rattle.std.specs.Io.{ReadsAtMost};
 
 use crate::ending::Fault;
 use crate::files::read_fault;
-use crate::next_part::path_behind;
+use crate::next_part::{has_later_part, path_behind};
 use crate::progress::Progress;
 use crate::reporting::report;
 use dp_cause::Cause;
@@ -161,7 +161,8 @@ impl<'a, 'p, 'h, R: Read + Drop, H: Runtime + AllocGlobal + Files<File = R>> Aud
         self.read_file(buf)
     }
 
-    /// Returns the path of the next part of the text, if it is there and these files go on to it.
+    /// Returns the path of the next part of the text, if it is there and these files go on to it. It is also returned if it is not
+    /// there but a later part is: then it was deleted before it was read, and cannot be opened.
     fn next_part(&mut self) -> io::Result<Option<String>> {
         if !self.follows {
             return Ok(None);
@@ -171,9 +172,11 @@ impl<'a, 'p, 'h, R: Read + Drop, H: Runtime + AllocGlobal + Files<File = R>> Aud
             Ok(None) => return Ok(None),
             Err(_) => return Err(io::Error::from(ErrorKind::OutOfMemory)),
         };
-        match fs::metadata(self.host, path.as_str()) {
-            Ok(_) => Ok(Some(path)),
-            Err(_) => Ok(None),
+        let is_there = fs::metadata(self.host, path.as_str()).is_ok();
+        if is_there || has_later_part(self.host, path.as_str()) {
+            Ok(Some(path))
+        } else {
+            Ok(None)
         }
     }
 
