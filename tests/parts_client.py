@@ -8,8 +8,12 @@ and empty. If the case holds, nothing or one row is written, and the status is 0
 and the status is 1; status 77 says that the case cannot run on this machine. EVENTS in the environment is how many events
 the case `small_disk` sends.
 """
+import fcntl
 import os
 import re
+import select
+import socket
+import struct
 import subprocess
 import sys
 import threading
@@ -17,13 +21,17 @@ import time
 
 sys.dont_write_bytecode = True
 from endless_client import CHECKING, MEGABYTE, Silent, is_legal, part_name, paths_of, sixteen, tokens
-from trail_client import CANNOT_RUN, Master, NotHere, Trial, Wrong, content, diag, exchange, expect, hold, write
+from refuse_threads import NUMBER, QUESTION, RECEIVE
+from trail_client import (CANNOT_RUN, Master, NotHere, Trial, Watch, Wrong, content, diag, exchange, expect, give, hold,
+                          use_up, write)
 
 # The masters and slaves of the racks here: rows of a head.
 MASTERS, SLAVES = 16, 3
 ROWS = 2 + SLAVES * (6 + MASTERS)
 # Parts that a text has at least, where several are needed.
 PARTS = 4
+# How many old parts wait for the one that is being deleted, and the seconds in which a part of a busy line surely begins.
+MOST_WAITING, IN_TIME = 16, 1
 # What a row of an explanation says of a repeat whose request is in an earlier part.
 UNKNOWN = b"the reply to an earlier request is sent again"
 
@@ -77,23 +85,82 @@ class Busy(threading.Thread):
             self.wrong = wrong
 
 
-def served(trial, parts, *words, name="texts"):
-    """A rack that was served with these words until a text had so many parts, its folder, and the parts."""
+class HeldDeletions(Watch):
+    """Holds up each deletion of a file by a program until it is released."""
+
+    # unlink, unlinkat
+    CALLS = (87, 263)
+
+    def __init__(self):
+        super().__init__()
+        self.held, self.released = 0, threading.Event()
+
+    def run(self):
+        """Answers until the process has ended."""
+        _, (questions, *_), _, _ = socket.recv_fds(self.here, 1, 1)
+        waiting, held = select.poll(), []
+        waiting.register(questions, select.POLLIN)
+        while True:
+            for _, event in waiting.poll(10):
+                if event & select.POLLHUP:
+                    os.close(questions)
+                    return
+                question = bytearray(QUESTION)
+                fcntl.ioctl(questions, RECEIVE, question)
+                held.append(struct.unpack_from(NUMBER, question)[0])
+                self.held += 1
+            if self.released.is_set():
+                for number in held:
+                    give(questions, number, 0)
+                held = []
+
+
+def becomes(is_so):
+    """Whether something holds after a while."""
+    until = time.monotonic() + CHECKING
+    while not is_so():
+        if time.monotonic() > until:
+            return False
+        time.sleep(0.01)
+    return True
+
+
+def parts_in(folder):
+    """The numbers of the parts of the text, in their order."""
+    return [int(path.split(".")[-2]) for path in paths_of(folder)]
+
+
+def newest_are_left(folder, count, others=0):
+    """Ends the case if the parts are not this many of the newest after a while, beside others that can't be deleted."""
+    are_left = becomes(lambda: len(parts_in(folder)) == count + others)
+    parts = parts_in(folder)
+    hold(f"the newest {count} are left of {parts}", are_left and parts[-1] - parts[-count] == count - 1)
+
+
+def begins(folder, part):
+    """Ends the case if a part of the text does not begin after a while."""
+    is_there = becomes(lambda: os.path.lexists(os.path.join(folder, part_name(1, part))))
+    hold(f"part {part} begins behind {parts_in(folder)[-1:]}", is_there)
+
+
+def served(trial, parts, *words, name="texts", stay=None):
+    """A rack that was served with these words until a text had so many parts, and then until only the newest stay, if their
+    number is given; its folder, and the parts."""
     rack, folder = sixteen(trial), trial.path(name)
     with trial.serve(rack, "--audit", folder, "--endless", "--part", "1", *words) as server:
         ended = threading.Event()
         loads = [Busy(rack.masters[1], 100 + place, 5 + place % SLAVES, ended) for place in range(4)]
         for load in loads:
             load.start()
-        newest, until = os.path.join(folder, part_name(1, parts)), time.monotonic() + CHECKING
-        while not os.path.lexists(newest) and time.monotonic() < until:
-            time.sleep(0.01)
+        begins(folder, parts)
         time.sleep(0.1)
         ended.set()
         for load in loads:
             load.join()
             if load.wrong:
                 raise Wrong(f"master {load.master}: {load.wrong}")
+        if stay:
+            newest_are_left(folder, stay)
         server.process.terminate()
         server.ended()
     paths = paths_of(folder)
@@ -184,6 +251,15 @@ def followed(trial, rack, paths, before, of_whole):
         process.stderr.close()
 
 
+def next_part_is_gone(trial):
+    """'explain --follow' ends at the end of a part if the next one was deleted before it was read."""
+    rack, folder, paths, _ = served(trial, 3)
+    os.remove(paths[1])
+    status, said, told = run(trial, "explain", rack, paths[:1], "--follow", "--faults")
+    cause = f"rackd: cannot read {paths[1]}\n  nothing is there\n".encode()
+    expect("status and standard error", (2, cause), (status, told))
+
+
 def changed_words(row):
     """Rows that differ from a row of a head in one word, none of which is a name."""
     words = row[:-1].split(b" ")
@@ -249,7 +325,7 @@ def newest_stay(trial):
     others = {part_name(1, 1, 7): b"other\n", part_name(2, 1): b"another line's\n", "old-line-1-1.000001.audit": b"mine\n"}
     for name, text in others.items():
         write(os.path.join(folder, name), text)
-    rack, _, paths, parts = served(trial, 6, "--keep", "2")
+    rack, _, paths, parts = served(trial, 6, "--keep", "2", stay=2)
     names = sorted(name for name in os.listdir(folder) if name not in others)
     last = max(int(name.split(".")[1]) for name in names)
     expect("the parts", [part_name(1, last - 1), part_name(1, last)], names)
@@ -272,16 +348,54 @@ def kept_by_others(trial):
         os.rename(first, trial.path("first"))
         os.mkdir(first)
         load.start()
-        newest, until = os.path.join(folder, part_name(1, 5)), time.monotonic() + CHECKING
-        while not os.path.lexists(newest) and time.monotonic() < until:
-            time.sleep(0.01)
+        begins(folder, 5)
+        newest_are_left(folder, 2, others=1)
         hold("it still runs", server.process.poll() is None)
         server.process.terminate()
         _, _, told = server.ended()
     hold("the folder is there", os.path.isdir(first))
     hold(f"a row says so: {told}", re.search(re.escape(first), told))
-    names = sorted(name for name in os.listdir(folder) if name != part_name(1, 1))
-    hold(f"the newest two stay: {names}", len(names) == 2)
+
+
+def deletion_held_up(trial):
+    """No reply waits for the deletion of an old part, unless 16 others wait for it. All of them are deleted in the end."""
+    rack, folder, deletions = sixteen(trial), trial.path("texts"), HeldDeletions()
+    with trial.serve(rack, "--audit", folder, "--endless", "--part", "1", "--keep", "2", watch=deletions) as server:
+        load = Silent(rack.masters[1], 100, tokens)
+        load.start()
+        # the first part is being deleted once the third one has its head, and this one's has to be deleted at once
+        full = 3 + MOST_WAITING + 1
+        begins(folder, full)
+        hold("two deletions are held up", becomes(lambda: deletions.held == 2))
+        time.sleep(IN_TIME)
+        expect("the parts while deletions are held up", list(range(1, full + 1)), parts_in(folder))
+        deletions.released.set()
+        begins(folder, full + 4)
+        newest_are_left(folder, 2)
+        hold("it still runs", server.process.poll() is None)
+        expect("what the master got wrong", None, load.wrong)
+    return f"{full} parts while deletions were held up"
+
+
+def end_after_deletions(trial):
+    """When all sessions have ended, the old parts that wait are deleted before the program ends."""
+    rack, folder, deletions = sixteen(trial), trial.path("texts"), HeldDeletions()
+    words = "--audit", folder, "--endless", "--part", "1", "--keep", "2", "--sessions", "1"
+    with trial.serve(rack, *words, watch=deletions) as server:
+        use_up(rack.operators[1])
+        session = Master(rack.masters[1], 100)
+        while not parts_in(folder) or parts_in(folder)[-1] < 6:
+            session.send(b"".join(tokens(100)))
+            session.ask(diag(100, 5))
+        expect("the parts", list(range(1, parts_in(folder)[-1] + 1)), parts_in(folder))
+        session.connection.close()
+        time.sleep(IN_TIME)
+        hold("it waits for the deletions", server.process.poll() is None)
+        deletions.released.set()
+        status, said, told = server.ended()
+    expect("status and standard output", (0, b""), (status, said))
+    last = parts_in(folder)[-1]
+    expect("the parts that are left", [last - 1, last], parts_in(folder))
 
 
 def small_disk(trial):
@@ -315,6 +429,7 @@ def on_disk(trial, disk):
             if load.wrong:
                 raise Wrong(str(load.wrong))
         hold("it still runs", server.process.poll() is None)
+        newest_are_left(folder, 8)
         server.process.terminate()
         server.ended()
     paths = paths_of(folder)
@@ -324,7 +439,8 @@ def on_disk(trial, disk):
     return f"{sent} events, {last} parts, at most {most / MEGABYTE:.0f} megabytes of the disk"
 
 
-CASES = (parts_stand_alone, changed_heads, cut_heads, newest_stay, kept_by_others, small_disk)
+CASES = (parts_stand_alone, next_part_is_gone, changed_heads, cut_heads, newest_stay, kept_by_others, deletion_held_up,
+         end_after_deletions, small_disk)
 
 
 def main(words):
@@ -333,7 +449,7 @@ def main(words):
     try:
         note = cases[case](Trial(os.path.abspath(program), os.path.abspath(folder)))
     except NotHere:
-        print("no disk of a test's own can be had on this machine")
+        print("this machine gives no disk to a test, or no filter to a program")
         return CANNOT_RUN
     except (Wrong, OSError, ValueError, subprocess.TimeoutExpired) as wrong:
         print(wrong or repr(wrong))

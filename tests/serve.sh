@@ -636,6 +636,22 @@ refused_threads() {
   starved 'one worker is refused' 2
 }
 
+# refused_deleting: of the threads of a line with two workers, that which deletes old parts is the first to be started
+refused_deleting() {
+  local threads options="--audit $work/parts --endless --keep 2"
+  threads=5
+  # shellcheck disable=SC2086
+  timeout "$limit" "$refuse" "$threads" "$program" serve "$work/rack-2" $options </dev/null >"$work/said" 2>"$work/told"
+  status=$?
+  ends 'one thread less than with --keep at the trial' 3 'rackd: out of memory'
+  for threads in 6 7; do
+    serve "$threads threads with --keep" "$work/rack-2"
+    ended "$threads threads with --keep" 3
+    expect "$threads threads with --keep: what it says" ', rackd: out of memory' "$(cat "$work/audit"), $(cat "$work/told")"
+  done
+  rm -r "$work/parts"
+}
+
 { echo 'workers = 2'; line 1 "$masters" "$operators"; slave 5; } >"$work/rack-2"
 { echo 'workers = 2'; line 1 0 0; slave 5; } >"$work/rack-0"
 "$refuse" 0 "$BASH" -c :
@@ -643,6 +659,7 @@ if [ $? = 98 ]; then
   echo 'threads cannot be refused here'
 else
   refused_threads
+  refused_deleting
 fi
 
 # ---- the rack of the examples
