@@ -55,7 +55,7 @@ class Served:
                 file.write(LINE.format(number=number, listen=listen, operator=operator))
         words = [program, "serve", self.rack, "--ports", self.file, *options]
         given = subprocess.PIPE if input_is_open else subprocess.DEVNULL
-        self.process = subprocess.Popen(words, stdin=given, stdout=subprocess.PIPE, stderr=subprocess.PIPE)
+        self.process = subprocess.Popen(words, bufsize=0, stdin=given, stdout=subprocess.PIPE, stderr=subprocess.PIPE)
         self.killer = threading.Timer(PATIENCE * 4, self.process.kill)
         self.killer.start()
 
