@@ -246,7 +246,10 @@ example='[[line]]'${help#*'[[line]]'}
 status=$?
 hold 'the input in the help of run' eval '[ "$status" = 0 ] && [ -s "$work/out" ] && says "$help" "$(cat "$work/out")"'
 
-version="rackd 0.1.0 ($(sed -n 's/^toolchain //p' "$carried.built"))"
+# the kit that README.md names is the one of the sources; another one with the same logic may have built the program
+kit=$(sed -n 's/^The trusted base is the kit `\([^`]*\)`.*/\1/p' "$top/README.md")
+version="rackd 0.1.0 ($kit)"
+hold 'the program was built by a kit with this logic' [ "logic ${kit##* }" = "$(sed -n 's/^toolchain [^ ]* //p' "$carried.built")" ]
 run '' --version; expect 'version' 0 "$version" ''
 run '' -V; expect 'version by -V' 0 "$version" ''
 
