@@ -144,8 +144,8 @@ def begins(folder, part):
 
 
 def served(trial, parts, *words, name="texts", stay=None):
-    """A rack that was served with these words until a text had so many parts, and then until only the newest stay, if their
-    number is given; its folder, and the parts."""
+    """A rack that was served with these words until a text had this number of parts, and then until only the newest stay, if
+    their number is given; its folder, and the parts."""
     rack, folder = sixteen(trial), trial.path(name)
     with trial.serve(rack, "--audit", folder, "--endless", "--part", "1", *words) as server:
         ended = threading.Event()
