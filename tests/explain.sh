@@ -1,6 +1,7 @@
 #!/usr/bin/env bash
 # Explains the stored audit texts of tests/explain by each program given, without words by what the two compilers made of
-# rackd, and compares output, standard error and status. tests/explain/README.md says which files are a case.
+# rackd, and compares output, standard error and status. tests/explain/README.md says which files are a case. The first
+# program also checks and explains each text from behind each of its entries on (heads.py).
 #
 # usage: explain.sh [PROGRAM..]
 #
@@ -125,20 +126,33 @@ find_strays() {
   done
 }
 
+# have_python: whether explainer.py can run here
+have_python() {
+  python3 -c 'import tomllib' 2>/dev/null && return
+  echo 'not run: explainer.py and heads.py need Python 3.11'
+  return 1
+}
+
 # compare_expected: the expected texts are those of the explainer that they come from
 compare_expected() {
   local agreed
-  if ! python3 -c 'import tomllib' 2>/dev/null; then
-    echo 'not run: explainer.py needs Python 3.11'
-    return
-  fi
   agreed=$("$stored/explainer.py" --all | tail -1)
   if [[ $agreed == *' agree, 0 differ' ]]; then passed=$((passed + 1)); else fail "$stored/explainer.py" "$agreed"; fi
 }
 
+# cut_texts PROGRAM: each text is checked and explained from behind each of its entries on
+cut_texts() {
+  local found
+  found=$("$stored/heads.py" "$1")
+  if [[ ${found##*$'\n'} =~ ^[1-9][0-9]*' cuts, 0 wrong'$ ]]; then passed=$((passed + 1)); else fail "$stored/heads.py" "$found"; fi
+}
+
 by_each explain_all "$@"
 find_strays
-compare_expected
+if have_python; then
+  compare_expected
+  cut_texts "${1:-$program}"
+fi
 read_lines "$stored"/*/*-json*.out
 echo "$passed passed, $failed failed"
 [ "$failed" = 0 ]

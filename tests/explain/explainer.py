@@ -777,6 +777,9 @@ def command_in_words(octets: bytes) -> str:
 # ---------------------------------------------------------------------------------------------------------------------
 
 
+UNKNOWN_PLACE = 0                  # of a request in an earlier part of a text
+
+
 @dataclass
 class Noted:
     """What a slave remembers of a master: the last FCB and reply, and of which request."""
@@ -1217,6 +1220,8 @@ def reply_data_in_words(point: Optional[int], data: bytes) -> str:
 
 def repeat_in_words(octets: bytes, parts: Parts, noted: Noted) -> Tuple[str, str]:
     """Returns the way and the result of a repeat."""
+    if noted.place == UNKNOWN_PLACE:
+        return RETRY, 'repeat: the reply to an earlier request is sent again.'
     if octets == noted.octets:
         return RETRY, f'retry of entry {noted.place}: its reply is sent again.'
     if parts.dsap == DATA_EXCHANGE and parts.payload:
@@ -1676,8 +1681,14 @@ def explain_text(text: str, rack: List[LineSpec]) -> Explained:
     line = open_line(rows[0][0], rack) if rows else None
     if line is None or not rows[0][1]:
         return Explained(line, [], 'bad line 1')
+    return explain_rows(line, rows[1:])
+
+
+def explain_rows(line: Line, rows: List[Tuple[str, bool]]) -> Explained:
+    """Takes the events of the rows of entries again. The row of the entry of place P has the number P + 1."""
     entries: List[Entry] = []
-    for number, (row, is_whole) in enumerate(rows[1:], 2):
+    for row, is_whole in rows:
+        number = line.count + 2
         try:
             entry = take_row(line, row, is_whole)
         except BadRow:
@@ -1685,7 +1696,7 @@ def explain_text(text: str, rack: List[LineSpec]) -> Explained:
         if entry is None:
             return Explained(line, entries, f'not the policy {number}')
         entries.append(entry)
-    return Explained(line, entries, f'legal {len(entries)}')
+    return Explained(line, entries, f'legal {line.count}')
 
 
 def take_row(line: Line, row: str, is_whole: bool) -> Optional[Entry]:
