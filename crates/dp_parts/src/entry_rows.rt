@@ -14,12 +14,11 @@ pub const NOT_THE_POLICY: &[u8] = b"0 halt | none | done";
 /// The beginning of a row.
 const BEGUN_ROW: &[u8] = b"0";
 
-/// An audit text without the rows of heads, as a reader gives it: for who takes the rows of entries.
+/// A reader of an audit text without the rows of heads, for callers that take the rows of entries.
 ///
-/// Each row of a text that lies in parts is checked, and so each head. In the place of a row that is not what the
-/// policy gives, another such row is given, and behind the end of a text that ends within a head the beginning of a
-/// row. So a check of the rows that are given finds the fault that a check of the parts finds, with its number. Tests
-/// show what is read; no clause says it.
+/// It checks each row of a text in parts, and so each head. It replaces a row that is not what the policy gives by
+/// [`NOT_THE_POLICY`], and appends the beginning of a row to a text that ends within a head. So a check of the rows that it
+/// gives finds the fault that a check of the parts finds, with its number. Tests show what is read; no clause says it.
 ///
 /// It takes memory for the longest row, and what [`PartsCheck`] takes.
 #[derive(Drop)]
@@ -27,8 +26,9 @@ pub struct EntryRows<R> {
     reader: R,
     /// The check of the parts; None if the text has no parts, and behind a wrong row.
     check: Option<PartsCheck>,
-    /// The row that is given, of which these many octets were given.
+    /// The row that is given.
     row: Vec<u8>,
+    /// How many octets of it were given.
     given: usize,
     answer: Step,
     buffer: Text,
@@ -73,7 +73,7 @@ impl<R: BufRead> EntryRows<R> {
         Err(io::Error::from(ErrorKind::Other))
     }
 
-    /// Returns whether the row that was read is given. If it is wrong, another one may be given in its place.
+    /// Returns whether the row that was read is given. A wrong row may be replaced.
     fn is_given(&mut self) -> io::Result<bool> {
         let Some(check) = &mut self.check else {
             return Ok(true);
@@ -103,7 +103,7 @@ impl<R: BufRead> EntryRows<R> {
         }
     }
 
-    /// Gives this row in the place of the one that was read.
+    /// Replaces the row that was read by this one.
     fn give(&mut self, row: &[u8]) -> io::Result<()> {
         self.row.clear();
         match self.row.extend_from_slice(row) {

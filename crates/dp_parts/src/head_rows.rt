@@ -16,8 +16,9 @@ use std::marker::Model;
 /// It takes memory for one head if a text has several parts: at most 733,960 octets.
 #[derive(Drop)]
 pub struct HeadRows {
-    /// The text of a head, of which these many octets have come.
+    /// The text of a head.
     head: Vec<u8>,
+    /// How many octets of it have come.
     come: usize,
 }
 
