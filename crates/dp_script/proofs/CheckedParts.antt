@@ -1,12 +1,11 @@
 -- The rows of a text in parts that were read so far.
-use Rattle.std.proofs.Common.{◌≡◌, ℕ, true, false, List, [], ◌∷◌, ◌++◌, Option, Some, None, IfSome, Result, Ok, Err, refl, sym, ap, subst, ◌∙◌, append_assoc}
+use Rattle.std.proofs.Common.{◌≡◌, ℕ, List, [], ◌∷◌, ◌++◌, Option, Some, None, IfSome, Result, Ok, Err, refl, sym, ap, subst, ◌∙◌, append_assoc}
 use Rattle.std.specs.Io.KnownBytes.{Keeps, prepend_known}
 use Rattle.std.proofs.lemmas.List.{append-nil}
 use Rattle.dp_line.specs.declared.event.Event.{Event}
 use Rattle.dp_text.specs.Words.{lines_of}
 use Rattle.dp_audit.specs.FirstWrong.{HasNoLf}
 use Rattle.dp_audit.specs.declared.fault.AuditFault.{AuditFault}
-use Rattle.dp_audit.proofs.Texts.{HasFirst}
 use Rattle.dp_parts.specs.Parts.{PartsView, end_checked, row_taken, rows_checked}
 use Rattle.dp_parts.proofs.Alone.{some_line}
 use Rattle.dp_parts.proofs.Taking.{rows_more, rows_wrong}
