@@ -22,7 +22,7 @@ part_behind name (Some part) = if part == 4294967295 then None else Some (record
 abbrev pub next_part : AuditName → Option AuditName
 next_part name = part_behind name name.part
 
--- the part of the same text that is so many parts older than this one, if there is one
+-- the part of the same text that is older than this one by this number of parts, if there is one
 abbrev pub part_before : ℕ → AuditName → Option ℕ → Option AuditName
 part_before count name None = None
 part_before count name (Some part) = if nat_le part count then None else Some (record name { part = Some (part - count) })
