@@ -27,8 +27,8 @@ use std::time::{Clock, Duration};
 const READ_INTERVAL_MS: u64 = 100;
 
 /// Explains the audit text of these files on the rack of another. A rack may still be writing the last file, or a later part
-/// of the same text: each entry is explained once its row is there. It ends at the first wrong row with the row of a check, or when nobody reads standard
-/// output any more.
+/// of the same text: each entry is explained once its row is there. It ends at the first wrong row with the row of a check,
+/// or when nobody reads standard output any more.
 pub(crate) fn follow_files<'a, H: Runtime + AllocGlobal + Wait + Clock>(
     rt: &H,
     rack: &'a str,
