@@ -118,7 +118,7 @@ def states_behind(line: Line, rows: List[Tuple[str, bool]]) -> List[Line]:
 
 @dataclass
 class Case:
-    """A text for the program, and what explainer.py says of it; no entries are given if only its verdict is compared."""
+    """A text for the program, and what explainer.py says of it: the verdict, and the explanation unless it is not compared."""
     name: str
     rack: str
     text: str
@@ -153,7 +153,8 @@ def stored_texts() -> List[Tuple[str, str]]:
     examples = os.path.join(os.path.dirname(os.path.dirname(here)), 'examples')
     texts = [(os.path.join(examples, 'day-of-a-line-rack.toml'), os.path.join(examples, 'day-of-a-line.audit'))]
     for folder, _, files in sorted(os.walk(here)):
-        texts += [(os.path.join(folder, 'rack.toml'), os.path.join(folder, file)) for file in sorted(files) if file.endswith('.audit')]
+        audits = [file for file in sorted(files) if file.endswith('.audit')]
+        texts += [(os.path.join(folder, 'rack.toml'), os.path.join(folder, audit)) for audit in audits]
     return texts
 
 
