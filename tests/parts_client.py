@@ -8,6 +8,7 @@ and empty. If the case holds, nothing or one row is written, and the status is 0
 and the status is 1; status 77 says that the case cannot run on this machine. EVENTS in the environment is how many events
 the case `small_disk` sends.
 """
+import errno
 import fcntl
 import os
 import re
@@ -20,8 +21,9 @@ import threading
 import time
 
 sys.dont_write_bytecode = True
+import part_times
 from endless_client import CHECKING, MEGABYTE, Silent, is_legal, part_name, paths_of, sixteen, tokens
-from refuse_threads import NUMBER, QUESTION, RECEIVE
+from refuse_threads import NUMBER, QUESTION, RECEIVE, REPLY, SEND
 from trail_client import (CANNOT_RUN, Master, NotHere, Trial, Watch, Wrong, content, diag, exchange, expect, give, hold,
                           use_up, write)
 
@@ -32,6 +34,8 @@ ROWS = 2 + SLAVES * (6 + MASTERS)
 PARTS = 4
 # How many old parts wait for the one that is being deleted, and the seconds in which a part of a busy line surely begins.
 MOST_WAITING, IN_TIME = 16, 1
+# Requests with long replies, whose rows have more than a megabyte together.
+LONG = 2000
 # What a row of an explanation says of a repeat whose request is in an earlier part.
 UNKNOWN = b"the reply to an earlier request is sent again"
 
@@ -85,7 +89,40 @@ class Busy(threading.Thread):
             self.wrong = wrong
 
 
-class HeldDeletions(Watch):
+class Questions(Watch):
+    """Answers each call of CALLS by `answer` until the program has ended, and calls `pause` every ten milliseconds."""
+
+    # Where a question has the number of its call.
+    CALL, AT_CALL = "<i", 16
+
+    def run(self):
+        _, (questions, *_), _, _ = socket.recv_fds(self.here, 1, 1)
+        waiting = select.poll()
+        waiting.register(questions, select.POLLIN)
+        while True:
+            for _, event in waiting.poll(10):
+                if event & select.POLLHUP:
+                    os.close(questions)
+                    return
+                self.take_one(questions)
+            self.pause(questions)
+
+    def take_one(self, questions):
+        question = bytearray(QUESTION)
+        try:
+            fcntl.ioctl(questions, RECEIVE, question)
+        except OSError:
+            # who asked is gone
+            return
+        number, = struct.unpack_from(NUMBER, question)
+        call, = struct.unpack_from(self.CALL, question, self.AT_CALL)
+        self.answer(questions, number, call)
+
+    def pause(self, questions):
+        pass
+
+
+class HeldDeletions(Questions):
     """Holds up each deletion of a file by a program until it is released."""
 
     # unlink, unlinkat
@@ -93,26 +130,48 @@ class HeldDeletions(Watch):
 
     def __init__(self):
         super().__init__()
-        self.held, self.released = 0, threading.Event()
+        self.held, self.released, self.waiting = 0, threading.Event(), []
 
-    def run(self):
-        """Answers until the process has ended."""
-        _, (questions, *_), _, _ = socket.recv_fds(self.here, 1, 1)
-        waiting, held = select.poll(), []
-        waiting.register(questions, select.POLLIN)
-        while True:
-            for _, event in waiting.poll(10):
-                if event & select.POLLHUP:
-                    os.close(questions)
-                    return
-                question = bytearray(QUESTION)
-                fcntl.ioctl(questions, RECEIVE, question)
-                held.append(struct.unpack_from(NUMBER, question)[0])
-                self.held += 1
-            if self.released.is_set():
-                for number in held:
-                    give(questions, number, 0)
-                held = []
+    def answer(self, questions, number, call):
+        self.waiting.append(number)
+        self.held += 1
+
+    def pause(self, questions):
+        if self.released.is_set():
+            for number in self.waiting:
+                give(questions, number, 0)
+            self.waiting = []
+
+
+class RefusedMemory(Questions):
+    """Refuses a program memory while `refuses` is set."""
+
+    # mmap, mprotect, mremap, brk
+    BRK = 12
+    CALLS = (9, 10, 25, BRK)
+
+    def __init__(self):
+        super().__init__()
+        self.refuses, self.refused = threading.Event(), 0
+
+    def answer(self, questions, number, call):
+        if not self.refuses.is_set():
+            give(questions, number, 0)
+            return
+        self.refused += 1
+        if call == self.BRK:
+            give_zero(questions, number)
+        else:
+            give(questions, number, errno.ENOMEM)
+
+
+def give_zero(questions, number):
+    """Answers a question: the call returns 0. So does brk, which has no error, if memory is refused."""
+    try:
+        fcntl.ioctl(questions, SEND, struct.pack(REPLY, number, 0, 0, 0))
+    except OSError:
+        # who asked is gone
+        pass
 
 
 def becomes(is_so):
@@ -398,6 +457,43 @@ def end_after_deletions(trial):
     expect("the parts that are left", [last - 1, last], parts_in(folder))
 
 
+def head_without_memory(trial):
+    """If memory for a head is refused, all requests are answered and the text goes on in its part. The next part begins once
+    there is memory."""
+    rack, folder, memory = part_times.Described(trial.path("rack")), trial.path("texts"), RefusedMemory()
+    first = os.path.join(folder, part_name(1, 1))
+    with trial.serve(rack, "--audit", folder, "--endless", "--part", "1", watch=memory) as server:
+        masters = [(address, Master(rack.masters[1], address)) for address in part_times.MASTERS]
+        part_times.lock_all(part_times.Asked(), masters[0][1], masters[0][0])
+        for address, master in masters:
+            for slave in part_times.SLAVES:
+                master.ask(part_times.read_inputs(address, slave, 0x6D))
+        expect("the parts before memory is refused", [1], parts_in(folder))
+        memory.refuses.set()
+        for count in range(LONG):
+            read_inputs(master, address, count)
+        expect("the parts while memory is refused", [1], parts_in(folder))
+        size = os.path.getsize(first)
+        hold(f"a part of {size} octets", size > 1.2 * MEGABYTE and memory.refused > 0)
+        memory.refuses.clear()
+        read_inputs(master, address, LONG)
+        begins(folder, 2)
+        read_inputs(master, address, LONG + 1)
+        server.process.terminate()
+        server.ended()
+    paths = paths_of(folder)
+    last = int(lines_of(content(paths[1]))[-1].split(b" ")[0])
+    is_legal(trial, rack, paths, last)
+    is_legal(trial, rack, paths[1:], last)
+    return f"{memory.refused} times, a part of {size / MEGABYTE:.1f} megabytes"
+
+
+def read_inputs(master, address, count):
+    """Reads the longest inputs of slave 5, and ends the case if they don't come."""
+    answer = master.ask(part_times.read_inputs(address, 5, 0x7D if count % 2 else 0x5D))
+    hold(f"a reply of {len(answer)} octets", len(answer) > 244)
+
+
 def small_disk(trial):
     """A disk of 64 megabytes holds a line for millions of events with '--keep 8' and parts of 4 megabytes."""
     disk = trial.path("disk")
@@ -440,7 +536,7 @@ def on_disk(trial, disk):
 
 
 CASES = (parts_stand_alone, next_part_is_gone, changed_heads, cut_heads, newest_stay, kept_by_others, deletion_held_up,
-         end_after_deletions, small_disk)
+         end_after_deletions, head_without_memory, small_disk)
 
 
 def main(words):
