@@ -2,6 +2,4 @@
 #![tactic(auto)]
 
 #[cfg(test)]
-mod days;
-#[cfg(test)]
 mod parts;

@@ -123,7 +123,7 @@ line running => line halted => not the policy 2
 ";
 
 /// Returns the line of this number with masters 1 and 2 and slave 5, which has two octets of inputs and two of outputs.
-pub(crate) fn described(alloc: Global, number: u8) -> Result<LineSpec, Fail> {
+fn described(alloc: Global, number: u8) -> Result<LineSpec, Fail> {
     let mut cfgs = ArrayVec::new();
     cfgs.push(ArrayVec::try_from([0x21, 0x11].as_slice())?);
     let mut slaves = Vec::new(alloc);
