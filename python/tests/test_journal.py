@@ -3,7 +3,7 @@ import re
 import unittest
 from unittest.mock import patch
 
-from support import CFG, IDENT, rack_text
+from support import CFG, IDENT, rack_text, wait_for
 from rackd import RS, Change, Journal, NoReply, Part, Rack, RackFault
 from rackd.frames import sd1, sd2
 
@@ -111,6 +111,9 @@ class OfText(unittest.TestCase):
                 while not newest.exists():
                     port.write(silent + sd1(5, 1, 0x49))
                     self.assertEqual(len(port.read(6)), 6)
+            # a thread of the rack deletes the first part
+            gone = newest.with_name("line-1-1.000001.audit")
+            self.assertTrue(wait_for(lambda: not gone.exists()), f"{gone} is there")
             files = line.files()
             self.assertEqual(files, [newest.with_name("line-1-1.000002.audit"), newest])
             texts = [path.read_bytes() for path in files]
@@ -119,7 +122,6 @@ class OfText(unittest.TestCase):
             rows = len(re.findall(rb"^[0-9]", b"".join(texts), re.MULTILINE))
             self.assertEqual((journal.verdict, len(journal), journal[0].place), ("legal", rows, before + 1))
             # a part that is deleted before it is read
-            gone = newest.with_name("line-1-1.000001.audit")
             with patch.object(line, "files", side_effect=[[gone, *files], files]):
                 self.assertEqual(len(line.journal()), rows)
             # the head of a part that has just begun is not whole
