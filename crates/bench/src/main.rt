@@ -1,4 +1,6 @@
-//! Measures requests a second, as ratios within one run. Without words it measures nothing and prints its usage.
+//! Measures requests a second over sockets, as ratios within one run; it has no tests, and rackd does not contain it.
+//!
+//! Without words it measures nothing and prints its usage.
 #![tactic(auto)]
 
 mod described;

@@ -1,15 +1,15 @@
 //! Clients that send requests over sockets, to a session with a line or to an answerer without one.
 
 ghost use Rattle.std.specs.Prelude.{◌≡◌, Contains};
-ghost use Rattle.dp_trail.specs.Named.{name_of};
+ghost use Rattle.audit_trail.specs.Named.{name_of};
 ghost use Rattle.dp_sessions.specs.Pools.{IsSeatAt};
 ghost use Rattle.dp_shared.specs.Passes.{line_of};
 
-use dp_clock::LineClock;
+use audit_trail::{Naming, RecordEntries, Tail, Trail, WriteParts};
 use dp_line::LineSpec;
 use dp_sessions::{Gate, NotRecorded, OpenGate, Port, serve};
 use dp_shared::WorkerSeat;
-use dp_trail::{Naming, RecordEntries, Tail, Trail, WriteParts};
+use serve_clock::LineClock;
 use std::alloc::Global;
 use std::io::{self, Read, Write};
 use std::marker::Brand;

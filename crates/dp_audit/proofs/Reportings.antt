@@ -15,7 +15,7 @@ use Rattle.dp_line.specs.declared.event.Event.TheVariants.{Request, Operator}
 use Rattle.dp_line.specs.declared.event.Op.TheVariants.{Input, Diag, Busy, Tick, Halt}
 use Rattle.dp_line.specs.declared.fault.OperatorFault.TheVariants.{UnknownPoint}
 use Rattle.dp_line.specs.World.{HaveMasters, World, slave_among}
-use Rattle.dp_line.specs.Events.{misfit, misfit_where}
+use Rattle.dp_line.specs.Events.{operator_fault, operator_fault_of}
 use Rattle.dp_line.specs.Hearing.{Hearing, heard}
 use Rattle.dp_line.specs.Served.{answered}
 use Rattle.dp_line.specs.Effects.{facts_of, is_spread, outcome_of, outcome_of_one, outcome_spread}
@@ -60,11 +60,11 @@ known_point : (number : ℕ) (known : Bool) → cond known None (Some UnknownPoi
 known_point number true fits = refl
 known_point number false fits = absurd cc
 
-marked_point : (address number : ℕ) (on : Bool) (slave : Option SlaveRecord) → misfit_where (Busy address (Some number) on) slave ≡ None → is_in_table (Some number) ≡ true
+marked_point : (address number : ℕ) (on : Bool) (slave : Option SlaveRecord) → operator_fault_of (Busy address (Some number) on) slave ≡ None → is_in_table (Some number) ≡ true
 marked_point address number on None fits = absurd cc
 marked_point address number on (Some slave) fits = known_point number (is_in_table (Some number)) fits
 
-pub reported_point : (world : World) (event : Event) → misfit world event ≡ None → HasReportedPoint event
+pub reported_point : (world : World) (event : Event) → operator_fault world event ≡ None → HasReportedPoint event
 reported_point world (Request master octets) fits = tt
 reported_point world (Operator (Input address octets)) fits = tt
 reported_point world (Operator (Diag address ext stat overflow octets)) fits = tt

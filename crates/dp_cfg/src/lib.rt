@@ -1,5 +1,5 @@
-//! Configuration identifiers of PROFIBUS DP (IEC 61158-6-3): how many octets of inputs and of
-//! outputs a configuration announces.
+//! Configuration identifiers (IEC 61158-6-3): how many octets of inputs and of outputs a configuration has; it compares
+//! no configuration with that of a slave.
 //!
 //! A configuration is a list of identifiers. Each has the general format of one octet, or the
 //! special format with length octets and octets of the maker. [`CfgIds::parse`] reads a

@@ -1,5 +1,5 @@
-//! Diagnosis of a DP slave (IEC 61158-6-3, Slave_Diag response): what a slave stores about itself,
-//! and the octets that report it to a master.
+//! The diagnosis that a slave stores, and the octets that report it (IEC 61158-6-3, Slave_Diag response); it doesn't read
+//! the device's blocks in it.
 //!
 //! A [`Diag`] is the part of a slave's state that its application and its faults set. [`DiagFacts`]
 //! is all that a diagnosis reports, and [`octets`] writes it. [`DiagFactsLent`] lends the [`Diag`],

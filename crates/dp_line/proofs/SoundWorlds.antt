@@ -20,7 +20,7 @@ use Rattle.dp_line.specs.Hearing.{heard}
 use Rattle.dp_line.specs.Effects.{effect, halted_world, held_addresses, slave_after}
 use Rattle.dp_line.specs.Served.{served}
 use Rattle.dp_line.specs.Steps.{run, step, step_by_fit, reported_halted, unrecorded}
-use Rattle.dp_line.specs.Events.{misfit}
+use Rattle.dp_line.specs.Events.{operator_fault}
 use Rattle.dp_line.specs.SoundWorld.{fault_of_slave, have_own_places, has_sound_count, is_sound_on, restore_fault}
 use Rattle.dp_line.proofs.Starting.{opened}
 use Rattle.dp_line.proofs.Kept.{HasMaster, has_after, op_holder}
@@ -84,9 +84,9 @@ room_fit world event (Some fault) room = room
 room_fit world event None room = room_fitting world event (is_last_place world) refl
 
 room_by : (world : World) (event : Event) (b : Bool) → HasRoom world
-    → HasRoom (cond b (record { world = world; answer = unrecorded (reported_halted event) None }) (step_by_fit world event (misfit world event))).world
+    → HasRoom (cond b (record { world = world; answer = unrecorded (reported_halted event) None }) (step_by_fit world event (operator_fault world event))).world
 room_by world event true room = room
-room_by world event false room = room_fit world event (misfit world event) room
+room_by world event false room = room_fit world event (operator_fault world event) room
 
 room_step : (world : World) (event : Event) → HasRoom world → HasRoom (step world event).world
 unfolding step

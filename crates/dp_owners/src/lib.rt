@@ -1,6 +1,4 @@
-//! The lists of the records that masters own, one list for each master, threaded through the
-//! records by index. No list needs memory of its own. A record is appended or unlinked in constant
-//! time, however long the list is.
+//! Lists of records that masters own, threaded through the records by index, oldest first; it knows nothing of PROFIBUS.
 //!
 //! A client's record has [`Links`] and implements [`Linked`]. [`Owners`] has the ends of the lists,
 //! and a [`Cursor`] walks along one. `IsThreaded` in `specs/Threaded` defines when lists are

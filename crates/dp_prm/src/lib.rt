@@ -1,5 +1,5 @@
-//! Parameter telegrams of PROFIBUS DP (IEC 61158-6-3, Set_Prm request): what the octets ask of a
-//! slave, and whether the slave accepts them.
+//! The meaning of the octets of Set_Prm (IEC 61158-6-3, Set_Prm request) and whether a slave accepts them; it changes no
+//! slave.
 //!
 //! [`read`] returns the [`PrmVerdict`] of the octets under the [`Limits`] of a slave. An accepted
 //! locking request gives the parameters as a [`Prm`]. [`read_lent`] returns the same verdict as a

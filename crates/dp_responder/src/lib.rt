@@ -1,6 +1,5 @@
-//! How a DP slave judges a request before it serves it (IEC 61158-4-3, FDL procedures): what it
-//! remembers of each master, so that it answers a repeated request without executing it again, and
-//! the rows of the verdict from the repeat to the length.
+//! The rows of the verdict from the repeat to the length (IEC 61158-4-3, FDL procedures), and what a slave remembers of
+//! each master for them; it executes no service.
 //!
 //! [`judge`] returns the result for a request under the slave's points and its [`FrameMemory`].
 //! [`judge_sdn`] returns the rule for an SDN, which never gets a reply. [`judge_lent`] lends what

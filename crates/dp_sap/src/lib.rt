@@ -1,6 +1,5 @@
-//! Service access points of a DP slave: which point is open in which state, to whom, by which
-//! service and with how many data octets (IEC 61158-6-3, service access points), and which points
-//! are marked busy.
+//! The access table of a DP slave (IEC 61158-6-3, service access points): which point is open in which state, to whom, by
+//! which service and with how many octets; it decides no request, which dp_responder does.
 //!
 //! [`Points`] holds what decides this: the slave's [`State`], its holder, its output length,
 //! whether Data_Exchange may also be empty, the busy marks and the [`Lists`] of masters.

@@ -8,7 +8,7 @@ use Rattle.std.proofs.lemmas.Bool.{cases_lt, lt-ltb}
 use Rattle.std.proofs.lemmas.List.{append-nil, length-take, map-append, nil_from_length, take_all}
 use Rattle.dp_text.specs.Writes.{WritesPrefix}
 use Rattle.dp_shared.specs.declared.line_view.PassView.{PassView}
-use Rattle.dp_devices.specs.declared.driven_slave.DrivenSlave.{DrivenSlave}
+use Rattle.rack_devices.specs.declared.driven_slave.DrivenSlave.{DrivenSlave}
 use Rattle.dp_text.specs.declared.operator_line.LineFault.TheVariants as faults
 use Rattle.dp_text.specs.OperatorLines.{asked_in, command_in}
 use Rattle.dp_sessions.specs.Operators.{AreAnswered, AreBrokenOff, AreServed, BeginsWith, FallsInto, IsAnswered, IsDone, IsUnended, ended, line_feed}

@@ -9,7 +9,7 @@ use Rattle.dp_text.specs.Writes.{WritesPrefix}
 use Rattle.dp_audit.specs.declared.entry.Receipt.{Receipt}
 use Rattle.dp_shared.specs.declared.line_view.PassView.{PassView}
 use Rattle.dp_shared.specs.Passes.{with_receipt}
-use Rattle.dp_devices.specs.declared.driven_slave.DrivenSlave.{DrivenSlave}
+use Rattle.rack_devices.specs.declared.driven_slave.DrivenSlave.{DrivenSlave}
 use Rattle.dp_sessions.specs.declared.session_end.SessionEnd.{SessionEnd}
 use Rattle.dp_sessions.specs.declared.session_end.SessionEnd.TheVariants as ends
 use Rattle.dp_sessions.specs.Operators.{IsAnswered, ended, line_feed}

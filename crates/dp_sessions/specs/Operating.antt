@@ -3,7 +3,7 @@ use Rattle.std.specs.Prelude.{◌≡◌, ℕ, List, ◌++◌, Option, take}
 use Rattle.std.specs.List.{concat}
 use Rattle.std.specs.Io.KnownBytes.{Appends}
 use Rattle.dp_shared.specs.declared.line_view.PassView.{PassView}
-use Rattle.dp_devices.specs.declared.driven_slave.DrivenSlave.{DrivenSlave}
+use Rattle.rack_devices.specs.declared.driven_slave.DrivenSlave.{DrivenSlave}
 use Rattle.dp_sessions.specs.Operators.{AreAnswered, AreBrokenOff, FallsInto}
 
 -- what is stored of a line: enough octets to show whether it is too long

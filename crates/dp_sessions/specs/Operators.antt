@@ -16,12 +16,12 @@ use Rattle.dp_shared.specs.Passes.{look_by, new_pass, with_look, with_receipt}
 use Rattle.dp_text.specs.declared.op_line.OpLine.{OpLine}
 use Rattle.dp_text.specs.declared.op_line.OpLine.TheVariants as asked
 use Rattle.dp_text.specs.Texts.{outcome_line, owned_text, show_text, stepped_text}
-use Rattle.dp_devices.specs.declared.driven_slave.DrivenSlave.{DrivenSlave}
+use Rattle.rack_devices.specs.declared.driven_slave.DrivenSlave.{DrivenSlave}
 use Rattle.dp_text.specs.declared.operator_line.LineFault.{LineFault}
 use Rattle.dp_text.specs.OperatorLines.{command_in, line_fault_name}
 use Rattle.dp_sessions.specs.declared.session_end.SessionEnd.{SessionEnd}
 use Rattle.dp_sessions.specs.declared.session_end.SessionEnd.TheVariants as ends
-use Rattle.dp_devices.specs.DrivenSlaves.{next_input}
+use Rattle.rack_devices.specs.DrivenSlaves.{next_input}
 use Rattle.dp_sessions.specs.Sessions.{IsCutOff, Streams}
 
 -- ---- lines

@@ -7,12 +7,12 @@ use Rattle.dp_text.specs.Writes.{WritesPrefix}
 use Rattle.dp_audit.specs.declared.entry.Receipt.{Receipt}
 use Rattle.dp_shared.specs.declared.claim_view.ClaimView.{ClaimView}
 use Rattle.dp_shared.specs.declared.line_view.PassView.{PassView}
-use Rattle.dp_devices.specs.declared.driven_slave.DrivenSlave.{DrivenSlave}
+use Rattle.rack_devices.specs.declared.driven_slave.DrivenSlave.{DrivenSlave}
 use Rattle.dp_shared.specs.Passes.{new_pass}
 use Rattle.dp_sessions.specs.declared.session_end.SessionEnd.{SessionEnd}
 use Rattle.dp_sessions.specs.declared.session_end.SessionEnd.TheVariants as ends
 use Rattle.dp_sessions.specs.declared.session.Session.{Session}
-use Rattle.dp_sessions.specs.declared.session.Session.TheVariants.{Accepted, TurnedAway}
+use Rattle.dp_sessions.specs.declared.session.Session.TheVariants.{Accepted, Rejected}
 use Rattle.dp_sessions.specs.Ended.{IsOperatorSessionOf, IsSessionOf, end_of}
 use Rattle.dp_sessions.specs.Operators.{AreAnswered, BeginsWith}
 use Rattle.dp_sessions.specs.Sessions.{Streams, acceptance, reply_in}
@@ -36,8 +36,8 @@ pub record WritesRecorded (recorded : ℕ → Type 0) (front : List ℕ) (before
 
 -- .. of an accepted session, which writes the acceptance first; a session that is not accepted writes nothing
 abbrev pub IsRecordedSession : (ℕ → Type 0) → Streams → Session → Type 0
-IsRecordedSession recorded streams (Accepted end spent) = WritesRecorded recorded acceptance [] spent.view.receipts streams.written streams.written_after end
-IsRecordedSession recorded streams (TurnedAway address end) = ⊤
+IsRecordedSession recorded streams (Accepted end returned_pass) = WritesRecorded recorded acceptance [] returned_pass.view.receipts streams.written streams.written_after end
+IsRecordedSession recorded streams (Rejected address end) = ⊤
 
 -- .. of a session that ended so, with the line of this table
 abbrev pub EndsRecorded : (ℕ → Type 0) → TableId → List ℕ → ℕ → Streams → ClaimView → ClaimView → SessionEnd → Type 0
@@ -71,8 +71,8 @@ pub record HasOperatedRecorded (driven : List DrivenSlave) (recorded : ℕ → T
 
 -- .. of an accepted session; a session without a pass writes nothing
 abbrev pub IsRecordedOperatorSession : List DrivenSlave → (ℕ → Type 0) → Streams → Session → Type 0
-IsRecordedOperatorSession driven recorded streams (Accepted end spent) = (number : ℕ) × HasOperatedRecorded driven recorded streams (new_pass number 127) spent.view end
-IsRecordedOperatorSession driven recorded streams (TurnedAway address end) = ⊤
+IsRecordedOperatorSession driven recorded streams (Accepted end returned_pass) = (number : ℕ) × HasOperatedRecorded driven recorded streams (new_pass number 127) returned_pass.view end
+IsRecordedOperatorSession driven recorded streams (Rejected address end) = ⊤
 
 abbrev pub EndsOperatorRecorded : (ℕ → Type 0) → TableId → List DrivenSlave → ℕ → Streams → SessionEnd → Type 0
 EndsOperatorRecorded recorded table driven turns streams end =

@@ -5,7 +5,7 @@ use Rattle.std.specs.Io.KnownBytes.{Appends}
 use Rattle.dp_text.specs.Writes.{WritesPrefix}
 use Rattle.dp_audit.specs.declared.entry.Receipt.{Receipt}
 use Rattle.dp_shared.specs.declared.line_view.PassView.{PassView}
-use Rattle.dp_devices.specs.declared.driven_slave.DrivenSlave.{DrivenSlave}
+use Rattle.rack_devices.specs.declared.driven_slave.DrivenSlave.{DrivenSlave}
 use Rattle.dp_sessions.specs.Operating.{AreServedTo}
 use Rattle.dp_sessions.specs.Recorded.{AnswersRecorded, AreRecorded}
 use Rattle.dp_sessions.specs.Sessions.{reply_in}

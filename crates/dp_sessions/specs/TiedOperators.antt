@@ -17,8 +17,8 @@ use Rattle.dp_shared.specs.declared.line_view.Answer.{Answer}
 use Rattle.dp_text.specs.declared.op_line.OpLine.{OpLine}
 use Rattle.dp_text.specs.declared.op_line.OpLine.TheVariants as asked
 use Rattle.dp_text.specs.Texts.{outcome_line, owned_text, show_text, stepped_text}
-use Rattle.dp_devices.specs.declared.driven_slave.DrivenSlave.{DrivenSlave}
-use Rattle.dp_devices.specs.DrivenSlaves.{next_input}
+use Rattle.rack_devices.specs.declared.driven_slave.DrivenSlave.{DrivenSlave}
+use Rattle.rack_devices.specs.DrivenSlaves.{next_input}
 use Rattle.dp_text.specs.declared.operator_line.LineFault.{LineFault}
 use Rattle.dp_sessions.specs.declared.session_end.SessionEnd.{SessionEnd}
 use Rattle.dp_sessions.specs.declared.session_end.SessionEnd.TheVariants as ends

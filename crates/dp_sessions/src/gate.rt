@@ -10,11 +10,10 @@ use dp_telegram::WholeFrame;
 use dp_text::LineFault;
 use std::sync::Wait;
 
-/// What a session calls before and after each exchange and event, and at its end. A call may hold up its own session,
-/// and no other. No lock is held during a call. Unless stated otherwise, a call gives the number of the line and, for
+/// The calls that a session makes before and after each exchange and event, and at its end: the program that serves a rack
+/// does there what contracts of sessions don't mention, as to record and to log. A call may hold up its own session, and no
+/// other. No lock is held during a call. Unless stated otherwise, a call gives the number of the line and, for
 /// a master, its address. Each call except `enter` and `record` does nothing unless it is implemented.
-///
-/// Reports of a served rack are calls of the gate, so that the contracts of sessions don't mention reports.
 ///
 /// What a gate records is its own matter. A session takes from `record` alone that a place is recorded, and the contracts
 /// of sessions say that no octet of an answer is written before.
@@ -54,7 +53,7 @@ pub trait Gate {
 
     /// Called when a session of a pool has ended that was not accepted. `port` is the place of its port among those
     /// of the pool; `address` is the address that it sent, if it sent one.
-    fn turned_away<W: Wait>(&self, _rt: &W, _port: u8, _address: Option<u8>, _end: SessionEnd) {}
+    fn rejected<W: Wait>(&self, _rt: &W, _port: u8, _address: Option<u8>, _end: SessionEnd) {}
 
     /// Called before each event of an operator.
     fn operates<W: Wait>(&self, _rt: &W, _line: u8, _op: &Op) {}

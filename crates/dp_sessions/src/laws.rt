@@ -12,14 +12,14 @@ ghost use Rattle.dp_sessions.specs.Sessions.{HasExchanged, IsAccepted, Streams};
 ghost use Rattle.dp_sessions.specs.Operators.{HasOperatedBy};
 ghost use Rattle.dp_sessions.specs.Tied.{HasAnswered, HasAnsweredMaster, entries_behind};
 ghost use Rattle.dp_sessions.specs.TiedOperators.{HasAnsweredLines};
-ghost use Rattle.dp_devices.specs.declared.driven_slave.DrivenSlave.{DrivenSlave};
+ghost use Rattle.rack_devices.specs.declared.driven_slave.DrivenSlave.{DrivenSlave};
 
 use dp_shared::laws::a_pass_has_its_entries;
 
 /// A session by a pass wrote the replies of the journal's entries under the number of the pass, in order. These are the
 /// entries of the first frames of the stream that it read, and of all frames unless the pass was answered that the line
 /// is halted. `fits` is for the journal of a closed line, which fits each of its passes. `rule` is for any time, by the
-/// rule of the line's lock.
+/// invariant of the line's lock.
 pub fn a_session_has_its_entries()
     ensures fits { (content : Content) (turns : ℕ) (streams : Streams) (before after : PassView) (end : SessionEnd)
         → HasExchanged turns streams before after end → FitsPass content after
@@ -33,7 +33,7 @@ pub fn a_session_has_its_entries()
 
 /// In an operator's session by a pass, each event of its lines left the next entry under the number of the pass, or was
 /// refused, and each look was answered from a first part of the entries. `fits` is for the journal of a closed line, which
-/// fits each of its passes. `rule` is for any time, by the rule of the line's lock.
+/// fits each of its passes. `rule` is for any time, by the invariant of the line's lock.
 pub fn an_operator_has_its_entries()
     ensures fits { (content : Content) (driven : List DrivenSlave) (turns : ℕ) (streams : Streams) (before after : PassView) (end : SessionEnd)
         → HasOperatedBy driven turns streams before after end → FitsPass content after
@@ -49,7 +49,7 @@ pub fn an_operator_has_its_entries()
 /// entries under the number of the pass, in order. These are the entries of the first frames of the stream after the
 /// address, and of all frames unless the pass was answered that the line is halted. `fits` is for the journal of a
 /// closed line, which fits each pass that [`close_with`](dp_shared::Line::close_with) was given. `rule` is for any
-/// time, by the rule of the line's lock.
+/// time, by the invariant of the line's lock.
 pub fn a_master_has_its_entries()
     ensures fits { (content : Content) (masters : List ℕ) (turns : ℕ) (streams : Streams) (before after : ClaimView) (pass : PassView) (end : SessionEnd)
         → IsAccepted masters turns streams before after pass end → FitsPass content pass

@@ -1,7 +1,8 @@
-//! Sessions of masters with a line ([`serve`]), which a pool of workers serves ([`run_pool`]); sessions of operators
-//! ([`serve_operator`]); and the inputs that devices give their slaves ([`next_inputs`]).
+//! Sessions of masters and of operators with a line, over any reader and writer, and the pool of threads that serves them;
+//! it opens no sockets.
 //!
-//! A session runs at a [`Port`], over any reader and writer. Only the start of a thread allocates memory.
+//! [`serve`] runs a session of a master at a [`Port`], [`serve_operator`] one of an operator, and [`run_pool`] the workers.
+//! Only the start of a thread allocates memory.
 #![tactic(auto)]
 
 mod dropped;
@@ -19,7 +20,6 @@ mod session;
 mod session_end;
 pub mod sharing;
 
-pub use dp_devices::next_inputs;
 pub use dp_text::{OpLine, TextFault, read_op};
 pub use dropped::DroppedOctets;
 pub use exchange::{serve_pass, serve_pass_by};
@@ -31,6 +31,7 @@ pub use operator::{
 pub use pool::{Job, run_pool};
 pub use pool_fault::PoolFault;
 pub use port::{LineAndClaims, Port};
+pub use rack_devices::next_inputs;
 pub use reads::{Reads, Uncounted};
 pub use serving::{serve, serve_by, serve_session};
 pub use session::Session;

@@ -4,8 +4,8 @@ ghost use Rattle.std.specs.Prelude.{◌≡◌, ◌+◌, ◌≤◌, true, [], ◌
 ghost use Rattle.std.specs.Io.KnownBytes.{Appends};
 ghost use Rattle.dp_text.specs.Writes.{WritesPrefix};
 ghost use Rattle.dp_shared.specs.Passes.{line_of, table_of};
-ghost use Rattle.dp_devices.specs.declared.driven_slave.TheConstants.{MOST_DRIVEN};
-ghost use Rattle.dp_devices.specs.DrivenSlaves.{driven_slaves as all_driven};
+ghost use Rattle.rack_devices.specs.declared.driven_slave.TheConstants.{MOST_DRIVEN};
+ghost use Rattle.rack_devices.specs.DrivenSlaves.{driven_slaves as all_driven};
 ghost use Rattle.dp_sessions.specs.Operators.{HasOperatedBy, IsAnswered, IsOperatorSession};
 ghost use Rattle.dp_sessions.specs.Operating.{BreaksOff, GoesOn, kept};
 ghost use Rattle.dp_sessions.specs.Ended.{IsOperatorSessionOf, end_of};
@@ -19,11 +19,11 @@ use crate::reads::{Reads, Uncounted};
 use crate::session::Session;
 use crate::session_end::SessionEnd;
 use arrayvec::ArrayVec;
-use dp_devices::{DrivenSlave, MOST_DRIVEN, driven_slaves};
 use dp_line::LineSpec;
 use dp_shared::{Line, Pass};
 use dp_telegram::GLOBAL_ADDRESS;
 use dp_text::{LONGEST_LINE, Text, WriteFault, write_whole};
+use rack_devices::{DrivenSlave, MOST_DRIVEN, driven_slaves};
 use std::io::{Read, Write};
 use std::sync::Wait;
 
@@ -116,7 +116,7 @@ pub fn serve_operator_session<T: Wait, R: Read, C: Reads<R>, W: Write, G: Gate>(
         result }
 {
     let Ok(mut pass) = port.line.open_pass(rt, GLOBAL_ADDRESS) else {
-        return Session::TurnedAway {
+        return Session::Rejected {
             address: None,
             end: SessionEnd::NoPass,
         };
@@ -124,8 +124,8 @@ pub fn serve_operator_session<T: Wait, R: Read, C: Reads<R>, W: Write, G: Gate>(
     let end = serve_operator_pass_by::<T, R, C, W, G>(
         rt, reader, writer, &port.line, line, &mut pass, gate, turns,
     );
-    let spent = port.line.hand_back(rt, pass);
-    Session::Accepted { end, spent }
+    let returned_pass = port.line.hand_back(rt, pass);
+    Session::Accepted { end, returned_pass }
 }
 
 /// Serves an operator by its pass, in at most `turns` reads, with the answers of [`serve_operator`], and returns how

@@ -3,15 +3,15 @@
 ghost use Rattle.std.specs.Prelude.{◌≡◌, ◌≤◌, length, OnErr, OnOk, IfOk, MatchOption};
 ghost use Rattle.std.specs.Io.KnownBytes.{Appends};
 ghost use Rattle.dp_shared.specs.Passes.{table_of};
-ghost use Rattle.dp_devices.specs.declared.driven_slave.TheConstants.{MOST_DRIVEN};
+ghost use Rattle.rack_devices.specs.declared.driven_slave.TheConstants.{MOST_DRIVEN};
 ghost use Rattle.dp_sessions.specs.Recording.{Gains, GainsRecorded};
 ghost use Rattle.dp_sessions.specs.Operators.{AreFed, IsAnswered, IsFed, IsFedAsSeen, IsOperated, fault_text};
 
 use crate::gate::{Gate, NotRecorded};
-use dp_devices::DrivenSlave;
 use dp_line::{Op, SlaveView};
 use dp_shared::{Line, Pass};
 use dp_text::{LineFault, OpLine, Text, read_line};
+use rack_devices::DrivenSlave;
 use std::sync::Wait;
 
 /// Carries out a line by an operator's pass, and sets `text` to the answer: none for an empty line or a comment.

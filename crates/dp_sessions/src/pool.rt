@@ -185,8 +185,8 @@ fn serve_job<P: Serve, H: Wait, R: Read + Drop, W: Write + Drop, G: Gate>(
         return false;
     };
     let session = here.serve(rt, &mut seats[index], &mut reader, &mut writer, gate, turns);
-    if let Session::TurnedAway { address, end } = session {
-        gate.turned_away(rt, port, address, end);
+    if let Session::Rejected { address, end } = session {
+        gate.rejected(rt, port, address, end);
     }
     true
 }

@@ -107,19 +107,19 @@ pub fn serve_session<T: Wait, R: Read, C: Reads<R>, W: Write, G: Gate>(
         result }
 {
     if turns == 0 {
-        return Session::TurnedAway {
+        return Session::Rejected {
             address: None,
             end: SessionEnd::TurnLimit,
         };
     }
     let address = match first_octet::<R, C>(reader) {
         Ok(address) => address,
-        Err(end) => return Session::TurnedAway { address: None, end },
+        Err(end) => return Session::Rejected { address: None, end },
     };
     let mut pass = match admit(rt, port, seat, address) {
         Ok(pass) => pass,
         Err(end) => {
-            return Session::TurnedAway {
+            return Session::Rejected {
                 address: Some(address),
                 end,
             };
@@ -128,10 +128,10 @@ pub fn serve_session<T: Wait, R: Read, C: Reads<R>, W: Write, G: Gate>(
     let line = pass.line();
     gate.accepted(rt, line, address);
     let end = accept::<T, R, C, W, G>(rt, reader, writer, &port.line, &mut pass, gate, turns - 1);
-    let spent = port.line.hand_back(rt, pass);
+    let returned_pass = port.line.hand_back(rt, pass);
     gate.ended(rt, line, address, end);
     port.claims.release(seat);
-    Session::Accepted { end, spent }
+    Session::Accepted { end, returned_pass }
 }
 
 /// Returns the first octet of a session, by one read, or how the session ends if there is none.

@@ -4,7 +4,7 @@ ghost use Rattle.std.specs.Prelude.{◌≡◌};
 ghost use Rattle.dp_sessions.specs.Ended.{end_of};
 
 use crate::session_end::SessionEnd;
-use dp_shared::Spent;
+use dp_shared::ReturnedPass;
 
 /// A session of a master or an operator that has ended, with the pass that served it (own).
 #[derive(Drop)]
@@ -14,10 +14,10 @@ pub enum Session {
         /// How it ended.
         end: SessionEnd,
         /// The pass that served it.
-        spent: Spent,
+        returned_pass: ReturnedPass,
     },
     /// The session was not accepted, and no pass served it.
-    TurnedAway {
+    Rejected {
         /// The address that a master sent, if it sent one.
         address: Option<u8>,
         /// How it ended.
@@ -32,7 +32,7 @@ impl Session {
     {
         match self {
             Session::Accepted { end, .. } => *end,
-            Session::TurnedAway { end, .. } => *end,
+            Session::Rejected { end, .. } => *end,
         }
     }
 }

@@ -87,7 +87,7 @@ sound_start masters description = record {
   cleared_outputs = λ on. absurd cc;
   cleared_latest = λ on. absurd cc;
   inputs_long = length-replicate _ 0;
-  copy_long = length-replicate _ 0;
+  frozen_inputs_long = length-replicate _ 0;
   outputs_long = length-replicate _ 0;
   latest_long = length-replicate _ 0;
 }
@@ -109,7 +109,7 @@ sound_released slave s = record {
   cleared_outputs = λ on. absurd cc;
   cleared_latest = λ on. absurd cc;
   inputs_long = s.inputs_long;
-  copy_long = s.copy_long;
+  frozen_inputs_long = s.frozen_inputs_long;
   outputs_long = length-replicate _ 0;
   latest_long = length-replicate _ 0;
 }
@@ -173,9 +173,9 @@ failsafe_by true false cleared on was = was on
 failsafe_by false false cleared on was = was on
 
 -- time releases the slave, or runs the watchdog down
-let_go : (slave : SlaveRecord) (time : ℕ) → runs_out time slave.left ≡ true → acted slave (ticks time) ≡ released slave
+tick_releases : (slave : SlaveRecord) (time : ℕ) → runs_out time slave.left ≡ true → acted slave (ticks time) ≡ released slave
 unfolding acted released
-let_go slave time out = rw out refl
+tick_releases slave time out = rw out refl
 
 sound_waited : (slave : SlaveRecord) (time : ℕ) → IsSound slave → IsSound (record slave { left = option_map (λ units. units - time) slave.left })
 sound_waited slave time s = record {
@@ -193,14 +193,14 @@ sound_waited slave time s = record {
   cleared_outputs = s.cleared_outputs;
   cleared_latest = s.cleared_latest;
   inputs_long = s.inputs_long;
-  copy_long = s.copy_long;
+  frozen_inputs_long = s.frozen_inputs_long;
   outputs_long = s.outputs_long;
   latest_long = s.latest_long;
 }
 
 sound_tick : (slave : SlaveRecord) (time : ℕ) → IsSound slave → IsSound (acted slave (ticks time))
 sound_tick slave time s = elim (cases_Bool (runs_out time slave.left)) [
-  | inl out ↦ subst IsSound (sym (let_go slave time out)) (sound_released slave s)
+  | inl out ↦ subst IsSound (sym (tick_releases slave time out)) (sound_released slave s)
   | inr stays ↦ subst IsSound (sym (waited slave time stays)) (sound_waited slave time s)
 ]
 
@@ -221,7 +221,7 @@ sound_act slave (locks sender place prm) s fit = record {
   cleared_outputs = λ on. absurd cc;
   cleared_latest = λ on. absurd cc;
   inputs_long = s.inputs_long;
-  copy_long = s.copy_long;
+  frozen_inputs_long = s.frozen_inputs_long;
   outputs_long = length-replicate _ 0;
   latest_long = length-replicate _ 0;
 }
@@ -240,7 +240,7 @@ sound_act slave (faults not_supported) s fit = record {
   cleared_outputs = λ on. absurd cc;
   cleared_latest = λ on. absurd cc;
   inputs_long = s.inputs_long;
-  copy_long = s.copy_long;
+  frozen_inputs_long = s.frozen_inputs_long;
   outputs_long = length-replicate _ 0;
   latest_long = length-replicate _ 0;
 }
@@ -260,7 +260,7 @@ sound_act slave (sets_min_tsdr sender octet) s fit = record {
   cleared_outputs = s.cleared_outputs;
   cleared_latest = s.cleared_latest;
   inputs_long = s.inputs_long;
-  copy_long = s.copy_long;
+  frozen_inputs_long = s.frozen_inputs_long;
   outputs_long = s.outputs_long;
   latest_long = s.latest_long;
 }
@@ -281,7 +281,7 @@ sound_act slave (configures number) s fit =
       cleared_outputs = λ on. kept_zero slave.description slave.shape number slave.outputs (keeps_shape slave number) refl (s.cleared_outputs (and_parts (keeps_shape slave number) slave.cleared on).1);
       cleared_latest = λ on. kept_zero slave.description slave.shape number slave.latest (keeps_shape slave number) refl (s.cleared_latest (and_parts (keeps_shape slave number) slave.cleared on).1);
       inputs_long = kept_long (inputs_of slave.description) slave.shape number slave.inputs _ (keeps_shape slave number) refl s.inputs_long (cut_long (inputs_of slave.description number) slave.inputs);
-      copy_long = kept_long (inputs_of slave.description) slave.shape number slave.copy _ (keeps_shape slave number) refl s.copy_long (cut_long (inputs_of slave.description number) slave.copy);
+      frozen_inputs_long = kept_long (inputs_of slave.description) slave.shape number slave.frozen_inputs _ (keeps_shape slave number) refl s.frozen_inputs_long (cut_long (inputs_of slave.description number) slave.frozen_inputs);
       outputs_long = kept_long (outputs_of slave.description) slave.shape number slave.outputs _ (keeps_shape slave number) refl s.outputs_long (length-replicate (outputs_of slave.description number) 0);
       latest_long = kept_long (outputs_of slave.description) slave.shape number slave.latest _ (keeps_shape slave number) refl s.latest_long (length-replicate (outputs_of slave.description number) 0);
     }
@@ -300,7 +300,7 @@ sound_act slave misconfigures s fit = record {
   cleared_outputs = λ on. absurd cc;
   cleared_latest = λ on. absurd cc;
   inputs_long = s.inputs_long;
-  copy_long = s.copy_long;
+  frozen_inputs_long = s.frozen_inputs_long;
   outputs_long = length-replicate _ 0;
   latest_long = length-replicate _ 0;
 }
@@ -322,7 +322,7 @@ sound_act slave (exchanges octets) s fit =
       cleared_outputs = λ on. absurd cc;
       cleared_latest = λ on. absurd cc;
       inputs_long = s.inputs_long;
-      copy_long = s.copy_long;
+      frozen_inputs_long = s.frozen_inputs_long;
       outputs_long = chosen_long slave.sync_mode (output_length slave) slave.outputs octets s.outputs_long long;
       latest_long = long;
     }
@@ -343,7 +343,7 @@ sound_act slave exchanges_none s fit =
       cleared_outputs = λ on. chosen_zero slave.sync_mode (output_length slave) slave.outputs (zeros (output_length slave)) (s.cleared_outputs on) refl;
       cleared_latest = λ on. refl;
       inputs_long = s.inputs_long;
-      copy_long = s.copy_long;
+      frozen_inputs_long = s.frozen_inputs_long;
       outputs_long = chosen_long slave.sync_mode (output_length slave) slave.outputs (zeros (output_length slave)) s.outputs_long (length-replicate _ 0);
       latest_long = length-replicate _ 0;
     }
@@ -362,7 +362,7 @@ sound_act slave (sends_diagnosis sender) s fit = record {
   cleared_outputs = s.cleared_outputs;
   cleared_latest = s.cleared_latest;
   inputs_long = s.inputs_long;
-  copy_long = s.copy_long;
+  frozen_inputs_long = s.frozen_inputs_long;
   outputs_long = s.outputs_long;
   latest_long = s.latest_long;
 }
@@ -384,7 +384,7 @@ sound_act slave (is_controlled control) s fit = record {
       (zero_by control.clear_data slave.description.failsafe slave.cleared (output_length slave) slave.outputs on s.cleared_outputs);
   cleared_latest = λ on. zero_by control.clear_data slave.description.failsafe slave.cleared (output_length slave) slave.latest on s.cleared_latest;
   inputs_long = s.inputs_long;
-  copy_long = chosen_long (is_frozen_by slave control) (input_length slave) slave.inputs slave.copy s.inputs_long s.copy_long;
+  frozen_inputs_long = chosen_long (is_frozen_by slave control) (input_length slave) slave.inputs slave.frozen_inputs s.inputs_long s.frozen_inputs_long;
   outputs_long = chosen_long _ (output_length slave) (cleared_by slave control slave.latest) (cleared_by slave control slave.outputs)
       (cleared_long control.clear_data (output_length slave) slave.latest s.latest_long) (cleared_long control.clear_data (output_length slave) slave.outputs s.outputs_long);
   latest_long = cleared_long control.clear_data (output_length slave) slave.latest s.latest_long;
@@ -404,7 +404,7 @@ sound_act slave (is_fed octets) s fit = record {
   cleared_outputs = s.cleared_outputs;
   cleared_latest = s.cleared_latest;
   inputs_long = eqb-true _ _ fit;
-  copy_long = s.copy_long;
+  frozen_inputs_long = s.frozen_inputs_long;
   outputs_long = s.outputs_long;
   latest_long = s.latest_long;
 }
@@ -423,7 +423,7 @@ sound_act slave (reports ext stat overflow octets) s fit = record {
   cleared_outputs = s.cleared_outputs;
   cleared_latest = s.cleared_latest;
   inputs_long = s.inputs_long;
-  copy_long = s.copy_long;
+  frozen_inputs_long = s.frozen_inputs_long;
   outputs_long = s.outputs_long;
   latest_long = s.latest_long;
 }
@@ -442,7 +442,7 @@ sound_act slave (is_marked point busy) s fit = record {
   cleared_outputs = s.cleared_outputs;
   cleared_latest = s.cleared_latest;
   inputs_long = s.inputs_long;
-  copy_long = s.copy_long;
+  frozen_inputs_long = s.frozen_inputs_long;
   outputs_long = s.outputs_long;
   latest_long = s.latest_long;
 }

@@ -25,7 +25,7 @@ unfrozen slave = record slave { freeze_mode = false }
 
 -- Freeze copies the inputs and starts freeze mode, if the parameters asked for it
 abbrev pub frozen : SlaveRecord → SlaveRecord
-frozen slave = if freeze_is_asked slave then record slave { freeze_mode = true; copy = slave.inputs } else slave
+frozen slave = if freeze_is_asked slave then record slave { freeze_mode = true; frozen_inputs = slave.inputs } else slave
 
 -- a watchdog that runs has its full time again
 abbrev pub retriggered : SlaveRecord → SlaveRecord

@@ -78,12 +78,12 @@ is_frozen_by slave control = not control.unfreeze && control.freeze && freeze_is
 abbrev pub is_synced_by : SlaveRecord → Control → Bool
 is_synced_by slave control = not control.unsync && control.sync && sync_is_asked slave
 
--- Freeze copies the inputs (IEC 61158-6-3, Global_Control request); another shape cuts or fills the copy as it does the inputs (own)
-abbrev pub copy_after : SlaveRecord → Act → List ℕ
-copy_after slave (configures number) =
-    if keeps_shape slave number then slave.copy else cut_or_filled (inputs_of slave.description number) slave.copy
-copy_after slave (is_controlled control) = if is_frozen_by slave control then slave.inputs else slave.copy
-copy_after slave act = slave.copy
+-- Freeze freezes the inputs (IEC 61158-6-3, Global_Control request); another shape cuts or fills the frozen inputs as it does the inputs (own)
+abbrev pub frozen_inputs_after : SlaveRecord → Act → List ℕ
+frozen_inputs_after slave (configures number) =
+    if keeps_shape slave number then slave.frozen_inputs else cut_or_filled (inputs_of slave.description number) slave.frozen_inputs
+frozen_inputs_after slave (is_controlled control) = if is_frozen_by slave control then slave.inputs else slave.frozen_inputs
+frozen_inputs_after slave act = slave.frozen_inputs
 
 -- Unfreeze ends freeze mode, and Freeze starts it (IEC 61158-6-3, Global_Control request); another shape ends it (own)
 abbrev pub freeze_mode_after : SlaveRecord → Act → Bool
@@ -198,7 +198,7 @@ acted slave act = record slave {
   cfg = cfg_after slave act;
   shape = shape_after slave act;
   inputs = inputs_after slave act;
-  copy = copy_after slave act;
+  frozen_inputs = frozen_inputs_after slave act;
   outputs = outputs_after slave act;
   latest = latest_after slave act;
   sync_mode = sync_mode_after slave act;

@@ -5,7 +5,7 @@ use Rattle.dp_responder.specs.Memory.{MasterMemory}
 use Rattle.dp_prm.specs.declared.prm.Prm.{Prm}
 use Rattle.dp_diag.specs.declared.diag.Diag.{Diag}
 use Rattle.dp_slave.specs.declared.description.SlaveSpec.{SlaveSpec}
-use Rattle.dp_slave.specs.declared.image.Standing.{Standing}
+use Rattle.dp_slave.specs.declared.image.HoldState.{HoldState}
 use Rattle.dp_slave.specs.declared.image.Settings.{Settings}
 use Rattle.dp_slave.specs.declared.image.DataPair.{DataPair}
 use Rattle.dp_slave.specs.declared.image.SlaveImage.{SlaveImage}
@@ -13,33 +13,33 @@ use Rattle.dp_slave.specs.SlaveRecord.{SlaveRecord, inputs_of, outputs_of}
 use Rattle.dp_slave.specs.SlaveParts.{SlaveParts}
 
 -- the slave of a description that has these parts
-abbrev pub slave_with : SlaveSpec → Standing → Settings → Option Prm → DataPair → DataPair → Diag → List MasterMemory → SlaveRecord
-slave_with description standing settings prm inputs outputs diag memory = record {
+abbrev pub slave_with : SlaveSpec → HoldState → Settings → Option Prm → DataPair → DataPair → Diag → List MasterMemory → SlaveRecord
+slave_with description hold_state settings prm inputs outputs diag memory = record {
   description = description;
-  state = standing.state;
-  holder = standing.holder;
-  since = standing.since;
+  state = hold_state.state;
+  holder = hold_state.holder;
+  since = hold_state.since;
   min_tsdr = settings.min_tsdr;
   prm = prm;
   cfg = settings.cfg;
   shape = settings.shape;
   inputs = inputs.first.items;
-  copy = inputs.second.items;
+  frozen_inputs = inputs.second.items;
   outputs = outputs.first.items;
   latest = outputs.second.items;
   sync_mode = settings.sync_mode;
   freeze_mode = settings.freeze_mode;
   cleared = settings.cleared;
-  left = standing.left;
+  left = hold_state.left;
   diag = diag;
-  busy = standing.busy;
+  busy = hold_state.busy;
   memory = memory;
 }
 
 -- the slave of a description that is as an image says
 abbrev pub slave_of_image : SlaveSpec → SlaveImage → SlaveRecord
 slave_of_image description image =
-    slave_with description image.standing image.settings image.prm image.inputs image.outputs image.diag image.memory
+    slave_with description image.hold_state image.settings image.prm image.inputs image.outputs image.diag image.memory
 
 -- both have this number of octets
 abbrev pub are_long : DataPair → ℕ → Bool

@@ -14,7 +14,7 @@ pub record ProcessData : Type 0 where
   pub cfg : Option ℕ
   pub shape : ℕ
   pub inputs : List ℕ
-  pub copy : List ℕ
+  pub frozen_inputs : List ℕ
   pub outputs : List ℕ
   pub latest : List ℕ
   pub sync_mode : Bool
@@ -32,7 +32,7 @@ process_data slave = record {
   cfg = slave.cfg;
   shape = slave.shape;
   inputs = slave.inputs;
-  copy = slave.copy;
+  frozen_inputs = slave.frozen_inputs;
   outputs = slave.outputs;
   latest = slave.latest;
   sync_mode = slave.sync_mode;

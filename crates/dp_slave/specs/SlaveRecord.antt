@@ -27,9 +27,9 @@ pub record SlaveRecord : Type 0 where
   pub cfg : Option ℕ
   -- the shape in force: the number of the configuration that says how long the data are, also while no master has sent one
   pub shape : ℕ
-  -- the inputs, and the copy of them that Freeze made
+  -- the inputs, and the frozen inputs, as Freeze took them
   pub inputs : List ℕ
-  pub copy : List ℕ
+  pub frozen_inputs : List ℕ
   -- the outputs, and the data that came last, which differ in sync mode
   pub outputs : List ℕ
   pub latest : List ℕ
@@ -97,9 +97,9 @@ limits_of slave = record {
   user_max = slave.description.user_max;
 }
 
--- the inputs that a master sees: in freeze mode the copy that Freeze made (IEC 61158-6-3, Global_Control request)
+-- the inputs that a master sees: in freeze mode the frozen inputs (IEC 61158-6-3, Global_Control request)
 abbrev pub shown_inputs : SlaveRecord → List ℕ
-shown_inputs slave = if slave.freeze_mode then slave.copy else slave.inputs
+shown_inputs slave = if slave.freeze_mode then slave.frozen_inputs else slave.inputs
 
 -- the master is the one that holds it (own)
 abbrev pub is_held_by : ℕ → SlaveRecord → Bool
@@ -129,7 +129,7 @@ diag_facts slave = record {
 }
 
 -- a slave that no master holds: state, holder, its place, parameters, configuration, modes and watchdog are as at the start, outputs and
--- latest data are zeros of the length in force, and it isn't cleared; the shape, inputs and their copy, min TSDR, diagnosis with its faults,
+-- latest data are zeros of the length in force, and it isn't cleared; the shape, inputs and the frozen inputs, min TSDR, diagnosis with its faults,
 -- busy marks and frame memories stay (own)
 unfoldable pub released : SlaveRecord → SlaveRecord
 released slave = record slave {
@@ -166,7 +166,7 @@ starting_slave masters description = record {
   cfg = None;
   shape = 0;
   inputs = zeros (inputs_of description 0);
-  copy = zeros (inputs_of description 0);
+  frozen_inputs = zeros (inputs_of description 0);
   outputs = zeros (outputs_of description 0);
   latest = zeros (outputs_of description 0);
   sync_mode = false;

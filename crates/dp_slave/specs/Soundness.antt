@@ -54,6 +54,6 @@ pub record IsSound (slave : SlaveRecord) : Type 0 where
   pub cleared_latest : slave.cleared ≡ true → slave.latest ≡ zeros (output_length slave)
   -- the lengths are those of the shape in force
   pub inputs_long : length slave.inputs ≡ input_length slave
-  pub copy_long : length slave.copy ≡ input_length slave
+  pub frozen_inputs_long : length slave.frozen_inputs ≡ input_length slave
   pub outputs_long : length slave.outputs ≡ output_length slave
   pub latest_long : length slave.latest ≡ output_length slave

@@ -63,13 +63,13 @@ impl Slave {
     #[tactic(auto, unfolding(crate::specs::Fields::acted, crate::specs::SlaveRecord::released))]
     pub fn tick(&mut self, time: u32) -> bool
         ensures slave { self.new ≡ with_slave self.old (acted self.old.slave (ticks time)) }
-        ensures let_go { result ≡ runs_out time self.old.slave.left }
+        ensures is_released { result ≡ runs_out time self.old.slave.left }
     {
         let Some(left) = self.left else {
             return false;
         };
         if left <= time {
-            self.make_safe();
+            self.release();
             return true;
         }
         self.left = Some(left - time);

@@ -50,7 +50,7 @@ impl Slave {
     {
         if self.prm.as_ref().is_some_and(|prm| prm.freeze_req) {
             self.freeze_mode = true;
-            self.copy.set(self.inputs.as_slice());
+            self.frozen_inputs.set(self.inputs.as_slice());
         }
     }
 

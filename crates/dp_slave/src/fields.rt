@@ -75,12 +75,12 @@ impl Slave {
         self.inputs.as_slice()
     }
 
-    /// Returns the copy of the inputs that Freeze made, 0 to 244 octets.
+    /// Returns the frozen inputs, as the last Freeze took them, 0 to 244 octets.
     pub fn frozen_inputs(&self) -> &[u8]
-        ensures value { result.now ≡ self.now.slave.copy }
+        ensures value { result.now ≡ self.now.slave.frozen_inputs }
         ensures most { length result.now ≤ most_data }
     {
-        self.copy.as_slice()
+        self.frozen_inputs.as_slice()
     }
 
     /// Returns the data that came last, 0 to 244 octets, which differ from the outputs in sync mode.

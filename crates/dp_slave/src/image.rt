@@ -21,7 +21,7 @@ use dp_sap::{BusyMarks, MOST_DATA, Points, State};
 
 /// The state of a slave, who holds it, its watchdog and its busy marks.
 #[derive(Debug, Drop)]
-pub struct Standing {
+pub struct HoldState {
     /// Its state.
     pub state: State,
     /// The address of the master that holds it, 0 to 126, if one does.
@@ -51,12 +51,12 @@ pub struct Settings {
     pub cleared: bool,
 }
 
-/// The inputs and the copy of them that Freeze made, or the outputs and the data that came last.
+/// The inputs and the frozen inputs, or the outputs and the data that came last.
 #[derive(Debug, Drop)]
 pub struct DataPair {
     /// The inputs or the outputs, 0 to 244 octets.
     pub first: ArrayVec<u8, MOST_DATA>,
-    /// The copy of the inputs, or the data that came last, 0 to 244 octets.
+    /// The frozen inputs, or the data that came last, 0 to 244 octets.
     pub second: ArrayVec<u8, MOST_DATA>,
 }
 
@@ -64,12 +64,12 @@ pub struct DataPair {
 #[derive(Drop)]
 pub struct SlaveImage {
     /// Its state, its holder, its watchdog and its busy marks.
-    pub standing: Standing,
+    pub hold_state: HoldState,
     /// What masters set beside its parameters.
     pub settings: Settings,
     /// The parameters of its holder.
     pub prm: Option<Prm>,
-    /// Its inputs, and the copy of them that Freeze made.
+    /// Its inputs, and the frozen inputs.
     pub inputs: DataPair,
     /// Its outputs, and the data that came last.
     pub outputs: DataPair,
@@ -81,7 +81,7 @@ pub struct SlaveImage {
 
 impl Slave {
     /// Returns the slave of a description that is as its image says and is in no list; `None` exactly if the
-    /// inputs, their copy, the outputs or the data that came last are not as long as the shape of the image says.
+    /// inputs, the frozen inputs, the outputs or the data that came last are not as long as the shape of the image says.
     /// Requires that each configuration of the description can be parsed.
     pub fn restore(description: &SlaveSpec, image: SlaveImage) -> Option<Slave>
         requires { list_all can_be_parsed (configurations_of description.now) ≡ true }
@@ -113,7 +113,7 @@ impl Slave {
         self.cfg = other.cfg;
         self.shape = other.shape;
         self.inputs.copy_from(&other.inputs);
-        self.copy.copy_from(&other.copy);
+        self.frozen_inputs.copy_from(&other.frozen_inputs);
         self.outputs.copy_from(&other.outputs);
         self.latest.copy_from(&other.latest);
         self.sync_mode = other.sync_mode;
@@ -145,7 +145,7 @@ fn made(
     ensures links { result.links ≡ no_links }
 {
     let SlaveImage {
-        standing,
+        hold_state,
         settings,
         prm,
         inputs,
@@ -154,29 +154,29 @@ fn made(
         memory,
     } = image;
     let mut points = Points::at_state(
-        standing.state,
-        standing.holder,
+        hold_state.state,
+        hold_state.holder,
         output_length,
         settings.cleared,
         &description.lists,
     );
-    points.set_marks(standing.busy);
+    points.set_marks(hold_state.busy);
     Slave {
         description: copied(description),
         configurations,
         points,
-        since: standing.since,
+        since: hold_state.since,
         min_tsdr: settings.min_tsdr,
         prm,
         cfg: settings.cfg,
         shape: settings.shape,
         inputs: DataOctets::of(inputs.first),
-        copy: DataOctets::of(inputs.second),
+        frozen_inputs: DataOctets::of(inputs.second),
         outputs: DataOctets::of(outputs.first),
         latest: DataOctets::of(outputs.second),
         sync_mode: settings.sync_mode,
         freeze_mode: settings.freeze_mode,
-        left: standing.left,
+        left: hold_state.left,
         diag,
         memory,
         links: Links {

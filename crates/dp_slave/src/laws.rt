@@ -19,7 +19,7 @@ pub fn released_is_a_fixed_point()
 /// A slave is sound after any acts from the start, each of which the verdict or the line lets
 /// through. Outside Data_Exch its outputs and latest data are zero and neither mode is on. It is in
 /// Wait_Prm exactly when nobody holds it. A watchdog runs exactly when the holder's parameters ask
-/// for one. Inputs, their copy, outputs and latest data have the lengths of the shape in force,
+/// for one. Inputs, frozen inputs, outputs and latest data have the lengths of the shape in force,
 /// which is that of a configuration of the slave if it has any. A slave that is cleared is
 /// fail-safe and in Data_Exch, and its outputs and latest data are zero.
 pub fn a_slave_stays_sound()

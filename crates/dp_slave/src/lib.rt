@@ -1,5 +1,5 @@
-//! One DP-V0 slave (IEC 61158-6-3, slave state machine): what its services do and answer, what its
-//! device and its application change, and what time and a Global_Control do.
+//! One DP-V0 slave (IEC 61158-6-3, slave state machine): what each service, its device, its application and time change
+//! of it; it reads no telegrams and decides no request.
 #![tactic(auto)]
 
 mod changes;
@@ -18,6 +18,6 @@ mod view;
 
 pub use description::{Configuration, Device, MOST_CONFIGURATIONS, SlaveSpec};
 pub use fault::InputFault;
-pub use image::{DataPair, Settings, SlaveImage, Standing};
+pub use image::{DataPair, HoldState, Settings, SlaveImage};
 pub use slave::Slave;
 pub use view::SlaveView;

@@ -25,14 +25,14 @@ impl Slave {
     /// Executes Set_Prm by the sender, a master 0 to 126, at this place of the journal, with 0 to
     /// 244 octets. Depending on their meaning, the sender locks the slave or stays its holder, the
     /// slave is released, or only min TSDR is set. The request is always answered without data.
-    pub fn set_prm(&mut self, sender: u8, number: u32, octets: &[u8])
+    pub fn set_prm(&mut self, sender: u8, place: u32, octets: &[u8])
         requires { length octets.now ≤ most_parameters }
-        ensures { self.new ≡ with_slave self.old (acted self.old.slave (set_prm_act self.old.slave sender number octets.now)) }
+        ensures { self.new ≡ with_slave self.old (acted self.old.slave (set_prm_act self.old.slave sender place octets.now)) }
     {
         match read_lent(octets, &self.limits()) {
             PrmVerdictLent::MinTsdr(min_tsdr) => self.set_min_tsdr(sender, min_tsdr),
             PrmVerdictLent::Unlock => self.unlock(),
-            PrmVerdictLent::Lock(prm) => self.lock(sender, number, &prm),
+            PrmVerdictLent::Lock(prm) => self.lock(sender, place, &prm),
             PrmVerdictLent::Fault { not_supported } => self.refuse_parameters(not_supported),
         }
     }
@@ -52,9 +52,9 @@ impl Slave {
     /// Locks the slave for the sender, at this place of the journal. A master that holds the slave
     /// already keeps its place.
     #[tactic(auto, unfolding(crate::specs::Fields::acted))]
-    fn lock(&mut self, sender: u8, number: u32, prm: &PrmLent<'_>)
+    fn lock(&mut self, sender: u8, place: u32, prm: &PrmLent<'_>)
         requires { length prm.now.user.now ≤ most_user_parameters }
-        ensures { self.new ≡ with_slave self.old (acted self.old.slave (locks sender number (prm_lent prm.now))) }
+        ensures { self.new ≡ with_slave self.old (acted self.old.slave (locks sender place (prm_lent prm.now))) }
     {
         if prm.min_tsdr != 0 {
             self.min_tsdr = prm.min_tsdr;
@@ -62,7 +62,7 @@ impl Slave {
         self.left = prm.watchdog;
         self.keep_parameters(prm);
         if !self.is_held_by(sender) {
-            self.since = number;
+            self.since = place;
         }
         let out_len = self.points.out_len();
         self.points
@@ -101,7 +101,7 @@ impl Slave {
     fn refuse_parameters(&mut self, not_supported: bool)
         ensures { self.new ≡ with_slave self.old (acted self.old.slave (faults not_supported)) }
     {
-        self.make_safe();
+        self.release();
         self.diag.prm_fault = true;
         self.diag.cfg_fault = false;
         self.diag.not_supported = not_supported;
@@ -112,7 +112,7 @@ impl Slave {
     fn unlock(&mut self)
         ensures { self.new ≡ with_slave self.old (acted self.old.slave unlocks) }
     {
-        self.make_safe();
+        self.release();
     }
 
     /// Sets only min TSDR, which 0 leaves unchanged. If the sender holds the slave, the watchdog
@@ -158,7 +158,7 @@ impl Slave {
         self.left = self.left_again();
     }
 
-    /// Puts the shape of this number in force: cuts the inputs and their copy or fills them with zeros,
+    /// Puts the shape of this number in force: cuts the inputs and the frozen inputs or fills them with zeros,
     /// sets outputs and latest data to zeros, ends both modes, and marks the slave as not cleared.
     fn reshape(&mut self, number: u8)
         ensures { self.new ≡ with_slave self.old (reshaped self.old.slave number) }
@@ -168,7 +168,7 @@ impl Slave {
         self.points.move_to(state, holder, output_length, false);
         self.shape = number;
         self.inputs.resize(input_length);
-        self.copy.resize(input_length);
+        self.frozen_inputs.resize(input_length);
         self.outputs = DataOctets::zeros(output_length);
         self.latest = DataOctets::zeros(output_length);
         self.sync_mode = false;
@@ -180,7 +180,7 @@ impl Slave {
     fn refuse_configuration(&mut self)
         ensures { self.new ≡ with_slave self.old (acted self.old.slave misconfigures) }
     {
-        self.make_safe();
+        self.release();
         self.diag.cfg_fault = true;
     }
 
@@ -297,7 +297,7 @@ impl Slave {
 
     /// Releases the slave, whatever its state.
     #[tactic(auto, unfolding(crate::specs::SlaveRecord::released))]
-    pub fn make_safe(&mut self)
+    pub fn release(&mut self)
         ensures { self.new ≡ with_slave self.old (released self.old.slave) }
     {
         let out_len = self.points.out_len();

@@ -38,7 +38,7 @@ pub struct Slave {
     pub(crate) cfg: Option<u8>,
     pub(crate) shape: u8,
     pub(crate) inputs: DataOctets,
-    pub(crate) copy: DataOctets,
+    pub(crate) frozen_inputs: DataOctets,
     pub(crate) outputs: DataOctets,
     pub(crate) latest: DataOctets,
     pub(crate) sync_mode: bool,
@@ -68,7 +68,7 @@ impl Model for Slave {
         cfg = s.cfg;
         shape = s.shape;
         inputs = s.inputs;
-        copy = s.copy;
+        frozen_inputs = s.frozen_inputs;
         outputs = s.outputs;
         latest = s.latest;
         sync_mode = s.sync_mode;
@@ -82,7 +82,7 @@ impl Model for Slave {
       links = s.links;
     } };
 
-    ghost invariant = { λ s. HaveLengths s.description s.shape s.inputs s.copy s.outputs s.latest
+    ghost invariant = { λ s. HaveLengths s.description s.shape s.inputs s.frozen_inputs s.outputs s.latest
         × (s.points.out_len ≡ outputs_of s.description s.shape)
         × (s.configurations.items ≡ described s.description)
         × (s.points.lists ≡ s.description.lists) };
@@ -114,7 +114,7 @@ impl Slave {
             cfg: None,
             shape: 0,
             inputs: DataOctets::zeros(input_length),
-            copy: DataOctets::zeros(input_length),
+            frozen_inputs: DataOctets::zeros(input_length),
             outputs: DataOctets::zeros(output_length),
             latest: DataOctets::zeros(output_length),
             sync_mode: false,
@@ -159,7 +159,7 @@ impl Slave {
         self.memory.remember(sender, fc, reply);
     }
 
-    /// Returns the inputs that a master sees, 0 to 244 octets: in freeze mode the copy that Freeze made.
+    /// Returns the inputs that a master sees, 0 to 244 octets: in freeze mode the frozen inputs.
     pub fn rd_inp(&self) -> &[u8]
         ensures inputs { result.now ≡ shown_inputs self.now.slave }
         ensures long { length result.now ≡ input_length self.now.slave }
@@ -168,13 +168,13 @@ impl Slave {
         self.shown().as_slice()
     }
 
-    /// Returns the inputs, or in freeze mode their copy.
+    /// Returns the inputs, or in freeze mode the frozen inputs.
     pub(crate) fn shown(&self) -> &DataOctets
         ensures inputs { result.now ≡ shown_inputs self.now.slave }
         ensures long { length result.now ≡ input_length self.now.slave }
     {
         if self.freeze_mode {
-            &self.copy
+            &self.frozen_inputs
         } else {
             &self.inputs
         }

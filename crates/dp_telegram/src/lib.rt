@@ -1,5 +1,5 @@
-//! FDL telegrams of PROFIBUS (IEC 61158-4-3): decodes octets into frames, encodes frames into
-//! octets, and reads the service access points that the extension octets of a data unit name.
+//! Decodes octets into FDL telegrams of PROFIBUS (IEC 61158-4-3), encodes telegrams into octets and cuts a stream into
+//! frames; it gives no telegram a meaning beyond its function code and its access points.
 //!
 //! A [`Frame`] is the content of the text of one frame. [`decode`] reads the text of one whole
 //! frame, and [`encode`] writes one. [`Telegram::parts`] splits a data unit into access points and

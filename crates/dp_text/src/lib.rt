@@ -1,4 +1,5 @@
-//! The texts that more than one crate reads or writes: numbers, hex words, events and answers.
+//! The texts of numbers, octets, events and answers that several crates read and write; it has no whole texts of a file,
+//! and takes no memory.
 //!
 //! Nothing in this crate allocates memory: words are borrowed from their line, and a [`Text`] has room for the
 //! longest text.

@@ -2,9 +2,9 @@
 
 use crate::ending::Fault;
 use clap::error::ErrorKind as Answer;
-use dp_script::RunFault;
-use rackd_words::{Invocation, read_words};
-use row_queue::Escaped;
+use rack_script::RunFault;
+use rackd_cli::{Invocation, read_words};
+use serve_log::{Escaped, is_escaped};
 use std::alloc::Global;
 use std::process::ExitCode;
 use std::rt::Runtime;
@@ -19,7 +19,8 @@ pub(crate) fn answer_words<'a>(
     Ok(print_answer(rt, &answer)?)
 }
 
-/// Returns what `clap` answers to words. If a word has control characters, reads the words again with these escaped.
+/// Returns what `clap` answers to words. If a word has characters that are escaped, reads the words again
+/// with these escaped.
 ///
 /// The text of `clap` has LFs of its own, so it can't be escaped as a whole.
 fn escaped_answer<'a>(
@@ -27,10 +28,7 @@ fn escaped_answer<'a>(
     words: &[String],
     answer: clap::Error,
 ) -> Result<clap::Error, Fault<'a>> {
-    if !words
-        .iter()
-        .any(|word| word.as_str().contains(char::is_control))
-    {
+    if !words.iter().any(|word| word.as_str().contains(is_escaped)) {
         return Ok(answer);
     }
     let mut escaped = Vec::new(alloc);

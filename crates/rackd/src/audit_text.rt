@@ -1,17 +1,17 @@
 //! An audit text in files, from its header or from the head of a later part on.
 
 ghost use Rattle.std.specs.Prelude.{◌≡◌, IfOk};
-ghost use Rattle.dp_explain.specs.TextRows.{nothing_read};
+ghost use Rattle.explain_texts.specs.TextRows.{nothing_read};
 
-use crate::audit_files::AuditFiles;
 use crate::ending::Fault;
+use crate::text_files::AuditFiles;
+use audit_parts::{EntryRows, PartsCheck, read_beginning};
 use dp_audit::{AuditFault, set_header_line, version_of};
-use dp_explain::TextRows;
 use dp_line::LineSpec;
-use dp_parts::{EntryRows, PartsCheck, read_beginning};
-use dp_script::RunFault;
 use dp_text::{Text, is_text};
+use explain_texts::TextRows;
 use rack_file::Rack;
+use rack_script::RunFault;
 use std::alloc::Global;
 use std::fs::Files;
 use std::io::{self, BufRead, BufReader, ErrorKind, Read};

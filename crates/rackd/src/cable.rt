@@ -2,30 +2,24 @@
 
 use crate::ending::Fault;
 use crate::stand_ins;
-use cable_line::{CableFault, CableSettings, listen_at, serve_cable};
-use dp_cable::{Chance, Covered, Options};
-use dp_cause::Cause;
-use dp_script::RunFault;
-use rack_server::{Host, ServeFault};
-use rack_sockets::replace_file;
-use rackd_words::{CableWords, FaultyTelegrams};
+use cable_faults::{Chance, Covered, Options};
+use cable_host::{CableFault, CableSettings, listen_at, serve_cable};
+use rack_script::RunFault;
+use rackd_cli::{CableWords, FaultyTelegrams};
+use serve_rack::{Host, ServeFault};
+use serve_sockets::replace_file;
 use std::fs::{File, Files};
 use std::io::{self, Read};
 use std::process::ExitCode;
 use std::rt::Runtime;
+use system_errors::Cause;
 
 /// Serves a cable between masters and the line at a port. It ends only with a fault.
 pub(crate) fn run_cable<
     'a,
     H: Runtime + AllocGlobal + Host + Copy + Send + 'static,
     I: Read + Send + Drop + 'static,
->(
-    rt: &H,
-    errors: &impl Eprint,
-    port: u16,
-    words: CableWords<'a>,
-    input: I,
-) -> Result<ExitCode, Fault<'a>> {
+>(rt: &H, port: u16, words: CableWords<'a>, input: I) -> Result<ExitCode, Fault<'a>> {
     let _held = stand_ins(rt);
     let Some(options) = options_of(&words) else {
         return Err(Fault::Run(RunFault::OutOfMemory));
@@ -47,15 +41,7 @@ pub(crate) fn run_cable<
         return Err(Fault::CannotMake(path, Cause::from_error(&error)));
     }
     let mut output = io::writer(rt);
-    match serve_cable(
-        *rt,
-        rt.alloc(),
-        settings,
-        listener,
-        input,
-        &mut output,
-        errors,
-    ) {
+    match serve_cable(*rt, rt.alloc(), settings, listener, input, &mut output) {
         Ok(()) => Ok(ExitCode::SUCCESS),
         Err(fault) => Err(fault_of(own, fault)),
     }

@@ -1,17 +1,18 @@
 //! Writes the telegrams of audit texts for Wireshark.
 
 ghost use Rattle.std.specs.Prelude.{◌≡◌};
-ghost use Rattle.dp_explain.specs.TextRows.{nothing_read};
+ghost use Rattle.explain_texts.specs.TextRows.{nothing_read};
 
-use crate::audit_files::{open_files, reported_read};
 use crate::audit_text::{AuditText, FileEntries, FirstRow, entries_from_header, files_of};
 use crate::commands::Terminals;
+use crate::cut_end::noted_end;
 use crate::ending::Fault;
 use crate::files::read_file;
 use crate::output::{buffered, has_reader};
 use crate::reporting::reported;
+use crate::text_files::{open_files, reported_read};
 use crate::texts::{noted_first_part, rack_of};
-use rack_capture::run_capture;
+use capture_texts::run_capture;
 use std::fs::Files;
 use std::io::Read;
 use std::process::ExitCode;
@@ -46,7 +47,11 @@ fn capture_on<'a, H: Runtime + AllocGlobal>(
     let first_row = text.first_row();
     let mut rows = entries_from_header(rt.alloc(), text)?;
     let captured = capture_out(rt, rack, first_row, &mut rows);
-    reported_read(rt, files_of(&rows), captured)
+    let captured = reported_read(rt, files_of(&rows), captured);
+    if first_row == FirstRow::PartHeader {
+        return captured;
+    }
+    noted_end(rt, rack, &described, audit, captured)
 }
 
 /// Writes the capture of an audit text on a rack to standard output. If its reader ends before, the rest is not written, and

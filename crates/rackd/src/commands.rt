@@ -6,7 +6,7 @@ use crate::follow::follow_files;
 use crate::gsd::{write_gsd, write_slave};
 use crate::judge::judge_files;
 use crate::texts::{check_files, explain_files, run_files};
-use rackd_words::{Entries, FileCommand};
+use rackd_cli::{Entries, FileCommand};
 use std::process::ExitCode;
 use std::rt::Runtime;
 use std::sync::Wait;

@@ -1,14 +1,14 @@
 //! Reports the row of an audit text that is not what the policy gives.
 
-use crate::audit_files::AuditFiles;
 use crate::audit_text::AuditText;
+use crate::cut_end::place_words;
 use crate::ending::Fault;
 use crate::stations::line_of;
-use audit_differences::{Difference, difference_in};
-use dp_explain::{ReadFault, TextRows};
-use dp_script::RunFault;
+use crate::text_files::AuditFiles;
+use explain_texts::{ReadFault, TextRows};
 use rack_file::Rack;
-use row_queue::Escaped;
+use rack_script::{Difference, RunFault, difference_in};
+use serve_log::Escaped;
 use std::fs::Files;
 use std::io::Read;
 use std::rt::Runtime;
@@ -36,7 +36,10 @@ pub(crate) fn note_difference<R: Read + Drop, H: Runtime + AllocGlobal + Files<F
     };
     let mut rows = TextRows::new(rt.alloc(), text.reader);
     match difference_in(rt.alloc(), line, text.front.as_slice(), &mut rows) {
-        Ok(Some(difference)) => report_difference(rt, &difference),
+        Ok(Some(difference)) => {
+            let others = audit.len().saturating_sub(1);
+            report_difference(rt, &difference, others, rows.reader().get_ref().path());
+        }
         Ok(None) => {}
         Err(ReadFault::OutOfMemory) => return Err(RunFault::OutOfMemory),
         Err(ReadFault::CannotRead | ReadFault::NotText) => {}
@@ -44,11 +47,17 @@ pub(crate) fn note_difference<R: Read + Drop, H: Runtime + AllocGlobal + Files<F
     Ok(())
 }
 
-/// Reports a row that is not what the policy gives.
-fn report_difference(errors: &impl Eprint, difference: &Difference) {
+/// Reports a row that is not what the policy gives. `path` is the path of its file, and `others` is how many other files the text
+/// has.
+fn report_difference(errors: &impl Eprint, difference: &Difference, others: usize, path: &str) {
     let (row, written) = (difference.row, difference.written.as_str());
     let expected = difference.expected.as_str();
-    let _ = eprintln!(errors; "  row {row}: written \"{}\"", Escaped(written));
+    let of = place_words(others);
+    let _ = eprintln!(errors;
+        "  row {row} of {of}{}: written \"{}\"",
+        Escaped(path),
+        Escaped(written)
+    );
     if expected.is_empty() {
         let _ = eprintln!(errors; "  the policy gives no entry there");
     } else {

@@ -3,13 +3,14 @@
 ghost use Rattle.std.specs.Prelude.{◌≡◌, Some};
 ghost use Rattle.rackd.specs.Ending.{cause_of, fault_text, serve_cause, serve_status, status_of};
 
-use dp_cause::Cause;
-use dp_script::RunFault;
-use operator_client::ClientFault;
+use audit_files::AuditName;
+use operate_host::ClientFault;
 use rack_file::RackFault;
-use rack_server::ServeFault;
-use rackd_words::WordsFault;
+use rack_script::RunFault;
+use rackd_cli::WordsFault;
+use serve_rack::ServeFault;
 use std::fmt;
+use system_errors::Cause;
 
 /// Why the program could not do its work. Its `Display` is the line on standard error without its LF, and allocates
 /// no memory.
@@ -19,12 +20,16 @@ pub enum Fault<'a> {
     BadWord,
     /// The file at this path, or standard input for `-`, cannot be read or is not UTF-8.
     CannotRead(&'a str, Cause),
+    /// The file at this path is one of another audit text than the file with this name, which is given before it.
+    OtherText(&'a str, AuditName),
     /// The file at this path, which names ports, cannot be made.
     CannotMake(&'a str, Cause),
     /// The program cannot connect to this port.
     CannotConnect(u16, Cause),
     /// The connection to this port ended before standard input did, or before a line of standard input was answered.
     PortEnded(u16),
+    /// An answer of this port has more than 65,536 octets.
+    LongAnswer(u16),
     /// The line of the audit text has no slave at this address, whose entries are asked for.
     NoSlave(u8),
     /// The line of the audit text has no master at this address, whose requests are asked for.
@@ -35,6 +40,8 @@ pub enum Fault<'a> {
     BadName,
     /// The GSD file at this path, or the modules that it is to have plugged, are not accepted.
     BadGsd(&'a str),
+    /// The system gives too few threads for the page.
+    FewThreads,
     /// Standard output is a terminal, which a capture is not written to.
     OutputIsTerminal,
     /// The run ended early.
@@ -70,6 +77,7 @@ impl<'a> Fault<'a> {
         match fault {
             ClientFault::CannotConnect(cause) => Fault::CannotConnect(port, cause),
             ClientFault::PortEnded => Fault::PortEnded(port),
+            ClientFault::LongAnswer => Fault::LongAnswer(port),
             ClientFault::CannotRead(cause) => Fault::CannotRead("-", cause),
             ClientFault::WriteFault => Fault::Run(RunFault::WriteFault),
             ClientFault::OutOfMemory => Fault::Run(RunFault::OutOfMemory),
@@ -86,9 +94,10 @@ pub fn status(fault: Fault<'_>) -> u8
         Fault::Run(RunFault::OutOfMemory | RunFault::Rack(RackFault::OutOfMemory)) => 3,
         Fault::Run(RunFault::WriteFault) => 4,
         Fault::BadWord | Fault::CannotRead(_, _) | Fault::CannotMake(_, _) => 2,
-        Fault::CannotConnect(_, _) | Fault::PortEnded(_) => 2,
+        Fault::OtherText(_, _) => 2,
+        Fault::CannotConnect(_, _) | Fault::PortEnded(_) | Fault::LongAnswer(_) => 2,
         Fault::NoSlave(_) | Fault::NoMaster(_) | Fault::NoLine(_) => 2,
-        Fault::BadName | Fault::BadGsd(_) | Fault::OutputIsTerminal => 2,
+        Fault::BadName | Fault::BadGsd(_) | Fault::OutputIsTerminal | Fault::FewThreads => 2,
         Fault::Run(RunFault::Rack(_) | RunFault::Script(_)) => 2,
         Fault::Run(RunFault::CannotRead | RunFault::NotText) => 2,
         Fault::Serve(fault) => status_of_serving(fault),
@@ -116,9 +125,10 @@ pub fn cause(fault: Fault<'_>) -> Option<Cause>
     match fault {
         Fault::CannotRead(_, cause) | Fault::CannotMake(_, cause) => Some(cause),
         Fault::CannotConnect(_, cause) => Some(cause),
-        Fault::BadWord | Fault::PortEnded(_) | Fault::Run(_) => None,
+        Fault::BadWord | Fault::PortEnded(_) | Fault::LongAnswer(_) | Fault::Run(_) => None,
+        Fault::OtherText(_, _) => None,
         Fault::NoSlave(_) | Fault::NoMaster(_) | Fault::NoLine(_) => None,
-        Fault::BadName | Fault::BadGsd(_) | Fault::OutputIsTerminal => None,
+        Fault::BadName | Fault::BadGsd(_) | Fault::OutputIsTerminal | Fault::FewThreads => None,
         Fault::Serve(fault) => cause_of_serving(fault),
     }
 }
@@ -141,14 +151,22 @@ impl<'a> fmt::Display for Fault<'a> {
         match self {
             Fault::BadWord => f.write_str("rackd: a word is not UTF-8"),
             Fault::CannotRead(path, _) => write!(f, "rackd: cannot read {path}"),
+            Fault::OtherText(path, _) => write!(f, "rackd: cannot read {path}"),
             Fault::CannotMake(path, _) => write!(f, "rackd: cannot make {path}"),
             Fault::CannotConnect(port, _) => write!(f, "rackd: cannot connect to {port}"),
             Fault::PortEnded(port) => write!(f, "rackd: port {port} has ended"),
+            Fault::LongAnswer(port) => {
+                write!(
+                    f,
+                    "rackd: an answer of port {port} has more than 65536 octets"
+                )
+            }
             Fault::NoSlave(address) => write!(f, "rackd: the line has no slave {address}"),
             Fault::NoMaster(address) => write!(f, "rackd: the line has no master {address}"),
             Fault::NoLine(number) => write!(f, "rackd: the rack has no line {number}"),
             Fault::BadName => f.write_str("rackd: a name for the GSD file is not accepted"),
             Fault::BadGsd(path) => write!(f, "rackd: cannot use {path}"),
+            Fault::FewThreads => f.write_str("rackd: too few threads for the page"),
             Fault::OutputIsTerminal => f.write_str("rackd: standard output is a terminal"),
             Fault::Run(fault) => write!(f, "rackd: {fault}"),
             Fault::Serve(fault) => write!(f, "rackd: {fault}"),

@@ -1,11 +1,11 @@
 //! Reads files.
 
 use crate::ending::Fault;
-use dp_cause::Cause;
-use dp_script::RunFault;
+use rack_script::RunFault;
 use std::fs;
 use std::io::{self, ErrorKind};
 use std::rt::Runtime;
+use system_errors::Cause;
 
 /// Returns the text of a file.
 pub(crate) fn read_file<'a>(

@@ -1,20 +1,20 @@
 //! Explains an audit text while a rack writes it.
 
-use crate::audit_files::{AuditFiles, FileRows, reported_read, rows_of};
 use crate::ending::Fault;
 use crate::files::read_file;
 use crate::followed_parts::FollowedParts;
 use crate::output::{buffered, reaches_reader};
 use crate::reporting::reported;
 use crate::stations::{check_line, line_of};
+use crate::text_files::{AuditFiles, FileRows, reported_read, rows_of};
 use crate::texts::{choice_of, note_header, rack_of};
+use audit_parts::{is_part_header, rows_behind_header};
 use dp_audit::AuditFault;
-use dp_explain::{Choice, ExplainFault, FollowFault, TextRows};
 use dp_line::LineSpec;
-use dp_parts::{is_part_header, rows_behind_header};
-use dp_script::{RunFault, report_verdict_by};
+use explain_texts::{Choice, ExplainFault, FollowFault, TextRows};
 use rack_file::Rack;
-use rackd_words::Entries;
+use rack_script::{RunFault, report_verdict_by};
+use rackd_cli::Entries;
 use std::fs::Files;
 use std::io::{BufRead, Read, Write};
 use std::process::ExitCode;

@@ -3,11 +3,11 @@
 ghost use Rattle.std.specs.Prelude.{◌≡◌, None};
 ghost use Rattle.dp_line.specs.World.{description_of, opening_fault};
 
+use audit_parts::{HeadRows, fault_of_head, is_part_header};
 use dp_audit::AuditFault;
-use dp_explain::{Choice, ExplainFault, FollowFault, Follower};
 use dp_line::LineSpec;
-use dp_parts::{HeadRows, fault_of_head, is_part_header};
 use dp_text::{Lines, Text};
+use explain_texts::{Choice, ExplainFault, FollowFault, Follower};
 use std::alloc::Global;
 use std::io::Write;
 

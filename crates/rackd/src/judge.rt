@@ -1,20 +1,21 @@
 //! Judges the masters of audit texts.
 
 ghost use Rattle.std.specs.Prelude.{◌≡◌};
-ghost use Rattle.dp_explain.specs.TextRows.{nothing_read};
+ghost use Rattle.explain_texts.specs.TextRows.{nothing_read};
 
-use crate::audit_files::{open_files, reported_read};
 use crate::audit_text::{AuditText, FileEntries, FirstRow, entries_from_header, files_of};
+use crate::cut_end::noted_end;
 use crate::ending::Fault;
 use crate::files::read_file;
 use crate::output::{buffered, has_reader};
 use crate::reporting::reported;
 use crate::stations::check_stations;
+use crate::text_files::{open_files, reported_read};
 use crate::texts::{noted_first_part, rack_of};
-use dp_judge::JudgeRule;
-use dp_script::RunFault;
-use rack_judge::{Form, JudgeChoice, run_judge};
-use rackd_words::{Entries, Findings, Judging};
+use judge_rules::JudgeRule;
+use judge_texts::{Form, JudgeChoice, run_judge};
+use rack_script::RunFault;
+use rackd_cli::{Entries, Findings, Judging};
 use std::alloc::{AllocError, Global};
 use std::fs::Files;
 use std::io::Read;
@@ -63,7 +64,11 @@ fn judge_on<'a, H: Runtime + AllocGlobal>(
     let first_row = text.first_row();
     let mut rows = entries_from_header(rt.alloc(), text)?;
     let judged = judge_out(rt, rack, choice, first_row, &mut rows);
-    reported_read(rt, files_of(&rows), judged)
+    let judged = reported_read(rt, files_of(&rows), judged);
+    if first_row == FirstRow::PartHeader {
+        return judged;
+    }
+    noted_end(rt, rack, &described, audit, judged)
 }
 
 /// Judges an audit text on a rack, and writes the findings on standard output. If its reader ends before, the rest is not

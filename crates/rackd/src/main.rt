@@ -1,20 +1,21 @@
-//! The rack of simulated DP slaves: the program.
+//! The program `rackd`: it opens the files, carries out the command that its arguments name, and ends with a status; it
+//! decides nothing of the policy, which the crates below do.
 //!
-//! Without words it reads a rack text, a line `%%` and a script from standard input, and writes the answers of the
+//! Without arguments it reads a rack text, a row `%%` and a script from standard input, and writes the answers of the
 //! script. `run` reads the rack and the script from two files. `check` reads a rack and an audit text, and checks the
-//! text. `explain` reads a rack and an audit text, and explains the text. `judge` judges the masters of an audit text, and
-//! `capture` writes its telegrams for Wireshark. `gsd` and `slave` write and read GSD files. `serve` reads a rack, and serves
-//! its lines at sockets. `watch` shows a rack in a browser. `operate` is a client of the operator port of a line that is
-//! served. `cable` serves a cable with faults between masters and a line. `--help` and `--version` are answered on standard
-//! output.
+//! text. `explain` reads a rack and an audit text, and explains the text. `judge` judges the masters of an audit text,
+//! and `capture` writes its telegrams for Wireshark. `gsd` and `slave` write and read GSD files. `serve` reads a rack,
+//! and serves its lines at sockets. `watch` shows a rack in a browser. `operate` is a client of the operator port of a
+//! line that is served. `cable` serves a cable with faults between masters and a line. `--help` and `--version` are
+//! answered on standard output.
 #![tactic(auto)]
 
 mod answers;
-mod audit_files;
 mod audit_text;
 mod cable;
 mod capture;
 mod commands;
+mod cut_end;
 mod differences;
 mod ending;
 mod files;
@@ -30,24 +31,25 @@ mod rack_cause;
 mod reporting;
 mod script_form;
 mod stations;
+mod text_files;
 mod texts;
+mod verdict;
 mod watching;
 
 use answers::answer_words;
 use cable::run_cable;
 use commands::{Terminals, run_command};
-use dp_script::RunFault;
 use ending::Fault;
 use files::read_file;
 use log::{Level, Log, Logged, info};
-use operator_client::operate;
+use operate_host::operate;
 use output::{buffered, flushed};
-use rack_server::{Host, InputEnd, ServeFault, Served, serve_text};
-use rack_service::Service;
-use rack_watch::WatchHost;
-use rackd_words::{Invocation, read_words, words_of};
+use rack_script::RunFault;
+use rackd_cli::{Invocation, read_words, words_of};
 use reporting::{ended, report, reported};
-use row_queue::{RowQueue, Written};
+use serve_log::{RowQueue, Written};
+use serve_options::ServeOptions;
+use serve_rack::{Host, InputEnd, ServeFault, Served, serve_text};
 use std::alloc::Global;
 use std::fs::{File, Files};
 use std::io::{self, IsTerminal, Read};
@@ -57,7 +59,8 @@ use std::rt::Runtime;
 use std::sync::Wait;
 use std::thread::{self, Threads};
 use texts::run_input;
-use watching::{ServedPage, watch_folder};
+use watch_host::WatchHost;
+use watching::{OpeningOutput, ServedPage, ShutPage, StartingPage, open_served_page, watch_folder};
 
 /// A file that has no bytes.
 const NOTHING: &str = "/dev/null";
@@ -88,14 +91,15 @@ fn main(rt: HostRuntime) -> ExitCode {
         Ok(Invocation::Watch { rack, folder, port }) => {
             ended(&rt, watch_folder(&rt, rack, folder, port))
         }
-        Ok(Invocation::Serve { rack, service }) => match before_serving(
+        Ok(Invocation::Serve { rack, options }) => match before_serving(
             &rt,
             rack,
-            service,
+            options,
             rt.stdin(),
         ) {
             Ok((rack, page, input, queue, written)) => {
-                if let Some(page) = page {
+                let mut shut_page = None;
+                if let Some((page, starting)) = page {
                     let showing = move || {
                         let _named: (Option<TcpListener>, Option<TcpStream>, Option<File>) = (
                             None, None, None,
@@ -103,7 +107,11 @@ fn main(rt: HostRuntime) -> ExitCode {
                         page.show(&rt)
                     };
                     if thread::spawn(&rt, showing).is_err() {
-                        return report(&rt, Fault::Run(RunFault::OutOfMemory));
+                        return report(&rt, Fault::FewThreads);
+                    }
+                    match starting.wait(&rt) {
+                        Ok(shut) => shut_page = Some(shut),
+                        Err(fault) => return report(&rt, fault),
                     }
                 }
                 let host = Logged::new(rt, Level::Info, queue);
@@ -112,8 +120,9 @@ fn main(rt: HostRuntime) -> ExitCode {
                     host.sink(),
                     rt.alloc(),
                     rack.as_str(),
-                    service,
+                    options,
                     input,
+                    shut_page,
                 );
                 let (_, queue) = host.into_parts();
                 queue.end(written);
@@ -122,9 +131,9 @@ fn main(rt: HostRuntime) -> ExitCode {
             Err(fault) => report(&rt, fault),
         },
         Ok(Invocation::Operate { port }) => ended(&rt, operate_line(&rt, port, rt.stdin())),
-        Ok(Invocation::Cable { port, cable }) => match row_queue::start(rt, rt.alloc()) {
+        Ok(Invocation::Cable { port, cable }) => match serve_log::start(rt, rt.alloc()) {
             Ok((queue, written)) => {
-                let ended_with = run_cable(&rt, &queue, port, cable, rt.stdin());
+                let ended_with = run_cable(&rt, port, cable, rt.stdin());
                 let code = ended(&queue, ended_with);
                 queue.end(written);
                 code
@@ -145,19 +154,15 @@ fn hint(errors: &impl Eprint, is_terminal: bool) {
 
 /// Reads the rack file, opens the page if there is one, watches the input if serving ends with it, and starts the queue of rows
 /// for standard error. With the queue, serving never waits until these rows are read.
-fn before_serving<
-    'a,
-    H: WatchHost + Print + Copy + Send + 'static,
-    I: Read + Send + Drop + 'static,
->(
+fn before_serving<'a, H: WatchHost + Copy + Send + 'static, I: Read + Send + Drop + 'static>(
     rt: &H,
     rack: &'a str,
-    service: Service<'_>,
+    options: ServeOptions<'_>,
     input: I,
 ) -> Result<
     (
         String,
-        Option<ServedPage>,
+        Option<(ServedPage, StartingPage)>,
         Option<InputEnd>,
         RowQueue<H>,
         Written,
@@ -165,9 +170,9 @@ fn before_serving<
     Fault<'a>,
 > {
     let text = read_file(rt, rack)?;
-    let page = ServedPage::open(rt, text.as_str(), rack, service)?;
-    let input = watch_input(rt, service, input)?;
-    match row_queue::start(*rt, rt.alloc()) {
+    let page = open_served_page(rt, text.as_str(), rack, options)?;
+    let input = watch_input(rt, options, input)?;
+    match serve_log::start(*rt, rt.alloc()) {
         Ok((queue, written)) => Ok((text, page, input, queue, written)),
         Err(_) => Err(Fault::Run(RunFault::OutOfMemory)),
     }
@@ -178,8 +183,8 @@ fn watch_input<
     'a,
     H: Threads + Wait + AllocGlobal + Copy + Send + 'static,
     I: Read + Send + Drop + 'static,
->(rt: &H, service: Service<'_>, input: I) -> Result<Option<InputEnd>, Fault<'a>> {
-    if !service.until_input_ends {
+>(rt: &H, options: ServeOptions<'_>, input: I) -> Result<Option<InputEnd>, Fault<'a>> {
+    if !options.until_input_ends {
         return Ok(None);
     }
     match InputEnd::watch(rt, rt.alloc(), input) {
@@ -194,28 +199,34 @@ fn serve_rack<H: Print + Host + Sync>(
     errors: &impl Eprint,
     alloc: Global,
     rack: &str,
-    service: Service<'_>,
+    options: ServeOptions<'_>,
     input: Option<InputEnd>,
+    page: Option<ShutPage>,
 ) -> ExitCode {
-    let served = serve_out(rt, alloc, rack, service, input.as_ref());
+    let served = serve_out(rt, alloc, rack, options, input.as_ref(), page);
     ended(errors, reported(errors, alloc, rack, served))
 }
 
-/// Serves a rack, writes its output on standard output, and logs the number of sessions served.
+/// Serves a rack, writes its output on standard output, and logs the number of sessions served. The page is served once
+/// `ready` is written.
 fn serve_out<'a, H: Print + Host + Sync>(
     rt: &H,
     alloc: Global,
     rack: &str,
-    service: Service<'a>,
+    options: ServeOptions<'a>,
     input: Option<&InputEnd>,
+    page: Option<ShutPage>,
 ) -> Result<ExitCode, Fault<'a>> {
-    let mut output = buffered(rt, alloc)?;
-    let served = serve_text(rt, alloc, rack, service, input, &mut output);
-    flushed(output)?;
+    let mut output = OpeningOutput {
+        output: buffered(rt, alloc)?,
+        page,
+    };
+    let served = serve_text(rt, alloc, rack, options, input, &mut output);
+    flushed(output.output)?;
     match served {
         Ok(served) => Ok(note_served(rt, served)),
         Err(ServeFault::CannotMakePorts(cause)) => {
-            let path = service.ports.unwrap_or("");
+            let path = options.ports.unwrap_or("");
             Err(Fault::CannotMake(path, cause))
         }
         Err(fault) => Err(Fault::from(fault)),

@@ -4,7 +4,7 @@ ghost use Rattle.std.specs.Prelude.{◌≡◌, ◌+◌, ◌<◌, Some, is_none, 
 ghost use Rattle.std.specs.List.{list_all};
 ghost use Rattle.rack_file.specs.Rack.{line_described};
 ghost use Rattle.rackd.specs.MissingPorts.{key_text, lacked, missing_from, missing_port_text};
-ghost use Rattle.rack_server.specs.ServeOutput.{has_ports};
+ghost use Rattle.serve_rack.specs.ServeOutput.{has_ports};
 
 use rack_file::RackLine;
 use std::fmt;

@@ -1,6 +1,6 @@
 //! Standard output.
 
-use dp_script::RunFault;
+use rack_script::RunFault;
 use std::alloc::Global;
 use std::io::{self, BufWriter, ErrorKind, Printer, Write};
 

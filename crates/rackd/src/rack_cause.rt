@@ -1,9 +1,9 @@
 //! The place in a rack file that is wrong, and the reason.
 
 use crate::missing_port::first_missing;
-use rack_culprits::culprit_in;
 use rack_file::laws::accepted_racks_have_1_to_8_lines;
 use rack_file::{RackFault, cause_in, read_rack};
+use rack_file_faults::rack_file_fault_in;
 use std::alloc::{AllocError, Global};
 
 /// Returns the place and the reason for which a rack text is not accepted, to be reported after the fault. If the
@@ -21,15 +21,19 @@ pub(crate) fn rack_cause(
             Some(cause) => Ok(Some(cause)),
             None => missing_port_in(alloc, text),
         },
-        RackFault::TwiceLine => culprit_text(alloc, text, fault),
-        RackFault::Open(_, _) => culprit_text(alloc, text, fault),
+        RackFault::TwiceLine => rack_file_fault_text(alloc, text, fault),
+        RackFault::Open(_, _) => rack_file_fault_text(alloc, text, fault),
     }
 }
 
 /// Returns which number, address or octet of the rack the fault is about.
-fn culprit_text(alloc: Global, text: &str, fault: RackFault) -> Result<Option<String>, AllocError> {
-    match culprit_in(alloc, text, fault)? {
-        Some(culprit) => Ok(Some(format!(in alloc; "{culprit}")?)),
+fn rack_file_fault_text(
+    alloc: Global,
+    text: &str,
+    fault: RackFault,
+) -> Result<Option<String>, AllocError> {
+    match rack_file_fault_in(alloc, text, fault)? {
+        Some(rack_file_fault) => Ok(Some(format!(in alloc; "{rack_file_fault}")?)),
         None => Ok(None),
     }
 }

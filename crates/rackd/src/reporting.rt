@@ -2,9 +2,9 @@
 
 use crate::ending::{Fault, cause, status};
 use crate::rack_cause::rack_cause;
-use dp_script::RunFault;
-use rack_server::ServeFault;
-use row_queue::Escaped;
+use rack_script::RunFault;
+use serve_log::Escaped;
+use serve_rack::ServeFault;
 use std::alloc::Global;
 use std::process::ExitCode;
 
@@ -22,6 +22,11 @@ pub(crate) fn report(errors: &impl Eprint, fault: Fault<'_>) -> ExitCode {
     let _ = errors.eprintln(Escaped(fault));
     if let Some(cause) = cause(fault) {
         let _ = errors.eprintln(cause);
+    }
+    if let Fault::OtherText(_, first) = fault {
+        let _ = eprintln!(errors;
+            "  it belongs to another text than {first}; give the files of one text"
+        );
     }
     ExitCode::from(status(fault))
 }

@@ -1,6 +1,6 @@
 //! The form of the command in a line of a script.
 
-use rack_service::script_form;
+use serve_options::script_form;
 
 /// Returns the form of the command in the line of a script with this number, from 1.
 pub(crate) fn form_in(script: &str, number: u64) -> &'static str {

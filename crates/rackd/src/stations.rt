@@ -1,12 +1,12 @@
 //! Addresses that the line of an audit text does not have.
 
 use crate::ending::Fault;
+use audit_parts::is_part_header;
 use dp_line::LineSpec;
-use dp_parts::is_part_header;
-use dp_script::line_named;
 use dp_text::Lines;
 use rack_file::Rack;
-use rackd_words::Entries;
+use rack_script::line_named;
+use rackd_cli::Entries;
 
 /// Returns a fault if the line that the first row of an audit text names lacks the slave or the master whose entries are asked
 /// for. `front` is the beginning of the text. A first row that names no line of the rack is left to the explanation.

@@ -1,12 +1,12 @@
 //! Runs scripts, and checks and explains audit texts.
 
 ghost use Rattle.std.specs.Prelude.{◌≡◌, []};
-ghost use Rattle.dp_explain.specs.TextRows.{nothing_read};
+ghost use Rattle.explain_texts.specs.TextRows.{nothing_read};
 
-use crate::audit_files::{FileRows, open_files, reported_read};
 use crate::audit_text::{
     AuditText, Beginning, FileEntries, FirstRow, HEADER, entries_of, files_of,
 };
+use crate::cut_end::{note_cut_row, noted_end};
 use crate::differences::note_difference;
 use crate::ending::Fault;
 use crate::files::{read_fault, read_file};
@@ -14,20 +14,22 @@ use crate::output::{buffered, flushed, has_reader};
 use crate::reporting::{report, reported};
 use crate::script_form::form_in;
 use crate::stations::check_stations;
+use crate::text_files::{FileRows, open_files, reported_read};
+use crate::verdict::{Verdict, check_part_rows, check_rows, verdict_on_head};
+use audit_parts::{PartsCheck, fault_of_head};
 use dp_audit::AuditFault;
-use dp_explain::{Follower, TextRows, explain_entries};
 use dp_line::LineSpec;
-use dp_parts::{PartsCheck, fault_of_head};
-use dp_script::{
+use dp_text::Text;
+use explain_texts::{Follower, TextRows, explain_entries};
+use rack_file::{Rack, read_rack};
+use rack_script::{
     Choice, RunFault, report_verdict_by, run_check, run_explain, run_parts_check, run_text,
     split_input,
 };
-use dp_text::Text;
-use rack_file::{Rack, read_rack};
-use rackd_words::Entries;
+use rackd_cli::Entries;
 use std::alloc::Global;
 use std::fs::Files;
-use std::io::{self, Read};
+use std::io::{self, Read, Write};
 use std::process::ExitCode;
 use std::rt::Runtime;
 
@@ -140,65 +142,62 @@ fn check_on<'a, H: Runtime + AllocGlobal>(
     match beginning {
         Beginning::NoPart => {
             let mut rows = entries_of(alloc, None, front, reader)?;
-            let checked = check_out(rt, rack, &mut rows);
+            let checked = check_rows(alloc, rack, &mut rows);
+            files_of(&rows).clear_progress();
             let ended = end_check(rt, &described, audit, first_row, checked);
             reported_read(rt, files_of(&rows), ended)
         }
         Beginning::FirstPart(check) | Beginning::LaterPart(_, check) => {
             let mut rows = TextRows::new(alloc, reader);
-            let checked = check_parts_out(rt, check, &mut rows);
+            let checked = check_part_rows(alloc, check, &mut rows);
+            rows.reader().get_ref().clear_progress();
             let ended = end_check(rt, &described, audit, first_row, checked);
             reported_read(rt, rows.reader().get_ref(), ended)
         }
-        Beginning::WrongHead(fault) => end_at(rt, fault, &every_entry()),
+        Beginning::WrongHead(fault) => end_at_head(rt, audit, front.as_slice(), fault),
     }
 }
 
-/// Checks an audit text that has no parts, and writes the verdict on standard output. Returns the exit status.
-fn check_out<'a, H: Runtime + AllocGlobal + Files<File = R>, R: Read + Drop>(
-    rt: &H,
-    rack: &str,
-    rows: &mut FileEntries<'_, '_, '_, H, R>,
-) -> Result<u8, Fault<'a>>
-    requires { rows.old.text ≡ nothing_read }
-{
-    let mut output = buffered(rt, rt.alloc())?;
-    let checked = run_check(rt.alloc(), rack, rows, &mut output);
-    files_of(rows).clear_progress();
-    flushed(output)?;
-    Ok(checked?)
-}
-
-/// Checks the rows of an audit text behind its beginning, and writes the verdict on standard output. Returns the exit status.
-fn check_parts_out<'a, H: Runtime + AllocGlobal + Files<File = R>, R: Read + Drop>(
-    rt: &H,
-    check: PartsCheck,
-    rows: &mut FileRows<'_, '_, '_, H, R>,
-) -> Result<u8, Fault<'a>>
-    requires { rows.old.text ≡ nothing_read }
-{
-    let mut check = check;
-    let mut output = buffered(rt, rt.alloc())?;
-    let checked = run_parts_check(&mut check, rows, &mut output);
-    rows.reader().get_ref().clear_progress();
-    flushed(output)?;
-    Ok(checked?)
-}
-
-/// Returns the exit status of a check. If the text is not legal, reports the row that is wrong, and that the text lacks a
-/// header.
+/// Writes the verdict of a check on standard output, and returns its exit status. If the text is not legal, reports the row
+/// that is wrong, and that the text lacks a header.
 fn end_check<'a, H: Runtime + AllocGlobal>(
     rt: &H,
     rack: &Rack,
     audit: &[&'a str],
     first_row: FirstRow,
-    checked: Result<u8, Fault<'a>>,
+    checked: Result<Verdict, RunFault>,
 ) -> Result<ExitCode, Fault<'a>> {
-    let status = checked?;
-    if status != 0 {
+    let verdict = checked?;
+    write_verdict(rt, verdict.row.as_slice())?;
+    if verdict.cut_row().is_some() {
+        note_cut_row(rt, audit, &verdict);
+    } else if verdict.status != 0 {
         note_difference(rt, rack, audit)?;
     }
-    Ok(noted_header(rt, first_row, status))
+    Ok(noted_header(rt, first_row, verdict.status))
+}
+
+/// Writes the verdict on a text that begins with a head that has this fault, and returns its exit status. `front` has the rows
+/// of the head that were read. If the text ends within one of them, reports that.
+fn end_at_head<'a>(
+    rt: &(impl Runtime + AllocGlobal),
+    audit: &[&'a str],
+    front: &[u8],
+    fault: AuditFault,
+) -> Result<ExitCode, Fault<'a>> {
+    let verdict = verdict_on_head(rt.alloc(), front, fault)?;
+    write_verdict(rt, verdict.row.as_slice())?;
+    note_cut_row(rt, audit, &verdict);
+    Ok(ExitCode::from(verdict.status))
+}
+
+/// Writes the row of a verdict on standard output.
+fn write_verdict(rt: &impl Print, row: &[u8]) -> Result<(), RunFault> {
+    let mut output = io::writer(rt);
+    match output.write_all(row).and_then(|_| output.flush()) {
+        Ok(()) => Ok(()),
+        Err(_) => Err(RunFault::WriteFault),
+    }
 }
 
 /// Writes the verdict on a text that has this fault, and returns its exit status.
@@ -225,31 +224,43 @@ fn explain_on<'a, H: Runtime + AllocGlobal>(
     let files = open_files(rt, audit, shows)?;
     let described = rack_of(alloc, rack)?;
     let text = AuditText::read(alloc, &described, files)?;
+    check_stations(&described, text.front.as_slice(), entries)?;
+    let explained = explain_text(rt, rack, &described, &choice_of(entries), text);
+    noted_end(rt, rack, &described, audit, explained)
+}
+
+/// Explains an audit text on a rack, which `rack` describes as text.
+fn explain_text<'a, H: Runtime + AllocGlobal + Files<File = R>, R: Read + Drop>(
+    rt: &H,
+    rack: &str,
+    described: &Rack,
+    choice: &Choice,
+    text: AuditText<'a, '_, '_, H, R>,
+) -> Result<ExitCode, Fault<'a>> {
+    let alloc = rt.alloc();
     let first_row = text.first_row();
     let AuditText {
         beginning,
         front,
         reader,
     } = text;
-    check_stations(&described, front.as_slice(), entries)?;
-    let choice = choice_of(entries);
     match beginning {
         Beginning::NoPart => {
             let rows = entries_of(alloc, None, front, reader)?;
-            explain_out(rt, rack, &choice, first_row, rows)
+            explain_out(rt, rack, choice, first_row, rows)
         }
         Beginning::FirstPart(check) => {
             let rows = entries_of(alloc, Some(check), front, reader)?;
-            explain_out(rt, rack, &choice, first_row, rows)
+            explain_out(rt, rack, choice, first_row, rows)
         }
         Beginning::LaterPart(index, check) => {
             let rows = entries_of(alloc, Some(check), Vec::new(alloc), reader)?;
             match described.lines.get(index) {
-                Some(line) => explain_behind_out(rt, &line.spec, front.as_slice(), &choice, rows),
+                Some(line) => explain_behind_out(rt, &line.spec, front.as_slice(), choice, rows),
                 None => Err(Fault::Run(RunFault::CannotRead)),
             }
         }
-        Beginning::WrongHead(fault) => end_at(rt, fault, &choice),
+        Beginning::WrongHead(fault) => end_at(rt, fault, choice),
     }
 }
 
@@ -311,20 +322,6 @@ fn end_explanation<'a>(
         return Ok(ExitCode::SUCCESS);
     }
     Ok(noted_header(rt, first_row, explained?))
-}
-
-/// Returns the choice of every entry, in rows.
-fn every_entry() -> Choice {
-    Choice {
-        from: None,
-        to: None,
-        slave: None,
-        master: None,
-        faults: false,
-        refused: false,
-        summary: false,
-        json: false,
-    }
 }
 
 /// Returns the entries that the words choose.

@@ -5,15 +5,15 @@ use Rattle.dp_slave.specs.declared.description.SlaveSpec.{SlaveSpec}
 use Rattle.dp_slave.specs.SlaveRecord.{SlaveRecord}
 use Rattle.dp_line.specs.World.{World, slave_at}
 use Rattle.dp_line.specs.Owned.{owned}
-use Rattle.dp_sentences.specs.Releases.{release_of}
-use Rattle.dp_sentences.specs.Scenes.{SceneView}
-use Rattle.dp_explain.specs.declared.tally.SenderCounts.{SenderCounts}
-use Rattle.dp_explain.specs.JsonCounts.{ways_json}
-use Rattle.dp_explain.specs.JsonValues.{array_json, number_json, string_json, truth_json}
-use Rattle.dp_watch.specs.declared.kept_entry.KeptEntry.{KeptEntry}
-use Rattle.dp_watch.specs.declared.standing.Standing.{Standing}
-use Rattle.dp_watch.specs.declared.standing.Standing.TheVariants as standings
-use Rattle.dp_watch.specs.Watched.{WatchedView, standing_of}
+use Rattle.explain_events.specs.Releases.{release_of}
+use Rattle.explain_events.specs.EventContexts.{EventContextView}
+use Rattle.explain_texts.specs.declared.tally.SenderCounts.{SenderCounts}
+use Rattle.explain_texts.specs.JsonCounts.{ways_json}
+use Rattle.explain_texts.specs.JsonValues.{array_json, number_json, string_json, truth_json}
+use Rattle.watch_lines.specs.declared.kept_entry.KeptEntry.{KeptEntry}
+use Rattle.watch_lines.specs.declared.text_verdict.TextVerdict.{TextVerdict}
+use Rattle.watch_lines.specs.declared.text_verdict.TextVerdict.TheVariants as text_verdicts
+use Rattle.watch_lines.specs.Watched.{WatchedView, text_verdict_of}
 use Rattle.watch_json.specs.Slaves.{slave_json}
 use Rattle.watch_json.specs.Values.{numbers_json}
 
@@ -32,13 +32,13 @@ master_json world counts =
 
 -- ---- the slaves, in the order of the description
 
-abbrev pub with_slave_json : SceneView → SlaveSpec → Option SlaveRecord → List (List ℕ) → List (List ℕ)
-with_slave_json scene spec None others = others
-with_slave_json scene spec (Some slave) others = slave_json (release_of scene.releases spec.address) spec slave ∷ others
+abbrev pub with_slave_json : EventContextView → SlaveSpec → Option SlaveRecord → List (List ℕ) → List (List ℕ)
+with_slave_json context spec None others = others
+with_slave_json context spec (Some slave) others = slave_json (release_of context.releases spec.address) spec slave ∷ others
 
-abbrev pub slaves_json : SceneView → List SlaveSpec → List (List ℕ)
-slaves_json scene [] = []
-slaves_json scene (spec ∷ specs) = with_slave_json scene spec (slave_at scene.world spec.address) (slaves_json scene specs)
+abbrev pub slaves_json : EventContextView → List SlaveSpec → List (List ℕ)
+slaves_json context [] = []
+slaves_json context (spec ∷ specs) = with_slave_json context spec (slave_at context.world spec.address) (slaves_json context specs)
 
 -- ---- the entries with a number above this one
 
@@ -56,29 +56,29 @@ entries_json after entries = array_json (map entry_json (filter (is_after after)
 unfoldable pub file_json : List ℕ → List ℕ
 file_json file = if length file == 0 then codes "null" else string_json file
 
-abbrev pub standing_name : Standing → List ℕ
-standing_name standings.Empty = codes "empty"
-standing_name standings.Legal = codes "legal"
-standing_name (standings.BadLine row) = codes "bad line"
-standing_name (standings.NotThePolicy row) = codes "not the policy"
+abbrev pub text_verdict_name : TextVerdict → List ℕ
+text_verdict_name text_verdicts.Empty = codes "empty"
+text_verdict_name text_verdicts.Legal = codes "legal"
+text_verdict_name (text_verdicts.BadLine row) = codes "bad line"
+text_verdict_name (text_verdicts.NotThePolicy row) = codes "not the policy"
 
-abbrev pub wrong_row : Standing → ℕ
-wrong_row standings.Empty = 0
-wrong_row standings.Legal = 0
-wrong_row (standings.BadLine row) = row
-wrong_row (standings.NotThePolicy row) = row
+abbrev pub wrong_row : TextVerdict → ℕ
+wrong_row text_verdicts.Empty = 0
+wrong_row text_verdicts.Legal = 0
+wrong_row (text_verdicts.BadLine row) = row
+wrong_row (text_verdicts.NotThePolicy row) = row
 
 -- the line, the file and what the text was found to be
 unfoldable pub found_json : WatchedView → List ℕ
 found_json watched =
     codes "\"line\":" ++ decimal watched.line.number
     ++ codes ",\"file\":" ++ file_json watched.file
-    ++ codes ",\"standing\":" ++ string_json (standing_name (standing_of watched watched.header))
+    ++ codes ",\"standing\":" ++ string_json (text_verdict_name (text_verdict_of watched watched.header))
 
 -- the first wrong row, and the octets of a row whose LF has not come
 unfoldable pub rows_json : WatchedView → List ℕ
 rows_json watched =
-    codes "\"row\":" ++ decimal (wrong_row (standing_of watched watched.header))
+    codes "\"row\":" ++ decimal (wrong_row (text_verdict_of watched watched.header))
     ++ codes ",\"begun\":" ++ decimal watched.begun
 
 unfoldable pub text_json : WatchedView → List ℕ
@@ -86,17 +86,17 @@ text_json watched = found_json watched ++ codes "," ++ rows_json watched
 
 -- ---- the line
 
-unfoldable pub places_json : SceneView → List ℕ
-places_json scene =
-    codes "\"count\":" ++ decimal scene.world.count
-    ++ codes ",\"capacity\":" ++ decimal scene.world.capacity
-    ++ codes ",\"halted\":" ++ truth_json scene.world.halted
-    ++ codes ",\"time\":" ++ number_json scene.time
+unfoldable pub places_json : EventContextView → List ℕ
+places_json context =
+    codes "\"count\":" ++ decimal context.world.count
+    ++ codes ",\"capacity\":" ++ decimal context.world.capacity
+    ++ codes ",\"halted\":" ++ truth_json context.world.halted
+    ++ codes ",\"time\":" ++ number_json context.time
 
 unfoldable pub stations_json : WatchedView → List ℕ
 stations_json watched =
-    codes "\"masters\":" ++ array_json (map (master_json watched.follower.known.scene.world) watched.follower.known.tally)
-    ++ codes ",\"slaves\":" ++ array_json (slaves_json watched.follower.known.scene watched.line.slaves)
+    codes "\"masters\":" ++ array_json (map (master_json watched.follower.known.context.world) watched.follower.known.tally)
+    ++ codes ",\"slaves\":" ++ array_json (slaves_json watched.follower.known.context watched.line.slaves)
 
 unfoldable pub kept_json : ℕ → WatchedView → List ℕ
 kept_json after watched =
@@ -106,7 +106,7 @@ kept_json after watched =
 unfoldable pub line_json : ℕ → WatchedView → List ℕ
 line_json after watched =
     codes "{" ++ text_json watched
-    ++ codes "," ++ places_json watched.follower.known.scene
+    ++ codes "," ++ places_json watched.follower.known.context
     ++ codes "," ++ stations_json watched
     ++ codes "," ++ kept_json after watched
     ++ codes "}"

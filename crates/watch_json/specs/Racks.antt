@@ -1,8 +1,8 @@
 -- The lines of a rack as JSON (own).
 use Rattle.std.specs.Prelude.{codes, ℕ, ◌==◌, ◌&&◌, not, List, ◌++◌, map, if◌then◌else◌}
 use Rattle.std.specs.Fmt.{decimal}
-use Rattle.dp_explain.specs.JsonValues.{array_json, string_json}
-use Rattle.dp_watch.specs.Watched.{WatchedView}
+use Rattle.explain_texts.specs.JsonValues.{array_json, string_json}
+use Rattle.watch_lines.specs.Watched.{WatchedView}
 use Rattle.watch_json.specs.Lines.{line_json}
 
 -- the number of the run, as a string

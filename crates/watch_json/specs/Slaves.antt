@@ -9,10 +9,10 @@ use Rattle.dp_slave.specs.declared.description.SlaveSpec.{SlaveSpec}
 use Rattle.dp_slave.specs.declared.view.SlaveView.{SlaveView}
 use Rattle.dp_slave.specs.SlaveRecord.{SlaveRecord, group_of}
 use Rattle.dp_slave.specs.View.{view_of}
-use Rattle.dp_sentences.specs.declared.releases.Release.{Release}
-use Rattle.dp_sentences.specs.Endings.{ending_text}
-use Rattle.dp_sentences.specs.Words.{ident_words, state_words}
-use Rattle.dp_explain.specs.JsonValues.{array_json, number_json, string_json, truth_json}
+use Rattle.explain_events.specs.declared.releases.Release.{Release}
+use Rattle.explain_events.specs.Endings.{ending_text}
+use Rattle.explain_events.specs.Words.{ident_words, state_words}
+use Rattle.explain_texts.specs.JsonValues.{array_json, number_json, string_json, truth_json}
 use Rattle.watch_json.specs.Values.{list_json, octets_json}
 
 -- the points that may be marked busy, in the order of the access table

@@ -2,8 +2,8 @@
 use Rattle.std.specs.Prelude.{codes, ℕ, List, ◌++◌, map, Option, Some, None}
 use Rattle.std.specs.List.{flat_map}
 use Rattle.std.specs.Fmt.{decimal}
-use Rattle.dp_decode.specs.Words.{hex_pair}
-use Rattle.dp_explain.specs.JsonValues.{array_json}
+use Rattle.explain_octets.specs.Words.{hex_pair}
+use Rattle.explain_texts.specs.JsonValues.{array_json}
 
 -- octets, as a string of two hex digits each
 unfoldable pub octets_json : List ℕ → List ℕ

@@ -2,11 +2,11 @@
 
 ghost use Rattle.std.specs.Prelude.{◌≡◌, [], map, filter, Some};
 ghost use Rattle.std.specs.Fmt.{WritesOnOk};
-ghost use Rattle.dp_explain.specs.JsonValues.{each_behind};
+ghost use Rattle.explain_texts.specs.JsonValues.{each_behind};
 ghost use Rattle.watch_json.specs.Lines.{entries_json, entry_json, is_after};
 
-use dp_watch::KeptEntry;
 use std::fmt;
+use watch_lines::KeptEntry;
 
 /// A text of ASCII as it is.
 #[derive(Clone, Copy)]
@@ -84,7 +84,7 @@ pub(crate) struct Entries<'a> {
 impl<'a> fmt::Display for Entries<'a> {
     ghost output = { λ s. Some (entries_json s.after s.entries.now) };
 
-    #[tactic(auto, unfolding(crate::specs::Lines::entries_json, dp_explain::specs::JsonValues::array_json))]
+    #[tactic(auto, unfolding(crate::specs::Lines::entries_json, explain_texts::specs::JsonValues::array_json))]
     fn fmt<W: fmt::Write>(&self, f: &mut fmt::Formatter<W>) -> fmt::Result {
         let entries = EachEntry {
             after: self.after,

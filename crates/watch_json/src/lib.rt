@@ -1,6 +1,7 @@
-//! The lines of a rack as JSON, as its page asks for them: each line with its masters, its slaves and its entries.
+//! Writes the followed lines of a rack as the JSON that its page reads: each line with its masters, its slaves and its
+//! entries; it reads no audit text and answers no requests.
 //!
-//! [`RackJson`] is the whole answer. Each entry is the line of JSON that `dp_explain` writes of it.
+//! [`RackJson`] is the whole answer. Each entry is the line of JSON that `explain_texts` writes of it.
 #![tactic(auto)]
 
 mod entries;

@@ -2,15 +2,15 @@
 
 ghost use Rattle.std.specs.Prelude.{◌≡◌, [], map, Some};
 ghost use Rattle.std.specs.Fmt.{WritesOnOk};
-ghost use Rattle.dp_explain.specs.JsonValues.{array_json, each_behind};
-ghost use Rattle.watch_json.specs.Lines.{file_json, found_json, kept_json, line_json, places_json, rows_json, standing_name, stations_json, text_json, wrong_row};
+ghost use Rattle.explain_texts.specs.JsonValues.{array_json, each_behind};
+ghost use Rattle.watch_json.specs.Lines.{file_json, found_json, kept_json, line_json, places_json, rows_json, text_verdict_name, stations_json, text_json, wrong_row};
 
 use crate::entries::Entries;
 use crate::masters::Masters;
 use crate::slaves::Slaves;
-use dp_explain::{Follower, NumberOrNull, Quoted, truth_name};
-use dp_watch::{Standing, WatchedLine};
+use explain_texts::{Follower, NumberOrNull, Quoted, truth_name};
 use std::fmt;
+use watch_lines::{TextVerdict, WatchedLine};
 
 /// The name of a file; `null` if it is empty.
 #[derive(Clone, Copy)]
@@ -31,26 +31,26 @@ impl<'a> fmt::Display for FileOrNull<'a> {
 }
 
 /// Returns what a text was found to be.
-fn standing_name(standing: Standing) -> &'static str
-    ensures { result.now ≡ standing_name standing }
+fn text_verdict_name(text_verdict: TextVerdict) -> &'static str
+    ensures { result.now ≡ text_verdict_name text_verdict }
 {
-    match standing {
-        Standing::Empty => "empty",
-        Standing::Legal => "legal",
-        Standing::BadLine(_) => "bad line",
-        Standing::NotThePolicy(_) => "not the policy",
+    match text_verdict {
+        TextVerdict::Empty => "empty",
+        TextVerdict::Legal => "legal",
+        TextVerdict::BadLine(_) => "bad line",
+        TextVerdict::NotThePolicy(_) => "not the policy",
     }
 }
 
 /// Returns the number of the first wrong row; 0 if there is none.
-fn wrong_row(standing: Standing) -> u64
-    ensures { result ≡ wrong_row standing }
+fn wrong_row(text_verdict: TextVerdict) -> u64
+    ensures { result ≡ wrong_row text_verdict }
 {
-    match standing {
-        Standing::Empty => 0,
-        Standing::Legal => 0,
-        Standing::BadLine(row) => row,
-        Standing::NotThePolicy(row) => row,
+    match text_verdict {
+        TextVerdict::Empty => 0,
+        TextVerdict::Legal => 0,
+        TextVerdict::BadLine(row) => row,
+        TextVerdict::NotThePolicy(row) => row,
     }
 }
 
@@ -65,10 +65,10 @@ impl<'a> fmt::Display for Found<'a> {
     fn fmt<W: fmt::Write>(&self, f: &mut fmt::Formatter<W>) -> fmt::Result {
         let number = self.0.description().number;
         let file = FileOrNull(self.0.file());
-        let standing = Quoted(standing_name(self.0.standing()).as_bytes());
+        let text_verdict = Quoted(text_verdict_name(self.0.text_verdict()).as_bytes());
         write!(
             f,
-            "\"line\":{number},\"file\":{file},\"standing\":{standing}"
+            "\"line\":{number},\"file\":{file},\"standing\":{text_verdict}"
         )
     }
 }
@@ -82,7 +82,7 @@ impl<'a> fmt::Display for Rows<'a> {
 
     #[tactic(auto, unfolding(crate::specs::Lines::rows_json))]
     fn fmt<W: fmt::Write>(&self, f: &mut fmt::Formatter<W>) -> fmt::Result {
-        let row = wrong_row(self.0.standing());
+        let row = wrong_row(self.0.text_verdict());
         let begun = self.0.begun();
         write!(f, "\"row\":{row},\"begun\":{begun}")
     }
@@ -108,7 +108,7 @@ impl<'a> fmt::Display for TextJson<'a> {
 struct Places<'a>(&'a Follower<'a>);
 
 impl<'a> fmt::Display for Places<'a> {
-    ghost output = { λ s. Some (places_json s.0.now.known.scene) };
+    ghost output = { λ s. Some (places_json s.0.now.known.context) };
 
     #[tactic(auto, unfolding(crate::specs::Lines::places_json))]
     fn fmt<W: fmt::Write>(&self, f: &mut fmt::Formatter<W>) -> fmt::Result {
@@ -235,7 +235,7 @@ pub(crate) struct Lines<'a> {
 impl<'a> fmt::Display for Lines<'a> {
     ghost output = { λ s. Some (array_json (map (line_json s.after) s.lines.now)) };
 
-    #[tactic(auto, unfolding(dp_explain::specs::JsonValues::array_json))]
+    #[tactic(auto, unfolding(explain_texts::specs::JsonValues::array_json))]
     fn fmt<W: fmt::Write>(&self, f: &mut fmt::Formatter<W>) -> fmt::Result {
         let lines = EachLine {
             after: self.after,

@@ -2,13 +2,13 @@
 
 ghost use Rattle.std.specs.Prelude.{◌≡◌, [], map, Some};
 ghost use Rattle.std.specs.Fmt.{WritesOnOk};
-ghost use Rattle.dp_explain.specs.JsonValues.{array_json, each_behind};
+ghost use Rattle.explain_texts.specs.JsonValues.{array_json, each_behind};
 ghost use Rattle.watch_json.specs.Lines.{held_by, master_json};
 
 use crate::values::{Numbers, long};
 use arrayvec::ArrayVec;
-use dp_explain::{NumberOrNull, SenderCounts, Ways};
 use dp_line::{LineState, MOST_SLAVES};
+use explain_texts::{NumberOrNull, SenderCounts, Ways};
 use std::fmt;
 
 /// A master, or all senders that are no master of the line.
@@ -87,7 +87,7 @@ pub(crate) struct Masters<'a> {
 impl<'a> fmt::Display for Masters<'a> {
     ghost output = { λ s. Some (array_json (map (master_json s.line.now.world) s.senders.now)) };
 
-    #[tactic(auto, unfolding(dp_explain::specs::JsonValues::array_json))]
+    #[tactic(auto, unfolding(explain_texts::specs::JsonValues::array_json))]
     fn fmt<W: fmt::Write>(&self, f: &mut fmt::Formatter<W>) -> fmt::Result {
         let masters = EachMaster {
             line: self.line,

@@ -4,9 +4,9 @@ ghost use Rattle.std.specs.Prelude.{◌≡◌, Some};
 ghost use Rattle.watch_json.specs.Racks.{changed_json, names_json, rack_json, run_json, same_json};
 
 use crate::lines::Lines;
-use dp_explain::Quoted;
-use dp_watch::WatchedRack;
+use explain_texts::Quoted;
 use std::fmt;
+use watch_lines::WatchedRack;
 
 /// The number of the run, and that of the last change.
 #[derive(Clone, Copy)]

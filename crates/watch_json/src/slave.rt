@@ -4,17 +4,17 @@ ghost use Rattle.std.specs.Prelude.{◌≡◌, ◌++◌, [], codes, map, filter,
 ghost use Rattle.std.specs.Fmt.{WritesOnOk};
 ghost use Rattle.dp_sap.specs.AccessTable.{is_busy};
 ghost use Rattle.dp_slave.specs.SlaveRecord.{group_of};
-ghost use Rattle.dp_explain.specs.JsonValues.{each_behind, number_json};
+ghost use Rattle.explain_texts.specs.JsonValues.{each_behind, number_json};
 ghost use Rattle.watch_json.specs.Slaves.{abilities_json, access_json, all_points, busy_json, full_time, hold_json, ident_json, release_json, slave_json, state_json, station_json};
 
 use crate::slave_data::Content;
 use crate::values::{MasterList, long};
-use dp_explain::{NumberOrNull, Quoted, truth_name};
 use dp_sap::{
     CHK_CFG, GET_CFG, GLOBAL_CONTROL, Lists, Points, RD_INP, RD_OUTP, SET_PRM, SLAVE_DIAG,
 };
-use dp_sentences::{IdentWords, Release, state_name};
 use dp_slave::{Slave, SlaveSpec, SlaveView};
+use explain_events::{IdentWords, Release, state_name};
+use explain_texts::{NumberOrNull, Quoted, truth_name};
 use std::fmt;
 
 /// The points that may be marked busy, in the order of the access table.
@@ -198,14 +198,14 @@ struct Busy<'a>(&'a Points);
 impl<'a> fmt::Display for Busy<'a> {
     ghost output = { λ s. Some (busy_json s.0.now.busy) };
 
-    #[tactic(auto, unfolding(crate::specs::Slaves::busy_json, dp_explain::specs::JsonValues::array_json))]
+    #[tactic(auto, unfolding(crate::specs::Slaves::busy_json, explain_texts::specs::JsonValues::array_json))]
     fn fmt<W: fmt::Write>(&self, f: &mut fmt::Formatter<W>) -> fmt::Result {
         let points = EachBusy(self.0);
         write!(f, "[{points}]")
     }
 }
 
-/// Who may use a slave.
+/// SenderAndReceiver may use a slave.
 #[derive(Clone, Copy)]
 struct Access<'a> {
     points: &'a Points,

@@ -5,8 +5,8 @@ ghost use Rattle.watch_json.specs.Slaves.{content_json, data_json, diagnosis_jso
 
 use crate::values::Octets;
 use dp_diag::Diag;
-use dp_explain::truth_name;
 use dp_slave::SlaveView;
+use explain_texts::truth_name;
 use std::fmt;
 
 /// The process data.

@@ -2,12 +2,12 @@
 
 ghost use Rattle.std.specs.Prelude.{[], Some};
 ghost use Rattle.std.specs.Fmt.{WritesOnOk};
-ghost use Rattle.dp_explain.specs.JsonValues.{array_json, each_behind};
+ghost use Rattle.explain_texts.specs.JsonValues.{array_json, each_behind};
 ghost use Rattle.watch_json.specs.Lines.{slaves_json};
 
 use crate::slave::SlaveJson;
-use dp_explain::Follower;
 use dp_slave::SlaveSpec;
+use explain_texts::Follower;
 use std::fmt;
 
 /// The slaves of these descriptions, with commas between.
@@ -18,7 +18,7 @@ struct EachSlave<'a> {
 }
 
 impl<'a> fmt::Display for EachSlave<'a> {
-    ghost output = { λ s. Some (each_behind [] (slaves_json s.follower.now.known.scene s.specs.now)) };
+    ghost output = { λ s. Some (each_behind [] (slaves_json s.follower.now.known.context s.specs.now)) };
 
     fn fmt<W: fmt::Write>(&self, f: &mut fmt::Formatter<W>) -> fmt::Result {
         write_slaves(f, "", self.follower, self.specs)
@@ -33,7 +33,7 @@ fn write_slaves<W: fmt::Write>(
     specs: &[SlaveSpec],
 ) -> fmt::Result
     ensures { WritesOnOk W.Write.write_str_gives f.old result
-        (each_behind separator.now (slaves_json follower.now.known.scene specs.now)) f.new }
+        (each_behind separator.now (slaves_json follower.now.known.context specs.now)) f.new }
 {
     let [spec, others @ ..] = specs else {
         return Ok(());
@@ -58,9 +58,9 @@ pub(crate) struct Slaves<'a> {
 }
 
 impl<'a> fmt::Display for Slaves<'a> {
-    ghost output = { λ s. Some (array_json (slaves_json s.follower.now.known.scene s.specs.now)) };
+    ghost output = { λ s. Some (array_json (slaves_json s.follower.now.known.context s.specs.now)) };
 
-    #[tactic(auto, unfolding(dp_explain::specs::JsonValues::array_json))]
+    #[tactic(auto, unfolding(explain_texts::specs::JsonValues::array_json))]
     fn fmt<W: fmt::Write>(&self, f: &mut fmt::Formatter<W>) -> fmt::Result {
         let slaves = EachSlave {
             follower: self.follower,

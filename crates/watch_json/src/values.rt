@@ -3,13 +3,13 @@
 ghost use Rattle.std.specs.Prelude.{◌≡◌, [], map, Some, option_map};
 ghost use Rattle.std.specs.Fmt.{decimal, WritesOnOk};
 ghost use Rattle.std.specs.List.{flat_map};
-ghost use Rattle.dp_decode.specs.Words.{hex_pair};
-ghost use Rattle.dp_explain.specs.JsonValues.{each_behind};
+ghost use Rattle.explain_octets.specs.Words.{hex_pair};
+ghost use Rattle.explain_texts.specs.JsonValues.{each_behind};
 ghost use Rattle.watch_json.specs.Values.{list_json, numbers_json, octets_json};
 
 use arrayvec::ArrayVec;
-use dp_decode::HexPair;
 use dp_sap::MOST_LISTED;
+use explain_octets::HexPair;
 use std::fmt;
 
 /// Octets in hex, without quotation marks.
@@ -76,7 +76,7 @@ pub(crate) struct Numbers<'a>(pub(crate) &'a [u8]);
 impl<'a> fmt::Display for Numbers<'a> {
     ghost output = { λ s. Some (numbers_json s.0.now) };
 
-    #[tactic(auto, unfolding(crate::specs::Values::numbers_json, dp_explain::specs::JsonValues::array_json))]
+    #[tactic(auto, unfolding(crate::specs::Values::numbers_json, explain_texts::specs::JsonValues::array_json))]
     fn fmt<W: fmt::Write>(&self, f: &mut fmt::Formatter<W>) -> fmt::Result {
         let numbers = EachNumber(self.0);
         write!(f, "[{numbers}]")

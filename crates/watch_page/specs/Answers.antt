@@ -8,13 +8,14 @@ use Rattle.http_server.specs.declared.response.Response.{Response}
 use Rattle.http_server.specs.Response.{IsResponse}
 use Rattle.watch_page.specs.Targets.{target_of}
 use Rattle.watch_page.specs.declared.target.Target.{Target}
-use Rattle.watch_page.specs.declared.target.Target.TheVariants.{OtherHost, OtherMethod, Page, Style, Script, State, Unknown}
+use Rattle.watch_page.specs.declared.target.Target.TheVariants.{UnclearHost, OtherHost, OtherMethod, Page, Style, Script, State, Unknown}
 use Rattle.watch_page.specs.declared.page.TheConstants.{PAGE}
 use Rattle.watch_page.specs.declared.style.TheConstants.{STYLE}
 use Rattle.watch_page.specs.declared.script.TheConstants.{SCRIPT}
 
--- the status: OK, Misdirected Request, Method Not Allowed or Not Found
+-- the status: OK, Bad Request, Misdirected Request, Method Not Allowed or Not Found
 abbrev pub status_of : Target → ℕ
+status_of UnclearHost = 400
 status_of OtherHost = 421
 status_of OtherMethod = 405
 status_of Page = 200
@@ -25,6 +26,7 @@ status_of Unknown = 404
 
 -- the media type of the body
 abbrev pub content_type_of : Target → List ℕ
+content_type_of UnclearHost = codes "text/plain; charset=utf-8"
 content_type_of OtherHost = codes "text/plain; charset=utf-8"
 content_type_of OtherMethod = codes "text/plain; charset=utf-8"
 content_type_of Page = codes "text/html; charset=utf-8"
@@ -50,6 +52,7 @@ fields_of target =
 
 -- the body; for the state, a text that may answer the query
 abbrev pub IsBody : (Option (List ℕ) → List ℕ → Type 0) → Option (List ℕ) → Target → List ℕ → Type 0
+IsBody MayAnswer query UnclearHost body = body ≡ codes "exactly one Host is required\n"
 IsBody MayAnswer query OtherHost body = body ≡ codes "this server has another name\n"
 IsBody MayAnswer query OtherMethod body = body ≡ codes "only GET and HEAD\n"
 IsBody MayAnswer query Page body = body ≡ PAGE.now

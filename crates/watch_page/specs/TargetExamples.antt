@@ -1,7 +1,7 @@
--- Hosts, methods and paths.
-use Rattle.std.specs.Prelude.{◌≡◌, ℕ, true, false, List, [], ◌∷◌, codes, refl}
+-- Hosts, what a target names, methods and paths.
+use Rattle.std.specs.Prelude.{◌≡◌, ℕ, true, false, List, [], ◌∷◌, codes, Some, None, refl}
 use Rattle.watch_page.specs.declared.target.Target.TheVariants.{Page, State, Unknown}
-use Rattle.watch_page.specs.Targets.{is_get_or_head, is_own_host, target_at}
+use Rattle.watch_page.specs.Targets.{is_get_or_head, is_one, is_own_authority, is_own_host, is_own_scheme, target_at}
 
 abbrev pub numbered_host : List ℕ
 numbered_host = codes "127.0.0.1:7300"
@@ -32,6 +32,27 @@ capital_letters = refl
 
 pub another_server : is_own_host numbered_host named_host (codes "localhost:7300.example.org" ∷ []) ≡ false
 another_server = refl
+
+pub one_host : is_one (codes "localhost:7300" ∷ []) ≡ true
+one_host = refl
+
+pub not_one_host : is_one (codes "localhost:7300" ∷ codes "localhost:7300" ∷ []) ≡ false
+not_one_host = refl
+
+pub no_authority : is_own_authority numbered_host named_host None ≡ true
+no_authority = refl
+
+pub own_authority : is_own_authority numbered_host named_host (Some (codes "127.0.0.1:7300")) ≡ true
+own_authority = refl
+
+pub user_of_the_authority : is_own_authority numbered_host named_host (Some (codes "a@127.0.0.1:7300")) ≡ false
+user_of_the_authority = refl
+
+pub own_scheme : is_own_scheme (Some (codes "http")) ≡ true
+own_scheme = refl
+
+pub another_scheme : is_own_scheme (Some (codes "https")) ≡ false
+another_scheme = refl
 
 pub head : is_get_or_head (codes "HEAD") ≡ true
 head = refl

@@ -20,6 +20,7 @@ fn status_code(target: Target) -> StatusCode
     ensures { result ≡ status_of target }
 {
     match target {
+        Target::UnclearHost => StatusCode::BAD_REQUEST,
         Target::OtherHost => StatusCode::MISDIRECTED_REQUEST,
         Target::OtherMethod => StatusCode::METHOD_NOT_ALLOWED,
         Target::Page => StatusCode::OK,
@@ -36,6 +37,7 @@ fn content_type(target: Target) -> &'static str
     ensures visible { IsTrue (is_visible_text result.now) }
 {
     match target {
+        Target::UnclearHost => "text/plain; charset=utf-8",
         Target::OtherHost => "text/plain; charset=utf-8",
         Target::OtherMethod => "text/plain; charset=utf-8",
         Target::Page => "text/html; charset=utf-8",

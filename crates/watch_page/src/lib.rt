@@ -1,4 +1,5 @@
-//! The HTTP service of `rackd watch`: the page, its style sheet and its script, and the state of the watch as JSON.
+//! Answers HTTP requests for the page that shows a rack, its style sheet, its script and its state as JSON; it opens no
+//! sockets and knows nothing of lines.
 //!
 //! [`PageService`] answers each request that `http_server` has read. A [`StateSource`] returns the JSON text, and reads
 //! the query by [`entries_after`]. The files of the page are constants, which `page/embed.py` writes.

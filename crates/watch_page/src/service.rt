@@ -34,6 +34,7 @@ impl<'a, S: StateSource> PageService<'a, S> {
         ensures { IfOk result (λ body. IsBody (S.may_answer self.now.source.now) (option_copied query.entry) target body) }
     {
         match target {
+            Target::UnclearHost => Ok(Bytes::from_static(b"exactly one Host is required\n")),
             Target::OtherHost => Ok(Bytes::from_static(b"this server has another name\n")),
             Target::OtherMethod => Ok(Bytes::from_static(b"only GET and HEAD\n")),
             Target::Page => Ok(Bytes::from_static(PAGE.as_bytes())),

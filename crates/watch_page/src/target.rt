@@ -1,16 +1,19 @@
-//! What a request asks for: by its Host, then its method, then its path.
+//! What a request asks for: by its Host and the server that its target names, then its method, then its path.
 
 ghost use Rattle.std.specs.Prelude.{◌≡◌};
 ghost use Rattle.http.specs.Request.{head_of};
-ghost use Rattle.watch_page.specs.Targets.{hosts_of, is_for_this_server, is_get_or_head, is_own_host, target_at, target_of};
+ghost use Rattle.http.specs.Uri.{uri_authority, uri_scheme};
+ghost use Rattle.watch_page.specs.Targets.{hosts_of, is_for_this_server, is_get_or_head, is_one, is_own_authority, is_own_host, is_own_scheme, target_at, target_of};
 
 use bytes::Bytes;
-use http::Request;
+use http::{Request, Uri};
 
 /// What a request asks for.
 #[derive(Clone, Copy)]
 pub enum Target {
-    /// The request has no Host field, several or another one, or its target names an authority (RFC 9112, section 3.2).
+    /// The request has no Host field, or several (RFC 9112, section 3.2).
+    UnclearHost,
+    /// The Host is that of another server, or the target names another server (RFC 9110, section 15.5.20).
     OtherHost,
     /// The method is neither GET nor HEAD.
     OtherMethod,
@@ -30,7 +33,9 @@ pub enum Target {
 pub(crate) fn target_of(request: &Request<Bytes>, numbered: &str, named: &str) -> Target
     ensures { result ≡ target_of numbered.now named.now request.now }
 {
-    if !is_for_this_server(request, numbered, named) {
+    if !has_one_host(request) {
+        Target::UnclearHost
+    } else if !is_for_this_server(request, numbered, named) {
         Target::OtherHost
     } else if !is_get_or_head(request.method().as_str()) {
         Target::OtherMethod
@@ -39,13 +44,44 @@ pub(crate) fn target_of(request: &Request<Bytes>, numbered: &str, named: &str) -
     }
 }
 
-/// Returns whether a request is for this server: its target names no authority, and its Host is one of the two hosts.
+/// Returns whether a request has exactly one Host field.
+fn has_one_host(request: &Request<Bytes>) -> bool
+    ensures { result ≡ is_one (hosts_of request.now) }
+{
+    let mut hosts = request.headers().get_all("host").iter();
+    match hosts.next() {
+        Some(_) => hosts.next().is_none(),
+        None => false,
+    }
+}
+
+/// Returns whether a request is for this server: what its target names is the server's own, and its Host is one of the
+/// two hosts.
 fn is_for_this_server(request: &Request<Bytes>, numbered: &str, named: &str) -> bool
     ensures { result ≡ is_for_this_server numbered.now named.now request.now }
 {
-    match request.uri().authority() {
-        Some(_) => false,
-        None => has_own_host(request, numbered, named),
+    has_own_scheme(request.uri())
+        && has_own_authority(request.uri(), numbered, named)
+        && has_own_host(request, numbered, named)
+}
+
+/// Returns whether the scheme of a target is `http`, or it names none.
+fn has_own_scheme(target: &Uri) -> bool
+    ensures { result ≡ is_own_scheme (uri_scheme target.now) }
+{
+    match target.scheme() {
+        Some(scheme) => scheme.as_str() == "http",
+        None => true,
+    }
+}
+
+/// Returns whether the authority of a target is exactly one of the two hosts, or it names none.
+fn has_own_authority(target: &Uri, numbered: &str, named: &str) -> bool
+    ensures { result ≡ is_own_authority numbered.now named.now (uri_authority target.now) }
+{
+    match target.authority() {
+        Some(authority) => authority.as_str() == numbered || authority.as_str() == named,
+        None => true,
     }
 }
 

@@ -1,10 +1,10 @@
 use denote.Param.Send.{sendable}
 use Rattle.std.proofs.Crossing.{crosses}
-use Rattle.dp_shared.proofs.Sharing.{numbered_book_send}
+use Rattle.dp_shared.proofs.Sharing.{shared_book_send}
 use Rattle.dp_shared.proofs.claims.Claims.TheSendSync as claims
 use Rattle.dp_shared.proofs.one_slot.OneSlot.TheSendSync as slot
 use Rattle.dp_shared.proofs.worker_seat.WorkerSeat.TheSendSync as seat
 use Rattle.bench.proofs.serve_times.recorded_round.Goals as goal
 
 pub ask_all-replies-requires-send-A : goal.ask_all-replies-requires-send-A
-ask_all-replies-requires-send-A g c κs within = search (sendable, crosses, claims.the_send, slot.the_send, seat.the_send, numbered_book_send) depth 40 fits 100000
+ask_all-replies-requires-send-A g c κs within = search (sendable, crosses, claims.the_send, slot.the_send, seat.the_send, shared_book_send) depth 40 fits 100000

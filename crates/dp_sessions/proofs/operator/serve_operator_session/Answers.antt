@@ -1,7 +1,7 @@
 use Rattle.std.proofs.Common.{ℕ, ap, sym, subst}
 use Rattle.dp_shared.specs.declared.line_view.PassView.{PassView}
 use Rattle.dp_shared.specs.Passes.{new_pass}
-use Rattle.dp_devices.specs.DrivenSlaves.{driven_slaves}
+use Rattle.rack_devices.specs.DrivenSlaves.{driven_slaves}
 use Rattle.dp_sessions.specs.Recorded.{HasOperatedRecorded}
 use Rattle.dp_sessions.specs.Sessions.{Streams}
 use Rattle.dp_sessions.proofs.operator.serve_operator_session.Goals as goal
@@ -20,7 +20,7 @@ returns-clause-recorded g c =
     } in (
       number,
       subst (λ (after : PassView). HasOperatedRecorded driven (g.G.Gate.recorded c.args.gate.now c.args.port.now.line.table.shared.key.number) streams (new_pass number 127) after end)
-          (sym (ap (λ p. p.view) c.hand_back-spent.ensures))
+          (sym (ap (λ p. p.view) c.hand_back-returned_pass.ensures))
           (subst (λ (before : PassView). HasOperatedRecorded driven (g.G.Gate.recorded c.args.gate.now c.args.port.now.line.table.shared.key.number) streams before c.serve_operator_pass_by-end.new.pass.view end) opened.4
           (subst (λ (n : ℕ). HasOperatedRecorded driven (g.G.Gate.recorded c.args.gate.now n) streams c.in-Ok.pass.view c.serve_operator_pass_by-end.new.pass.view end) opened.2
           c.serve_operator_pass_by-end.ensures.recorded)),

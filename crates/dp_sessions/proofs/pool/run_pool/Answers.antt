@@ -1,7 +1,7 @@
 use Rattle.std.proofs.Crossing.{crosses}
 use contract.Lifetimes.{Lfts}
 use denote.Param.Send.{IsSync, sendable, param_sync}
-use Rattle.dp_shared.proofs.Sharing.{numbered_book_send}
+use Rattle.dp_shared.proofs.Sharing.{shared_book_send}
 use Rattle.dp_shared.proofs.claims.Claims.TheSendSync as claims
 use Rattle.dp_shared.proofs.one_slot.OneSlot.TheSendSync as slot
 use Rattle.dp_sessions.proofs.port.LineAndClaims.TheSendSync as port
@@ -10,7 +10,7 @@ use Rattle.dp_sessions.proofs.pool.run_pool.Goals as goal
 use Rattle.dp_sessions.proofs.pool.run_pool.Lts.{arg-1-0}
 
 port_sync : (g : Over) (κs : Lfts 10) → IsSync (arg-1-0 g.row.H g.row.R g.row.W g.row.G g.H.laws g.R.laws g.W.laws g.G.laws g.H.Threads-dict g.H.Wait-dict g.R.Read-dict g.W.Write-dict g.G.Gate-dict g.R.Destruct-dict g.W.Destruct-dict κs)
-port_sync g κs = search (sendable, crosses, port.the_sync, slot.the_sync, claims.the_sync, numbered_book_send) depth 40 fits 100000
+port_sync g κs = search (sendable, crosses, port.the_sync, slot.the_sync, claims.the_sync, shared_book_send) depth 40 fits 100000
 
 pub start_all-requires-sync-P : goal.start_all-requires-sync-P
 start_all-requires-sync-P g c κs within = param_sync 0 _ (port_sync g κs)

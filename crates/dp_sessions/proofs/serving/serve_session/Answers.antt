@@ -15,8 +15,8 @@ returns-clause-session g c =
     let left = g.R.Read.remaining c.accept-end.new.reader in
     let old = g.W.Write.contents c.args.writer.now in
     let new = g.W.Write.contents c.accept-end.new.writer in
-    let given = ap (λ p. p.view) c.hand_back-spent.ensures in (
-      ap (λ p. p.table) c.hand_back-spent.ensures ∙ c.accept-end.ensures.ours ∙ pass.0,
+    let given = ap (λ p. p.view) c.hand_back-returned_pass.ensures in (
+      ap (λ p. p.table) c.hand_back-returned_pass.ensures ∙ c.accept-end.ensures.ours ∙ pass.0,
       record {
         address = c.in-Ok.address;
         stream = accepted.0;
@@ -39,7 +39,7 @@ returns-clause-recorded g c =
     let pass = c.in-Ok-admit.ensures.pass in
     let old = g.W.Write.contents c.args.writer.now in
     let new = g.W.Write.contents c.accept-end.new.writer in
-    let given = ap (λ p. p.view.receipts) c.hand_back-spent.ensures in
+    let given = ap (λ p. p.view.receipts) c.hand_back-returned_pass.ensures in
     let begun = ap (λ (p : PassView). p.receipts) pass.1 in
     subst (λ (xs : List Receipt). WritesRecorded (g.G.Gate.recorded c.args.gate.now c.args.port.now.line.table.shared.key.number) acceptance [] xs old new c.accept-end.result) (sym given)
     (subst (λ (xs : List Receipt). WritesRecorded (g.G.Gate.recorded c.args.gate.now c.args.port.now.line.table.shared.key.number) acceptance xs c.accept-end.new.pass.view.receipts old new c.accept-end.result) begun

@@ -1,9 +1,9 @@
 use denote.Param.Send.{sendable, param_sync}
 use Rattle.std.proofs.Crossing.{crosses}
 use Rattle.dp_shared.proofs.one_slot.OneSlot.TheSendSync as slot
-use Rattle.dp_shared.proofs.Sharing.{numbered_book_send}
+use Rattle.dp_shared.proofs.Sharing.{shared_book_send}
 use Rattle.dp_sessions.proofs.sharing.a_line_is_shared.Lts.{arg-0-0}
 use Rattle.dp_sessions.proofs.sharing.a_line_is_shared.Goals as goal
 
 pub is_shared-requires-sync-T : goal.is_shared-requires-sync-T
-is_shared-requires-sync-T c κs = param_sync 0 (arg-0-0 κs) (search (sendable, crosses, numbered_book_send, slot.the_sync) depth 40 fits 100000)
+is_shared-requires-sync-T c κs = param_sync 0 (arg-0-0 κs) (search (sendable, crosses, shared_book_send, slot.the_sync) depth 40 fits 100000)

@@ -7,6 +7,6 @@ use Rattle.dp_shared.proofs.looks.give_head.Given as goal
 
 abbrev pub ghosts-give : goal.ghosts-give
 ghosts-give a = record {
-  next = with_look (pass_in a.seat.now.me.0.passes) (look_by (pass_in a.seat.now.me.0.passes) (asks.Head a.about.now) (length a.numbered_book.book.entries)
-      (answers.Head (head_if a.about.now (world_now a.numbered_book) a.numbered_book.book.entries))) ∷ [];
+  next = with_look (pass_in a.seat.now.me.0.passes) (look_by (pass_in a.seat.now.me.0.passes) (asks.Head a.about.now) (length a.shared_book.book.entries)
+      (answers.Head (head_if a.about.now (world_now a.shared_book) a.shared_book.book.entries))) ∷ [];
 }

@@ -1,5 +1,5 @@
 use Rattle.std.proofs.Common.{[], ◌∷◌}
-use Rattle.dp_trail.specs.Named.{name_of}
+use Rattle.audit_trail.specs.Named.{name_of}
 use Rattle.bench.proofs.sockets.RecordedAnswers.answer.Given as goal
 
 -- the only trail

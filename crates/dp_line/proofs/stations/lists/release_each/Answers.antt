@@ -26,25 +26,25 @@ held_by b facts (Some slave) reported is =
     ap Some (is ∙ ap (λ (f : State × Option ℕ). is_some f.1) same)
 
 pub loop-index-init : goal.loop-index-init
-loop-index-init c = none_changed c.args.masters.now (operated Halt) is_held c.args.owners.now c.args.slaves.now _ c.requires.threaded c.new-let_go.ensures
+loop-index-init c = none_changed c.args.masters.now (operated Halt) is_held c.args.owners.now c.args.slaves.now _ c.requires.threaded c.new-released_addresses.ensures
 
 pub loop-index-preserved : goal.loop-index-preserved
 loop-index-preserved c =
     let held = held_by c.is_some.result c.operate_at-holder.result _ c.operate_at-holder.ensures.facts c.is_some.ensures in
     elim c.if-is_some.branch [
       | then-is_some w ↦ one_leaves c.args.masters.now (operated Halt) is_held c.loop-index.index (slaves_of c.args.slaves.now) c.loop-index.owners c.operate_at-holder.new.owners
-          c.loop-index.slaves c.operate_at-holder.new.slaves c.loop-index.let_go.items c.if-is_some.let_go.items w.address.result w.index-slaves-index.result
+          c.loop-index.slaves c.operate_at-holder.new.slaves c.loop-index.released_addresses.items c.if-is_some.released_addresses.items w.address.result w.index-slaves-index.result
           (op_address Halt) (sym (ap Some w.if-is_some.true) ∙ held) c.operate_at-holder.ensures.threaded c.operate_at-holder.ensures.slaves (omega arith)
-          w.index-slaves-index.is w.address.ensures (ap (λ l. l.items) w.let_go-is ∙ w.push.ensures.items) c.loop-index.invariant
+          w.index-slaves-index.is w.address.ensures (ap (λ l. l.items) w.released_addresses-is ∙ w.push.ensures.items) c.loop-index.invariant
       | else-is_some w ↦ subst (λ (l : ArrayVec ℕ). AreChanged c.args.masters.now (operated Halt) is_held (c.loop-index.index + 1) (slaves_of c.args.slaves.now) c.operate_at-holder.new.owners
-          c.operate_at-holder.new.slaves l.items) (sym w.let_go-is)
+          c.operate_at-holder.new.slaves l.items) (sym w.released_addresses-is)
           (one_stays c.args.masters.now (operated Halt) is_held c.loop-index.index (slaves_of c.args.slaves.now) c.loop-index.owners c.operate_at-holder.new.owners
-          c.loop-index.slaves c.operate_at-holder.new.slaves c.loop-index.let_go.items
+          c.loop-index.slaves c.operate_at-holder.new.slaves c.loop-index.released_addresses.items
           (sym (ap Some w.if-is_some.false) ∙ held) c.operate_at-holder.ensures.threaded c.operate_at-holder.ensures.slaves c.loop-index.invariant)
     ]
 
 pub returns-clause-slaves : goal.returns-clause-slaves
 returns-clause-slaves c =
     let all : c.loop-index.index ≡ length c.args.slaves.now = omega arith in
-    (each_changed c.args.masters.now (operated Halt) is_held c.loop-index.index c.args.slaves.now c.loop-index.slaves c.loop-index.owners c.loop-index.let_go.items all c.loop-index.invariant).0
+    (each_changed c.args.masters.now (operated Halt) is_held c.loop-index.index c.args.slaves.now c.loop-index.slaves c.loop-index.owners c.loop-index.released_addresses.items all c.loop-index.invariant).0
     ∙ each_halts c.released_is_a_fixed_point.ensures.halt (slaves_of c.args.slaves.now)

@@ -1,6 +1,6 @@
 use Rattle.std.proofs.Common.{ℕ, [], ◌∷◌, ◌++◌, refl, sym, ap, ◌∙◌, append_assoc}
 use Rattle.arrayvec.specs.ArrayVec.{ArrayVec}
-use Rattle.dp_devices.specs.declared.driven_slave.DrivenSlave.{DrivenSlave}
+use Rattle.rack_devices.specs.declared.driven_slave.DrivenSlave.{DrivenSlave}
 use Rattle.dp_sessions.proofs.Exchanging.{on_err}
 use Rattle.dp_sessions.proofs.Listening.{breaks_off_as, goes_on_as}
 use Rattle.dp_sessions.proofs.Operating.{breaks_at, goes_to, on_more, on_start}

@@ -1,7 +1,7 @@
 use Rattle.std.proofs.Common.{rules, ◌≡◌, ℕ, ◌+◌, ◌<◌, List, length, take, refl, ap, ◌∙◌, arith, length-take}
 use Rattle.arrayvec.specs.ArrayVec.{ArrayVec}
 use Rattle.dp_sessions.specs.declared.session_end.SessionEnd.TheVariants as ends
-use Rattle.dp_devices.specs.declared.driven_slave.DrivenSlave.{DrivenSlave}
+use Rattle.rack_devices.specs.declared.driven_slave.DrivenSlave.{DrivenSlave}
 use Rattle.dp_sessions.proofs.Listening.{breaks_off_as, ends_of_input, ends_of_read, ends_of_turns, ends_of_write, goes_on_as, operated_in, way_more, way_start}
 use Rattle.dp_sessions.proofs.Exchanging.{consumed_none, keeps_same}
 use Rattle.dp_sessions.proofs.RecordingLines.{gains_as, gains_none, gains_then, recorded_all, recorded_first, stops_off_as}

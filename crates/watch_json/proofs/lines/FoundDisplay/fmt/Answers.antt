@@ -8,5 +8,5 @@ unfolding found_json
 returns-clause-writes g c = λ plain ok.
     has_written_of_eq _ _ _ _ _
     (simp append_assoc
-    (rw (← c.description.ensures, c.file.ensures, c.as_bytes.ensures.value, c.standing_name.ensures, c.standing.ensures) refl))
+    (rw (← c.description.ensures, c.file.ensures, c.as_bytes.ensures.value, c.text_verdict_name.ensures, c.text_verdict.ensures) refl))
     (c.write.ensures.writes plain ok)

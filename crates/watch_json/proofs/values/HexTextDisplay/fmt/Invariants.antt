@@ -1,7 +1,7 @@
 use Rattle.std.proofs.Common.{take}
 use Rattle.std.specs.Fmt.{HasWritten, IsPlainFormatter}
 use Rattle.std.specs.List.{flat_map}
-use Rattle.dp_decode.specs.Words.{hex_pair}
+use Rattle.explain_octets.specs.Words.{hex_pair}
 use Rattle.watch_json.proofs.values.HexTextDisplay.fmt.Given as goal
 
 abbrev pub invariant-loop-octet : goal.invariant-loop-octet

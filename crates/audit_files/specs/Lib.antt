@@ -1,0 +1,5 @@
+pub mod AuditPaths
+pub mod AuditNames
+pub mod Parts
+pub mod FileFaults
+pub mod TextNumbers

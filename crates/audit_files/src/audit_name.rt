@@ -1,0 +1,147 @@
+//! The names of the files of audit texts.
+
+ghost use Rattle.std.specs.Prelude.{◌≡◌, Some};
+ghost use Rattle.audit_files.specs.AuditNames.{audit_name_text, is_same_text, next_part, part_to_delete, path_in};
+
+use crate::audit_path::{AuditPath, leading_zeros};
+use std::fmt;
+
+/// The end of the name of every audit text.
+const ENDING: &str = ".audit";
+
+/// The number of digits that the number of a part has at least.
+const PART_DIGITS: usize = 6;
+
+/// The name of a file of an audit text: `line-N-K.audit`, or `line-N-K.000001.audit` for a part. Its `Display` is the name.
+#[derive(Clone, Copy, Debug, PartialEq, Eq)]
+pub struct AuditName {
+    /// The number of the line.
+    pub line: u8,
+    /// The number of the text among those of the line, from 1.
+    pub number: u32,
+    /// The number of the part, from 1; None if the text has one file.
+    pub part: Option<u32>,
+}
+
+impl fmt::Display for AuditName {
+    ghost output = { λ name. Some (audit_name_text name) };
+
+    fn fmt<W: fmt::Write>(&self, f: &mut fmt::Formatter<W>) -> fmt::Result {
+        let line = self.line;
+        let number = self.number;
+        match self.part {
+            None => write!(f, "line-{line}-{number}.audit"),
+            Some(part) => {
+                let zeros = leading_zeros(part);
+                write!(f, "line-{line}-{number}.{zeros}{part}.audit")
+            }
+        }
+    }
+}
+
+impl AuditName {
+    /// Reads a name. Returns None if no file of an audit text has it: its numbers are decimal without zeros in front, but that of
+    /// a part has six digits at least.
+    pub fn from_name(name: &str) -> Option<AuditName> {
+        let (line, text) = name
+            .strip_prefix("line-")?
+            .strip_suffix(ENDING)?
+            .split_once('-')?;
+        let line = u8::try_from(number_in(line)?).ok()?;
+        match text.split_once('.') {
+            None => Some(AuditName {
+                line,
+                number: number_in(text)?,
+                part: None,
+            }),
+            Some((number, part)) => Some(AuditName {
+                line,
+                number: number_in(number)?,
+                part: Some(part_in(part)?),
+            }),
+        }
+    }
+
+    /// Returns the name of the next part of the text; None if the text has one file, or this is the last part that may be.
+    pub fn next_part(self) -> Option<AuditName>
+        ensures { result ≡ next_part self }
+    {
+        match self.part {
+            None => None,
+            Some(part) => {
+                if part == u32::MAX {
+                    return None;
+                }
+                Some(AuditName {
+                    line: self.line,
+                    number: self.number,
+                    part: Some(part + 1),
+                })
+            }
+        }
+    }
+
+    /// Returns the name of the part that is deleted once the part with this name has its head. With this one, the newest `keep`
+    /// parts stay. Returns None if no part is older than these.
+    pub(crate) fn part_to_delete(self, keep: u16) -> Option<AuditName>
+        ensures { result ≡ part_to_delete keep self }
+    {
+        match self.part {
+            None => None,
+            Some(part) => {
+                let keep = u32::from(keep);
+                if part <= keep {
+                    return None;
+                }
+                Some(AuditName {
+                    line: self.line,
+                    number: self.number,
+                    part: Some(part - keep),
+                })
+            }
+        }
+    }
+
+    /// Returns whether both are names of files of one text: of the same line, with the same number.
+    pub fn is_same_text(self, other: AuditName) -> bool
+        ensures { result ≡ is_same_text self other }
+    {
+        self.line == other.line && self.number == other.number
+    }
+
+    /// Returns the path of the file of this name in a folder.
+    pub fn path_in(self, folder: &str) -> AuditPath<'_>
+        ensures { result ≡ path_in folder.entry self }
+    {
+        AuditPath::File {
+            folder,
+            line: self.line,
+            number: self.number,
+            part: self.part,
+        }
+    }
+}
+
+/// Reads a number from 1 on without zeros in front.
+fn number_in(digits: &str) -> Option<u32> {
+    if digits.starts_with('0') || !are_digits(digits) {
+        return None;
+    }
+    digits.parse::<u32>().ok()
+}
+
+/// Reads the number of a part: six digits, or more if the first is no zero.
+fn part_in(digits: &str) -> Option<u32> {
+    if !are_digits(digits) || digits.len() < PART_DIGITS {
+        return None;
+    }
+    if digits.len() > PART_DIGITS && digits.starts_with('0') {
+        return None;
+    }
+    let part = digits.parse::<u32>().ok()?;
+    if part == 0 { None } else { Some(part) }
+}
+
+fn are_digits(digits: &str) -> bool {
+    !digits.is_empty() && digits.bytes().all(|digit| digit.is_ascii_digit())
+}

@@ -1,0 +1,30 @@
+//! Makes, names, writes and deletes the files of audit texts while lines are served; it starts no threads and does not
+//! decide what is written, which audit_trail does.
+//!
+//! The folder is made first (`make_folder`). The text of a line is begun in a new file with its header (`begin_text`). Its
+//! number is above that of each text of the line in the folder (`text_number`).
+//! Its trail writes each entry. For an endless line each part has a file of its own (`audit_writer`), and old ones may
+//! be deleted (`OldParts`). When serving has ended, the text is completed (`complete_text`). A reader of the folder
+//! reads names of files by [`AuditName`].
+#![tactic(auto)]
+
+mod audit_file;
+mod audit_name;
+mod audit_path;
+mod audit_writer;
+mod file_fault;
+mod file_host;
+mod found_parts;
+mod old_parts;
+mod text_number;
+
+pub use audit_file::{
+    AuditFile, FileTail, FileTrail, IncompleteFile, begin_text, complete_text, make_folder,
+};
+pub use audit_name::AuditName;
+pub use audit_path::AuditPath;
+pub use audit_writer::{AuditWriter, CreateFault};
+pub use file_fault::FileFault;
+pub use file_host::{FileHost, NewFiles};
+pub use found_parts::later_part;
+pub use old_parts::OldParts;

@@ -1,0 +1,123 @@
+//! Deleting old parts of audit texts.
+//!
+//! Deleting a file of many megabytes takes milliseconds, and a writer holds up its line while it works. So the writer of a text
+//! only puts an old part into a queue, and a thread of the server deletes it.
+
+use crate::audit_name::AuditName;
+use crate::audit_path::AuditPath;
+use crate::audit_writer::text_of_path;
+use crate::file_host::NewFiles;
+use crossbeam_channel::{Receiver, Sender, bounded};
+use log::Log;
+use serve_log::Notes;
+use std::alloc::{AllocError, Global};
+use std::io::{self, Error, ErrorKind};
+use std::sync::Wait;
+use std::time::Clock;
+
+/// The most old parts that wait to be deleted: two for each line of a rack.
+const MOST_WAITING: usize = 16;
+
+/// What the thread that deletes takes from its queue.
+#[derive(Clone, Copy)]
+enum Deletion {
+    /// Delete the part with this name.
+    Part(AuditName),
+    /// End: serving has ended.
+    End,
+}
+
+/// The old parts of the audit texts in a folder, which wait to be deleted, if only the newest parts of each text stay. No clause
+/// can say what is deleted: tests show it.
+#[derive(Drop)]
+pub struct OldParts<'s, H> {
+    host: &'s H,
+    notes: &'s Notes<'s, H>,
+    alloc: Global,
+    folder: String,
+    /// How many of the newest parts of each text stay.
+    keep: u16,
+    sender: Sender<Deletion>,
+    receiver: Receiver<Deletion>,
+}
+
+impl<'s, H: NewFiles + Wait + Log + Clock> OldParts<'s, H> {
+    /// Returns an empty queue for the texts in a folder. `keep` is how many of the newest parts of each text stay.
+    ///
+    /// Returns an error if memory is refused.
+    pub fn new(
+        host: &'s H,
+        notes: &'s Notes<'s, H>,
+        alloc: Global,
+        folder: &str,
+        keep: u16,
+    ) -> Result<OldParts<'s, H>, AllocError> {
+        let folder = format!(in alloc; "{folder}")?;
+        let (sender, receiver) = bounded(alloc, MOST_WAITING)?;
+        Ok(OldParts {
+            host,
+            notes,
+            alloc,
+            folder,
+            keep,
+            sender,
+            receiver,
+        })
+    }
+
+    /// Deletes each part that comes into the queue, until [`end`](OldParts::end) is called. A thread of its own calls it.
+    pub fn delete_each(&self) {
+        for deletion in self.receiver.iter(self.host) {
+            match deletion {
+                Deletion::Part(part) => self.delete(part),
+                Deletion::End => return,
+            }
+        }
+    }
+
+    /// Ends [`delete_each`](OldParts::delete_each), once it has deleted the parts that are in the queue.
+    pub fn end(&self) {
+        let _ = self.sender.send(self.host, Deletion::End);
+    }
+
+    /// Deletes the parts that came into the queue after the end.
+    pub fn delete_rest(&self) {
+        for deletion in self.receiver.try_iter(self.host) {
+            match deletion {
+                Deletion::Part(part) => self.delete(part),
+                Deletion::End => {}
+            }
+        }
+    }
+
+    /// Puts the oldest part of a text into the queue if there is one more than those that are to stay. `newest` is the name of its
+    /// newest part, which has its head. If the queue is full, the oldest part is deleted at once.
+    pub(crate) fn put_oldest(&self, newest: AuditName) {
+        let Some(oldest) = newest.part_to_delete(self.keep) else {
+            return;
+        };
+        if self
+            .sender
+            .try_send(self.host, Deletion::Part(oldest))
+            .is_err()
+        {
+            self.delete(oldest);
+        }
+    }
+
+    /// Deletes a part. Logs the cause if it cannot be deleted.
+    fn delete(&self, part: AuditName) {
+        let path = part.path_in(self.folder.as_str());
+        if let Err(error) = self.remove(path) {
+            self.notes.cannot_delete(self.host, part.line, path, error);
+        }
+    }
+
+    /// Removes the file at a path.
+    fn remove(&self, path: AuditPath<'_>) -> io::Result<()> {
+        match text_of_path(self.alloc, path) {
+            Ok(path) => self.host.remove_file(path.as_str()),
+            Err(_) => Err(Error::from(ErrorKind::OutOfMemory)),
+        }
+    }
+}

@@ -1,5 +1,0 @@
-use Rattle.dp_cable.proofs.FaultlessCables.{left_out}
-use Rattle.dp_cable.proofs.laws.a_lost_telegram_is_left_out.Goals as goal
-
-pub returns : goal.returns
-returns c = left_out

@@ -1,5 +1,0 @@
-use Rattle.std.proofs.Common.{length}
-use Rattle.dp_checkpoint.proofs.head_reading.+read_memory.Given as goal
-
-abbrev pub decreases-read_memory : goal.decreases-read_memory
-decreases-read_memory l = length l.masters.now

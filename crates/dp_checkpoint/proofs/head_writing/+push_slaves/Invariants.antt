@@ -1,5 +1,0 @@
-use Rattle.std.proofs.Common.{length}
-use Rattle.dp_checkpoint.proofs.head_writing.+push_slaves.Given as goal
-
-abbrev pub decreases-push_slaves : goal.decreases-push_slaves
-decreases-push_slaves l = length l.slaves.now

@@ -1,8 +1,0 @@
-use Rattle.dp_checkpoint.proofs.HeadRead.{head_is, world_is}
-use Rattle.dp_checkpoint.proofs.laws.only_what_is_written_is_read.Goals as goal
-
-pub returns-clause-follows : goal.returns-clause-follows
-returns-clause-follows c = head_is
-
-pub returns-clause-alone : goal.returns-clause-alone
-returns-clause-alone c = world_is

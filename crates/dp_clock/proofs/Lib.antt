@@ -1,2 +1,0 @@
-mod Ticking
-pub mod Crossings

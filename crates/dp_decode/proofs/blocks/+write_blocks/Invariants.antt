@@ -1,5 +1,0 @@
-use Rattle.std.proofs.Common.{length}
-use Rattle.dp_decode.proofs.blocks.+write_blocks.Given as goal
-
-abbrev pub decreases-write_blocks : goal.decreases-write_blocks
-decreases-write_blocks g l = length l.octets.now

@@ -1,5 +1,0 @@
-use Rattle.std.proofs.Common.{◌*◌, ◌-◌, length}
-use Rattle.dp_decode.proofs.blocks.+write_numbers.Given as goal
-
-abbrev pub decreases-write_numbers : goal.decreases-write_numbers
-decreases-write_numbers g l = length l.octets.now * 8 - l.from

@@ -1,6 +1,0 @@
-use Rattle.std.proofs.Common.{◌≡◌}
-use Rattle.dp_decode.specs.PrivateWords.{set_from}
-use Rattle.dp_decode.proofs.blocks.next_set.Given as goal
-
-abbrev pub invariant-loop-number : goal.invariant-loop-number
-invariant-loop-number l = set_from l.octets l.fn.from ≡ set_from l.octets l.number

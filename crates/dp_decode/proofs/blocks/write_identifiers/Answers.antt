@@ -1,8 +1,0 @@
--- The word and the numbers are the text.
-use Rattle.std.proofs.Common.{arith, sym}
-use Rattle.std.proofs.lemmas.Grind.{common_steps}
-use Rattle.dp_decode.proofs.Bits.{word_and_numbers}
-use Rattle.dp_decode.proofs.blocks.write_identifiers.Goals as goal
-
-pub returns : goal.returns
-returns g c = rw (sym (word_and_numbers c.args.octets.now)) (grind (arith, common_steps))

@@ -1,5 +1,0 @@
-use Rattle.dp_devices.proofs.Counting.{comes_round}
-use Rattle.dp_devices.proofs.laws.a_counter_comes_round.Goals as goal
-
-pub returns : goal.returns
-returns c = comes_round

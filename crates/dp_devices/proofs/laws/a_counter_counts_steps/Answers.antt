@@ -1,5 +1,0 @@
-use Rattle.dp_devices.proofs.Counting.{number_counted}
-use Rattle.dp_devices.proofs.laws.a_counter_counts_steps.Goals as goal
-
-pub returns : goal.returns
-returns c = number_counted

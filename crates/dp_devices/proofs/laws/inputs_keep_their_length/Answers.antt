@@ -1,5 +1,0 @@
-use Rattle.dp_devices.proofs.Counting.{lengths_stay}
-use Rattle.dp_devices.proofs.laws.inputs_keep_their_length.Goals as goal
-
-pub returns : goal.returns
-returns c = lengths_stay

@@ -1,5 +1,0 @@
-use Rattle.dp_explain.proofs.Ending.{not_readable}
-use Rattle.dp_explain.proofs.explaining.end_rows.Goals as goal
-
-pub returns-in-Err : goal.returns-in-Err
-returns-in-Err g c = not_readable c.args.verdict c.args.row.now _ (g.W.Write.contents c.args.writer.now) c.in-Err.fault c.in-Err.ensures.verdict

@@ -1,5 +1,0 @@
-use Rattle.dp_explain.proofs.WrongRow.{decides_at_wrong_row}
-use Rattle.dp_explain.proofs.laws.a_wrong_row_decides.Goals as goal
-
-pub returns : goal.returns
-returns c = decides_at_wrong_row

@@ -1,6 +1,0 @@
-use Rattle.std.proofs.Common.{◌≡◌, take}
-use Rattle.dp_explain.specs.Tallies.{masters_tally}
-use Rattle.dp_explain.proofs.tally.first_tally.Given as goal
-
-abbrev pub invariant-loop-master : goal.invariant-loop-master
-invariant-loop-master l = l.tally.items ≡ masters_tally (take l.master-index l.masters)

@@ -1,5 +1,0 @@
-use Rattle.std.proofs.Common.{length}
-use Rattle.dp_explain.proofs.tally_rows.+total.Given as goal
-
-abbrev pub decreases-total : goal.decreases-total
-decreases-total l = length l.tally.now

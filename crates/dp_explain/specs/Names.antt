@@ -1,8 +1,0 @@
--- The names of the faults of an explanation (own).
-use Rattle.std.specs.Prelude.{codes, ℕ, List}
-use Rattle.dp_explain.specs.declared.explain_fault.ExplainFault.{ExplainFault}
-use Rattle.dp_explain.specs.declared.explain_fault.ExplainFault.TheVariants as faults
-
-abbrev pub explain_fault_name : ExplainFault → List ℕ
-explain_fault_name faults.OutOfMemory = codes "out of memory"
-explain_fault_name faults.WriteFault = codes "cannot write"

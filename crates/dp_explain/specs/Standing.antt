@@ -1,9 +1,0 @@
--- The state and the holder of the slave at an address (own).
-use Rattle.std.specs.Prelude.{ℕ, Option, option_map}
-use Rattle.dp_sap.specs.declared.state.State.{State}
-use Rattle.dp_line.specs.World.{World, slave_at}
-use Rattle.dp_line.specs.Effects.{state_and_holder}
-
--- None if no slave has the address
-abbrev pub standing_at : World → ℕ → Option (State × Option ℕ)
-standing_at world address = option_map state_and_holder (slave_at world address)

@@ -1,5 +1,0 @@
-use Rattle.std.proofs.Common.{length}
-use Rattle.dp_gsd.proofs.keys.+has_part.Given as goal
-
-abbrev pub decreases-has_part : goal.decreases-has_part
-decreases-has_part l = length l.key.now

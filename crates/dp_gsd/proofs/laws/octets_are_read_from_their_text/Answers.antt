@@ -1,6 +1,0 @@
-use Rattle.std.proofs.Common.{[], arith}
-use Rattle.dp_gsd.proofs.ReadBack.{octets_read}
-use Rattle.dp_gsd.proofs.laws.octets_are_read_from_their_text.Goals as goal
-
-pub returns : goal.returns
-returns c octets all within = octets_read octets [] all (omega arith)

@@ -1,5 +1,0 @@
-use Rattle.std.proofs.Common.{length}
-use Rattle.dp_gsd.proofs.plugged.+plug_named.Given as goal
-
-abbrev pub decreases-plug_named : goal.decreases-plug_named
-decreases-plug_named l = length l.names.now

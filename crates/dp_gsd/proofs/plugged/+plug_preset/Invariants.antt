@@ -1,5 +1,0 @@
-use Rattle.std.proofs.Common.{length}
-use Rattle.dp_gsd.proofs.plugged.+plug_preset.Given as goal
-
-abbrev pub decreases-plug_preset : goal.decreases-plug_preset
-decreases-plug_preset l = length l.modules.now

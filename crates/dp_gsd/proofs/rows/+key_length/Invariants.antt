@@ -1,5 +1,0 @@
-use Rattle.std.proofs.Common.{length}
-use Rattle.dp_gsd.proofs.rows.+key_length.Given as goal
-
-abbrev pub decreases-key_length : goal.decreases-key_length
-decreases-key_length l = length l.body.now

@@ -1,5 +1,0 @@
-use Rattle.std.proofs.Common.{length}
-use Rattle.dp_gsd.proofs.values.+with_digits.Given as goal
-
-abbrev pub decreases-with_digits : goal.decreases-with_digits
-decreases-with_digits l = length l.digits.now

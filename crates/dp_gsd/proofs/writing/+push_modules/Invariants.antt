@@ -1,5 +1,0 @@
-use Rattle.std.proofs.Common.{length}
-use Rattle.dp_gsd.proofs.writing.+push_modules.Given as goal
-
-abbrev pub decreases-push_modules : goal.decreases-push_modules
-decreases-push_modules l = length l.cfgs.now

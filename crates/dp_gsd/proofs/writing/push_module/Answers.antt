@@ -1,9 +1,0 @@
-use Rattle.dp_gsd.specs.GsdText.{module_text}
-use Rattle.dp_gsd.proofs.Joins.{join_7}
-use Rattle.dp_gsd.proofs.writing.push_module.Goals as goal
-
-pub returns : goal.returns
-unfolding module_text
-returns c =
-    join_7 _ _ _ _ _ _ _ _ _ _ _ _ _ _ _ c.in_ok-push.ensures c.in_ok-push-2.ensures c.in_ok-push-3.ensures c.in_ok-push_octets.ensures
-    c.in_ok-push-4.ensures c.in_ok-push-5.ensures c.in_ok-push-6.ensures

@@ -1,8 +1,0 @@
-use Rattle.dp_gsd.specs.GsdText.{sizes_text}
-use Rattle.dp_gsd.proofs.Joins.{join_4}
-use Rattle.dp_gsd.proofs.writing.push_sizes.Goals as goal
-
-pub returns : goal.returns
-unfolding sizes_text
-returns c =
-    join_4 _ _ _ _ _ _ _ _ _ c.in_ok-push_number.ensures c.in_ok-push_number-2.ensures c.in_ok-push_number-3.ensures c.in_ok-push_number-4.ensures

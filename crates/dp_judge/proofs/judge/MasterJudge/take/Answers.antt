@@ -1,6 +1,0 @@
-use Rattle.std.proofs.Common.{◌∙◌}
-use Rattle.dp_judge.proofs.Walks.{many}
-use Rattle.dp_judge.proofs.judge.MasterJudge.take.Goals as goal
-
-pub take_at-requires : goal.take_at-requires
-take_at-requires c = many c.as_mut_slice.result.now c.self.inside.past.items (c.as_mut_slice.ensures.value ∙ c.self.invariant.1)

@@ -1,7 +1,0 @@
-use Rattle.std.proofs.Common.{◌≡◌, [], map}
-use Rattle.std.specs.List.{range_with_len}
-use Rattle.dp_judge.specs.Stations.{station_of}
-use Rattle.dp_judge.proofs.judge.new_stations.Given as goal
-
-abbrev pub invariant-loop-address : goal.invariant-loop-address
-invariant-loop-address l = l.stations.items ≡ map (λ address. station_of address []) (range_with_len 0 l._address)

@@ -1,5 +1,0 @@
-use Rattle.std.proofs.Common.{length}
-use Rattle.dp_sentences.proofs.slots.+is_whole.Given as goal
-
-abbrev pub decreases-is_whole : goal.decreases-is_whole
-decreases-is_whole l = length l.octets.now

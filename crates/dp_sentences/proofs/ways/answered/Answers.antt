@@ -1,4 +1,0 @@
-use Rattle.dp_sentences.proofs.ways.answered.Goals as goal
-
-pub returns-in-Repeat : goal.returns-in-Repeat
-returns-in-Repeat c = rw (c.in-Repeat.is, ← c.scene.view_is) c.way_of_repeat.ensures

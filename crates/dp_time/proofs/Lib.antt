@@ -1,3 +1,0 @@
-mod Rounds
-mod Taking
-mod Advancing

@@ -1,5 +1,0 @@
-use Rattle.dp_time.proofs.Rounds.{not_due_before}
-use Rattle.dp_time.proofs.laws.nothing_is_due_before.Goals as goal
-
-pub returns : goal.returns
-returns c = not_due_before

@@ -1,5 +1,0 @@
-use Rattle.dp_time.proofs.Advancing.{only_late}
-use Rattle.dp_time.proofs.laws.only_late_time_is_cut_off.Goals as goal
-
-pub returns : goal.returns
-returns c = only_late

@@ -1,5 +1,0 @@
-use Rattle.dp_trail.proofs.Heads.{text_without_heads}
-use Rattle.dp_trail.proofs.laws.parts_without_heads_are_the_text.Goals as goal
-
-pub returns : goal.returns
-returns c = text_without_heads

@@ -1,0 +1,9 @@
+use Rattle.std.proofs.Common.{◌≡◌, length}
+use Rattle.explain_texts.specs.Behind.{all_holds_begun}
+use Rattle.explain_texts.proofs.count_holds.begin_all_holds_in.Given as goal
+
+abbrev pub invariant-loop-left : goal.invariant-loop-left
+invariant-loop-left l = all_holds_begun l.line.world l.time l.left l.statistics ≡ all_holds_begun l.line.world l.time l.slaves l.initial.statistics
+
+abbrev pub decreases-loop-left : goal.decreases-loop-left
+decreases-loop-left l = length l.left

@@ -1,0 +1,10 @@
+use Rattle.std.proofs.Common.{take}
+use Rattle.std.specs.List.{flat_map}
+use Rattle.std.specs.Fmt.{HasWritten, IsPlainFormatter}
+use Rattle.judge_findings.specs.Summary.{cases_of_seat}
+use Rattle.judge_findings.proofs.junit.SeatsCasesDisplay.fmt.Given as goal
+
+abbrev pub invariant-loop-seat : goal.invariant-loop-seat
+invariant-loop-seat g l =
+    IsPlainFormatter l.initial.f → HasWritten g.W.Write.write_str_gives l.initial.f
+    (flat_map (cases_of_seat l.self.rules.now) (take l.seat-index l.seat-items)) l.f

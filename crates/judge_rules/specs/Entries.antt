@@ -1,0 +1,79 @@
+-- What the rules read of an entry: which service a request asks one station for, and whether there was a reply.
+use Rattle.std.specs.Prelude.{◌==◌, ◌&&◌, not, if◌then◌else◌, Bool, true, false, Option, Some, None}
+use Rattle.dp_telegram.specs.Access.{global_address}
+use Rattle.dp_telegram.specs.FunctionCode.{asks_srd}
+use Rattle.judge_rules.specs.declared.entry.Answer.{Answer}
+use Rattle.judge_rules.specs.declared.entry.Answer.TheVariants as answers
+use Rattle.judge_rules.specs.declared.entry.Diagnosis.{Diagnosis}
+use Rattle.judge_rules.specs.declared.entry.Parameters.{Parameters}
+use Rattle.judge_rules.specs.declared.entry.Request.{Request}
+use Rattle.judge_rules.specs.declared.entry.Service.{Service}
+use Rattle.judge_rules.specs.declared.entry.Service.TheVariants as services
+
+-- there was a reply
+abbrev pub is_answered : Answer → Bool
+is_answered answers.Silence = false
+is_answered answers.NoneSelected = false
+is_answered other = true
+
+-- the reply is that to the request before
+abbrev pub is_repeat_answer : Answer → Bool
+is_repeat_answer answers.Repeat = true
+is_repeat_answer other = false
+
+abbrev pub is_done : Answer → Bool
+is_done answers.Done = true
+is_done other = false
+
+abbrev pub is_ue : Answer → Bool
+is_ue answers.Ue = true
+is_ue other = false
+
+abbrev pub is_dh : Answer → Bool
+is_dh answers.Dh = true
+is_dh other = false
+
+abbrev pub is_none_selected : Answer → Bool
+is_none_selected answers.NoneSelected = true
+is_none_selected other = false
+
+-- what the reply to Slave_Diag says
+abbrev pub diagnosis_in : Answer → Option Diagnosis
+diagnosis_in (answers.Diagnosis diagnosis) = Some diagnosis
+diagnosis_in other = None
+
+abbrev pub is_data_exchange : Service → Bool
+is_data_exchange services.DataExchange = true
+is_data_exchange other = false
+
+abbrev pub is_slave_diag : Service → Bool
+is_slave_diag services.SlaveDiag = true
+is_slave_diag other = false
+
+abbrev pub is_chk_cfg : Service → Bool
+is_chk_cfg services.ChkCfg = true
+is_chk_cfg other = false
+
+abbrev pub parameters_of : Service → Option Parameters
+parameters_of (services.SetPrm parameters) = Some parameters
+parameters_of other = None
+
+abbrev pub is_srd : Request → Bool
+is_srd request = asks_srd request.function
+
+-- an SRD to one station; a repeat asks for nothing new
+abbrev pub is_served : Request → Bool
+is_served request = is_srd request && not (request.address == global_address) && not (is_repeat_answer request.answer)
+
+abbrev pub exchange_asked : Request → Bool
+exchange_asked request = is_served request && is_data_exchange request.service
+
+abbrev pub diag_asked : Request → Bool
+diag_asked request = is_served request && is_slave_diag request.service
+
+abbrev pub chk_cfg_asked : Request → Bool
+chk_cfg_asked request = is_served request && is_chk_cfg request.service
+
+-- the parameters of a Set_Prm
+abbrev pub prm_asked : Request → Option Parameters
+prm_asked request = if is_served request then parameters_of request.service else None

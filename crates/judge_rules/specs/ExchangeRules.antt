@@ -1,0 +1,41 @@
+-- The rules of Data_Exchange and of retries (IEC 61158-6-3, Data_Exchange; IEC 61158-4-3, retry), and of what is no request.
+use Rattle.std.specs.Prelude.{ℕ, ◌-◌, ◌==◌, ◌&&◌, nat_le, Bool, false, Option, Some, None}
+use Rattle.judge_rules.specs.declared.bus.Bus.{Bus}
+use Rattle.judge_rules.specs.declared.entry.Request.{Request}
+use Rattle.judge_rules.specs.declared.station.Last.{Last}
+use Rattle.judge_rules.specs.declared.station.Station.{Station}
+use Rattle.judge_rules.specs.Entries.{is_srd, is_ue, exchange_asked}
+use Rattle.judge_rules.specs.Stages.{is_parametrized}
+use Rattle.judge_rules.specs.BusFacts.{is_retry}
+
+-- length-repeated: Data_Exchange of a length that the slave refuses by UE, not for the first time since the last Set_Prm that was acknowledged
+abbrev pub length_repeated : Station → Request → Bool
+length_repeated station request = exchange_asked request && is_ue request.answer && station.wrong_length
+
+-- diag-not-read: the fourth Data_Exchange after a DH, with no Slave_Diag since; of one DH it is reported once
+abbrev pub is_third : Option ℕ → Bool
+is_third None = false
+is_third (Some exchanges) = exchanges == 3
+
+abbrev pub diag_not_read : Station → Request → Bool
+diag_not_read station request = exchange_asked request && is_third station.unread
+
+-- watchdog-short: an SRD to a station that has parameters, and since the last SRD to it at least its watchdog time has passed
+abbrev pub is_gap : ℕ → Option Last → ℕ → Bool
+is_gap watchdog None time = false
+is_gap watchdog (Some last) time = nat_le watchdog (time - last.time)
+
+abbrev pub is_past : Option ℕ → Option Last → ℕ → Bool
+is_past None last time = false
+is_past (Some watchdog) last time = is_gap watchdog last time
+
+abbrev pub watchdog_short : Station → Request → Bool
+watchdog_short station request = is_srd request && is_parametrized station.stage && is_past station.watchdog station.last request.time
+
+-- retry-limit: one retry more than are allowed; of one telegram it is reported once
+abbrev pub retry_limit : ℕ → Bus → Request → Bool
+retry_limit limit bus request = is_retry bus.last request && bus.retries == limit
+
+-- no-request: the fourth entry of a hundred that is no request of the master
+abbrev pub is_stray_often : Bus → Bool
+is_stray_often bus = bus.window.strays == 3

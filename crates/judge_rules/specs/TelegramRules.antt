@@ -1,0 +1,39 @@
+-- The rules of a telegram on its own (IEC 61158-4-3, function code of a request; IEC 61158-6-3, service access points).
+use Rattle.std.specs.Prelude.{◌==◌, ◌&&◌, ◌||◌, Bool, true, false}
+use Rattle.dp_telegram.specs.Access.{global_address}
+use Rattle.dp_telegram.specs.declared.function_code.Function.{Function}
+use Rattle.dp_telegram.specs.declared.function_code.Function.TheVariants as functions
+use Rattle.dp_telegram.specs.FunctionCode.{asks_sdn}
+use Rattle.judge_rules.specs.declared.entry.Request.{Request}
+use Rattle.judge_rules.specs.declared.entry.Service.{Service}
+use Rattle.judge_rules.specs.declared.entry.Service.TheVariants as services
+use Rattle.judge_rules.specs.Entries.{is_srd}
+
+-- every service of DP-V0 but Global_Control has a reply; of those between masters some have none
+abbrev pub has_reply : Service → Bool
+has_reply (services.GlobalControl control) = false
+has_reply services.MasterToMaster = false
+has_reply services.Unknown = false
+has_reply other = true
+
+-- sdn-needs-reply: SDN, which has no reply, to the point of a service that has one
+abbrev pub sdn_needs_reply : Request → Bool
+sdn_needs_reply request = asks_sdn request.function && has_reply request.service
+
+-- broadcast-needs-reply: a function that has a reply, to all stations; whether a reserved one has a reply is not known
+abbrev pub is_answered_function : Function → Bool
+is_answered_function functions.SdnLow = false
+is_answered_function functions.SdnHigh = false
+is_answered_function functions.Reserved = false
+is_answered_function other = true
+
+abbrev pub broadcast_needs_reply : Request → Bool
+broadcast_needs_reply request = request.address == global_address && is_answered_function request.function
+
+-- unknown-point: an SRD or an SDN to a point that DP-V0 has not
+abbrev pub is_unknown : Service → Bool
+is_unknown services.Unknown = true
+is_unknown other = false
+
+abbrev pub unknown_point : Request → Bool
+unknown_point request = (is_srd request || asks_sdn request.function) && is_unknown request.service

@@ -1,0 +1,74 @@
+//! The rules of Data_Exchange (IEC 61158-6-3, Data_Exchange), of the watchdog, and of retries.
+
+ghost use Rattle.std.specs.Prelude.{◌≡◌};
+ghost use Rattle.judge_rules.specs.ExchangeRules.{diag_not_read, is_gap, is_past, is_stray_often, length_repeated, retry_limit, watchdog_short};
+
+use crate::bus::Bus;
+use crate::entry::Request;
+use crate::station::{Last, Station};
+
+/// How many Data_Exchanges after a DH may come before Slave_Diag.
+const EXCHANGES_BEFORE_DIAG: u8 = 3;
+
+/// How many stray octets a master may send among its last entries.
+const MOST_STRAYS: u8 = 3;
+
+/// Returns whether a Data_Exchange is refused by UE, not for the first time since the last Set_Prm that was acknowledged.
+pub(crate) fn length_repeated(station: &Station, request: &Request) -> bool
+    ensures { result ≡ length_repeated station.now request.now }
+{
+    request.asks_exchange() && request.answer.is_ue() && station.wrong_length
+}
+
+/// Returns whether the fourth Data_Exchange after a DH comes, with no Slave_Diag since.
+pub(crate) fn diag_not_read(station: &Station, request: &Request) -> bool
+    ensures { result ≡ diag_not_read station.now request.now }
+{
+    match station.unread {
+        Some(exchanges) => request.asks_exchange() && exchanges == EXCHANGES_BEFORE_DIAG,
+        None => false,
+    }
+}
+
+/// Returns whether an SRD comes after a gap as long as the watchdog of a station that has parameters, or longer.
+pub(crate) fn watchdog_short(station: &Station, request: &Request) -> bool
+    ensures { result ≡ watchdog_short station.now request.now }
+{
+    request.is_srd()
+        && station.stage.is_parametrized()
+        && is_past(station.watchdog, &station.last, request.time)
+}
+
+/// Returns whether the watchdog time has passed since the last SRD.
+fn is_past(watchdog: Option<u32>, last: &Option<Last>, time: u64) -> bool
+    ensures { result ≡ is_past watchdog last.now time }
+{
+    match watchdog {
+        Some(watchdog) => is_gap(watchdog, last, time),
+        None => false,
+    }
+}
+
+/// Returns whether this time has passed since the last SRD.
+fn is_gap(watchdog: u32, last: &Option<Last>, time: u64) -> bool
+    ensures { result ≡ is_gap watchdog last.now time }
+{
+    match last {
+        Some(last) => u64::from(watchdog) <= time.saturating_sub(last.time),
+        None => false,
+    }
+}
+
+/// Returns whether the request is the first retry after as many as are allowed.
+pub(crate) fn retry_limit(limit: u8, bus: &Bus, request: &Request) -> bool
+    ensures { result ≡ retry_limit limit bus.now request.now }
+{
+    bus.is_retry(request) && bus.retries == limit
+}
+
+/// Returns whether one more entry that is no request is the fourth in a window.
+pub(crate) fn is_stray_often(bus: &Bus) -> bool
+    ensures { result ≡ is_stray_often bus.now }
+{
+    bus.window.strays == MOST_STRAYS
+}

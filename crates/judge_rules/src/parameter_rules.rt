@@ -1,0 +1,92 @@
+//! The rules of Set_Prm and of Global_Control (IEC 61158-6-3, Set_Prm request and Global_Control request).
+
+ghost use Rattle.std.specs.Prelude.{◌≡◌};
+ghost use Rattle.judge_rules.specs.ParameterRules.{control_both, control_in, control_reserved, control_asked, group_not_set, has_low_min_tsdr, min_tsdr_low, prm_of_other};
+
+use crate::entry::{Control, Parameters, Request, Service};
+use crate::stage::Stage;
+use crate::station::Station;
+
+/// The least min TSDR, in bit times.
+const LEAST_MIN_TSDR: u8 = 11;
+
+/// Returns whether Set_Prm is sent to a slave that the last diagnosis showed as another master's.
+pub(crate) fn prm_of_other(station: &Station, request: &Request) -> bool
+    ensures { result ≡ prm_of_other station.now request.now }
+{
+    request.asks_prm().is_some() && matches!(station.stage, Stage::Taken)
+}
+
+/// Returns whether Set_Prm has a min TSDR of 1 to 10.
+pub(crate) fn min_tsdr_low(request: &Request) -> bool
+    ensures { result ≡ min_tsdr_low request.now }
+{
+    has_low_min_tsdr(request.asks_prm())
+}
+
+/// Returns whether these parameters have a min TSDR of 1 to 10.
+fn has_low_min_tsdr(parameters: Option<Parameters>) -> bool
+    ensures { result ≡ has_low_min_tsdr parameters }
+{
+    match parameters {
+        Some(parameters) => parameters.min_tsdr != 0 && parameters.min_tsdr < LEAST_MIN_TSDR,
+        None => false,
+    }
+}
+
+/// Returns whether the groups of a Global_Control are those of no slave that its sender holds.
+pub(crate) fn group_not_set(request: &Request) -> bool
+    ensures { result ≡ group_not_set request.now }
+{
+    control_asked(request).is_some() && request.answer.is_none_selected()
+}
+
+/// Returns whether a Global_Control sets both bits of Freeze and Unfreeze, or of Sync and Unsync.
+pub(crate) fn control_both(request: &Request) -> bool
+    ensures { result ≡ control_both request.now }
+{
+    match control_asked(request) {
+        Some(control) => control.freeze && control.unfreeze || control.sync && control.unsync,
+        None => false,
+    }
+}
+
+/// Returns whether a Global_Control sets a reserved bit.
+pub(crate) fn control_reserved(request: &Request) -> bool
+    ensures { result ≡ control_reserved request.now }
+{
+    match control_asked(request) {
+        Some(control) => control.reserved,
+        None => false,
+    }
+}
+
+/// Returns the bits of a Global_Control; None if the request is no SDN to its point.
+fn control_asked(request: &Request) -> Option<Control>
+    ensures { result ≡ control_asked request.now }
+{
+    if request.function.is_sdn() {
+        control_in(request.service)
+    } else {
+        None
+    }
+}
+
+/// Returns the bits of a Global_Control; None for every other service.
+fn control_in(service: Service) -> Option<Control>
+    ensures { result ≡ control_in service }
+{
+    match service {
+        Service::GlobalControl(control) => Some(control),
+        Service::DataExchange => None,
+        Service::MasterToMaster => None,
+        Service::SetSlaveAdd => None,
+        Service::RdInp => None,
+        Service::RdOutp => None,
+        Service::GetCfg => None,
+        Service::SlaveDiag => None,
+        Service::SetPrm(_) => None,
+        Service::ChkCfg => None,
+        Service::Unknown => None,
+    }
+}

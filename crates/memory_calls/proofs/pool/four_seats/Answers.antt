@@ -1,5 +1,0 @@
-use Rattle.std.proofs.Common.{rules}
-use Rattle.memory_calls.proofs.pool.four_seats.Goals as goal
-
-pub returns : goal.returns
-returns c = (search rules, search rules, search rules, search rules)

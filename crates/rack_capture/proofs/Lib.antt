@@ -1,5 +1,0 @@
-pub mod Rows
-pub mod Taking
-pub mod Deciding
-pub mod Texts
-pub mod FirstRow

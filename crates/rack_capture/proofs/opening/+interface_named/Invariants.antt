@@ -1,5 +1,0 @@
-use Rattle.std.proofs.Common.{length}
-use Rattle.rack_capture.proofs.opening.+interface_named.Given as goal
-
-abbrev pub decreases-interface_named : goal.decreases-interface_named
-decreases-interface_named l = length l.lines.now

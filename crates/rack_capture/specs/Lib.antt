@@ -1,3 +1,0 @@
-pub mod Comments
-pub mod Captured
-pub mod Captures

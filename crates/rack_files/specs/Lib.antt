@@ -1,4 +1,0 @@
-pub mod AuditPaths
-pub mod AuditNames
-pub mod Parts
-pub mod FileFaults

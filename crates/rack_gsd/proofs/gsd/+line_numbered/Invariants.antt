@@ -1,5 +1,0 @@
-use Rattle.std.proofs.Common.{length}
-use Rattle.rack_gsd.proofs.gsd.+line_numbered.Given as goal
-
-abbrev pub decreases-line_numbered : goal.decreases-line_numbered
-decreases-line_numbered l = length l.lines.now

@@ -1,5 +1,0 @@
-use Rattle.rack_gsd.proofs.Unwritten.{no_file}
-use Rattle.rack_gsd.proofs.gsd.run_gsd.Goals as goal
-
-pub returns-in-Err : goal.returns-in-Err
-returns-in-Err g c = no_file _ _ _ c.in-Err.ensures

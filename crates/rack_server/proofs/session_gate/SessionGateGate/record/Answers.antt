@@ -1,5 +1,0 @@
-use Rattle.rack_server.proofs.Naming.{by_recorder}
-use Rattle.rack_server.proofs.session_gate.SessionGateGate.record.Goals as goal
-
-pub returns-in-Ok : goal.returns-in-Ok
-returns-in-Ok g c = by_recorder g.C.RecordEntries.recorded c.in-Some-get.recorder.now c.args.line c.args.place c.in-Ok.ensures

@@ -1,0 +1,335 @@
+//! The files of an audit text.
+
+ghost use Rattle.std.specs.Prelude.{◌≡◌, [], IfOk};
+ghost use Rattle.std.specs.Io.{ReadsAtMost};
+
+use crate::ending::Fault;
+use crate::files::read_fault;
+use crate::next_part::{has_later_part, name_in, path_behind};
+use crate::progress::Progress;
+use crate::reporting::report;
+use audit_files::AuditName;
+use explain_texts::TextRows;
+use rack_script::RunFault;
+use std::collections::VecDeque;
+use std::fs::{self, Files};
+use std::io::{self, BufReader, ErrorKind, Read};
+use std::process::ExitCode;
+use std::rt::Runtime;
+use system_errors::Cause;
+
+/// How many files are kept open at most before they are read. A text in more files has the others opened again when they
+/// are read.
+const MOST_OPEN: usize = 32;
+
+/// The rows of an audit text in files.
+pub(crate) type FileRows<'a, 'p, 'h, H, R> = TextRows<BufReader<AuditFiles<'a, 'p, 'h, H, R>>>;
+
+/// The files of an audit text, one after another, as one reader. It knows why a read failed.
+#[derive(Drop)]
+pub(crate) struct AuditFiles<'a, 'p, 'h, H, R> {
+    host: &'h H,
+    /// The paths of the files.
+    paths: &'p [&'a str],
+    /// The index of the path of the file that is read.
+    index: usize,
+    /// The file that is read.
+    file: R,
+    /// The files behind it that are open.
+    later: VecDeque<R>,
+    /// Whether it goes on to later parts of the text, which have no path here.
+    follows: bool,
+    /// The path of the later part that is read.
+    part: Option<String>,
+    /// Why a read failed.
+    cause: Option<Cause>,
+    progress: Option<Progress>,
+}
+
+impl<'a, 'p, 'h, R: Read + Drop, H: Runtime + AllocGlobal + Files<File = R>> AuditFiles<
+    'a,
+    'p,
+    'h,
+    H,
+    R,
+> {
+    /// Opens all files with these paths.
+    ///
+    /// Returns `OtherText` if the names of two files are those of different audit texts, and `CannotRead` for a file that can't be
+    /// opened, whichever comes first.
+    pub(crate) fn open(
+        host: &'h H,
+        paths: &'p [&'a str],
+    ) -> Result<AuditFiles<'a, 'p, 'h, H, R>, Fault<'a>> {
+        let file = open_file(host, path_at(paths, 0))?;
+        let later = open_later(host, paths)?;
+        Ok(AuditFiles {
+            host,
+            paths,
+            index: 0,
+            file,
+            later,
+            follows: false,
+            part: None,
+            cause: None,
+            progress: None,
+        })
+    }
+
+    /// Returns these files as a text that goes on to its later parts, once they are there.
+    pub(crate) fn followed(self) -> AuditFiles<'a, 'p, 'h, H, R> {
+        let mut files = self;
+        files.follows = true;
+        files
+    }
+
+    /// Returns these files as a text whose progress is shown on standard error, if the size of the text is known.
+    pub(crate) fn shown(self) -> AuditFiles<'a, 'p, 'h, H, R> {
+        let mut files = self;
+        if let Some(size) = size_of_text(files.host, files.paths) {
+            files.progress = Progress::start(files.host, size);
+        }
+        files
+    }
+
+    /// Clears the progress that is shown.
+    pub(crate) fn clear_progress(&self) {
+        if let Some(progress) = &self.progress {
+            progress.clear(self.host);
+        }
+    }
+
+    /// Returns the fault of the text: why a read failed, or else that the file that is read is not UTF-8.
+    pub(crate) fn fault(&self) -> Fault<'_> {
+        match self.cause {
+            Some(cause) => Fault::CannotRead(self.path(), cause),
+            None => Fault::CannotRead(self.path(), Cause::NotText),
+        }
+    }
+
+    /// Returns the fault of the text, of which no later part that has no path here was read.
+    pub(crate) fn first_fault(&self) -> Fault<'a> {
+        let path = path_at(self.paths, self.index);
+        match self.cause {
+            Some(cause) => Fault::CannotRead(path, cause),
+            None => Fault::CannotRead(path, Cause::NotText),
+        }
+    }
+
+    /// Returns the path of the file that is read: that of the row that a reader with a buffer read last.
+    pub(crate) fn path(&self) -> &str {
+        match &self.part {
+            Some(path) => path.as_str(),
+            None => path_at(self.paths, self.index),
+        }
+    }
+
+    /// Reads from the file that is read.
+    fn read_file(&mut self, buf: &mut [u8]) -> io::Result<usize>
+        ensures { ReadsAtMost result buf.new }
+    {
+        match self.file.read(buf) {
+            Ok(count) => Ok(count),
+            Err(error) => Err(self.failed(error)),
+        }
+    }
+
+    /// Goes on to the next of the files that have a path here. Returns whether there is one.
+    fn begin_next(&mut self) -> io::Result<bool> {
+        let next = self.index.saturating_add(1);
+        if next >= self.paths.len() {
+            return Ok(false);
+        }
+        self.index = next;
+        self.file = match self.later.pop_front() {
+            Some(file) => file,
+            None => self.open_path()?,
+        };
+        Ok(true)
+    }
+
+    /// Goes on to the next part of the text if it is there, and reads from it.
+    fn read_next_part(&mut self, buf: &mut [u8]) -> io::Result<usize>
+        ensures { ReadsAtMost result buf.new }
+    {
+        let Some(path) = self.next_part()? else {
+            return Ok(0);
+        };
+        // The part before it has ended now, but what was written to it last may not have been read.
+        let count = self.read_file(buf)?;
+        if count > 0 {
+            return Ok(count);
+        }
+        self.part = Some(path);
+        self.file = self.open_path()?;
+        self.read_file(buf)
+    }
+
+    /// Returns the path of the next part of the text, if it is there and these files go on to it. It is also returned if it is not
+    /// there but a later part is: then it was deleted before it was read, and cannot be opened.
+    fn next_part(&mut self) -> io::Result<Option<String>> {
+        if !self.follows {
+            return Ok(None);
+        }
+        let path = match path_behind(self.host.alloc(), self.path()) {
+            Ok(Some(path)) => path,
+            Ok(None) => return Ok(None),
+            Err(_) => return Err(io::Error::from(ErrorKind::OutOfMemory)),
+        };
+        let is_there = fs::metadata(self.host, path.as_str()).is_ok();
+        if is_there || has_later_part(self.host, path.as_str()) {
+            Ok(Some(path))
+        } else {
+            Ok(None)
+        }
+    }
+
+    /// Opens the file whose path is that of the file that is read.
+    fn open_path(&mut self) -> io::Result<R> {
+        match fs::open(self.host, self.path()) {
+            Ok(file) => Ok(file),
+            Err(error) => Err(self.failed(error)),
+        }
+    }
+
+    /// Stores why a read failed, and returns the error.
+    fn failed(&mut self, error: io::Error) -> io::Error {
+        self.cause = Some(Cause::from_error(&error));
+        error
+    }
+
+    /// Counts bytes that were read, if the progress is shown.
+    fn pass(&mut self, bytes: &[u8]) {
+        if let Some(progress) = &mut self.progress {
+            progress.pass(self.host, bytes);
+        }
+    }
+}
+
+impl<R: Read + Drop, H: Runtime + AllocGlobal + Files<File = R>> Read
+    for AuditFiles<'_, '_, '_, H, R> {
+    fn read(&mut self, buf: &mut [u8]) -> io::Result<usize> {
+        if buf.is_empty() {
+            return Ok(0);
+        }
+        for _ in 0..self.paths.len().saturating_add(1) {
+            let count = self.read_file(buf)?;
+            if count > 0 {
+                self.pass(&buf[..count]);
+                return Ok(count);
+            }
+            if !self.begin_next()? {
+                return self.read_next_part(buf);
+            }
+        }
+        Ok(0)
+    }
+}
+
+/// Opens all files of an audit text. `shows` is whether the progress of reading it is shown, if it is long.
+pub(crate) fn open_files<'a, 'p, 'h, H: Runtime + AllocGlobal + Files<File = R>, R: Read + Drop>(
+    host: &'h H,
+    paths: &'p [&'a str],
+    shows: bool,
+) -> Result<AuditFiles<'a, 'p, 'h, H, R>, Fault<'a>> {
+    let files = AuditFiles::open(host, paths)?;
+    if shows { Ok(files.shown()) } else { Ok(files) }
+}
+
+/// Returns the rows of an audit text in these files.
+pub(crate) fn rows_of<'a, 'p, 'h, H: Runtime + AllocGlobal + Files<File = R>, R: Read + Drop>(
+    files: AuditFiles<'a, 'p, 'h, H, R>,
+) -> Result<FileRows<'a, 'p, 'h, H, R>, RunFault>
+    ensures { IfOk result (λ rows. rows.text.past ≡ []) }
+{
+    let alloc = files.host.alloc();
+    match BufReader::new(alloc, files) {
+        Ok(reader) => Ok(TextRows::new(alloc, reader)),
+        Err(_) => Err(RunFault::OutOfMemory),
+    }
+}
+
+/// Returns the exit status of what was done with the audit text of these files. If the text could not be read, reports this
+/// here, with the path of the file.
+pub(crate) fn reported_read<'a, H: Runtime + AllocGlobal + Files<File = R>, R: Read + Drop>(
+    errors: &impl Eprint,
+    files: &AuditFiles<'_, '_, '_, H, R>,
+    done: Result<ExitCode, Fault<'a>>,
+) -> Result<ExitCode, Fault<'a>> {
+    match done {
+        Err(Fault::Run(RunFault::CannotRead | RunFault::NotText)) => {
+            Ok(report(errors, files.fault()))
+        }
+        _ => done,
+    }
+}
+
+/// Returns the path at this index; `-` if there is none.
+fn path_at<'a>(paths: &[&'a str], index: usize) -> &'a str {
+    match paths.get(index) {
+        Some(path) => *path,
+        None => "-",
+    }
+}
+
+/// Opens a file for reading.
+fn open_file<'a, H: Runtime>(host: &H, path: &'a str) -> Result<H::File, Fault<'a>> {
+    match fs::open(host, path) {
+        Ok(file) => Ok(file),
+        Err(error) => Err(read_fault(error, path)),
+    }
+}
+
+/// Opens all files behind the first, and returns those that are kept open.
+fn open_later<'a, H: Runtime + AllocGlobal>(
+    host: &H,
+    paths: &[&'a str],
+) -> Result<VecDeque<H::File>, Fault<'a>> {
+    let mut later = VecDeque::new(host.alloc());
+    let Some((first, others)) = paths.split_first() else {
+        return Ok(later);
+    };
+    let mut text = name_in(*first);
+    for path in others {
+        check_name(&mut text, *path)?;
+        let file = open_file(host, path)?;
+        if later.len() < MOST_OPEN && later.push_back(file).is_err() {
+            return Err(Fault::Run(RunFault::OutOfMemory));
+        }
+    }
+    Ok(later)
+}
+
+/// Returns `OtherText` if the name of the file with this path is that of another audit text than `text`, which has the first name of
+/// a file that is one of an audit text.
+fn check_name<'a>(text: &mut Option<AuditName>, path: &'a str) -> Result<(), Fault<'a>> {
+    let Some(name) = name_in(path) else {
+        return Ok(());
+    };
+    match *text {
+        None => {
+            *text = Some(name);
+            Ok(())
+        }
+        Some(first) => {
+            if first.is_same_text(name) {
+                Ok(())
+            } else {
+                Err(Fault::OtherText(path, first))
+            }
+        }
+    }
+}
+
+/// Returns the number of bytes of these files; None if one of them is no ordinary file.
+fn size_of_text(host: &impl Files, paths: &[&str]) -> Option<u64> {
+    let mut size: u64 = 0;
+    for path in paths {
+        let file = fs::metadata(host, *path).ok()?;
+        if !file.is_file() {
+            return None;
+        }
+        size = size.saturating_add(file.len());
+    }
+    Some(size)
+}

@@ -1,0 +1,143 @@
+//! The verdict of a check of an audit text.
+
+ghost use Rattle.std.specs.Prelude.{◌≡◌};
+ghost use Rattle.explain_texts.specs.TextRows.{nothing_read};
+
+use crate::audit_text::{AuditText, Beginning, FileEntries, entries_of};
+use crate::ending::Fault;
+use crate::text_files::{AuditFiles, FileRows};
+use audit_parts::PartsCheck;
+use dp_audit::AuditFault;
+use explain_texts::TextRows;
+use rack_file::Rack;
+use rack_script::{Choice, RunFault, report_verdict_by, run_check, run_parts_check};
+use std::alloc::Global;
+use std::fs::Files;
+use std::io::Read;
+use std::rt::Runtime;
+use std::str::from_utf8;
+
+/// The most bytes of the row of a verdict.
+const LONGEST: usize = 64;
+
+/// The verdict of a check of an audit text.
+#[derive(Drop)]
+pub(crate) struct Verdict {
+    /// The exit status.
+    pub(crate) status: u8,
+    /// The row of the verdict, with its LF.
+    pub(crate) row: Vec<u8>,
+    /// Whether the text ends within the last row that was read.
+    is_cut: bool,
+}
+
+impl Verdict {
+    /// Returns the number of the row within which the text ends, in digits; None if another row is wrong, or none.
+    pub(crate) fn cut_row(&self) -> Option<&str> {
+        if !self.is_cut {
+            return None;
+        }
+        let Ok(row) = from_utf8(self.row.as_slice()) else {
+            return None;
+        };
+        row.strip_prefix("bad line ")?.strip_suffix('\n')
+    }
+}
+
+/// Checks an audit text that has no parts.
+pub(crate) fn check_rows<H: Runtime + AllocGlobal + Files<File = R>, R: Read + Drop>(
+    alloc: Global,
+    rack: &str,
+    rows: &mut FileEntries<'_, '_, '_, H, R>,
+) -> Result<Verdict, RunFault>
+    requires { rows.old.text ≡ nothing_read }
+{
+    let mut row = new_row(alloc)?;
+    let status = run_check(alloc, rack, rows, &mut row)?;
+    let is_cut = !rows.is_whole() && !rows.row().is_empty();
+    Ok(Verdict {
+        status,
+        row,
+        is_cut,
+    })
+}
+
+/// Checks the rows of an audit text behind its beginning. A text that ends within the head of a part ends within a row.
+pub(crate) fn check_part_rows<H: Runtime + AllocGlobal + Files<File = R>, R: Read + Drop>(
+    alloc: Global,
+    check: PartsCheck,
+    rows: &mut FileRows<'_, '_, '_, H, R>,
+) -> Result<Verdict, RunFault>
+    requires { rows.old.text ≡ nothing_read }
+{
+    let mut check = check;
+    let mut row = new_row(alloc)?;
+    let status = run_parts_check(&mut check, rows, &mut row)?;
+    let is_cut = !rows.is_whole();
+    Ok(Verdict {
+        status,
+        row,
+        is_cut,
+    })
+}
+
+/// Returns the verdict on a text that begins with a head that has this fault. `front` has the rows of the head that were read.
+pub(crate) fn verdict_on_head(
+    alloc: Global,
+    front: &[u8],
+    fault: AuditFault,
+) -> Result<Verdict, RunFault> {
+    let mut row = new_row(alloc)?;
+    let status = report_verdict_by(&every_entry(), Err(fault), &mut row)?;
+    let is_cut = !front.ends_with(b"\n");
+    Ok(Verdict {
+        status,
+        row,
+        is_cut,
+    })
+}
+
+/// Checks the audit text of these files on a rack, which `rack` describes as text. The files are opened and read again.
+pub(crate) fn check_again<'a, H: Runtime + AllocGlobal>(
+    rt: &H,
+    rack: &str,
+    described: &Rack,
+    audit: &[&'a str],
+) -> Result<Verdict, Fault<'a>> {
+    let alloc = rt.alloc();
+    let AuditText {
+        beginning,
+        front,
+        reader,
+    } = AuditText::read(alloc, described, AuditFiles::open(rt, audit)?)?;
+    let checked = match beginning {
+        Beginning::NoPart => check_rows(alloc, rack, &mut entries_of(alloc, None, front, reader)?),
+        Beginning::FirstPart(check) | Beginning::LaterPart(_, check) => {
+            check_part_rows(alloc, check, &mut TextRows::new(alloc, reader))
+        }
+        Beginning::WrongHead(fault) => verdict_on_head(alloc, front.as_slice(), fault),
+    };
+    Ok(checked?)
+}
+
+/// Returns an empty row with room for a verdict.
+fn new_row(alloc: Global) -> Result<Vec<u8>, RunFault> {
+    match Vec::with_capacity(alloc, LONGEST) {
+        Ok(row) => Ok(row),
+        Err(_) => Err(RunFault::OutOfMemory),
+    }
+}
+
+/// Returns the choice of every entry, in rows.
+pub(crate) fn every_entry() -> Choice {
+    Choice {
+        from: None,
+        to: None,
+        slave: None,
+        master: None,
+        faults: false,
+        refused: false,
+        summary: false,
+        json: false,
+    }
+}

@@ -1,0 +1,5 @@
+mod Ticking
+pub mod Crossings
+mod Rounds
+mod Taking
+mod Advancing

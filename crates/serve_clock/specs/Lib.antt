@@ -1,0 +1,3 @@
+pub mod Advances
+pub mod Moments
+pub mod TimeExamples

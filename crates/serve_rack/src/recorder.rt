@@ -1,0 +1,146 @@
+//! Recording lines in audit files before their answers are sent.
+//!
+//! No call can end the process from here, so a full disk ends the program from within: the thread that can't write an entry
+//! stops serving. Each session sees that within 100 ms, by the timeout of its reads and writes. So the audit texts still come
+//! on standard output, and the program ends with status 5.
+
+ghost use Rattle.std.specs.Prelude.{◌≡◌, ◌≤◌, All, Contains, IfErr, IfOk, IfSome, Some, length};
+ghost use Rattle.audit_trail.specs.Named.{name_of};
+ghost use Rattle.audit_files.specs.FileFaults.{IsRecordingFault};
+ghost use Rattle.serve_rack.specs.Recordings.{AreRecordedIn, IsPartOfOne, paths_of};
+ghost use Rattle.serve_rack.specs.ServedLines.{line_numbers};
+ghost use Rattle.serve_rack.specs.ServeOutput.{AreOpened};
+
+use crate::host::Host;
+use crate::served_line::ServedLine;
+use audit_files::{
+    AuditFile, FileFault, FileTail, FileTrail, IncompleteFile, OldParts, begin_text, complete_text,
+    make_folder,
+};
+use audit_trail::{Naming, RecordEntries, Trail, TrailBreak};
+use dp_sessions::Port;
+use serve_log::Notes;
+use serve_options::PartOptions;
+use serve_sockets::ServePhase;
+use std::alloc::Global;
+use std::net::Net;
+use std::sync::Wait;
+
+/// Records a line in its audit files before its answers are sent. If an entry is not written, serving stops.
+#[derive(Drop)]
+pub(crate) struct Recorder<'a, 'l, N, T> {
+    pub(crate) net: &'l N,
+    pub(crate) serve_phase: &'l ServePhase,
+    pub(crate) file: AuditFile<'a, T>,
+}
+
+/// A recorder whose trail writes to audit files, and that `J` names.
+pub(crate) type FileRecorder<'a, 's, H, J> = Recorder<'a, 's, H, FileTrail<'a, 's, H, J>>;
+
+/// A recorder whose trail has no name yet.
+pub(crate) type UnnamedRecorder<'a, 's, H> = Recorder<'a, 's, H, FileTail<'a, 's, H>>;
+
+impl<N: Net, T: RecordEntries> RecordEntries for Recorder<'_, '_, N, T> {
+    ghost recorded = { λ recorder line place. T.recorded recorder.file.trail line place };
+
+    fn record<H: Wait>(&self, rt: &H, line: u8, place: Option<u32>) -> Result<(), TrailBreak> {
+        match self.file.trail.record(rt, line, place) {
+            Ok(()) => Ok(()),
+            Err(reason) => {
+                self.serve_phase.stop(rt, self.net);
+                Err(reason)
+            }
+        }
+    }
+}
+
+/// Makes the folder, begins a new audit text in it for each line, and returns the recorders. `parts` is `None` if each text has
+/// one file, and `old_parts` is `None` if no part is deleted.
+///
+/// Returns `CannotMake` with the path that cannot be made, or `OutOfMemory`.
+pub(crate) fn record_lines<'a, 's, H: Host>(
+    host: &'s H,
+    notes: &'s Notes<'s, H>,
+    alloc: Global,
+    serve_phase: &'s ServePhase,
+    old_parts: Option<&'s OldParts<'s, H>>,
+    folder: &'a str,
+    parts: Option<PartOptions>,
+    lines: &[ServedLine],
+    ports: &'s [Port],
+) -> Result<Vec<UnnamedRecorder<'a, 's, H>>, FileFault<'a>>
+    requires opened { AreOpened lines.now ports.now }
+    requires few { length lines.now ≤ 8 }
+    ensures each { IfOk result (λ all. length all.items ≡ length lines.now) }
+    ensures paths { IfOk result (λ all. AreRecordedIn folder.now (line_numbers lines.now) (paths_of all.items)) }
+    ensures fault { IfErr result (IsRecordingFault (Some folder.entry) (line_numbers lines.now)) }
+{
+    match make_folder(host, folder) {
+        Ok(()) => {}
+        Err(fault) => return Err(fault),
+    }
+    let mut all = Vec::new(alloc);
+    for line in lines {
+        let port = &ports[all.len()];
+        let number = line.spec.number;
+        let file = match begin_text(
+            host, notes, alloc, old_parts, folder, parts, &port.line, number,
+        ) {
+            Ok(file) => file,
+            Err(fault) => return Err(fault),
+        };
+        let recorder = Recorder {
+            net: host,
+            serve_phase,
+            file,
+        };
+        if all.push(recorder).is_err() {
+            return Err(FileFault::OutOfMemory);
+        }
+    }
+    Ok(all)
+}
+
+/// Lets threads share the trail of each recorder. `J` names these trails.
+///
+/// Returns `None` if memory is refused.
+pub(crate) fn name_trails<'a, 's, H: Host, J: Naming>(
+    alloc: Global,
+    recorders: Vec<UnnamedRecorder<'a, 's, H>>,
+) -> Option<Vec<FileRecorder<'a, 's, H, J>>>
+    requires { All (λ recorder. Contains J.trails (name_of recorder.file.trail.pass)) recorders.items }
+    ensures { IfSome result (λ all. paths_of all.items ≡ paths_of recorders.entry.items) }
+{
+    let mut all = Vec::new(alloc);
+    for recorder in recorders {
+        let Recorder {
+            net,
+            serve_phase,
+            file: AuditFile { path, trail },
+        } = recorder;
+        let trail = Trail::new(trail);
+        let named = Recorder {
+            net,
+            serve_phase,
+            file: AuditFile { path, trail },
+        };
+        if all.push(named).is_err() {
+            return None;
+        }
+    }
+    Some(all)
+}
+
+/// Completes the audit text of each recorder. Returns the first file that lacks an entry.
+pub(crate) fn first_incomplete<'a, H: Host, J: Naming>(
+    host: &H,
+    recorders: Vec<FileRecorder<'a, '_, H, J>>,
+) -> Option<IncompleteFile<'a>>
+    ensures { IfSome result (λ incomplete. IsPartOfOne (paths_of recorders.entry.items) incomplete.path) }
+{
+    let mut first = None;
+    for recorder in recorders {
+        first = first.or(complete_text(host, recorder.file));
+    }
+    first
+}

@@ -1,0 +1,187 @@
+//! Serving a rack at sockets.
+
+ghost use Rattle.std.specs.Prelude.{◌≡◌, ◌≤◌, ◌-◌, ◌^◌, All, None, is_some, length, unwrap_or};
+ghost use Rattle.dp_sessions.specs.Pools.{HasSeats};
+ghost use Rattle.dp_line.specs.World.{description_of, opening_fault};
+ghost use Rattle.rack_file.specs.Rack.{rack_described};
+ghost use Rattle.rack_file.specs.RackFile.{rack_in};
+ghost use Rattle.serve_rack.specs.ServeOutput.{AreOpened, Serves, ServesLines, ServesRack};
+
+use crate::audits::write_audits;
+use crate::host::Host;
+use crate::listening::{Listeners, check_descriptors, listen_at_lines, ports_of};
+use crate::opened_lines::{OpenedLines, open_lines};
+use crate::serve_fault::ServeFault;
+use crate::served_line::{ServedLine, lines_to_serve};
+use crate::serving::{numbers_of, serve_connections};
+use rack_file::laws::{
+    accepted_lines_can_be_opened, accepted_racks_have_1_to_8_lines,
+    accepted_racks_have_1_to_32_workers,
+};
+use rack_file::{Rack, read_rack};
+use serve_log::Notes;
+use serve_options::ServeOptions;
+use serve_sockets::{InputEnd, ServePhase};
+use std::alloc::Global;
+use std::io::Write;
+use std::net::TcpListener;
+
+/// How many sessions were served.
+#[derive(Clone, Copy)]
+pub struct Served {
+    /// Those of masters.
+    pub masters: u32,
+    /// Those of operators.
+    pub operators: u32,
+}
+
+/// Serves the rack that a text describes at the ports of its lines on this machine. Each port accepts the number of connections
+/// that `options` name, or any number.
+///
+/// It writes `ready` once all ports are listened at. When all sessions have ended it writes the audit text of each line, in
+/// ascending order of their numbers. For endless lines it writes only `ready`.
+///
+/// If `options` name a file for the ports, it is there before `ready` is written. If there is an input, no connection is accepted
+/// after its end, and each session ends within 200 ms; that is no fault.
+///
+/// Nothing is written with these faults: `Rack` if the rack is not accepted or a line has no port, `CannotListen` if a port
+/// cannot be listened at or there are too few descriptors for its connections, `CannotMake` if the folder of audit texts or a
+/// file in it for a line of the rack cannot be made, and `CannotMakePorts` if the file that names the ports cannot be made.
+///
+/// Returns `WriteFault` if a write fails, and `OutOfMemory` if memory or a thread is refused. If a thread is refused after
+/// `ready`, the audit texts are written nevertheless. Returns `CannotWrite` if a file of an audit text lacks an entry. Serving
+/// stops then, and the audit texts are written.
+pub fn serve_text<'a, H: Host + Sync, W: Write>(
+    rt: &H,
+    alloc: Global,
+    rack: &str,
+    options: ServeOptions<'a>,
+    input: Option<&InputEnd>,
+    writer: &mut W,
+) -> Result<Served, ServeFault<'a>>
+    ensures { Serves options.entry.audit (is_some options.entry.endless) (rack_in rack.now) (W.contents writer.old) (W.contents writer.new) result }
+{
+    accepted_racks_have_1_to_8_lines();
+    accepted_racks_have_1_to_32_workers();
+    accepted_lines_can_be_opened();
+    match read_rack(alloc, rack) {
+        Ok(rack) => serve_rack(rt, alloc, rack, options, input, writer),
+        Err(fault) => Err(ServeFault::from(fault)),
+    }
+}
+
+/// Serves a rack that is accepted.
+fn serve_rack<'a, H: Host + Sync, W: Write>(
+    rt: &H,
+    alloc: Global,
+    rack: Rack,
+    options: ServeOptions<'a>,
+    input: Option<&InputEnd>,
+    writer: &mut W,
+) -> Result<Served, ServeFault<'a>>
+    requires few { length (rack_described rack).lines ≤ 8 }
+    requires workers { (1 ≤ rack.workers) × (rack.workers ≤ 32) }
+    requires fit { All (λ line. opening_fault line.line ≡ None) (rack_described rack).lines }
+    ensures { ServesRack options.entry.audit (is_some options.entry.endless) (rack_described rack) (W.contents writer.old) (W.contents writer.new) result }
+{
+    let Rack { workers, lines } = rack;
+    let lines = match lines_to_serve(alloc, lines) {
+        Ok(lines) => lines,
+        Err(fault) => return Err(ServeFault::from(fault)),
+    };
+    let listening = match listen_at_lines(rt, alloc, &lines) {
+        Ok(listening) => listening,
+        Err(fault) => return Err(fault),
+    };
+    match check_descriptors(alloc, &lines, &listening, workers) {
+        Ok(()) => {}
+        Err(fault) => return Err(fault),
+    }
+    open_and_serve(rt, alloc, lines, listening, workers, options, input, writer)
+}
+
+/// Opens lines that are listened at, and serves them.
+fn open_and_serve<'a, H: Host + Sync, W: Write>(
+    rt: &H,
+    alloc: Global,
+    lines: Vec<ServedLine>,
+    listening: Vec<Listeners<TcpListener>>,
+    workers: u8,
+    options: ServeOptions<'a>,
+    input: Option<&InputEnd>,
+    writer: &mut W,
+) -> Result<Served, ServeFault<'a>>
+    requires few { length lines.items ≤ 8 }
+    requires each { length listening.items ≡ length lines.items }
+    requires workers { (1 ≤ workers) × (workers ≤ 32) }
+    requires fit { All (λ line. opening_fault (description_of line.spec) ≡ None) lines.items }
+    ensures { ServesLines options.entry.audit (is_some options.entry.endless) lines.items (W.contents writer.old) (W.contents writer.new) result }
+{
+    let Ok(opened) = open_lines(alloc, lines, options.endless.is_some(), workers) else {
+        return Err(ServeFault::OutOfMemory);
+    };
+    serve_lines(rt, alloc, listening, opened, options, input, writer)
+}
+
+/// Returns how many connections each port accepts. Without a limit it is a number that is never reached.
+pub(crate) fn sessions_of(options: ServeOptions<'_>) -> u64
+    ensures { result ≡ unwrap_or options.entry.sessions (2 ^ 64 - 1) }
+{
+    options.sessions.map_or(u64::MAX, |count| u64::from(count))
+}
+
+/// Serves lines that are listened at, records them, and writes their audit texts unless they are endless.
+fn serve_lines<'a, 's, H: Host + Sync, W: Write>(
+    rt: &'s H,
+    alloc: Global,
+    listening: Vec<Listeners<TcpListener>>,
+    opened: OpenedLines,
+    options: ServeOptions<'a>,
+    input: Option<&'s InputEnd>,
+    writer: &mut W,
+) -> Result<Served, ServeFault<'a>>
+    requires few { length opened.lines.items ≤ 8 }
+    requires each { length listening.items ≡ length opened.lines.items }
+    requires opened { AreOpened opened.lines.items opened.ports.items }
+    requires workers { (1 ≤ length opened.seats.items) × (length opened.seats.items ≤ 32) }
+    requires seats { All (λ own. HasSeats opened.ports.items own.items) opened.seats.items }
+    ensures { ServesLines options.entry.audit (is_some options.entry.endless) opened.lines.items (W.contents writer.old) (W.contents writer.new) result }
+{
+    let OpenedLines {
+        lines,
+        ports,
+        seats,
+    } = opened;
+    let serve_phase = ServePhase::new(ports_of(&lines, &listening));
+    let notes = Notes::new(
+        rt,
+        options.log_detail,
+        numbers_of(&lines),
+        seats.len() as u32,
+    );
+    let outcome = serve_connections(
+        rt,
+        alloc,
+        &serve_phase,
+        &notes,
+        options,
+        input,
+        &lines,
+        listening,
+        &ports,
+        seats,
+        writer,
+    );
+    notes.sum_up(rt);
+    let outcome = match outcome {
+        Ok(outcome) => outcome,
+        Err(fault) => return Err(fault),
+    };
+    if options.endless.is_some() {
+        return outcome.into_result(true);
+    }
+    match write_audits(alloc, ports, writer) {
+        Ok(()) => outcome.into_result(false),
+        Err(fault) => Err(ServeFault::from(fault)),
+    }
+}

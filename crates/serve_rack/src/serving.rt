@@ -1,0 +1,391 @@
+//! Accepting and serving the connections of all lines, and recording what is served.
+
+ghost use Rattle.std.specs.Prelude.{◌≡◌, ◌≤◌, ℕ, Bool, List, Option, All, Contains, Err, IfErr, IfOk, IfSome, None, OnOk, Some, length};
+ghost use Rattle.std.specs.Borrow.{Bor};
+ghost use Rattle.std.specs.Io.KnownBytes.{Appends};
+ghost use Rattle.dp_sessions.specs.Pools.{HasSeats};
+ghost use Rattle.audit_trail.specs.Named.{name_of};
+ghost use Rattle.audit_files.specs.AuditPaths.{IsFileIn};
+ghost use Rattle.serve_rack.specs.Recordings.{IsPartOfOne, paths_of};
+ghost use Rattle.serve_rack.specs.declared.served_line.ServedLine.{ServedLine};
+ghost use Rattle.serve_rack.specs.ServedLines.{line_numbers};
+ghost use Rattle.serve_rack.specs.ServeOutput.{AreOpened, AreServed, ServesConnections, ServesLines, ready, serving_result};
+
+use crate::acceptors::Acceptors;
+use crate::clocks::{close_clocks, open_clocks, schedule_of};
+use crate::host::Host;
+use crate::listening::Listeners;
+use crate::operators::{MOST_OPERATORS, operator_workers};
+use crate::ready::{name_ports, write_ready};
+use crate::recorder::{UnnamedRecorder, first_incomplete, name_trails, record_lines};
+use crate::serve::{Served, sessions_of};
+use crate::serve_fault::{OutputFault, ServeFault};
+use crate::served_line::ServedLine;
+use crate::server_context::ServerContext;
+use crate::session_gate::{KeepTime, SessionGate, TimedGate};
+use crate::threads::{accept_and_serve, can_start};
+use audit_files::{IncompleteFile, OldParts};
+use audit_trail::{Naming, NoTrail, RecordEntries};
+use crossbeam_channel::bounded;
+use dp_sessions::Port;
+use dp_shared::WorkerSeat;
+use serve_clock::LineClock;
+use serve_log::{LineNumbers, Notes};
+use serve_options::{PartOptions, ServeOptions};
+use serve_sockets::{InputEnd, ServePhase, SocketContext};
+use std::alloc::{AllocError, Global};
+use std::io::Write;
+use std::marker::Brand;
+use std::net::TcpListener;
+use std::sync::atomic::AtomicU32;
+use std::sync::atomic::Ordering::SeqCst;
+use std::time::Instant;
+
+/// The most sessions of masters that wait for a worker. Further connections wait to be accepted.
+const MOST_WAITING: usize = 64;
+
+/// The most lines of a rack.
+const MOST_LINES: usize = rack_file::MOST_LINES as usize;
+
+/// How serving the connections of all lines has ended.
+#[derive(Clone, Copy)]
+pub(crate) struct ServingOutcome<'a> {
+    /// How many sessions were served, or `None` if a thread could not be started.
+    served: Option<Served>,
+    /// The first audit file that lacks an entry.
+    incomplete: Option<IncompleteFile<'a>>,
+}
+
+impl<'a> ServingOutcome<'a> {
+    /// Returns the result of serving, once the audit texts are written.
+    pub(crate) fn into_result(self, are_endless: bool) -> Result<Served, ServeFault<'a>>
+        ensures exact { result ≡ serving_result are_endless self.entry.incomplete self.entry.served }
+        ensures serves { (folder : Option (Bor (List ℕ))) → (lines : List ServedLine) → IfSome self.entry.incomplete (λ file. IsFileIn folder (line_numbers lines) file.path)
+            → (old new : Option (List ℕ)) → AreServed are_endless lines old new → ServesLines folder are_endless lines old new result }
+    {
+        let ServingOutcome { served, incomplete } = self;
+        if let Some(file) = incomplete {
+            return Err(ServeFault::CannotWrite(file.path, file.cause(are_endless)));
+        }
+        match served {
+            Some(served) => Ok(served),
+            None => Err(ServeFault::OutOfMemory),
+        }
+    }
+}
+
+/// Accepts and serves the connections of all lines, and records each line in the audit folder, if one is named. If there is an
+/// input, serving stops when it ends.
+///
+/// Returns `CannotMake` if an audit text cannot be begun, `CannotMakePorts`, `OutOfMemory` or `WriteFault`.
+pub(crate) fn serve_connections<'a, 's, H: Host + Sync, W: Write>(
+    rt: &'s H,
+    alloc: Global,
+    serve_phase: &'s ServePhase,
+    notes: &'s Notes<'s, H>,
+    options: ServeOptions<'a>,
+    input: Option<&'s InputEnd>,
+    lines: &'s [ServedLine],
+    listening: Vec<Listeners<TcpListener>>,
+    ports: &'s [Port],
+    seats: Vec<Vec<WorkerSeat>>,
+    writer: &mut W,
+) -> Result<ServingOutcome<'a>, ServeFault<'a>>
+    requires few { length lines.now ≤ 8 }
+    requires each { length listening.items ≡ length lines.now }
+    requires opened { AreOpened lines.now ports.now }
+    requires workers { (1 ≤ length seats.items) × (length seats.items ≤ 32) }
+    requires seats { All (λ own. HasSeats ports.now own.items) seats.items }
+    ensures ok { OnOk result (Appends (W.contents writer.old) (W.contents writer.new) ready) }
+    ensures incomplete { IfOk result (λ outcome. IfSome outcome.incomplete (λ file. IsFileIn options.entry.audit (line_numbers lines.now) file.path)) }
+    ensures err { IfErr result (λ fault. (endless : Bool) → ServesLines options.entry.audit endless lines.now (W.contents writer.old) (W.contents writer.new) (Err fault)) }
+{
+    let Ok(old_parts) = old_parts_of(rt, notes, alloc, options) else {
+        return Err(ServeFault::OutOfMemory);
+    };
+    let context = ServerContext {
+        sockets: SocketContext {
+            rt,
+            serve_phase,
+            notes,
+        },
+        alloc,
+        ports: options.ports,
+        input,
+        old_parts: old_parts.as_ref(),
+        sessions: sessions_of(options),
+        tick: options.tick,
+        step: options.step,
+        operators: AtomicU32::new(0),
+    };
+    let Some(folder) = options.audit else {
+        return serve_unrecorded(&context, lines, listening, ports, seats, writer);
+    };
+    let parts = options.endless;
+    serve_recorded(
+        &context, folder, parts, lines, listening, ports, seats, writer,
+    )
+}
+
+/// Returns the old parts of the audit texts, or `None` if no part is deleted.
+///
+/// Returns an error if memory is refused.
+fn old_parts_of<'s, H: Host>(
+    host: &'s H,
+    notes: &'s Notes<'s, H>,
+    alloc: Global,
+    options: ServeOptions<'_>,
+) -> Result<Option<OldParts<'s, H>>, AllocError> {
+    let (Some(folder), Some(parts)) = (options.audit, options.endless) else {
+        return Ok(None);
+    };
+    match parts.keep {
+        Some(keep) => Ok(Some(OldParts::new(host, notes, alloc, folder, keep)?)),
+        None => Ok(None),
+    }
+}
+
+/// Serves the connections of all lines, which are not recorded.
+fn serve_unrecorded<'a, 's, H: Host + Sync, W: Write>(
+    context: &'s ServerContext<'s, H>,
+    lines: &'s [ServedLine],
+    listening: Vec<Listeners<TcpListener>>,
+    ports: &'s [Port],
+    seats: Vec<Vec<WorkerSeat>>,
+    writer: &mut W,
+) -> Result<ServingOutcome<'a>, ServeFault<'a>>
+    requires few { length lines.now ≤ 8 }
+    requires each { length listening.items ≡ length lines.now }
+    requires opened { AreOpened lines.now ports.now }
+    requires workers { (1 ≤ length seats.items) × (length seats.items ≤ 32) }
+    requires seats { All (λ own. HasSeats ports.now own.items) seats.items }
+    ensures ok { OnOk result (Appends (W.contents writer.old) (W.contents writer.new) ready) }
+    ensures incomplete { IfOk result (λ outcome. outcome.incomplete ≡ None) }
+    ensures err { IfErr result (λ fault. (folder : Option (Bor (List ℕ))) → (endless : Bool) → ServesLines folder endless lines.now (W.contents writer.old) (W.contents writer.new) (Err fault)) }
+{
+    let none = &[NoTrail; MOST_LINES][..lines.len()];
+    let served = serve_with_recorders(context, lines, listening, ports, seats, none, writer);
+    match served {
+        Ok(served) => Ok(ServingOutcome {
+            served,
+            incomplete: None,
+        }),
+        Err(fault) => Err(ServeFault::from(fault)),
+    }
+}
+
+/// Serves the connections of all lines, and records each line in the folder. `parts` is `None` if each audit text has one file.
+fn serve_recorded<'a, 's, H: Host + Sync, W: Write>(
+    context: &'s ServerContext<'s, H>,
+    folder: &'a str,
+    parts: Option<PartOptions>,
+    lines: &'s [ServedLine],
+    listening: Vec<Listeners<TcpListener>>,
+    ports: &'s [Port],
+    seats: Vec<Vec<WorkerSeat>>,
+    writer: &mut W,
+) -> Result<ServingOutcome<'a>, ServeFault<'a>>
+    requires few { length lines.now ≤ 8 }
+    requires each { length listening.items ≡ length lines.now }
+    requires opened { AreOpened lines.now ports.now }
+    requires workers { (1 ≤ length seats.items) × (length seats.items ≤ 32) }
+    requires seats { All (λ own. HasSeats ports.now own.items) seats.items }
+    ensures ok { OnOk result (Appends (W.contents writer.old) (W.contents writer.new) ready) }
+    ensures incomplete { IfOk result (λ outcome. IfSome outcome.incomplete (λ file. IsFileIn (Some folder.entry) (line_numbers lines.now) file.path)) }
+    ensures err { IfErr result (λ fault. (endless : Bool) → ServesLines (Some folder.entry) endless lines.now (W.contents writer.old) (W.contents writer.new) (Err fault)) }
+{
+    let (rt, alloc) = (context.sockets.rt, context.alloc);
+    let (serve_phase, notes) = (context.sockets.serve_phase, context.sockets.notes);
+    let old_parts = context.old_parts;
+    let recorders = match record_lines(
+        rt,
+        notes,
+        alloc,
+        serve_phase,
+        old_parts,
+        folder,
+        parts,
+        lines,
+        ports,
+    ) {
+        Ok(recorders) => recorders,
+        Err(fault) => return Err(ServeFault::from(fault)),
+    };
+    let served = serve_named::<Brand, H, W>(
+        context, lines, listening, ports, seats, recorders, writer,
+    );
+    match served {
+        Ok(outcome) => Ok(outcome),
+        Err(fault) => Err(ServeFault::from(fault)),
+    }
+}
+
+/// Serves the connections of all lines, each with its recorder, whose trail `J` names.
+fn serve_named<'a, 's, J: Naming + Send + Sync, H: Host + Sync, W: Write>(
+    context: &'s ServerContext<'s, H>,
+    lines: &'s [ServedLine],
+    listening: Vec<Listeners<TcpListener>>,
+    ports: &'s [Port],
+    seats: Vec<Vec<WorkerSeat>>,
+    recorders: Vec<UnnamedRecorder<'a, 's, H>>,
+    writer: &mut W,
+) -> Result<ServingOutcome<'a>, OutputFault>
+    requires few { length lines.now ≤ 8 }
+    requires each { length listening.items ≡ length lines.now }
+    requires opened { AreOpened lines.now ports.now }
+    requires named { All (λ recorder. Contains J.trails (name_of recorder.file.trail.pass)) recorders.items }
+    requires workers { (1 ≤ length seats.items) × (length seats.items ≤ 32) }
+    requires seats { All (λ own. HasSeats ports.now own.items) seats.items }
+    ensures ok { OnOk result (Appends (W.contents writer.old) (W.contents writer.new) ready) }
+    ensures incomplete { IfOk result (λ outcome. IfSome outcome.incomplete (λ file. IsPartOfOne (paths_of recorders.entry.items) file.path)) }
+    ensures err { IfErr result (λ fault. ServesConnections (W.contents writer.old) (W.contents writer.new) (Err fault)) }
+{
+    let (rt, alloc, old_parts) = (context.sockets.rt, context.alloc, context.old_parts);
+    let Some(recorders) = name_trails::<H, J>(alloc, recorders) else {
+        return Err(OutputFault::OutOfMemory);
+    };
+    let served = serve_with_recorders(context, lines, listening, ports, seats, &recorders, writer);
+    match served {
+        Ok(served) => {
+            let incomplete = first_incomplete(rt, recorders);
+            delete_rest(old_parts);
+            Ok(ServingOutcome { served, incomplete })
+        }
+        Err(fault) => Err(fault),
+    }
+}
+
+/// Deletes the old parts that still wait, if parts are deleted.
+fn delete_rest<H: Host>(old_parts: Option<&OldParts<'_, H>>) {
+    if let Some(old_parts) = old_parts {
+        old_parts.delete_rest();
+    }
+}
+
+/// Opens the clocks of the lines, and serves the connections of all lines, each with its recorder, while the clocks run.
+///
+/// Returns as [`serve_at_gate`] does, and `OutOfMemory` also if a line gives no pass for its clock.
+fn serve_with_recorders<'a, H: Host + Sync, C: RecordEntries + Sync, W: Write>(
+    context: &'a ServerContext<'a, H>,
+    lines: &'a [ServedLine],
+    listening: Vec<Listeners<TcpListener>>,
+    ports: &'a [Port],
+    seats: Vec<Vec<WorkerSeat>>,
+    recorders: &'a [C],
+    writer: &mut W,
+) -> Result<Option<Served>, OutputFault>
+    requires few { length lines.now ≤ 8 }
+    requires each { length listening.items ≡ length lines.now }
+    requires opened { AreOpened lines.now ports.now }
+    requires workers { (1 ≤ length seats.items) × (length seats.items ≤ 32) }
+    requires seats { All (λ own. HasSeats ports.now own.items) seats.items }
+    ensures { ServesConnections (W.contents writer.old) (W.contents writer.new) result }
+{
+    let Ok(clocks) = open_clocks(context, lines, ports) else {
+        return Err(OutputFault::OutOfMemory);
+    };
+    let served = serve_with_clocks::<H, C, LineClock<'a>, W>(
+        context, lines, listening, ports, seats, recorders, &clocks, writer,
+    );
+    close_clocks(context.sockets.rt, clocks);
+    served
+}
+
+/// Serves the connections of all lines, each with its recorder and its clock.
+///
+/// Returns as [`serve_at_gate`] does.
+fn serve_with_clocks<'a, H: Host + Sync, C: RecordEntries + Sync, D: KeepTime + Sync, W: Write>(
+    context: &'a ServerContext<'a, H>,
+    lines: &'a [ServedLine],
+    listening: Vec<Listeners<TcpListener>>,
+    ports: &'a [Port],
+    seats: Vec<Vec<WorkerSeat>>,
+    recorders: &'a [C],
+    clocks: &[D],
+    writer: &mut W,
+) -> Result<Option<Served>, OutputFault>
+    requires few { length lines.now ≤ 8 }
+    requires each { length listening.items ≡ length lines.now }
+    requires opened { AreOpened lines.now ports.now }
+    requires workers { (1 ≤ length seats.items) × (length seats.items ≤ 32) }
+    requires seats { All (λ own. HasSeats ports.now own.items) seats.items }
+    ensures { ServesConnections (W.contents writer.old) (W.contents writer.new) result }
+{
+    let gate = SessionGate {
+        host: context.sockets.rt,
+        notes: context.sockets.notes,
+        start: Instant::now(context.sockets.rt).ok(),
+        clocks,
+        numbers: numbers_of(lines),
+        recorders,
+    };
+    serve_at_gate(context, lines, listening, ports, seats, &gate, writer)
+}
+
+/// Writes the file that names the ports, if there is one, and `ready`, and then accepts and serves the connections of all
+/// lines, with this gate of their sessions.
+///
+/// Returns how many sessions were served, or `None` if a thread could not be started after that. Returns `OutOfMemory` if there
+/// is not enough memory or there are not enough threads for all sessions, and `CannotMakePorts` if the file that names the ports
+/// cannot be made; nothing is written then. Returns `WriteFault` if `ready` is not written.
+fn serve_at_gate<'a, H: Host + Sync, G: TimedGate + Sync, W: Write>(
+    context: &'a ServerContext<'a, H>,
+    lines: &'a [ServedLine],
+    listening: Vec<Listeners<TcpListener>>,
+    ports: &'a [Port],
+    seats: Vec<Vec<WorkerSeat>>,
+    gate: &'a G,
+    writer: &mut W,
+) -> Result<Option<Served>, OutputFault>
+    requires few { length lines.now ≤ 8 }
+    requires each { length listening.items ≡ length lines.now }
+    requires opened { AreOpened lines.now ports.now }
+    requires workers { (1 ≤ length seats.items) × (length seats.items ≤ 32) }
+    requires seats { All (λ own. HasSeats ports.now own.items) seats.items }
+    ensures { ServesConnections (W.contents writer.old) (W.contents writer.new) result }
+{
+    let schedule = schedule_of(context);
+    let keepers = if schedule.wait(0).is_none() { 0 } else { 1 };
+    let waiting = if context.input.is_none() { 0 } else { 1 };
+    let deleting = if context.old_parts.is_none() { 0 } else { 1 };
+    let of_lines = lines.len() * (2 + MOST_OPERATORS);
+    let threads = seats.len() + of_lines + keepers + waiting + deleting;
+    if !can_start(context.sockets.rt, threads) {
+        return Err(OutputFault::OutOfMemory);
+    }
+    let Ok((sender, jobs)) = bounded(context.alloc, MOST_WAITING) else {
+        return Err(OutputFault::OutOfMemory);
+    };
+    let opened = Acceptors::new(context, listening, lines, ports, sender);
+    let Ok(acceptors) = opened else {
+        return Err(OutputFault::OutOfMemory);
+    };
+    let Ok(workers) = operator_workers(context.alloc, &acceptors.operators, gate) else {
+        return Err(OutputFault::OutOfMemory);
+    };
+    match name_ports(context) {
+        Ok(()) => {}
+        Err(fault) => return Err(fault),
+    }
+    let Ok(()) = write_ready(writer) else {
+        return Err(OutputFault::WriteFault);
+    };
+    match accept_and_serve(
+        context, gate, acceptors, workers, ports, seats, jobs, schedule,
+    ) {
+        Ok(masters) => Ok(Some(Served {
+            masters,
+            operators: context.operators.load(SeqCst),
+        })),
+        Err(_) => Ok(None),
+    }
+}
+
+/// Returns the numbers of lines.
+pub(crate) fn numbers_of(lines: &[ServedLine]) -> LineNumbers {
+    let mut numbers = LineNumbers::new();
+    for line in lines {
+        let _ = numbers.try_push(line.spec.number);
+    }
+    numbers
+}

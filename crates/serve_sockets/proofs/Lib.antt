@@ -1,0 +1,3 @@
+pub mod ReadBack
+pub mod Rows
+pub mod Screening

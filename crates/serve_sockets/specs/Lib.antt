@@ -1,0 +1,4 @@
+pub mod Ports
+pub mod PortExamples
+pub mod Screening
+pub mod PortFiles

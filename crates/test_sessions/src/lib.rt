@@ -1,0 +1,27 @@
+//! Tests sessions with a line (`dp_sessions`), clocks (`serve_clock`), trails (`audit_trail`) and the log
+//! (`serve_log`), also of endless lines; it has only tests and doesn't run rackd.
+//!
+//! Most tests are a transcript: rows, each with its result after an arrow, and the state at the end. A helper, proved
+//! once, carries out the rows and writes the transcript that is compared.
+#![tactic(auto)]
+
+#[cfg(test)]
+mod clocks;
+#[cfg(test)]
+mod endless;
+#[cfg(test)]
+mod faults;
+#[cfg(test)]
+mod gates;
+#[cfg(test)]
+mod limits;
+#[cfg(test)]
+mod notes;
+#[cfg(test)]
+mod operators;
+#[cfg(test)]
+mod pools;
+#[cfg(test)]
+mod sessions;
+#[cfg(test)]
+mod trails;
