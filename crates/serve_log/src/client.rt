@@ -14,8 +14,8 @@ impl Client {
     /// Returns the name of the port where it is expected, as reports name it.
     pub(crate) fn port(self) -> &'static str {
         match self {
-            Client::Master => "port of masters",
-            Client::Operator => "port of operators",
+            Client::Master => "the port of masters",
+            Client::Operator => "the port of operators",
         }
     }
 }

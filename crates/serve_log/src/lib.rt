@@ -17,5 +17,5 @@ mod time_of_day;
 
 pub use client::Client;
 pub use escaped::{Escaped, is_escaped};
-pub use notes::{LineNumbers, Notes};
+pub use notes::{LineNumbers, MOST_OPERATORS, Notes};
 pub use queue::{QueueFault, RowQueue, Written, start};

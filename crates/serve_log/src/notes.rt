@@ -42,17 +42,45 @@ struct MasterSession {
     dropped: DroppedRows,
 }
 
-/// The most limits of rows: two for each line.
-const MOST_LIMITS: usize = 2 * MOST_LINES;
+/// How many operators of a line are served at one time.
+pub const MOST_OPERATORS: usize = 16;
+
+/// The most limits of rows: two for the ports of each line, and one for each of its operators.
+const MOST_LIMITS: usize = (2 + MOST_OPERATORS) * MOST_LINES;
 
 /// The most halts of operators that are not answered yet.
 const MOST_HALTS: usize = 128;
 
-/// The rows about connections and commands at a port of a line that began no session or were no command.
+/// What the rows are about of which only so many are written.
+#[derive(Clone, Copy, PartialEq, Eq)]
+enum Subject {
+    /// Connections at a port that began no session.
+    Port(Client),
+    /// Rows of the operator at this place of its line that are no command.
+    Operator(usize),
+}
+
+impl Default for Subject {
+    fn default() -> Subject {
+        Subject::Port(Client::default())
+    }
+}
+
+impl Subject {
+    /// Returns what it is, as reports name it.
+    fn name(self) -> &'static str {
+        match self {
+            Subject::Port(client) => client.port(),
+            Subject::Operator(_) => "an operator",
+        }
+    }
+}
+
+/// The rows about a port or an operator of a line.
 #[derive(Clone, Copy, Default)]
-struct PortRows {
+struct LimitedRows {
     line: u8,
-    client: Client,
+    subject: Subject,
     limit: RowLimit,
 }
 
@@ -65,8 +93,8 @@ struct Noted {
     halted: ArrayVec<u8, MOST_LINES>,
     /// The sessions of masters, while connections, sessions or requests are logged.
     sessions: ArrayVec<MasterSession, MOST_SESSIONS>,
-    /// The limits of the rows about each port.
-    ports: ArrayVec<PortRows, MOST_LIMITS>,
+    /// The limits of the rows about each port, and about each operator that is connected.
+    limits: ArrayVec<LimitedRows, MOST_LIMITS>,
     /// What was discarded of the time in this second.
     delays: Delays,
     /// Whether all workers were reported as busy, and none has become free since.
@@ -74,28 +102,28 @@ struct Noted {
 }
 
 impl Noted {
-    /// Returns the limit of the rows about a port; None if there are more ports than a rack may have.
-    fn limit_of(&mut self, line: u8, client: Client) -> Option<&mut RowLimit> {
+    /// Returns the limit of the rows about a subject; None if there are more of them than a rack may have.
+    fn limit_of(&mut self, line: u8, subject: Subject) -> Option<&mut RowLimit> {
         let found = self
-            .ports
+            .limits
             .iter()
-            .position(|rows| rows.line == line && rows.client == client);
+            .position(|rows| rows.line == line && rows.subject == subject);
         let place = match found {
             Some(place) => place,
             None => {
-                let place = self.ports.len();
+                let place = self.limits.len();
                 let limit = RowLimit::default();
-                self.ports
-                    .try_push(PortRows {
+                self.limits
+                    .try_push(LimitedRows {
                         line,
-                        client,
+                        subject,
                         limit,
                     })
                     .ok()?;
                 place
             }
         };
-        let rows = self.ports.get_mut(place)?;
+        let rows = self.limits.get_mut(place)?;
         Some(&mut rows.limit)
     }
 }
@@ -129,7 +157,7 @@ impl<'a, L: Log + Clock> Notes<'a, L> {
                 halting: ArrayVec::new(),
                 halted: ArrayVec::new(),
                 sessions: ArrayVec::new(),
-                ports: ArrayVec::new(),
+                limits: ArrayVec::new(),
                 delays: Delays::default(),
                 are_busy: false,
             }),
@@ -161,10 +189,10 @@ impl<'a, L: Log + Clock> Notes<'a, L> {
 
     /// Reports that a connection began as a browser begins one, and is closed.
     pub fn web_request<W: Wait>(&self, rt: &W, line: u8, client: Client) {
-        self.log_at_port(
+        self.log_limited(
             rt,
             line,
-            client,
+            Subject::Port(client),
             format_args!("HTTP, TLS or STUN request rejected"),
         );
     }
@@ -174,18 +202,68 @@ impl<'a, L: Log + Clock> Notes<'a, L> {
         self.log_row(rt, format_args!("line {line}: operator connected"));
     }
 
-    /// Reports that an operator's session has ended.
-    pub fn operator_ended<W: Wait>(&self, rt: &W, line: u8, end: SessionEnd) {
+    /// Reports that the session of the operator at this place of its line has ended, and before that how many rows about it were
+    /// left out.
+    pub fn operator_ended<W: Wait>(&self, rt: &W, line: u8, place: usize, end: SessionEnd) {
+        self.forget_operator(rt, line, place);
         let end = end.name();
         self.log_row(rt, format_args!("line {line}: operator ended: {end}"));
     }
 
+    /// Writes how many rows about an operator were left out, and begins again for the next operator at its place.
+    fn forget_operator<W: Wait>(&self, rt: &W, line: u8, place: usize) {
+        let subject = Subject::Operator(place);
+        let mut noted = self.noted.lock(rt);
+        if let Some(limit) = noted.limit_of(line, subject) {
+            let left_out = std::mem::take(limit).take_left_out();
+            self.write_left_out(line, subject, left_out);
+        }
+    }
+
+    /// Reports that a row of the operator at this place of its line has this fault. The octets are those of the row without its
+    /// LF, at most the first 1,025.
+    pub fn faulty_line<W: Wait>(
+        &self,
+        rt: &W,
+        line: u8,
+        place: usize,
+        octets: &[u8],
+        fault: LineFault,
+    ) {
+        let subject = Subject::Operator(place);
+        match fault {
+            LineFault::TooLong => self.log_limited(
+                rt,
+                line,
+                subject,
+                format_args!("operator: a row has more than {LONGEST_LINE} octets"),
+            ),
+            LineFault::NotACommand => match std::str::from_utf8(octets) {
+                Ok(text) => {
+                    let form = operator_form(text);
+                    self.log_limited(
+                        rt,
+                        line,
+                        subject,
+                        format_args!("operator: no command, \"{text}\": {form}"),
+                    );
+                }
+                Err(_) => self.log_limited(
+                    rt,
+                    line,
+                    subject,
+                    format_args!("operator: a row is not UTF-8"),
+                ),
+            },
+        }
+    }
+
     /// Reports that a connection cannot be accepted.
     pub fn cannot_accept<W: Wait>(&self, rt: &W, line: u8, client: Client, error: Error) {
-        self.log_at_port(
+        self.log_limited(
             rt,
             line,
-            client,
+            Subject::Port(client),
             format_args!("cannot accept a connection: {error}"),
         );
     }
@@ -238,17 +316,17 @@ impl<'a, L: Log + Clock> Notes<'a, L> {
     /// Reports how many rows about each port were left out since the last one. It is called when serving ends.
     pub fn sum_up<W: Wait>(&self, rt: &W) {
         let mut noted = self.noted.lock(rt);
-        for rows in &mut noted.ports {
+        for rows in &mut noted.limits {
             let left_out = rows.limit.take_left_out();
-            self.write_left_out(rows.line, rows.client, left_out);
+            self.write_left_out(rows.line, rows.subject, left_out);
         }
     }
 
-    /// Writes how many rows about a port were left out, if any were.
-    fn write_left_out(&self, line: u8, client: Client, left_out: u32) {
+    /// Writes how many rows about a subject were left out, if any were.
+    fn write_left_out(&self, line: u8, subject: Subject, left_out: u32) {
         if left_out > 0 {
-            let (time, port) = (TimeOfDay::now(self.log), client.port());
-            info!(self.log; target: "rackd", "{time} line {line}: {left_out} more rows about the {port}");
+            let (time, subject) = (TimeOfDay::now(self.log), subject.name());
+            info!(self.log; target: "rackd", "{time} line {line}: {left_out} more rows about {subject}");
         }
     }
 
@@ -277,15 +355,15 @@ impl<'a, L: Log + Clock> Notes<'a, L> {
         }
     }
 
-    /// Reports something about a port that began no session or was no command, unless only halts are reported. A port has at most
-    /// ten such rows a second; how many are left out comes before the next one, or when serving ends.
-    fn log_at_port<W: Wait>(&self, rt: &W, line: u8, client: Client, row: impl Display + Drop) {
+    /// Reports something about a port or an operator, unless only halts are reported. Each of them has at most ten such rows a
+    /// second; how many are left out comes before the next one, or when the operator's session or serving ends.
+    fn log_limited<W: Wait>(&self, rt: &W, line: u8, subject: Subject, row: impl Display + Drop) {
         if self.log_detail == LogDetail::Warnings {
             return;
         }
         let second = self.second();
         let mut noted = self.noted.lock(rt);
-        let Some(limit) = noted.limit_of(line, client) else {
+        let Some(limit) = noted.limit_of(line, subject) else {
             return;
         };
         if !limit.has_room(second) {
@@ -293,7 +371,7 @@ impl<'a, L: Log + Clock> Notes<'a, L> {
             return;
         }
         let left_out = limit.count_written();
-        self.write_left_out(line, client, left_out);
+        self.write_left_out(line, subject, left_out);
         let time = TimeOfDay::now(self.log);
         info!(self.log; target: "rackd", "{time} line {line}: {row}");
     }
@@ -457,46 +535,18 @@ impl<L: Log + Clock> Gate for Notes<'_, L> {
         self.leaves(rt);
         let (line, end) = (self.line_at(port), end.name());
         match address {
-            Some(master) => self.log_at_port(
+            Some(master) => self.log_limited(
                 rt,
                 line,
-                Client::Master,
+                Subject::Port(Client::Master),
                 format_args!("master {master} refused: {end}"),
             ),
-            None => self.log_at_port(
+            None => self.log_limited(
                 rt,
                 line,
-                Client::Master,
+                Subject::Port(Client::Master),
                 format_args!("no address came: {end}"),
             ),
-        }
-    }
-
-    fn faulty_line<W: Wait>(&self, rt: &W, line: u8, octets: &[u8], fault: LineFault) {
-        match fault {
-            LineFault::TooLong => self.log_at_port(
-                rt,
-                line,
-                Client::Operator,
-                format_args!("operator: a row has more than {LONGEST_LINE} octets"),
-            ),
-            LineFault::NotACommand => match std::str::from_utf8(octets) {
-                Ok(text) => {
-                    let form = operator_form(text);
-                    self.log_at_port(
-                        rt,
-                        line,
-                        Client::Operator,
-                        format_args!("operator: no command, \"{text}\": {form}"),
-                    );
-                }
-                Err(_) => self.log_at_port(
-                    rt,
-                    line,
-                    Client::Operator,
-                    format_args!("operator: a row is not UTF-8"),
-                ),
-            },
         }
     }
 

@@ -16,6 +16,7 @@ mod host;
 mod listening;
 mod masters;
 mod opened_lines;
+mod operator_gate;
 mod operators;
 mod ready;
 mod recorder;

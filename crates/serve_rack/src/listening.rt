@@ -4,9 +4,9 @@ ghost use Rattle.std.specs.Prelude.{◌≡◌, ◌≤◌, IfErr, IfOk, length, m
 ghost use Rattle.serve_rack.specs.ServedLines.{line_numbers};
 ghost use Rattle.serve_rack.specs.ServeOutput.{IsListeningFault};
 
-use crate::operators::MOST_OPERATORS;
 use crate::serve_fault::ServeFault;
 use crate::served_line::ServedLine;
+use serve_log::MOST_OPERATORS;
 use serve_sockets::{LinePorts, RackPorts};
 use std::alloc::Global;
 use std::net::{Ipv4Addr, Net, TcpListener};

@@ -3,12 +3,13 @@
 ghost use Rattle.std.specs.Prelude.{◌≡◌};
 ghost use Rattle.dp_shared.specs.Passes.{line_of};
 
+use crate::operator_gate::OperatorGate;
 use crate::server_context::{MAX_READS, ServerContext};
 use crossbeam_channel::{Receiver, Sender};
 use dp_line::LineSpec;
 use dp_sessions::{Gate, Port, serve_operator_at};
 use log::Log;
-use serve_log::Client;
+use serve_log::{Client, MOST_OPERATORS};
 use serve_sockets::{Accept, Awaited, open_connection};
 use std::alloc::{AllocError, Global};
 use std::io;
@@ -16,9 +17,6 @@ use std::net::{TcpListener, TcpStream};
 use std::sync::Wait;
 use std::sync::atomic::Ordering::SeqCst;
 use std::time::Clock;
-
-/// How many operators of a line are served at one time.
-pub(crate) const MOST_OPERATORS: usize = 16;
 
 /// A line and its description, for the sessions of its operators.
 #[derive(Clone, Copy, Drop)]
@@ -55,6 +53,8 @@ pub(crate) struct OperatorWorker<'a, D, H, G> {
     waiting: Receiver<TcpStream>,
     /// The line that is operated.
     target: D,
+    /// The place of the worker among those of its line.
+    place: usize,
     /// The gate of the sessions.
     gate: &'a G,
     context: &'a ServerContext<'a, H>,
@@ -81,6 +81,11 @@ impl<L: Wait + Log + Clock, G: Gate> OperatorWorker<'_, OperatedLine<'_>, L, G> 
             Awaited::FirstRow(&self.waiting),
         )?;
         let (rt, notes) = (context.sockets.rt, context.sockets.notes);
+        let gate = OperatorGate {
+            gate: self.gate,
+            notes,
+            place: self.place,
+        };
         notes.operator_connected(rt, line);
         let end = serve_operator_at(
             rt,
@@ -88,10 +93,10 @@ impl<L: Wait + Log + Clock, G: Gate> OperatorWorker<'_, OperatedLine<'_>, L, G> 
             &mut writer,
             self.target.port,
             self.target.spec,
-            self.gate,
+            &gate,
             MAX_READS,
         );
-        notes.operator_ended(rt, line, end);
+        notes.operator_ended(rt, line, self.place, end);
         context.operators.fetch_add(1, SeqCst);
         Ok(())
     }
@@ -156,10 +161,11 @@ fn add_workers<'a, H, G>(
     acceptor: &OperatorAcceptor<'a, OperatedLine<'a>, H>,
     gate: &'a G,
 ) -> Result<(), AllocError> {
-    for _ in 0..MOST_OPERATORS {
+    for place in 0..MOST_OPERATORS {
         all.push(OperatorWorker {
             waiting: acceptor.waiting.clone()?,
             target: acceptor.target,
+            place,
             gate,
             context: acceptor.context,
         })?;

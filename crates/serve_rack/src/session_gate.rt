@@ -5,7 +5,6 @@ use dp_audit::Receipt;
 use dp_line::{Op, Step};
 use dp_sessions::{DroppedOctets, Gate, NotRecorded, SessionEnd};
 use dp_telegram::WholeFrame;
-use dp_text::LineFault;
 use log::Log;
 use serve_clock::{Advance, LineClock};
 use serve_log::{LineNumbers, Notes};
@@ -165,10 +164,6 @@ impl<H: Wait + Log + Clock, C: RecordEntries, D: KeepTime> Gate for SessionGate<
 
     fn operates<W: Wait>(&self, rt: &W, line: u8, op: &Op) {
         self.notes.operates(rt, line, op);
-    }
-
-    fn faulty_line<W: Wait>(&self, rt: &W, line: u8, octets: &[u8], fault: LineFault) {
-        self.notes.faulty_line(rt, line, octets, fault);
     }
 
     fn operated<W: Wait>(&self, rt: &W, line: u8, receipt: &Receipt) {
