@@ -85,11 +85,12 @@ fn connect<N: Net<Stream = TcpStream> + Wait>(
         Ok(stream) => stream,
         Err(error) => return Err(Cause::from_error(&error)),
     };
-    match (stream.local_addr(), stream.peer_addr()) {
-        // If nothing listens at that port, the system may connect a socket with itself.
-        (Ok(own), Ok(other)) if own == other => return Err(Cause::NobodyListens),
-        (Ok(_), Ok(_)) => {}
-        (Err(error), _) | (_, Err(error)) => return Err(Cause::from_error(&error)),
+    match stream.local_addr() {
+        // If nothing listens at that port, the system may connect a socket with itself. The address of the other end is not
+        // asked for: the system no longer has it if the other end has closed the connection already.
+        Ok(own) if own.port() == port => return Err(Cause::NobodyListens),
+        Ok(_) => {}
+        Err(error) => return Err(Cause::from_error(&error)),
     }
     if let Err(error) = stream.set_nodelay(true) {
         return Err(Cause::from_error(&error));
