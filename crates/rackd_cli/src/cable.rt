@@ -1,10 +1,11 @@
 //! The word `cable`: its arguments, and what they ask for.
 
+use crate::arguments::{ANY_PORT, Argument, FLAG, NUMBER, OPTION, TEXT, USED_PORT, Word};
 use crate::cable_help;
-use crate::commands::{PORT, flag, number, port, with_help};
+use crate::commands::PORT;
+use crate::refusals::BadValue;
+use clap::ArgMatches;
 use clap::builder::ValueParser;
-use clap::{Arg, ArgMatches, Command};
-use std::alloc::{AllocError, Global};
 
 /// The options of `cable`.
 pub(crate) const LISTEN: &str = "listen";
@@ -40,7 +41,7 @@ const MOST_MILLISECONDS: u64 = 60_000;
 const PERCENT: u32 = 10_000;
 
 /// The telegrams that meet faults by chance.
-#[derive(Clone, Copy, PartialEq, Eq)]
+#[derive(Clone, Copy)]
 pub enum FaultyTelegrams {
     /// Those of both directions.
     Both,
@@ -81,104 +82,143 @@ pub struct CableWords<'a> {
     pub ports: Option<&'a str>,
 }
 
-/// A value that an option does not accept.
-pub(crate) struct BadValue<'a> {
-    /// The option, as messages name it.
-    pub(crate) shown: &'static str,
-    /// The value.
-    pub(crate) value: &'a str,
-    /// What the option accepts.
-    pub(crate) accepts: &'static str,
-}
-
 /// What chances accept.
 const CHANCES: &str = "a chance is a percentage from 0 to 100 with at most four decimals, as 1.5";
+
+/// How messages name `--late`.
+const SHOWN_LATE: &str = "--late <P> <MS>";
 
 /// What the milliseconds of `--late` accept.
 const LATENESS: &str =
     "MS is a number of milliseconds, 0 to 60000, without a sign or a leading zero";
 
-/// Returns the word `cable`, with the port of a line and its options.
-pub(crate) fn cabling<'a>(alloc: Global) -> Result<Command<'a>, AllocError> {
-    let words = with_help(Command::new(alloc, "cable"), cable_help::CABLE)
-        .arg(port(alloc).help(cable_help::PORT))?
-        .arg(listen(alloc))?;
-    let words = with_chances(alloc, words)?;
-    let requests = flag(alloc, REQUESTS)
-        .help(cable_help::REQUESTS)
-        .conflicts_with(REPLIES)?;
-    let words = words
-        .arg(requests)?
-        .arg(flag(alloc, REPLIES).help(cable_help::REPLIES))?;
-    with_more(alloc, words)
+/// An option with a chance.
+const CHANCE: Argument = Argument {
+    shown: &["P"],
+    value: ValueParser::NonEmptyString,
+    ..OPTION
+};
+
+/// The word `cable`, with the port of a line and its options.
+pub(crate) static CABLE: Word = Word {
+    name: "cable",
+    help: cable_help::CABLE,
+    arguments: &[
+        Argument {
+            name: PORT,
+            help: cable_help::PORT,
+            value: USED_PORT,
+            ..TEXT
+        },
+        Argument {
+            name: LISTEN,
+            help: cable_help::LISTEN,
+            is_required: true,
+            shown: &["PORT2"],
+            value: ANY_PORT,
+            ..NUMBER
+        },
+        Argument {
+            name: LOSE,
+            help: cable_help::LOSE,
+            ..CHANCE
+        },
+        Argument {
+            name: SPOIL,
+            help: cable_help::SPOIL,
+            ..CHANCE
+        },
+        Argument {
+            name: CUT,
+            help: cable_help::CUT,
+            ..CHANCE
+        },
+        Argument {
+            name: LATE,
+            help: cable_help::LATE,
+            least: 2,
+            most: 2,
+            shown: &["P", "MS"],
+            ..CHANCE
+        },
+        Argument {
+            name: DELAY,
+            help: cable_help::DELAY,
+            shown: &["MS"],
+            value: ValueParser::Unsigned(0, MOST_MILLISECONDS),
+            ..NUMBER
+        },
+        Argument {
+            name: REQUESTS,
+            help: cable_help::REQUESTS,
+            excludes: &[REPLIES],
+            ..FLAG
+        },
+        Argument {
+            name: REPLIES,
+            help: cable_help::REPLIES,
+            ..FLAG
+        },
+        Argument {
+            name: SEED,
+            help: cable_help::SEED,
+            value: ValueParser::Unsigned(0, u64::MAX),
+            ..NUMBER
+        },
+        Argument {
+            name: RESYNC,
+            help: cable_help::RESYNC,
+            shown: &["MS"],
+            value: ValueParser::Unsigned(1, MOST_MILLISECONDS),
+            ..NUMBER
+        },
+        Argument {
+            name: DROP_TOKENS,
+            help: cable_help::DROP_TOKENS,
+            ..FLAG
+        },
+        Argument {
+            name: LOG,
+            help: cable_help::LOG,
+            ..FLAG
+        },
+        Argument {
+            name: PORTS,
+            help: cable_help::PORTS,
+            shown: &["FILE"],
+            value: ValueParser::NonEmptyString,
+            ..OPTION
+        },
+    ],
+};
+
+/// The chances of faults, in millionths, and the milliseconds of `--late`.
+#[derive(Clone, Copy)]
+struct Chances {
+    lose: u32,
+    spoil: u32,
+    cut: u32,
+    late: u32,
+    late_milliseconds: u32,
 }
 
-/// Returns the option `--listen PORT2`.
-fn listen<'a>(alloc: Global) -> Arg<'a> {
-    number(alloc, LISTEN, 0, u64::from(u16::MAX))
-        .value_name("PORT2")
-        .required(true)
-        .help(cable_help::LISTEN)
+/// Returns how the cable is served, or the first value that is not accepted.
+pub(crate) fn cable_of<'a>(words: &ArgMatches<'a>) -> Result<CableWords<'a>, BadValue<'a>> {
+    match chances_of(words) {
+        Ok(chances) => Ok(cable_with(words, chances)),
+        Err(bad) => Err(bad),
+    }
 }
 
-/// Adds the options for faults by chance, and `--delay`.
-fn with_chances<'a>(alloc: Global, words: Command<'a>) -> Result<Command<'a>, AllocError> {
-    let late = chance(alloc, LATE, cable_help::LATE)
-        .num_args(2..=2)
-        .value_names(&["P", "MS"]);
-    words
-        .arg(chance(alloc, LOSE, cable_help::LOSE))?
-        .arg(chance(alloc, SPOIL, cable_help::SPOIL))?
-        .arg(chance(alloc, CUT, cable_help::CUT))?
-        .arg(late)?
-        .arg(milliseconds(alloc, DELAY, 0).help(cable_help::DELAY))
-}
-
-/// Returns an option with a chance.
-fn chance<'a>(alloc: Global, name: &'a str, help: &'a str) -> Arg<'a> {
-    Arg::new(alloc, name)
-        .long(name)
-        .value_name("P")
-        .value_parser(ValueParser::NonEmptyString)
-        .help(help)
-}
-
-/// Returns an option with a number of milliseconds.
-fn milliseconds<'a>(alloc: Global, name: &'a str, least: u64) -> Arg<'a> {
-    number(alloc, name, least, MOST_MILLISECONDS).value_name("MS")
-}
-
-/// Adds the options that are no faults.
-fn with_more<'a>(alloc: Global, words: Command<'a>) -> Result<Command<'a>, AllocError> {
-    let seed = number(alloc, SEED, 0, u64::MAX)
-        .value_name("N")
-        .help(cable_help::SEED);
-    let ports = Arg::new(alloc, PORTS)
-        .long(PORTS)
-        .value_name("FILE")
-        .value_parser(ValueParser::NonEmptyString)
-        .help(cable_help::PORTS);
-    words
-        .arg(seed)?
-        .arg(milliseconds(alloc, RESYNC, 1).help(cable_help::RESYNC))?
-        .arg(flag(alloc, DROP_TOKENS).help(cable_help::DROP_TOKENS))?
-        .arg(flag(alloc, LOG).help(cable_help::LOG))?
-        .arg(ports)
-}
-
-/// Returns the port of the line, and how the cable is served; or the first value that is not accepted.
-pub(crate) fn cable_of<'a>(words: &ArgMatches<'a>) -> Result<(u16, CableWords<'a>), BadValue<'a>> {
-    let lose = chance_of(words, LOSE, "--lose <P>")?;
-    let spoil = chance_of(words, SPOIL, "--spoil <P>")?;
-    let cut = chance_of(words, CUT, "--cut <P>")?;
-    let (late, late_milliseconds) = lateness_of(words)?;
-    let cable = CableWords {
+/// Returns how the cable is served that has these chances of faults.
+fn cable_with<'a>(words: &ArgMatches<'a>, chances: Chances) -> CableWords<'a> {
+    CableWords {
         listen: words.get_one(LISTEN).unwrap_or(0),
-        lose,
-        spoil,
-        cut,
-        late,
-        late_milliseconds,
+        lose: chances.lose,
+        spoil: chances.spoil,
+        cut: chances.cut,
+        late: chances.late,
+        late_milliseconds: chances.late_milliseconds,
         delay: words.get_one(DELAY).unwrap_or(0),
         faulty: faulty_of(words),
         seed: words.get_one(SEED).unwrap_or(0),
@@ -186,8 +226,22 @@ pub(crate) fn cable_of<'a>(words: &ArgMatches<'a>) -> Result<(u16, CableWords<'a
         drops_tokens: words.get_flag(DROP_TOKENS),
         logs: words.get_flag(LOG),
         ports: words.get_str(PORTS),
-    };
-    Ok((words.get_one(PORT).unwrap_or(0), cable))
+    }
+}
+
+/// Returns the chances of faults, or the first value that is not accepted.
+fn chances_of<'a>(words: &ArgMatches<'a>) -> Result<Chances, BadValue<'a>> {
+    let lose = chance_of(words, LOSE, "--lose <P>")?;
+    let spoil = chance_of(words, SPOIL, "--spoil <P>")?;
+    let cut = chance_of(words, CUT, "--cut <P>")?;
+    let (late, late_milliseconds) = lateness_of(words)?;
+    Ok(Chances {
+        lose,
+        spoil,
+        cut,
+        late,
+        late_milliseconds,
+    })
 }
 
 /// Returns the telegrams that meet faults by chance.
@@ -215,19 +269,27 @@ fn chance_of<'a>(
 
 /// Returns the chance of `--late`, and its milliseconds; 0 and 0 if the option is not given.
 fn lateness_of<'a>(words: &ArgMatches<'a>) -> Result<(u32, u32), BadValue<'a>> {
-    let shown = "--late <P> <MS>";
-    let Some([chance, milliseconds]) = words.get_strs(LATE) else {
-        return Ok((0, 0));
-    };
-    let chance = read_chance(chance, shown)?;
-    match digits_in(milliseconds.as_bytes()) {
-        Some(number) if u64::from(number) <= MOST_MILLISECONDS && is_plain(milliseconds) => {
-            Ok((chance, number))
-        }
+    match words.get_strs(LATE) {
+        Some([chance, milliseconds]) => read_lateness(chance, milliseconds),
+        _ => Ok((0, 0)),
+    }
+}
+
+/// Returns the chance and the milliseconds that the values of `--late` are.
+fn read_lateness<'a>(chance: &'a str, milliseconds: &'a str) -> Result<(u32, u32), BadValue<'a>> {
+    let chance = read_chance(chance, SHOWN_LATE)?;
+    let milliseconds = read_milliseconds(milliseconds)?;
+    Ok((chance, milliseconds))
+}
+
+/// Returns the milliseconds that a value of `--late` is.
+fn read_milliseconds<'a>(value: &'a str) -> Result<u32, BadValue<'a>> {
+    match number_in(value) {
+        Some(milliseconds) if u64::from(milliseconds) <= MOST_MILLISECONDS => Ok(milliseconds),
         Some(_) | None => Err(BadValue {
-            shown,
-            value: milliseconds,
-            accepts: LATENESS,
+            shown: SHOWN_LATE,
+            value,
+            reason: LATENESS,
         }),
     }
 }
@@ -239,26 +301,25 @@ fn read_chance<'a>(value: &'a str, shown: &'static str) -> Result<u32, BadValue<
         Some(_) | None => Err(BadValue {
             shown,
             value,
-            accepts: CHANCES,
+            reason: CHANCES,
         }),
     }
 }
 
 /// Returns the millionths of a percentage with at most four decimals, if it is one and below 1,000,000.
 fn millionths_in(value: &str) -> Option<u32> {
-    let (whole, decimals) = match value.split_once('.') {
-        Some((whole, decimals)) => (whole, Some(decimals)),
-        None => (value, None),
-    };
-    if !is_plain(whole) {
-        return None;
+    let (whole, decimals) = value.split_once('.').unwrap_or((value, "0"));
+    let more = decimals_in(decimals.as_bytes())?;
+    number_in(whole)?.checked_mul(PERCENT)?.checked_add(more)
+}
+
+/// Returns the number that 1 to 6 digits are, of which the first is 0 only if it is alone.
+fn number_in(digits: &str) -> Option<u32> {
+    if is_plain(digits) {
+        digits_in(digits.as_bytes())
+    } else {
+        None
     }
-    let percent = digits_in(whole.as_bytes())?;
-    let more = match decimals {
-        Some(decimals) => decimals_in(decimals.as_bytes())?,
-        None => 0,
-    };
-    percent.checked_mul(PERCENT)?.checked_add(more)
 }
 
 /// Returns whether a number has no leading zero. The number 0 itself is allowed.

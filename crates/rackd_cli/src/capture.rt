@@ -1,9 +1,7 @@
 //! The word `capture`.
 
-use crate::commands::{audit, with_rack};
+use crate::arguments::{AUDIT_FILES, RACK_FILE, Word};
 use crate::help::Help;
-use clap::Command;
-use std::alloc::{AllocError, Global};
 
 /// The help of `capture`.
 const HELP: Help = Help {
@@ -24,7 +22,9 @@ Examples:
   tshark -r audit.pcapng -Y 'frame.comment contains \"NotHolder\"'",
 };
 
-/// Returns the word `capture`, with a rack and an audit text.
-pub(crate) fn capturing<'a>(alloc: Global) -> Result<Command<'a>, AllocError> {
-    with_rack(alloc, "capture", HELP)?.arg(audit(alloc))
-}
+/// The word `capture`, with a rack and an audit text.
+pub(crate) static CAPTURE: Word = Word {
+    name: "capture",
+    help: HELP,
+    arguments: &[RACK_FILE, AUDIT_FILES],
+};

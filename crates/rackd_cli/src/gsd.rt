@@ -1,11 +1,9 @@
 //! The words `gsd` and `slave`: their arguments, and what they ask for.
 
-use crate::commands::{with_help, with_rack};
+use crate::arguments::{Argument, OCTET, OPTION, RACK_FILE, TEXT, Word};
 use crate::file_command::DescribedSlave;
 use crate::help::Help;
-use clap::builder::ValueParser;
-use clap::{Arg, ArgAction, ArgMatches, Command};
-use std::alloc::{AllocError, Global};
+use clap::{ArgAction, ArgMatches};
 
 /// The arguments and options of `gsd`.
 pub(crate) const LINE: &str = "LINE";
@@ -17,7 +15,7 @@ const VENDOR: &str = "vendor";
 const MODEL: &str = "model";
 
 /// The argument and the option of `slave`.
-pub(crate) const GSD: &str = "GSD";
+pub(crate) const GSD_FILE: &str = "GSD";
 
 pub(crate) const MODULE: &str = "module";
 
@@ -65,45 +63,59 @@ const FILE_HELP: &str = "GSD file of a slave, in ISO 8859-1";
 
 const MODULE_HELP: &str = "Plug the modules of these names, in the order of their slots";
 
-/// Returns the word `gsd`, with a rack, a slave of it, and the names that the file gives it.
-pub(crate) fn describing<'a>(alloc: Global) -> Result<Command<'a>, AllocError> {
-    let words = with_rack(alloc, "gsd", GSD_HELP)?
-        .arg(octet(alloc, LINE).help(LINE_HELP))?
-        .arg(octet(alloc, ADDRESS).help(ADDRESS_HELP))?;
-    words
-        .arg(name(alloc, VENDOR).help(VENDOR_HELP))?
-        .arg(name(alloc, MODEL).help(MODEL_HELP))
-}
+/// The word `gsd`, with a rack, a slave of it, and the names that the file gives it.
+pub(crate) static GSD: Word = Word {
+    name: "gsd",
+    help: GSD_HELP,
+    arguments: &[
+        RACK_FILE,
+        Argument {
+            name: LINE,
+            help: LINE_HELP,
+            value: OCTET,
+            ..TEXT
+        },
+        Argument {
+            name: ADDRESS,
+            help: ADDRESS_HELP,
+            value: OCTET,
+            ..TEXT
+        },
+        Argument {
+            name: VENDOR,
+            help: VENDOR_HELP,
+            shown: &["T"],
+            ..OPTION
+        },
+        Argument {
+            name: MODEL,
+            help: MODEL_HELP,
+            shown: &["T"],
+            ..OPTION
+        },
+    ],
+};
 
-/// Returns an argument with a number from 0 to 255.
-fn octet<'a>(alloc: Global, name: &'a str) -> Arg<'a> {
-    Arg::new(alloc, name)
-        .required(true)
-        .value_parser(ValueParser::unsigned(0, u64::from(u8::MAX)))
-}
-
-/// Returns an option with a name.
-fn name<'a>(alloc: Global, name: &'a str) -> Arg<'a> {
-    Arg::new(alloc, name).long(name).value_name("T")
-}
-
-/// Returns the word `slave`, with a GSD file and the plugged modules.
-pub(crate) fn plugging<'a>(alloc: Global) -> Result<Command<'a>, AllocError> {
-    let gsd = Arg::new(alloc, GSD).required(true).help(FILE_HELP);
-    with_help(Command::new(alloc, "slave"), SLAVE_HELP)
-        .arg(gsd)?
-        .arg(modules(alloc))
-}
-
-/// Returns the option `--module NAME..`.
-fn modules<'a>(alloc: Global) -> Arg<'a> {
-    Arg::new(alloc, MODULE)
-        .long(MODULE)
-        .value_name("NAME")
-        .num_args(1..)
-        .action(ArgAction::Append)
-        .help(MODULE_HELP)
-}
+/// The word `slave`, with a GSD file and the plugged modules.
+pub(crate) static SLAVE: Word = Word {
+    name: "slave",
+    help: SLAVE_HELP,
+    arguments: &[
+        Argument {
+            name: GSD_FILE,
+            help: FILE_HELP,
+            ..TEXT
+        },
+        Argument {
+            name: MODULE,
+            help: MODULE_HELP,
+            action: ArgAction::Append,
+            most: usize::MAX,
+            shown: &["NAME"],
+            ..OPTION
+        },
+    ],
+};
 
 /// Returns the slave that a GSD file is written for, by the words behind `gsd`.
 pub(crate) fn described_slave_of<'a>(words: &ArgMatches<'a>) -> DescribedSlave<'a> {

@@ -45,7 +45,7 @@ pub enum Invocation<'a> {
 }
 
 /// Why words cannot be read.
-#[derive(Clone, Copy, Debug, PartialEq, Eq, Error)]
+#[derive(Clone, Copy, Debug, Error)]
 pub enum WordsFault {
     /// A word is not UTF-8.
     #[error("a word is not UTF-8")]

@@ -1,9 +1,11 @@
 //! The word `judge`: its options, and what they ask for.
 
-use crate::commands::{JSON, MASTER, address, audit, flag, number, with_rack};
+use crate::arguments::{AUDIT_FILES, Argument, FLAG, NUMBER, OCTET, OPTION, RACK_FILE, Word};
+use crate::commands::{JSON, MASTER};
 use crate::help::Help;
-use clap::{Arg, ArgMatches, Command};
-use std::alloc::{AllocError, Global};
+use crate::refusals::BadValue;
+use clap::ArgMatches;
+use clap::builder::ValueParser;
 
 /// The options of `judge` that no other word has.
 pub(crate) const RULES: &str = "rules";
@@ -80,7 +82,7 @@ const JSON_HELP: &str = "Print each finding as a line of JSON";
 const JUNIT_HELP: &str = "Print JUnit XML";
 
 /// How findings are printed.
-#[derive(Clone, Copy, PartialEq, Eq)]
+#[derive(Clone, Copy)]
 pub enum Findings {
     /// As rows of text, with a summary.
     Rows,
@@ -103,43 +105,56 @@ pub struct Judging<'a> {
     pub findings: Findings,
 }
 
-/// Returns the word `judge`, with a rack, an audit text, and the options.
-pub(crate) fn judge_word<'a>(alloc: Global) -> Result<Command<'a>, AllocError> {
-    let words = with_rack(alloc, "judge", HELP)?.arg(audit(alloc))?;
-    let words = words
-        .arg(address(alloc, MASTER, "M", MASTER_HELP))?
-        .arg(rules(alloc))?
-        .arg(retries(alloc))?;
-    let junit = junit(alloc)?;
-    words.arg(flag(alloc, JSON).help(JSON_HELP))?.arg(junit)
-}
-
-/// Returns the option `--rules NAME,..`.
-fn rules<'a>(alloc: Global) -> Arg<'a> {
-    Arg::new(alloc, RULES)
-        .long(RULES)
-        .value_name("NAME,..")
-        .help(RULES_HELP)
-}
-
-/// Returns the option `--retries N`.
-fn retries<'a>(alloc: Global) -> Arg<'a> {
-    number(alloc, RETRIES, 0, MOST_RETRIES)
-        .value_name("N")
-        .help(RETRIES_HELP)
-}
-
-/// Returns the option `--junit`, which refuses `--json` beside it.
-fn junit<'a>(alloc: Global) -> Result<Arg<'a>, AllocError> {
-    flag(alloc, JUNIT).help(JUNIT_HELP).conflicts_with(JSON)
-}
+/// The word `judge`, with a rack, an audit text, and the options.
+pub(crate) static JUDGE: Word = Word {
+    name: "judge",
+    help: HELP,
+    arguments: &[
+        RACK_FILE,
+        AUDIT_FILES,
+        Argument {
+            name: MASTER,
+            help: MASTER_HELP,
+            shown: &["M"],
+            value: OCTET,
+            ..NUMBER
+        },
+        Argument {
+            name: RULES,
+            help: RULES_HELP,
+            shown: &["NAME,.."],
+            ..OPTION
+        },
+        Argument {
+            name: RETRIES,
+            help: RETRIES_HELP,
+            value: ValueParser::Unsigned(0, MOST_RETRIES),
+            ..NUMBER
+        },
+        Argument {
+            name: JSON,
+            help: JSON_HELP,
+            ..FLAG
+        },
+        Argument {
+            name: JUNIT,
+            help: JUNIT_HELP,
+            excludes: &[JSON],
+            ..FLAG
+        },
+    ],
+};
 
 /// Returns the first name of the option `--rules` that is the name of no rule, if there is one.
-pub(crate) fn unknown_rule<'a>(words: &ArgMatches<'a>) -> Option<&'a str> {
+pub(crate) fn unknown_rule<'a>(words: &ArgMatches<'a>) -> Option<BadValue<'a>> {
     let names = words.get_str(RULES)?;
-    for name in names.split(',') {
-        if !RULE_NAMES.iter().any(|known| *known == name) {
-            return Some(name);
+    for value in names.split(',') {
+        if !RULE_NAMES.contains(&value) {
+            return Some(BadValue {
+                shown: "--rules <NAME,..>",
+                value,
+                reason: "there is no such rule",
+            });
         }
     }
     None

@@ -2,6 +2,7 @@
 //! carries out no command.
 #![tactic(auto)]
 
+mod arguments;
 mod cable;
 mod cable_help;
 mod capture;
@@ -12,6 +13,7 @@ mod help;
 mod invocation;
 mod judge;
 mod reading;
+mod refusals;
 mod serve;
 
 pub use cable::{CableWords, FaultyTelegrams};

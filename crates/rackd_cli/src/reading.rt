@@ -1,21 +1,23 @@
 //! Reads what the words of the command line ask for.
 
-use crate::cable::{BadValue, DELAY, LISTEN, RESYNC, SEED, cable_of, cabling};
+use crate::arguments::{AUDIT, RACK};
+use crate::cable::{DELAY, LISTEN, RESYNC, SEED, cable_of};
 use crate::commands::{
-    AUDIT, FAULTS, FOLLOW, FROM, JSON, MASTER, PAGE_PORT, PORT, RACK, REFUSED, SCRIPT, SLAVE,
-    SUMMARY, TO, WATCHED, explaining, known, operating, watching,
+    FAULTS, FOLLOW, FROM, JSON, MASTER, PAGE_PORT, PORT, REFUSED, SCRIPT, SLAVE_ADDRESS, SUMMARY,
+    TO, WATCHED, known,
 };
 use crate::file_command::{Entries, FileCommand};
-use crate::gsd::{ADDRESS, GSD, LINE, MODULE, described_slave_of, describing};
+use crate::gsd::{ADDRESS, GSD_FILE, LINE, MODULE, described_slave_of};
 use crate::invocation::{Invocation, WordsFault};
-use crate::judge::{RETRIES, judge_word, judging_of, unknown_rule};
+use crate::judge::{RETRIES, judging_of, unknown_rule};
+use crate::refusals::{BadValue, refuse_value};
 use crate::serve::{
-    ENDLESS, FOLDER, KEEP, LOG, PAGE, PART, PORTS, SESSIONS, STEP, TICK, UNTIL_INPUT_ENDS, serving,
+    ENDLESS, FOLDER, KEEP, LOG, PAGE, PART, PORTS, SESSIONS, STEP, TICK, UNTIL_INPUT_ENDS,
 };
 use clap::error::ErrorKind as Refused;
-use clap::{ArgMatches, Command};
+use clap::{ArgMatches, Error};
 use serve_options::{LogDetail, PartOptions, ServeOptions};
-use std::alloc::{AllocError, Global};
+use std::alloc::Global;
 use std::env::{self, Env};
 use std::io::ErrorKind;
 
@@ -23,7 +25,7 @@ use std::io::ErrorKind;
 const NUMBERS: [(&str, &str); 19] = [
     (FROM, "--from <N>"),
     (TO, "--to <N>"),
-    (SLAVE, "--slave <A>"),
+    (SLAVE_ADDRESS, "--slave <A>"),
     (MASTER, "--master <M>"),
     (RETRIES, "--retries <N>"),
     (SESSIONS, "--sessions <N>"),
@@ -45,16 +47,6 @@ const NUMBERS: [(&str, &str); 19] = [
 /// The least megabytes of a part of an audit text, if the words name none.
 const USUAL_PART: u16 = 16;
 
-/// A number that is not written plainly.
-struct OddNumber<'a> {
-    /// The word that the number follows.
-    command: &'a str,
-    /// The name of its argument in messages.
-    shown: &'a str,
-    /// The number.
-    number: &'a str,
-}
-
 /// Returns the words of the command line, with the program's own name first. Returns `NotText` if a word is not
 /// UTF-8, and `OutOfMemory` if memory is refused.
 pub fn words_of(rt: &(impl Env + AllocGlobal)) -> Result<Vec<String>, WordsFault> {
@@ -74,66 +66,53 @@ pub fn words_of(rt: &(impl Env + AllocGlobal)) -> Result<Vec<String>, WordsFault
 /// Returns what the words ask for; the program's own name is the first word. Returns `OutOfMemory` if memory is
 /// refused.
 pub fn read_words<'a>(alloc: Global, words: &'a [String]) -> Result<Invocation<'a>, WordsFault> {
-    let Ok(command) = known(alloc) else {
+    let Ok(program) = known(alloc) else {
         return Err(WordsFault::OutOfMemory);
     };
-    match command.try_get_matches_from(words) {
-        Ok(matches) => match odd_number(&matches) {
-            Some(odd) => refuse_number(alloc, odd),
-            None => invocation_of(alloc, &matches),
-        },
-        Err(error) => match host_in(words) {
-            Some(word) if error.kind() == Refused::ValueValidation => refuse_host(alloc, word),
-            _ => Ok(Invocation::Answer(error)),
-        },
+    match program.try_get_matches_from(words) {
+        Ok(matches) => invocation_of(alloc, &matches),
+        Err(error) => answer_of(alloc, words, error),
     }
 }
 
+/// Returns the answer to words that `clap` does not accept.
+fn answer_of<'a>(
+    alloc: Global,
+    words: &[String],
+    error: Error,
+) -> Result<Invocation<'a>, WordsFault> {
+    if error.kind() == Refused::ValueValidation
+        && let Some(host) = host_in(words)
+    {
+        return refuse_value(alloc, "operate", host);
+    }
+    Ok(Invocation::Answer(error))
+}
+
 /// Returns the word behind `operate` if it names a host too.
-fn host_in(words: &[String]) -> Option<&str> {
-    let (command, word) = (words.get(1)?.as_str(), words.get(2)?.as_str());
-    if command == "operate" && word.contains(':') {
-        Some(word)
+fn host_in(words: &[String]) -> Option<BadValue<'_>> {
+    let (command, value) = (words.get(1)?.as_str(), words.get(2)?.as_str());
+    if command == "operate" && value.contains(':') {
+        Some(BadValue {
+            shown: "<PORT>",
+            value,
+            reason: "it is the number of a port alone, of this machine (127.0.0.1)",
+        })
     } else {
         None
     }
 }
 
-/// Returns the answer to a host and a port where a port is wanted.
-fn refuse_host<'a>(alloc: Global, word: &str) -> Result<Invocation<'a>, WordsFault> {
-    let Ok(message) = format!(in alloc;
-        "invalid value '{word}' for '<PORT>': it is the number of a port alone, of this machine (127.0.0.1)"
-    ) else {
-        return Err(WordsFault::OutOfMemory);
-    };
-    refuse_value(operating(alloc), message.as_str())
-}
-
-/// Returns the answer of a command to a value that it does not accept.
-fn refuse_value<'a>(
-    command: Result<Command<'a>, AllocError>,
-    message: &str,
-) -> Result<Invocation<'a>, WordsFault> {
-    match command {
-        Ok(mut command) => match command.error(Refused::ValueValidation, message) {
-            Ok(error) => Ok(Invocation::Answer(error)),
-            Err(_) => Err(WordsFault::OutOfMemory),
-        },
-        Err(_) => Err(WordsFault::OutOfMemory),
-    }
-}
-
 /// Returns a number with a sign or a leading zero, which `clap` accepts, if there is one.
-fn odd_number<'a>(matches: &ArgMatches<'a>) -> Option<OddNumber<'a>> {
-    let (command, words) = matches.subcommand()?;
-    for (name, shown) in NUMBERS {
-        if let Some(number) = words.get_str(name)
-            && !is_plain(number)
+fn odd_number<'a>(words: &ArgMatches<'a>) -> Option<BadValue<'a>> {
+    for (name, shown) in &NUMBERS {
+        if let Some(value) = words.get_str(name)
+            && !is_plain(value)
         {
-            return Some(OddNumber {
-                command,
+            return Some(BadValue {
                 shown,
-                number,
+                value,
+                reason: "a number has no sign and no leading zero",
             });
         }
     }
@@ -145,41 +124,7 @@ fn is_plain(number: &str) -> bool {
     number == "0" || !number.starts_with('+') && !number.starts_with('0')
 }
 
-/// Returns the answer to a number that is not written plainly.
-fn refuse_number<'a>(alloc: Global, odd: OddNumber<'_>) -> Result<Invocation<'a>, WordsFault> {
-    let OddNumber {
-        command,
-        shown,
-        number,
-    } = odd;
-    let Ok(message) = format!(in alloc;
-        "invalid value '{number}' for '{shown}': a number has no sign and no leading zero"
-    ) else {
-        return Err(WordsFault::OutOfMemory);
-    };
-    let command = match command {
-        "operate" => operating(alloc),
-        "explain" => explaining(alloc),
-        "judge" => judge_word(alloc),
-        "gsd" => describing(alloc),
-        "watch" => watching(alloc),
-        "cable" => cabling(alloc),
-        _ => serving(alloc),
-    };
-    refuse_value(command, message.as_str())
-}
-
-/// Returns the answer to a name of no rule.
-fn refuse_rule<'a>(alloc: Global, name: &str) -> Result<Invocation<'a>, WordsFault> {
-    let Ok(message) = format!(in alloc;
-        "invalid value '{name}' for '--rules <NAME,..>': there is no such rule"
-    ) else {
-        return Err(WordsFault::OutOfMemory);
-    };
-    refuse_value(judge_word(alloc), message.as_str())
-}
-
-/// Returns what accepted words ask for.
+/// Returns what words ask for that `clap` accepts.
 fn invocation_of<'a>(
     alloc: Global,
     matches: &ArgMatches<'a>,
@@ -187,39 +132,105 @@ fn invocation_of<'a>(
     let Some((command, words)) = matches.subcommand() else {
         return Ok(Invocation::Input);
     };
-    match command {
-        "judge" => match unknown_rule(words) {
-            Some(name) => refuse_rule(alloc, name),
-            None => Ok(Invocation::Files(of_audit(alloc, command, words)?)),
-        },
-        "check" | "explain" | "capture" => {
-            Ok(Invocation::Files(of_audit(alloc, command, words)?))
-        }
-        "run" => Ok(Invocation::Files(FileCommand::Run {
-            rack: path_in(words, RACK),
-            script: path_in(words, SCRIPT),
-        })),
-        "gsd" => Ok(Invocation::Files(FileCommand::Gsd {
-            rack: path_in(words, RACK),
-            described: described_slave_of(words),
-        })),
-        "slave" => Ok(Invocation::Files(FileCommand::Slave {
-            gsd: path_in(words, GSD),
-            modules: texts_in(alloc, words, MODULE)?,
-        })),
-        _ => of_ports(alloc, command, words),
+    match odd_number(words) {
+        Some(odd) => refuse_value(alloc, command, odd),
+        None => of_word(alloc, command, words),
     }
 }
 
-/// Returns what the words ask for that name an audit text: `explain`, `judge`, `capture` and `check`.
-fn of_audit<'a>(
+/// Returns what a word asks for, by the words behind it.
+fn of_word<'a>(
+    alloc: Global,
+    command: &str,
+    words: &ArgMatches<'a>,
+) -> Result<Invocation<'a>, WordsFault> {
+    match command {
+        "judge" => of_judge(alloc, words),
+        "cable" => of_cable(alloc, words),
+        "serve" => Ok(Invocation::Serve {
+            rack: path_in(words, RACK),
+            options: options_of(words),
+        }),
+        "watch" => Ok(Invocation::Watch {
+            rack: path_in(words, RACK),
+            folder: path_in(words, WATCHED),
+            port: words.get_one(PAGE_PORT).unwrap_or(0),
+        }),
+        "operate" => Ok(Invocation::Operate {
+            port: words.get_one(PORT).unwrap_or(0),
+        }),
+        _ => of_files(alloc, command, words),
+    }
+}
+
+/// Returns what `judge` asks for.
+fn of_judge<'a>(alloc: Global, words: &ArgMatches<'a>) -> Result<Invocation<'a>, WordsFault> {
+    match unknown_rule(words) {
+        Some(unknown) => refuse_value(alloc, "judge", unknown),
+        None => of_files(alloc, "judge", words),
+    }
+}
+
+/// Returns what `cable` asks for.
+fn of_cable<'a>(alloc: Global, words: &ArgMatches<'a>) -> Result<Invocation<'a>, WordsFault> {
+    match cable_of(words) {
+        Ok(cable) => Ok(Invocation::Cable {
+            port: words.get_one(PORT).unwrap_or(0),
+            cable,
+        }),
+        Err(bad) => refuse_value(alloc, "cable", bad),
+    }
+}
+
+/// Returns what a word asks for that reads files and writes to standard output.
+fn of_files<'a>(
+    alloc: Global,
+    command: &str,
+    words: &ArgMatches<'a>,
+) -> Result<Invocation<'a>, WordsFault> {
+    match file_command_of(alloc, command, words) {
+        Ok(command) => Ok(Invocation::Files(command)),
+        Err(fault) => Err(fault),
+    }
+}
+
+/// Returns the command of a word that reads files and writes to standard output.
+fn file_command_of<'a>(
     alloc: Global,
     command: &str,
     words: &ArgMatches<'a>,
 ) -> Result<FileCommand<'a>, WordsFault> {
+    match command {
+        "run" => Ok(FileCommand::Run {
+            rack: path_in(words, RACK),
+            script: path_in(words, SCRIPT),
+        }),
+        "gsd" => Ok(FileCommand::Gsd {
+            rack: path_in(words, RACK),
+            described: described_slave_of(words),
+        }),
+        "slave" => match texts_in(alloc, words, MODULE) {
+            Ok(modules) => Ok(FileCommand::Slave {
+                gsd: path_in(words, GSD_FILE),
+                modules,
+            }),
+            Err(fault) => Err(fault),
+        },
+        _ => match texts_in(alloc, words, AUDIT) {
+            Ok(audit) => Ok(audit_command_of(command, words, audit)),
+            Err(fault) => Err(fault),
+        },
+    }
+}
+
+/// Returns the command of a word that names an audit text: `explain`, `judge`, `capture` or `check`.
+fn audit_command_of<'a>(
+    command: &str,
+    words: &ArgMatches<'a>,
+    audit: Vec<&'a str>,
+) -> FileCommand<'a> {
     let rack = path_in(words, RACK);
-    let audit = texts_in(alloc, words, AUDIT)?;
-    Ok(match command {
+    match command {
         "explain" => FileCommand::Explain {
             rack,
             audit,
@@ -233,46 +244,7 @@ fn of_audit<'a>(
         },
         "capture" => FileCommand::Capture { rack, audit },
         _ => FileCommand::Check { rack, audit },
-    })
-}
-
-/// Returns what the words ask for that use ports: `watch`, `operate`, `cable` and `serve`.
-fn of_ports<'a>(
-    alloc: Global,
-    command: &str,
-    words: &ArgMatches<'a>,
-) -> Result<Invocation<'a>, WordsFault> {
-    match command {
-        "watch" => Ok(Invocation::Watch {
-            rack: path_in(words, RACK),
-            folder: path_in(words, WATCHED),
-            port: words.get_one(PAGE_PORT).unwrap_or(0),
-        }),
-        "operate" => Ok(Invocation::Operate {
-            port: words.get_one(PORT).unwrap_or(0),
-        }),
-        "cable" => match cable_of(words) {
-            Ok((port, cable)) => Ok(Invocation::Cable { port, cable }),
-            Err(bad) => refuse_bad(alloc, bad),
-        },
-        _ => Ok(Invocation::Serve {
-            rack: path_in(words, RACK),
-            options: options_of(words),
-        }),
     }
-}
-
-/// Returns the answer to a value that `cable` does not accept.
-fn refuse_bad<'a>(alloc: Global, bad: BadValue<'_>) -> Result<Invocation<'a>, WordsFault> {
-    let BadValue {
-        shown,
-        value,
-        accepts,
-    } = bad;
-    let Ok(message) = format!(in alloc; "invalid value '{value}' for '{shown}': {accepts}") else {
-        return Err(WordsFault::OutOfMemory);
-    };
-    refuse_value(cabling(alloc), message.as_str())
 }
 
 /// Returns the words of the argument or option of this name, in their order. Returns `OutOfMemory` if memory is refused.
@@ -298,7 +270,7 @@ fn entries_of(words: &ArgMatches<'_>) -> Entries {
     Entries {
         from: words.get_one(FROM),
         to: words.get_one(TO),
-        slave: words.get_one(SLAVE),
+        slave: words.get_one(SLAVE_ADDRESS),
         master: words.get_one(MASTER),
         are_faults: words.get_flag(FAULTS),
         are_refused: words.get_flag(REFUSED),

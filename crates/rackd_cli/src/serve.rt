@@ -1,10 +1,8 @@
 //! The word `serve`: its options.
 
-use crate::commands::{flag, number, with_rack};
+use crate::arguments::{ANY_PORT, Argument, FLAG, NUMBER, OPTION, RACK_FILE, Word};
 use crate::help;
 use clap::builder::ValueParser;
-use clap::{Arg, Command};
-use std::alloc::{AllocError, Global};
 
 /// The options of `serve`, and the most sessions that `--sessions` may name.
 pub(crate) const SESSIONS: &str = "sessions";
@@ -48,106 +46,95 @@ const MOST_STEP: u64 = 86_400_000;
 
 pub(crate) const LOG: &str = "log";
 
-/// What may follow `--log`. The first one is meant if nothing follows.
-const TOLD: [&str; 2] = ["sessions", "requests"];
+/// What follows `--log` if nothing is written there.
+const USUALLY_TOLD: &str = "sessions";
 
-/// Returns the word `serve`, with a rack, the number of sessions of each port, the folder of its audit texts, the file of
-/// its ports, when it ends, how time passes and devices step, and what is reported.
-pub(crate) fn serving<'a>(alloc: Global) -> Result<Command<'a>, AllocError> {
-    let words = with_rack(alloc, "serve", help::SERVE)?
-        .arg(sessions(alloc))?
-        .arg(folder(alloc))?;
-    let endless = endless(alloc)?;
-    let words = words.arg(endless)?;
-    let part = part(alloc)?;
-    let words = words.arg(part)?;
-    let keep = keep(alloc)?;
-    let words = words.arg(keep)?;
-    let page = page(alloc)?;
-    let words = words.arg(page)?.arg(ports(alloc))?;
-    let words = words.arg(flag(alloc, UNTIL_INPUT_ENDS).help(help::UNTIL_INPUT_ENDS))?;
-    let words = words.arg(tick(alloc))?;
-    words.arg(step(alloc))?.arg(log(alloc))
-}
+/// What may follow `--log`.
+const TOLD: [&str; 2] = [USUALLY_TOLD, "requests"];
 
-/// Returns the option `--sessions N`.
-fn sessions<'a>(alloc: Global) -> Arg<'a> {
-    number(alloc, SESSIONS, 1, MOST_SESSIONS)
-        .value_name("N")
-        .help(help::SESSIONS)
-}
-
-/// Returns the option `--audit FOLDER`.
-fn folder<'a>(alloc: Global) -> Arg<'a> {
-    Arg::new(alloc, FOLDER)
-        .long(FOLDER)
-        .value_name("FOLDER")
-        .value_parser(ValueParser::NonEmptyString)
-        .help(help::FOLDER)
-}
-
-/// Returns the option `--endless`, which requires `--audit`.
-fn endless<'a>(alloc: Global) -> Result<Arg<'a>, AllocError> {
-    flag(alloc, ENDLESS)
-        .help(help::ENDLESS)
-        .requires_arg(FOLDER)
-}
-
-/// Returns the option `--part MB`, which requires `--endless`.
-fn part<'a>(alloc: Global) -> Result<Arg<'a>, AllocError> {
-    number(alloc, PART, 1, MOST_PART)
-        .value_name("MB")
-        .help(help::PART)
-        .requires_arg(ENDLESS)
-}
-
-/// Returns the option `--keep N`, which requires `--endless`.
-fn keep<'a>(alloc: Global) -> Result<Arg<'a>, AllocError> {
-    number(alloc, KEEP, LEAST_KEPT, MOST_KEPT)
-        .value_name("N")
-        .help(help::KEEP)
-        .requires_arg(ENDLESS)
-}
-
-/// Returns the option `--page N`, which requires `--audit`.
-fn page<'a>(alloc: Global) -> Result<Arg<'a>, AllocError> {
-    number(alloc, PAGE, 0, u64::from(u16::MAX))
-        .value_name("N")
-        .help(help::PAGE)
-        .requires_arg(FOLDER)
-}
-
-/// Returns the option `--ports FILE`.
-fn ports<'a>(alloc: Global) -> Arg<'a> {
-    Arg::new(alloc, PORTS)
-        .long(PORTS)
-        .value_name("FILE")
-        .value_parser(ValueParser::NonEmptyString)
-        .help(help::PORTS)
-}
-
-/// Returns the option `--tick MS`.
-fn tick<'a>(alloc: Global) -> Arg<'a> {
-    number(alloc, TICK, LEAST_TICK, MOST_TICK)
-        .value_name("MS")
-        .help(help::TICK)
-}
-
-/// Returns the option `--step MS`.
-fn step<'a>(alloc: Global) -> Arg<'a> {
-    number(alloc, STEP, LEAST_STEP, MOST_STEP)
-        .value_name("MS")
-        .help(help::STEP)
-}
-
-/// Returns the option `--log`, which may be followed by what is reported.
-fn log<'a>(alloc: Global) -> Arg<'a> {
-    Arg::new(alloc, LOG)
-        .long(LOG)
-        .num_args(0..=1)
-        .default_missing_value(TOLD[0])
-        .value_name("WHAT")
-        .value_parser(ValueParser::Names(&TOLD))
-        .hide_possible_values(true)
-        .help(help::LOG)
-}
+/// The word `serve`, with a rack, the number of sessions of each port, the folder of its audit texts, the file of its
+/// ports, when it ends, how time passes and devices step, and what is reported.
+pub(crate) static SERVE: Word = Word {
+    name: "serve",
+    help: help::SERVE,
+    arguments: &[
+        RACK_FILE,
+        Argument {
+            name: SESSIONS,
+            help: help::SESSIONS,
+            value: ValueParser::Unsigned(1, MOST_SESSIONS),
+            ..NUMBER
+        },
+        Argument {
+            name: FOLDER,
+            help: help::FOLDER,
+            shown: &["FOLDER"],
+            value: ValueParser::NonEmptyString,
+            ..OPTION
+        },
+        Argument {
+            name: ENDLESS,
+            help: help::ENDLESS,
+            needs: &[FOLDER],
+            ..FLAG
+        },
+        Argument {
+            name: PART,
+            help: help::PART,
+            shown: &["MB"],
+            value: ValueParser::Unsigned(1, MOST_PART),
+            needs: &[ENDLESS],
+            ..NUMBER
+        },
+        Argument {
+            name: KEEP,
+            help: help::KEEP,
+            value: ValueParser::Unsigned(LEAST_KEPT, MOST_KEPT),
+            needs: &[ENDLESS],
+            ..NUMBER
+        },
+        Argument {
+            name: PAGE,
+            help: help::PAGE,
+            value: ANY_PORT,
+            needs: &[FOLDER],
+            ..NUMBER
+        },
+        Argument {
+            name: PORTS,
+            help: help::PORTS,
+            shown: &["FILE"],
+            value: ValueParser::NonEmptyString,
+            ..OPTION
+        },
+        Argument {
+            name: UNTIL_INPUT_ENDS,
+            help: help::UNTIL_INPUT_ENDS,
+            ..FLAG
+        },
+        Argument {
+            name: TICK,
+            help: help::TICK,
+            shown: &["MS"],
+            value: ValueParser::Unsigned(LEAST_TICK, MOST_TICK),
+            ..NUMBER
+        },
+        Argument {
+            name: STEP,
+            help: help::STEP,
+            shown: &["MS"],
+            value: ValueParser::Unsigned(LEAST_STEP, MOST_STEP),
+            ..NUMBER
+        },
+        Argument {
+            name: LOG,
+            help: help::LOG,
+            least: 0,
+            usual: &[USUALLY_TOLD],
+            shown: &["WHAT"],
+            value: ValueParser::Names(&TOLD),
+            hides_values: true,
+            ..OPTION
+        },
+    ],
+};
