@@ -1,5 +1,5 @@
 //! Makes the call that a word names, one of those that allocate memory, and makes it again if memory was refused; it
-//! refuses no memory itself, which `tests/memory-calls.sh` does.
+//! refuses no memory itself, which `tests/memory` does.
 //!
 //! The result is given by the exit status only, because that allocates no memory. A program of its own makes the call,
 //! because rackd makes several such calls, and ends with status 3 whichever of them was refused.
