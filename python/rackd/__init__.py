@@ -37,6 +37,7 @@ A rack is the program `rackd serve`, which ends with the `with` statement or wit
         journal = line.journal()                        # a sequence of Entry: place, rule, sentence and so on
         journal.refused()
         print(journal.explain(faults=True, slave=5))    # also first, last, master, refused, summary
+        journal.judge(master=1)                         # what this master did that the standard rules out
 
         operator.halt()                                 # permanent; the slaves that were released
 
@@ -50,16 +51,16 @@ from .faults import (UE, RR, RS, BadEnd, BadFrame, BadHead, Halted, Long, NoProg
                      NotACommand, NotAccepted, NotLegal, OperatorRefused, RackError, RackFault, Refused, SessionEnded,
                      Short, SlaveRefused, TooLong, TooMany, UnknownPoint, WrongLength)
 from .frames import Frame
-from .journal import Change, Entry, Journal, Part
+from .journal import Change, Entry, Finding, Journal, Part
 from .master import Diagnosis, Master
 from .operator import Operator, Show, State
 from .port import Port
 from .rack import SAMPLE, Line, Rack
 
 __all__ = [
-    "UE", "RR", "RS", "BadEnd", "BadFrame", "BadHead", "Cable", "Change", "Diagnosis", "Entry", "Frame", "Halted",
-    "Journal", "Line", "Long", "Master", "NoProgram", "NoReply", "NoStart", "NoStation", "NotACommand", "NotAccepted",
-    "NotLegal", "Operator", "OperatorRefused", "Part", "Port", "Rack", "RackError", "RackFault", "Refused",
-    "RunningCable", "SAMPLE", "SessionEnded", "Short", "Show", "SlaveRefused", "State", "TooLong", "TooMany",
-    "UnknownPoint", "WrongLength",
+    "UE", "RR", "RS", "BadEnd", "BadFrame", "BadHead", "Cable", "Change", "Diagnosis", "Entry", "Finding",
+    "Frame", "Halted", "Journal", "Line", "Long", "Master", "NoProgram", "NoReply", "NoStart", "NoStation",
+    "NotACommand", "NotAccepted", "NotLegal", "Operator", "OperatorRefused", "Part", "Port", "Rack",
+    "RackError", "RackFault", "Refused", "RunningCable", "SAMPLE", "SessionEnded", "Short", "Show",
+    "SlaveRefused", "State", "TooLong", "TooMany", "UnknownPoint", "WrongLength",
 ]

@@ -13,6 +13,7 @@ from pathlib import Path
 from typing import List, Optional, Tuple
 
 from .faults import CABLE_REFUSALS, NoReply, RackFault, Refused, SessionEnded, end_of
+from .temporary import descriptors_of
 
 # Seconds that a cable may take to be ready or to answer a line, and to be seen as ended once a connection has ended.
 ANSWER_TIME, NOTICE_TIME = 10.0, 0.5
@@ -172,9 +173,9 @@ class RunningCable:
         self._life = open(life, "wb", buffering=0)
         try:
             with open(self._folder / "errors", "wb") as errors:
-                self._process = subprocess.Popen([*WAIT_AND_RUN, *words], stdin=subprocess.PIPE, pass_fds=[end],
-                                                 stdout=subprocess.PIPE, stderr=errors, bufsize=0,
-                                                 start_new_session=True)
+                self._process = subprocess.Popen([*WAIT_AND_RUN, *words], stdin=subprocess.PIPE, stdout=subprocess.PIPE,
+                                                 stderr=errors, bufsize=0, start_new_session=True,
+                                                 pass_fds=[end, *descriptors_of(self._folder)])
             # the system ends it by SIGIO once nobody has the other end of this pipe, also if this process is killed
             fcntl.fcntl(end, fcntl.F_SETOWN, self._process.pid)
             fcntl.fcntl(end, fcntl.F_SETFL, os.O_ASYNC)

@@ -1,13 +1,15 @@
-"""The journal of a line: what came to it, what it answered, and why, as `rackd explain` reports it."""
+"""The journal of a line: what came to it, what it answered, and why, as `rackd explain` and `rackd judge` report it."""
 from __future__ import annotations
 
+import contextlib
 import json
-import tempfile
+import os
+import subprocess
 from dataclasses import dataclass
-from pathlib import Path
-from typing import Any, Dict, Iterator, List, Mapping, Optional, Tuple
+from typing import Any, BinaryIO, Dict, Iterator, List, Mapping, Optional, Sequence, Tuple
 
-from .program import run
+from .faults import RackFault
+from .program import rows_of, run
 
 
 @dataclass(frozen=True)
@@ -70,6 +72,40 @@ def entry_of(keys: Dict[str, Any]) -> Entry:
         changes=tuple(Change(change["slave"], change["from"], change["to"]) for change in keys["changes"]))
 
 
+@dataclass(frozen=True)
+class Finding:
+    """What a master did that the standard rules out, with the keys of `rackd judge --json` (docs/FORMATS.md, "Judged").
+
+    `severity` is `error` or `warning`. `slave` is 127 for all slaves, and None for octets that are no request. `before`
+    has the octets of the request before, for the rule `fcb-repeated` only.
+    """
+
+    place: int
+    master: int
+    slave: Optional[int]
+    rule: str
+    severity: str
+    standard: str
+    text: str
+    octets: bytes
+    before: Optional[bytes]
+
+
+def findings_of(output: bytes) -> Tuple[List[Finding], str]:
+    """Returns the findings of the output of `rackd judge --json`, and its verdict on the text."""
+    findings, verdict = [], ""
+    for row in output.splitlines():
+        keys = json.loads(row)
+        verdict = keys.get("verdict", verdict)
+        if "place" in keys:
+            before = keys.get("before")
+            findings.append(Finding(
+                place=keys["place"], master=keys["master"], slave=keys["slave"], rule=keys["rule"],
+                severity=keys["severity"], standard=keys["standard"], text=keys["text"],
+                octets=bytes.fromhex(keys["octets"]), before=None if before is None else bytes.fromhex(before)))
+    return findings, verdict
+
+
 class Journal:
     """The entries that a line had at one moment, as a sequence. `verdict` is `legal` for each journal of a rack."""
 
@@ -104,9 +140,42 @@ class Journal:
                 words += [f"--{name}", str(number)]
         return self._explained(*words)
 
+    def judge(self, *, master: Optional[int] = None, rules: Sequence[str] = (),
+              retries: Optional[int] = None) -> List[Finding]:
+        """Returns what the masters did that the standard rules out, in the order of the places.
+
+        With `master` only this one is judged, with `rules` only by these; `retries` is how many retries a request may
+        have, 3 by default. Raises RackFault if there is no such rule, if the journal is not legal, or if the rack has
+        deleted its first part.
+        """
+        words = ["--json"]
+        if rules:
+            words += ["--rules", ",".join(rules)]
+        for name, number in (("master", master), ("retries", retries)):
+            if number is not None:
+                words += [f"--{name}", str(number)]
+        done = self._read_by("judge", *words)
+        findings, verdict = findings_of(done.stdout)
+        if verdict != "legal":
+            raise RackFault(f"rackd judge cannot read this journal: {verdict or 'no verdict'}", done.returncode,
+                            rows_of(done.stderr))
+        return findings
+
     def _explained(self, *words: str) -> str:
-        with tempfile.TemporaryDirectory(prefix="rackd-") as folder:
-            rack, text = Path(folder, "rack.toml"), Path(folder, "line.audit")
-            rack.write_bytes(self._rack)
-            text.write_bytes(self._text)
-            return run(self._program, ["explain", str(rack), str(text), *words]).stdout.decode()
+        return self._read_by("explain", *words).stdout.decode()
+
+    def _read_by(self, command: str, *words: str) -> "subprocess.CompletedProcess[bytes]":
+        """Runs a command of the program on this journal to its end."""
+        with contextlib.ExitStack() as files:
+            rack, text = (files.enter_context(file_of(octets)) for octets in (self._rack, self._text))
+            descriptors = (rack.fileno(), text.fileno())
+            paths = [f"/dev/fd/{descriptor}" for descriptor in descriptors]
+            return run(self._program, [command, *paths, *words], descriptors)
+
+
+def file_of(octets: bytes) -> BinaryIO:
+    """Returns a file with these octets that is in no folder, so that nothing is left of it however this process ends."""
+    file = os.fdopen(os.memfd_create("rackd"), "w+b")
+    file.write(octets)
+    file.flush()
+    return file

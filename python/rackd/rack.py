@@ -5,7 +5,6 @@ import itertools
 import os
 import re
 import select
-import shutil
 import subprocess
 import tempfile
 import time
@@ -21,6 +20,7 @@ from .master import Master
 from .operator import Operator
 from .port import Port
 from .program import find_program, rows_of, run
+from .temporary import GuardedFolder, descriptors_of
 
 # Seconds that a rack may take to be ready, to end, and to be seen as ended once a connection has ended.
 READY_TIME, END_TIME, NOTICE_TIME = 10.0, 10.0, 0.5
@@ -57,7 +57,7 @@ class Line:
         self._ports: List[Port] = []
 
     def operator(self) -> Operator:
-        """Returns the operator of this line, the same one each time: the rack serves one after another."""
+        """Returns the operator of this line, the same one each time until it is closed."""
         if self._operator is None or not self._operator.is_open:
             self._operator = Operator(self.operator_port, self._rack.fault)
         return self._operator
@@ -138,15 +138,19 @@ class Rack:
 
         `toml` is the text of a rack file if it has a line feed, and a path if not. `program` is the program to start;
         without it, `find_program` chooses. `tick` and `step` are milliseconds of the clock, `options` further words of
-        `serve`. The files are in a new folder, which `close` removes; with `folder` it is made there, and stays.
+        `serve`. The files are in a new folder, which `close` removes; if this process is killed, it is removed once the
+        rack has ended. With `folder` it is made there, and stays.
         """
         self.program = find_program(program)
         self.status: Optional[int] = None
         self._closed = False
-        self._stays = folder is not None
+        self._guarded: Optional[GuardedFolder] = None
         if folder is not None:
             os.makedirs(folder, exist_ok=True)
-        self.folder = Path(tempfile.mkdtemp(prefix="rackd-", dir=folder)).absolute()
+            self.folder = Path(tempfile.mkdtemp(prefix="rackd-", dir=folder)).absolute()
+        else:
+            self._guarded = GuardedFolder("rackd-")
+            self.folder = self._guarded.path
         self.audit = self.folder / "audit"
         self._path = self._rack_file(toml)
         words = [self.program, "serve", str(self._path), "--ports", str(self.folder / "ports"), "--until-input-ends",
@@ -210,9 +214,15 @@ class Rack:
             if fault is not None:
                 self._remove()
                 raise fault
-        for line in self.lines:
-            self._check(line)
-        self._remove()
+        try:
+            for line in self.lines:
+                self._check(line)
+        except NotLegal:
+            if self._guarded:
+                self._guarded.keep()
+            raise
+        finally:
+            self._remove()
 
     def fault(self) -> Optional[RackFault]:
         """Returns the fault of a rack that has ended before it was closed, None if it runs or is closed."""
@@ -242,7 +252,7 @@ class Rack:
             with open(self.folder / "errors", "wb") as errors:
                 # in a session of its own, so that Ctrl-C ends the tests and not the racks under them
                 return subprocess.Popen(words, stdin=subprocess.PIPE, stdout=subprocess.PIPE, stderr=errors, bufsize=0,
-                                        start_new_session=True)
+                                        start_new_session=True, pass_fds=descriptors_of(self.folder))
         except OSError as error:
             self._remove()
             raise RackFault(f"cannot start {self.program}: {error.strerror}") from None
@@ -301,8 +311,8 @@ class Rack:
         return rows_of((self.folder / "errors").read_bytes())
 
     def _remove(self) -> None:
-        if not self._stays:
-            shutil.rmtree(self.folder, ignore_errors=True)
+        if self._guarded:
+            self._guarded.remove()
 
     def _leave_to_parent(self) -> None:
         """Closes the pipes to the rack and its cables in a child of this process, which would keep them running."""

@@ -1,11 +1,11 @@
 """What is wrong in the journals of a scenario, by `rackd judge` and the log."""
 from __future__ import annotations
 
-import json
 from dataclasses import dataclass
-from typing import Dict, List, Optional, Sequence
+from typing import Dict, List, Sequence
 
 from .faults import RackFault
+from .journal import Finding, findings_of
 from .program import run
 from .rack import Line, Rack
 
@@ -15,24 +15,20 @@ RETRY = "fcb-not-alternated"
 
 
 @dataclass
-class Finding:
-    """A rule that the master broke: the first place, and how often."""
+class BrokenRule:
+    """A rule that the master broke: the first finding, and how many there are."""
 
-    rule: str
-    severity: str
-    place: int
-    slave: Optional[int]
-    text: str
+    first: Finding
     count: int = 1
 
     def reason(self) -> str:
-        """Returns the finding in words."""
-        slave = {None: "", 127: " all slaves"}.get(self.slave, f" slave {self.slave}")
+        """Returns what was broken in words."""
+        slave = {None: "", 127: " all slaves"}.get(self.first.slave, f" slave {self.first.slave}")
         often = f" ({self.count} times)" if self.count > 1 else ""
-        return f"place {self.place}{slave} {self.rule}{often}: {self.text}"
+        return f"place {self.first.place}{slave} {self.first.rule}{often}: {self.first.text}"
 
 
-def judged(rack: Rack, line: Line, master: int, rules: Sequence[str] = ()) -> List[Finding]:
+def judged(rack: Rack, line: Line, master: int, rules: Sequence[str] = ()) -> List[BrokenRule]:
     """Returns the rules that a master broke on a line of a rack that was closed, by their first places.
 
     With `rules` only these are judged. Raises RackFault if the program has no `judge`, or no such rule.
@@ -40,17 +36,16 @@ def judged(rack: Rack, line: Line, master: int, rules: Sequence[str] = ()) -> Li
     words = ["judge", str(rack.folder / "rack.toml"), *map(str, line.files()), "--master", str(master), "--json"]
     if rules:
         words += ["--rules", ",".join(rules)]
-    found: Dict[str, Finding] = {}
-    rows = [json.loads(row) for row in run(rack.program, words).stdout.splitlines()]
-    for row in rows:
-        if "place" in row:
-            if row["rule"] in found:
-                found[row["rule"]].count += 1
-            else:
-                found[row["rule"]] = Finding(row["rule"], row["severity"], row["place"], row["slave"], row["text"])
-    if not rows or rows[-1].get("verdict") != "legal":
+    findings, verdict = findings_of(run(rack.program, words).stdout)
+    if verdict != "legal":
         raise RackFault(f"rackd judge did not find the journal of line {line.number} legal")
-    return list(found.values())
+    broken: Dict[str, BrokenRule] = {}
+    for finding in findings:
+        if finding.rule in broken:
+            broken[finding.rule].count += 1
+        else:
+            broken[finding.rule] = BrokenRule(finding)
+    return list(broken.values())
 
 
 def dropped(rack: Rack, master: int) -> List[str]:
@@ -59,16 +54,17 @@ def dropped(rack: Rack, master: int) -> List[str]:
     return [f"octets that are no telegram: {rows[0]}"] if rows else []
 
 
-def reasons(rack: Rack, master: int, allowed: Sequence[str], counted: Sequence[str]) -> List[str]:
-    """Returns what a master did wrong on the lines of a rack that was closed.
+def counts(finding: Finding, allowed: Sequence[str], counted: Sequence[str]) -> bool:
+    """Whether a finding counts: its rule is one of `counted`, or it is an error whose rule is neither RETRY nor allowed."""
+    return finding.rule in counted or finding.severity == "error" and finding.rule not in (RETRY, *allowed)
 
-    A rule counts if it is one of `counted`, or if its severity is error and it is neither RETRY nor one of `allowed`.
-    """
+
+def reasons(rack: Rack, master: int, allowed: Sequence[str], counted: Sequence[str]) -> List[str]:
+    """Returns what a master did wrong on the lines of a rack that was closed, see `counts`."""
     texts = []
     for line in rack.lines:
         if allowed or counted:
             # a rule that there is not is wrong words of the judge
             judged(rack, line, master, [*allowed, *counted])
-        texts += [found.reason() for found in judged(rack, line, master)
-                  if found.rule in counted or found.severity == "error" and found.rule not in (RETRY, *allowed)]
+        texts += [broken.reason() for broken in judged(rack, line, master) if counts(broken.first, allowed, counted)]
     return texts + dropped(rack, master)

@@ -4,7 +4,6 @@ from __future__ import annotations
 import argparse
 import importlib.util
 import sys
-import tempfile
 import time
 import traceback
 from dataclasses import dataclass
@@ -18,6 +17,7 @@ from .suite import ADDRESS, Bus, Failed, Slave, rack_of
 from .suite_judge import reasons
 from .suite_master import CannotRun, MasterProcess, environment_of
 from .suite_plug import Plug
+from .temporary import GuardedFolder
 
 # The scenarios of the checkout, if this package lies in one.
 SCENARIOS = Path(__file__).resolve().parents[2] / "examples" / "suite"
@@ -123,12 +123,15 @@ def run_all(scenarios: Sequence[Scenario], command: Sequence[str], seconds: floa
     """Runs scenarios one after another, prints the table, and returns the exit status."""
     width = max(len(scenario.name) for scenario in scenarios)
     failures = 0
-    with tempfile.TemporaryDirectory(prefix="rackd-suite-") as temporary:
+    temporary = GuardedFolder("rackd-suite-")
+    try:
         for scenario in scenarios:
-            failed = failure_of(scenario, command, seconds, Path(keep or temporary, scenario.name))
+            failed = failure_of(scenario, command, seconds, Path(keep or temporary.path, scenario.name))
             failures += bool(failed)
             first = f"failed  {scenario.name:{width}}  " if failed else f"passed  {scenario.name}"
             print(first + ("\n" + " " * len(first)).join(failed), flush=True)
+    finally:
+        temporary.remove()
     print(f"{len(scenarios) - failures} passed, {failures} failed", flush=True)
     return 1 if failures else 0
 
