@@ -59,6 +59,15 @@ is_built() {
   [ "$from" = "sources $2" ] && [ "$built" = "program $(sum "$1")" ]
 }
 
+# toolchain_of PROGRAM: the kit by which the program was built, as far as that is known
+toolchain_of() {
+  local name value
+  [ -x "$1" ] && [ -f "$1.built" ] || return 0
+  while read -r name value; do
+    if [ "$name" = toolchain ]; then echo "$value"; fi
+  done <"$1.built"
+}
+
 # mark PROGRAM SOURCES: notes that the program was built from sources of this sum, by which toolchain
 mark() {
   printf 'program %s\nsources %s\ntoolchain %s\n' "$(sum "$1")" "$2" "$(rt version)" >"$1.built.$$" && mv -f "$1.built.$$" "$1.built"
@@ -70,4 +79,17 @@ have_program() {
   "$top/rackd" --version >/dev/null 2>&1
   now=$(sources)
   if ! is_built "$program" "$now"; then program=$carried; fi
+}
+
+# built_program: writes the path of a program that is built from the sources as they are, if there is one; builds nothing
+built_program() {
+  local now file
+  now=$(sources)
+  for file in "$program" "$carried"; do
+    if is_built "$file" "$now"; then
+      echo "$file"
+      return
+    fi
+  done
+  return 1
 }

@@ -1,7 +1,7 @@
 #!/usr/bin/env bash
 # Compares the program that the repository carries with the one that was proved and built here from the sources as they
-# are: the same octets, where the toolchain is the same. Another toolchain makes other octets of the same sources: there
-# the carried program plays the stored runs instead. The last line is 'N passed, M failed'.
+# are: the same octets, if the toolchain is the same. Another toolchain makes other octets of the same sources: the
+# carried program runs the stored runs then, by the pytest of $python. The last line is 'N passed, M failed'.
 set -u
 top=$(cd "$(dirname "$0")/.." && pwd)
 . "$top/dist/built.sh"
@@ -28,7 +28,8 @@ if [ "$(toolchain "$program")" = "$(toolchain "$carried")" ]; then
   hold 'both are the same, octet for octet' cmp "$program" "$carried"
 else
   echo "the carried program was built by $(toolchain "$carried"), and the toolchain here is $(toolchain "$program")"
-  hold 'the carried program plays the stored runs' "$top/tests/runs.sh" "$carried"
+  hold 'the carried program runs the stored runs' \
+    "${python:-python3}" -m pytest -q -p no:cacheprovider "--program=$carried" "$top/tests/cli/test_stored_runs.py"
 fi
 if [ "$failed" != 0 ]; then echo 'dist/refresh has the repository carry the program of these sources'; fi
 echo "$passed passed, $failed failed"

@@ -1,0 +1,104 @@
+"""`rackd slave`: the slaves of GSD files that were written by hand, modules, and limits."""
+import pytest
+
+# The GSD files of this folder, each with the slave that has to be read of it in a file .toml, and its modules in .modules.
+FILES = ["compact", "modular", "preset", "old", "latin"]
+HEAD = b"#Profibus_DP\nIdent_Number = 1\nModular_Station = 1\n"
+# A module of 122 octets, and one of one octet.
+MANY = HEAD + b'Module = "122" ' + b",".join([b"0x00"] * 122) + b'\nEndModule\nModule = "1" 0x00\nEndModule\n'
+
+
+def modules(*names):
+    """Returns the words that name modules."""
+    return [word for name in names for word in ("--module", name)]
+
+
+def modules_of(path):
+    """Returns the words that name the modules of a stored GSD file, which has none if no file names them."""
+    named = path.with_suffix(".modules")
+    return modules(*named.read_text(encoding="utf-8").splitlines()) if named.exists() else []
+
+
+def refusal(path, cause):
+    """Returns what is reported if a file or its modules are not accepted."""
+    return f"rackd: cannot use {path}\n  {cause}\n"
+
+
+@pytest.mark.parametrize("name", FILES)
+def test_file_by_hand(written, by_hand, name):
+    path = by_hand / f"{name}.gsd"
+    assert written("slave", path, *modules_of(path)) == path.with_suffix(".toml").read_bytes()
+
+
+@pytest.mark.parametrize("name", FILES)
+def test_other_ends_of_rows(written, by_hand, file_of, name):
+    """Rows that end in LF may end in CR LF, and the other way round."""
+    path = by_hand / f"{name}.gsd"
+    octets = path.read_bytes()
+    other = octets.replace(b"\r\n", b"\n") if b"\r\n" in octets else octets.replace(b"\n", b"\r\n")
+    assert other != octets
+    assert written("slave", file_of("other.gsd", other), *modules_of(path)) == path.with_suffix(".toml").read_bytes()
+
+
+@pytest.mark.parametrize("name, near", [
+    ("8DA", "8DI"), ("8D", "8DI"), ("4AI specials", "4AI special"), ("4AI-spezial", "4AI special")])
+def test_module_with_a_near_name(refused, by_hand, name, near):
+    path = by_hand / "modular.gsd"
+    refused(refusal(path, f'no module "{name}", perhaps "{near}"'), "slave", path, *modules("8DO", name))
+
+
+@pytest.mark.parametrize("name", ["8", "8di!!", "", "Counter"], ids=["one-letter", "signs", "none", "far"])
+def test_module_without_a_near_name(refused, by_hand, name):
+    path = by_hand / "modular.gsd"
+    refused(refusal(path, f'no module "{name}"'), "slave", path, *modules(name))
+
+
+@pytest.mark.parametrize("words, cause", [
+    ([], "name the modules with --module"),
+    (modules(*["8DI"] * 9), "more than 8 modules"),
+    (modules("8DI", "8DI", "4AI special", "4AI special"), "18 octets of inputs, but Max_Input_Len is 16"),
+], ids=["none", "nine", "too-many-inputs"])
+def test_refused_modules(refused, by_hand, words, cause):
+    path = by_hand / "modular.gsd"
+    refused(refusal(path, cause), "slave", path, *words)
+
+
+def test_no_module_in_the_file(refused, by_hand, file_of):
+    path = file_of("none.gsd", (by_hand / "compact.gsd").read_bytes().split(b"Module = ")[0])
+    refused(refusal(path, "no Module"), "slave", path)
+
+
+def test_two_modules_of_a_compact_station(refused, by_hand, file_of):
+    path = file_of("two.gsd", (by_hand / "compact.gsd").read_bytes() + b'Module = "other" 0x10\nEndModule\n')
+    refused(refusal(path, "name the modules with --module"), "slave", path)
+
+
+def test_configuration_is_cut(refused, by_hand, file_of):
+    path = file_of("cut.gsd", (by_hand / "compact.gsd").read_bytes().replace(b"0x11, 0x20", b"0xC0"))
+    refused(refusal(path, "the configuration octets of the modules are refused: Cut"), "slave", path)
+
+
+def test_largest_configuration(written, file_of):
+    """A configuration has at most 244 octets."""
+    text = written("slave", file_of("many.gsd", MANY), *modules("122", "122")).decode()
+    assert f'cfg = "{"00" * 244}"' in text
+
+
+def test_configuration_is_too_long(refused, file_of):
+    path = file_of("many.gsd", MANY)
+    refused(refusal(path, "more than 244 configuration octets"), "slave", path, *modules("122", "122", "1"))
+
+
+# The module has 2 octets of inputs and 3 of outputs.
+@pytest.mark.parametrize("key, most, cause", [
+    ("Max_Input_Len", 2, "2 octets of inputs, but Max_Input_Len is 1"),
+    ("Max_Output_Len", 3, "3 octets of outputs, but Max_Output_Len is 2"),
+    ("Max_Data_Len", 5, "5 octets of inputs and outputs, but Max_Data_Len is 4"),
+])
+def test_limits_of_data(written, refused, file_of, key, most, cause):
+    def file_with(limit):
+        return file_of(f"{limit}.gsd", HEAD + f'{key} = {limit}\nModule = "both" 0x11 0x22\nEndModule\n'.encode())
+
+    small = file_with(most - 1)
+    refused(refusal(small, cause), "slave", small, *modules("both"))
+    assert b'cfg = "1122"' in written("slave", file_with(most), *modules("both"))

@@ -1,0 +1,79 @@
+"""The forms of what `rackd judge` writes: rows, JSON and JUnit XML of one text with two findings."""
+import xml.etree.ElementTree as xml
+
+import pytest
+
+from support.judging import FCB_1, RULES, Request, bring_up, exchange
+
+FOUND = [*bring_up(), exchange(), exchange(b"\x56\x78", fc=FCB_1), Request(5, 51, b"\x01")]
+
+ROWS = """\
+place 6 master 1 slave 5 fcb-repeated: the FCB of the request before to this slave, with another telegram
+  68 05 05 68 05 01 7d 56 78 51 16
+  before 68 05 05 68 05 01 7d 12 34 c9 16
+place 7 master 1 slave 5 unknown-point: a point that DP-V0 has not
+  68 06 06 68 85 81 5d 33 3e 01 d5 16
+findings
+  master 1 fcb-repeated error 1, first at place 6
+  master 1 unknown-point warning 1, first at place 7
+legal 7
+"""
+# What the rows of JSON have of each of the two rules.
+REPEATED = {"rule": "fcb-repeated", "severity": "error", "standard": "IEC 61158-4-3, frame count bit",
+            "text": "the FCB of the request before to this slave, with another telegram"}
+UNKNOWN = {"rule": "unknown-point", "severity": "warning", "standard": "IEC 61158-6-3, service access points",
+           "text": "a point that DP-V0 has not"}
+
+
+@pytest.fixture
+def text(text_of):
+    return text_of(*FOUND)
+
+
+def test_rows(text):
+    assert text.judge() == (1, ROWS, "")
+
+
+def test_json_of_findings(text):
+    """Only a finding of fcb-repeated has the telegram before."""
+    assert text.rows_of_json()[:2] == [
+        {"place": 6, "master": 1, "slave": 5, **REPEATED, "octets": "6805056805017d56785116",
+         "before": "6805056805017d1234c916"},
+        {"place": 7, "master": 1, "slave": 5, **UNKNOWN, "octets": "6806066885815d333e01d516"}]
+
+
+def test_json_of_the_summary(text):
+    assert text.rows_of_json()[2:4] == [
+        {"summary": {"master": 1, **REPEATED, "count": 1, "first": 6}},
+        {"summary": {"master": 1, **UNKNOWN, "count": 1, "first": 7}}]
+
+
+def test_json_of_the_verdict(text):
+    assert text.rows_of_json()[4:] == [{"verdict": "legal", "entries": 7}]
+    assert text.judge("--json").status == 1
+
+
+def test_json_of_receivers(text_of):
+    """A finding of a telegram to all slaves has slave 127, and one of octets that are no request has none."""
+    rows = text_of(Request(127, fc=0x49), *["m 1 e5"] * 4).rows_of_json()
+    findings = [(row["rule"], row["slave"]) for row in rows if "place" in row]
+    assert findings == [("broadcast-needs-reply", 127), ("no-request", None)]
+
+
+def test_junit(text):
+    """There is a test case for the text, and one for each rule of each master. An error is a failure."""
+    done = text.judge("--junit")
+    suite = xml.fromstring(done.output.encode())
+    cases = [(case.get("classname"), case.get("name")) for case in suite.findall("testcase")]
+    failures = [(case.get("classname"), case.get("name")) for case in suite.findall("testcase[failure]")]
+    assert (done.status, suite.tag) == (1, "testsuite")
+    assert cases == [("text", "legal"), *(("master 1", rule) for rule in RULES), *(("master 2", rule) for rule in RULES)]
+    assert (suite.get("tests"), suite.get("failures")) == (str(1 + 2 * len(RULES)), "1")
+    assert failures == [("master 1", "fcb-repeated")]
+
+
+def test_junit_of_a_warning(text):
+    """A warning is no failure, but output."""
+    suite = xml.fromstring(text.judge("--junit").output.encode())
+    warnings = [(case.get("classname"), case.get("name")) for case in suite.findall("testcase[system-out]")]
+    assert warnings == [("master 1", "unknown-point")]

@@ -1,0 +1,148 @@
+"""The page: the buttons of lines, the file and the state at its head, the notices of the banner, and pausing."""
+import re
+import time
+
+from page.shown_racks import NEWS, NOT_HOLDER, NOT_LISTED, exchanges, refusal
+from page.stand_in import operation, sample
+from support.clients import wait_for
+from support.premises import suppose, tried_again
+from support.processes import PATIENCE
+from support.watching import until_equal
+
+SECOND_LINE = {(33, 1): "may lock", (33, 4): "may lock"}
+# The button of a line to which entries come.
+BUSY = r"Line 1 [1-9]\d*/s"
+# Seconds that each answer takes: longer than the time over which the rate is taken, and shorter than what an answer may take.
+SLOW = 2.1
+
+
+def test_lines(shown):
+    page = shown.open()
+    assert page.source() == "line-1-1.audit · 15 of 65,536 places used · legal so far"
+    shown.rack.set(1, begun=12)
+    shown.tab.click("#lines button:nth-child(2)")
+    until_equal(page.cells, SECOND_LINE)
+    until_equal(page.source, "line-2-1.audit · 1 of 65,536 places used · legal so far · 12 octets of the next row")
+    assert page.evaluate("location.hash") == "#line=2"
+
+
+def test_line_of_the_address(shown):
+    assert shown.open(fragment="#line=2").cells() == SECOND_LINE
+
+
+def add_until(shown, is_seen):
+    """Adds entries until something is seen, or for a minute. Returns the next place, and when it began to add the last ones."""
+    place, until = 16, time.monotonic() + PATIENCE
+    while not is_seen() and time.monotonic() < until:
+        added = time.monotonic()
+        shown.rack.add(*exchanges(place, 5))
+        place += 5
+        time.sleep(0.1)
+    return place, added
+
+
+def test_rate_of_entries(shown):
+    page = shown.open()
+    assert page.buttons() == ["Line 1 0/s", "Line 2 0/s"]
+    assert page.live() == "no new entry"
+    _, added = add_until(shown, lambda: re.fullmatch(BUSY, page.buttons()[0]) and page.live() == "last entry now")
+    assert re.fullmatch(BUSY, page.buttons()[0])
+    until_equal(page.buttons, ["Line 1 0/s", "Line 2 0/s"])
+    wait_for(lambda: page.live() != "last entry now")
+    seconds = int(re.fullmatch(r"last entry (\d+) s ago", page.live())[1])
+    assert 1 <= seconds <= time.monotonic() - added
+
+
+@tried_again
+def test_rate_of_slow_answers(shown):
+    """The rate is taken from one answer to the next if they take longer than the time over which it is taken otherwise."""
+    page = shown.open()
+    answered, states = len(shown.rack.queries), set()
+    shown.rack.delay = SLOW
+    # one answer may be on its way that was not slow; no entries come before a slow one has come after it
+    wait_for(lambda: len(shown.rack.queries) >= answered + 2)
+
+    def is_seen():
+        states.add(page.live())
+        return re.fullmatch(BUSY, page.buttons()[0])
+
+    add_until(shown, is_seen)
+    has_rate = re.fullmatch(BUSY, page.buttons()[0])
+    suppose(has_rate or "no answer" not in states, "the stand-in was too slow for the page")
+    assert has_rate
+
+
+def test_pause(shown):
+    page = shown.open()
+    shown.tab.click("#pause")
+    until_equal(page.live, "paused")
+    shown.follow(refusal(16, 3, 9, NOT_LISTED, "NotListed"), *exchanges(17, 400))
+    shown.follow(*exchanges(417, 30))
+    assert page.live() == "paused, 431 new"
+    shown.tab.click("[data-cell='5 1']")
+    assert (page.sentence(), page.places()) == (NOT_HOLDER, NEWS)
+    shown.tab.click("#pause")
+    until_equal(page.sentence, NOT_LISTED)
+    assert page.text("#pause") == "Pause"
+
+
+# ---- the banner
+
+
+def test_wrong_row(shown):
+    page = shown.open()
+    assert page.notices() == []
+    shown.rack.set(standing="not the policy", row=13)
+    until_equal(page.notices, [[
+        "bad", "Row 13 of line-1-1.audit is not what this line would have written. rackd check rack.toml audit/line-1-1.audit "
+        "reports: not the policy 13. The page shows the line as it was before that row; nothing after it is read. Is the rack "
+        "file the one that the rack was started with?"]])
+    assert page.buttons() == ["Line 1 wrong row", "Line 2 0/s"]
+    shown.rack.set(standing="bad line", row=14)
+    wait_for(lambda: "reports: bad line 14." in page.notices()[0][1])
+
+
+def test_no_file(shown):
+    rack = sample()
+    rack.set(file=None, standing="empty", count=0)
+    page = shown.open(rack)
+    assert page.notices() == [["mild", "There is no audit file of line 1 yet. Start the rack with rackd serve rack.toml "
+                               "--audit audit"]]
+    assert page.source() == "no file yet of line 1 in audit"
+    shown.rack.set(file="line-1-1.audit")
+    until_equal(page.notices, [])
+    until_equal(page.source, "line-1-1.audit · 0 of 65,536 places used · no header yet")
+
+
+def test_halted_line(shown):
+    page = shown.open()
+    shown.rack.set(halted=True)
+    shown.follow(operation(16, "halt", "halted; released: 5, 6.", fault=True))
+    assert page.notices() == [[
+        "mild", "Line 1 halted at entry 16: every slave is released, and no request is answered. Restart the rack to continue. "
+        "With --endless a line does not halt when all its places are used."]]
+    assert {word.replace(" ⌀", "") for word in page.cells().values()} == {"halted"}
+    assert page.answer() == "The line is halted, so no master may change any slave."
+    assert page.buttons() == ["Line 1 halted", "Line 2 0/s"]
+
+
+def test_watch_that_does_not_answer(shown):
+    page = shown.open()
+    shown.rack.silent = True
+    until_equal(page.notices, [["bad", "The watch does not answer, so what is shown is old. Is rackd watch still running?"]])
+    assert page.live() == "no answer"
+    shown.rack.add(refusal(16, 3, 9, NOT_LISTED, "NotListed"))
+    shown.rack.silent = False
+    until_equal(page.notices, [])
+    until_equal(page.sentence, NOT_LISTED)
+
+
+def test_watch_that_was_started_again(shown):
+    """Another run of the watch begins with fewer entries: what the page had of the earlier run is dropped."""
+    page = shown.open()
+    del shown.rack.lines[0].entries[11:]
+    shown.rack.restart()
+    shown.follow(refusal(11, 3, 9, NOT_LISTED, "NotListed"))
+    until_equal(lambda: page.groups("refusals"),
+                [["M3", "slave 9", "NotListed", "1", "11"], ["M1", "slave 12", "NotActive", "1", "10"]])
+    assert page.places() == NEWS[2:]
