@@ -92,6 +92,7 @@ def wait_for_rejections(server, port, count):
         return rejected_by(server.errors()) - requests >= count
 
     wait_for(are_rejected, every=1.1)
+    assert "HTTP, TLS or STUN request rejected\n" in server.errors()
 
 
 @pytest.mark.parametrize("of", ["masters", "operators"])
