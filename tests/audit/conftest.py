@@ -1,15 +1,6 @@
 """Fixtures of the tests of audit texts in files."""
 import pytest
 
-from support.processes import PATIENCE
-
-
-@pytest.fixture(autouse=True)
-def patient_clients(monkeypatch):
-    """Has the operators and masters of the package wait long: a machine that is busy is no fault of the program."""
-    monkeypatch.setattr("rackd.operator.ANSWER_TIME", PATIENCE)
-    monkeypatch.setattr("rackd.connection.ANSWER_TIME", PATIENCE)
-
 
 @pytest.fixture
 def assert_legal(run):

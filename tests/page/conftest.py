@@ -6,15 +6,7 @@ import pytest
 
 from page.shown_racks import ShownRack
 from page.stand_in import StandIn
-from support.processes import PATIENCE
 from support.watching import AuditFolder, Watched, tick_rack, two_lines
-
-
-@pytest.fixture(autouse=True)
-def patient_clients(monkeypatch):
-    """Has the operators and masters of the package wait long: a machine that is busy is no fault of the program."""
-    monkeypatch.setattr("rackd.operator.ANSWER_TIME", PATIENCE)
-    monkeypatch.setattr("rackd.connection.ANSWER_TIME", PATIENCE)
 
 
 @pytest.fixture

@@ -1,8 +1,7 @@
 """Fixtures of the tests of the Python package."""
 import pytest
 
-from rackd import Master, cable, connection, operator
-from rackd import rack as rack_module
+from rackd import Master, connection
 
 from support.processes import PATIENCE
 from support.suite_runs import SuiteFolder
@@ -10,12 +9,8 @@ from support.suite_runs import SuiteFolder
 
 @pytest.fixture(autouse=True)
 def patient(monkeypatch):
-    """Nothing of the package that is waited for comes too late on a machine that is busy. Tests of a limit lower it again."""
-    for module in cable, connection, operator:
-        monkeypatch.setattr(module, "ANSWER_TIME", PATIENCE)
+    """An address that is held by a session that has ended is waited for long. Tests of this limit lower it again."""
     monkeypatch.setattr(connection, "HELD_TIME", PATIENCE)
-    monkeypatch.setattr(rack_module, "READY_TIME", PATIENCE)
-    monkeypatch.setattr(rack_module, "END_TIME", PATIENCE)
 
 
 @pytest.fixture
@@ -37,7 +32,7 @@ def master_of():
 
 @pytest.fixture
 def wait_in_turn(monkeypatch):
-    """A function that has masters wait for their replies so many seconds, one number for each telegram."""
+    """A function that has masters wait for a number of seconds for each reply, one number for each telegram."""
     def set_times(*seconds):
         left = list(seconds)
         monkeypatch.setattr(Master, "timeout", property(lambda _: left.pop(0), lambda *_: None), raising=False)

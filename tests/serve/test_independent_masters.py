@@ -96,7 +96,7 @@ def test_operator(rack, start, language):
     """Watchdogs that run out, reported diagnoses, and busy marks, in data exchange and while slaves are brought up."""
     master = start(language, rack.port, SLAVES.values(), "--sync", "05", "--freeze", "02", "--unlock")
     rack.wait_until_started(HOLDERS)
-    rack.tell("in 5 aa55")
+    rack.operate("in 5 aa55")
     rack.wait_for_requests(1, "diag 5 e 04010203", station=5, point=60, rule="Done")
     rack.wait_for_requests(4, "diag 6 es 0401", station=6, point=60, rule="Done")
     rack.wait_for_requests(5, "diag 6 - -", station=6, point=None, rule="Done")
@@ -106,18 +106,18 @@ def test_operator(rack, start, language):
         wait_for(lambda: rack.exchanging(HOLDERS), every=0.02)
     rack.wait_until_started(HOLDERS)
     rack.wait_for_requests(2, "busy 5 default on", station=5, point=None, rule="Busy")
-    rack.tell("busy 5 default off")
-    rack.tell("busy 6 60 on")
+    rack.operate("busy 5 default off")
+    rack.operate("busy 6 60 on")
     rack.wait_for_requests(2, "diag 6 e 0402", station=6, point=60, rule="Busy")
     rack.wait_for_requests(1, "busy 6 60 off", station=6, point=60, rule="Done")
     marks = ((5, 62), (6, 60), (7, 61))
     for address, point in marks:
-        rack.tell(f"busy {address} {point} on")
+        rack.operate(f"busy {address} {point} on")
     rack.expire()
     for address, point in marks:
         rack.wait_for_requests(2, station=address, point=point, rule="Busy")
     for address, point in marks:
-        rack.tell(f"busy {address} {point} off")
+        rack.operate(f"busy {address} {point} off")
     rack.wait_until_started(HOLDERS)
     rack.expire()
     rack.wait_until_started(HOLDERS)
@@ -165,7 +165,7 @@ def test_cable(rack, start, program, tmp_path, language):
     with contextlib.closing(RunningCable(program, rack.port, Cable(), tmp_path)) as cable:
         master = start(language, cable.listen, SLAVES.values(), "--sync", "05", "--slot", "100")
         rack.wait_until_started(HOLDERS)
-        rack.tell("diag 5 e 0401")
+        rack.operate("diag 5 e 0401")
         for order in [(cable.lose, 5, 1), (cable.lose, 5, 3), (cable.spoil, 7, 1), (cable.cut, 6, 1), (cable.late, 7, 1, 150),
                       (cable.late, 5, 1, 250), (cable.lose, 6, 4), (cable.lose, 7, 6)]:
             order[0](*order[1:])

@@ -136,7 +136,7 @@ class WatchedRack:
         self.port = self.server.ports[1].listen
         self._operator = self.server.operator()
 
-    def tell(self, row, answer="done"):
+    def operate(self, row, answer="done"):
         """Sends a row of the operator, which has to be answered so."""
         assert answer_to(self._operator, row) == answer
 
@@ -171,7 +171,7 @@ class WatchedRack:
         """Sends a row of the operator, if there is one, and waits until this number of requests with these fields has come."""
         before = len(self.requests(**fields))
         if after is not None:
-            self.tell(after)
+            self.operate(after)
         wait_for(lambda: len(self.requests(**fields)) >= before + more, every=0.02)
 
     def longest_silence(self):
