@@ -47,10 +47,10 @@ const MOST_STEP: u64 = 86_400_000;
 pub(crate) const LOG: &str = "log";
 
 /// What follows `--log` if nothing is written there.
-const USUALLY_TOLD: &str = "sessions";
+const USUAL_LOG_DETAIL: &str = "sessions";
 
 /// What may follow `--log`.
-const TOLD: [&str; 2] = [USUALLY_TOLD, "requests"];
+const LOG_DETAILS: [&str; 2] = [USUAL_LOG_DETAIL, "requests"];
 
 /// The word `serve`, with a rack, the number of sessions of each port, the folder of its audit texts, the file of its
 /// ports, when it ends, how time passes and devices step, and what is reported.
@@ -130,9 +130,9 @@ pub(crate) static SERVE: Word = Word {
             name: LOG,
             help: help::LOG,
             least: 0,
-            usual: &[USUALLY_TOLD],
+            usual: &[USUAL_LOG_DETAIL],
             shown: &["WHAT"],
-            value: ValueParser::Names(&TOLD),
+            value: ValueParser::Names(&LOG_DETAILS),
             hides_values: true,
             ..OPTION
         },
