@@ -9,13 +9,16 @@ mod client;
 mod delays;
 mod dropped_rows;
 mod escaped;
+mod noted;
 mod notes;
 mod queue;
 mod row;
 mod row_limit;
+mod session_notes;
 mod time_of_day;
 
 pub use client::Client;
 pub use escaped::{Escaped, is_escaped};
-pub use notes::{LineNumbers, MOST_OPERATORS, Notes};
+pub use noted::{LineNumbers, MOST_OPERATORS};
+pub use notes::Notes;
 pub use queue::{QueueFault, RowQueue, Written, start};
