@@ -3,8 +3,8 @@
 //! The first part of a text may have been deleted, so the number of a text is in use as long as any of its files is there.
 //! No clause can say what a folder has: the clauses here speak of the names that were read from it.
 
-ghost use Rattle.std.specs.Prelude.{◌≡◌, ◌<◌, true};
-ghost use Rattle.audit_files.specs.TextNumbers.{IsAloneIn, IsAtLeast, IsNextNumber, IsNumberIn};
+ghost use Rattle.std.specs.Prelude.{◌≡◌, ◌<◌, false, true};
+ghost use Rattle.audit_files.specs.TextNumbers.{IsAloneIn, IsAtLeast, IsBesideAnother, IsNextNumber, IsNumberIn};
 
 use crate::audit_name::AuditName;
 use std::alloc::Global;
@@ -41,7 +41,7 @@ fn name_of<R: Files + Drop>(
     }
 }
 
-/// Returns the number of a new text of this line: above that of each text of the line among these names, 1 if there is none.
+/// Returns the number of a new text of this line: one above the highest of the line among these names, 1 if there is none.
 /// Returns `None` if a text of the line has the highest number.
 pub(crate) fn number_above(names: &[AuditName], line: u8) -> Option<u32>
     ensures { IsNextNumber line names.now result }
@@ -65,7 +65,8 @@ fn highest_number(names: &[AuditName], line: u8) -> u32
 
 /// Returns whether no other of these names is that of a file of the same text.
 pub(crate) fn is_alone(names: &[AuditName], own: AuditName) -> bool
-    ensures { result ≡ true → IsAloneIn names.now own }
+    ensures alone { result ≡ true → IsAloneIn names.now own }
+    ensures beside { result ≡ false → IsBesideAnother names.now own }
 {
     for name in names {
         if name.line == own.line && name.number == own.number && name.part != own.part {
