@@ -1,4 +1,4 @@
-"""Builds the wheel: the package, and the program that the repository carries.
+"""Builds the wheel: the package, the program that the repository carries, and the scenarios of the suite.
 
 What the build makes lies in a folder for temporary files, so that nothing of it stays in the checkout.
 """
@@ -15,13 +15,15 @@ try:
 except ImportError:
     from wheel.bdist_wheel import bdist_wheel
 
-PROGRAM = Path(__file__).resolve().parents[1] / "dist" / "x86_64-linux" / "rackd"
+TOP = Path(__file__).resolve().parents[1]
+PROGRAM = TOP / "dist" / "x86_64-linux" / "rackd"
+SCENARIOS = TOP / "examples" / "suite"
 BUILT = tempfile.mkdtemp(prefix="rackd-build-")
 atexit.register(shutil.rmtree, BUILT, ignore_errors=True)
 
 
 class BuildWithProgram(build_py):
-    """Builds the package, with the program in its folder `program`."""
+    """Builds the package, with the program in its folder `program` and the scenarios in its folder `scenarios`."""
 
     def run(self):
         super().run()
@@ -29,6 +31,8 @@ class BuildWithProgram(build_py):
             folder = Path(self.build_lib, "rackd", "program")
             folder.mkdir(exist_ok=True)
             shutil.copy(PROGRAM, folder / "rackd")
+            shutil.copytree(SCENARIOS, folder.with_name("scenarios"), dirs_exist_ok=True,
+                            ignore=shutil.ignore_patterns("__pycache__"))
 
 
 class LinuxWheel(bdist_wheel):

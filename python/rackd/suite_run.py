@@ -19,8 +19,10 @@ from .suite_master import CannotRun, MasterProcess, environment_of
 from .suite_plug import Plug
 from .temporary import GuardedFolder
 
-# The scenarios of the checkout, if this package lies in one.
-SCENARIOS = Path(__file__).resolve().parents[2] / "examples" / "suite"
+# The scenarios of the checkout, if this package lies in one, and those of an installed package.
+CARRIED = Path(__file__).resolve().parents[2] / "examples" / "suite"
+INSTALLED = Path(__file__).resolve().parent / "scenarios"
+SCENARIOS = INSTALLED if INSTALLED.is_dir() else CARRIED
 # Seconds that a scenario may take.
 TIMEOUT = 60.0
 

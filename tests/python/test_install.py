@@ -10,10 +10,11 @@ from pathlib import Path
 
 import pytest
 
-from support.package_runs import PACKAGE, environment
+from support.package_runs import PACKAGE, TOP, environment
 from support.processes import run_program
 from support.suite_runs import EXCHANGES, GOES_ON, LONG, MASTER, PASSED
 
+EXAMPLES = Path(__file__).resolve().parents[2] / "examples"
 NEEDED = ("pip", "setuptools", "wheel", "pytest")
 # Writes the names of those of these modules that there are not.
 LIST_MISSING = f"import importlib.util as util; print(*[name for name in {NEEDED} if util.find_spec(name) is None])"
@@ -41,6 +42,7 @@ class Installation:
         for path in self.program.parent, self.elsewhere, self.temporary, self.home:
             path.mkdir(parents=True)
         shutil.copytree(PACKAGE, self.checkout / "python", ignore=shutil.ignore_patterns("__pycache__"))
+        shutil.copytree(EXAMPLES / "suite", self.checkout / "examples/suite", ignore=shutil.ignore_patterns("__pycache__"))
         shutil.copy(program, self.program)
 
     def run(self, *words, within=LONG, **variables):
@@ -109,6 +111,15 @@ def check_suite_elsewhere(installation):
     assert installation.run("-m", "rackd", "suite", "--folder", scenarios, installation.python, master) == (0, PASSED, "")
 
 
+def check_carried_scenarios(installation):
+    """The suite has the scenarios of the repository, also elsewhere, and runs one of them."""
+    names = [row.split()[0] for row in installation.run("-m", "rackd", "suite", "--list").output.splitlines()]
+    assert names == sorted(path.stem for path in (EXAMPLES / "suite").glob("*.py"))
+    words = ["-m", "rackd", "suite", "--only", "bring-up", installation.python, EXAMPLES / "suite-master.py"]
+    done = installation.run(*words)
+    assert (done.status, done.output.splitlines()[-1]) == (0, "1 passed, 0 failed"), done
+
+
 def test_wheel(installation):
     install(installation)
     package = installation.packages / "rackd"
@@ -118,6 +129,7 @@ def test_wheel(installation):
     shutil.rmtree(installation.checkout)
     assert installation.run("-c", FOUND) == (0, f"{package / '__init__.py'} {program}\n", "")
     check_suite_elsewhere(installation)
+    check_carried_scenarios(installation)
     check_tests_elsewhere(installation)
     check_tests_elsewhere(installation, "-p", "rackd.pytest_plugin")
     check_tests_elsewhere(installation, "-p", "rackd.pytest_plugin", PYTHONPATH=str(package.parent))
@@ -129,6 +141,7 @@ def test_editable(installation):
     assert installation.run("-c", FOUND) == (0, f"{package / '__init__.py'} {installation.program}\n", "")
     assert not (installation.packages / "rackd").exists()
     check_suite_elsewhere(installation)
+    check_carried_scenarios(installation)
     check_tests_elsewhere(installation)
     check_tests_elsewhere(installation, "-p", "rackd.pytest_plugin", PYTHONPATH=str(package.parent))
     # what changes in the checkout is in force
