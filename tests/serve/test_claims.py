@@ -1,10 +1,12 @@
 """The addresses that masters claim: each belongs to one session of a line at a time, and is free once that has ended."""
 import subprocess
 import sys
+import threading
 
 import pytest
 
 from support.clients import answer_to, connect, exchange, has_ended, open_master, receive, wait_for
+from support.line_time import at_once
 from support.racks import line, rack
 from support.telegrams import ACCEPTED, fresh_diagnosis, slave_diag
 
@@ -65,6 +67,39 @@ def test_one_session_after_another(serve):
         session = wait_for(lambda: claim(server.ports[1].listen, 1))
         assert exchange(session, slave_diag(1, 5)) == fresh_diagnosis(1, 5)
         session.close()
+
+
+def test_claims_at_one_moment(serve):
+    """Of eight connections that claim an address at one moment, one is accepted; this is tried for sixteen addresses."""
+    masters = range(6, 22)
+    server = serve(rack(line(1, 5, masters=list(masters)), workers=16))
+    for address in masters:
+        sessions = at_once(lambda _: claim(server.ports[1].listen, address), range(8))
+        accepted = [session for session in sessions if session is not None]
+        assert len(accepted) == 1
+        assert exchange(accepted[0], slave_diag(address, 5)) == fresh_diagnosis(address, 5)
+        accepted[0].close()
+
+
+def test_address_that_eight_clients_contend_for(serve):
+    """Each of eight clients claims address 1 again and again, until it has had ten sessions. No two have a session at once."""
+    server, one, holders = serve(rack()), threading.Lock(), []
+
+    def contend(client):
+        most = 0
+        for _ in range(10):
+            session = wait_for(lambda: claim(server.ports[1].listen, 1))
+            with one:
+                holders.append(client)
+                most = max(most, len(holders))
+            assert exchange(session, slave_diag(1, 5)) == fresh_diagnosis(1, 5)
+            with one:
+                holders.remove(client)
+            session.close()
+        return most
+
+    assert at_once(contend, range(8)) == [1] * 8
+    assert wait_for(lambda: claim(server.ports[1].listen, 1))
 
 
 def test_client_that_is_killed_within_a_frame(serve):

@@ -5,6 +5,7 @@ import socket
 import pytest
 
 from support.clients import answer_to, connect, connect_socket, exchange, has_ended, open_master
+from support.line_time import at_once
 from support.printed_audits import printed_audits
 from support.racks import line, rack
 from support.telegrams import ACCEPTED, fresh_diagnosis, slave_diag
@@ -63,6 +64,60 @@ def test_full_journal(serve, run, tmp_path, wrapper):
     notes = re.sub(r"[0-9:.]{12} ", "", done.errors)
     assert notes == ("" if wrapper else "[WARN  rackd] line 1: halted, its journal is full\n"
                      "[INFO  rackd] served 1 sessions of masters and 1 of operators\n")
+
+
+# FDL status of the station that the line lacks and of slave 5, by master 2; the reply of slave 5; the entries of both.
+STATUS_OF_9, STATUS_OF_5, STATUS = "100902495416", "100502495016", "100205000716"
+UNANSWERED = f"req 2 {STATUS_OF_9} | none | silence NoStation"
+ANSWERED = f"req 2 {STATUS_OF_5} | WaitPrm none | reply {STATUS} Status"
+# Octets that connections send one after another, each up to its end; all that comes back; and the entries of the journal.
+DIALOGUES = {
+    "master": ([("listen", bytes.fromhex(f"02 {STATUS_OF_9} {STATUS_OF_5}"))],
+               [bytes.fromhex(f"e5 {STATUS}")], [UNANSWERED, ANSWERED]),
+    "operator": ([("operator", b"tick 1\nin 9 aa\nshow 5\n")],
+                 [b"released\nrefused NoStation\nshow 5 WaitPrm none in 0000 out 0000 wd off\n"], ["tick 1 | none | released"]),
+    "master-and-operator": ([("listen", bytes.fromhex(f"02 {STATUS_OF_5}")), ("operator", b"tick 1\n")],
+                            [bytes.fromhex(f"e5 {STATUS}"), b"released\n"], [ANSWERED, "tick 1 | none | released"]),
+    "two-masters-and-a-stranger": (
+        [("listen", b"\x01" + slave_diag(1, 5)), ("listen", bytes.fromhex(f"02 {STATUS_OF_9} {STATUS_OF_5}")),
+         ("listen", bytes.fromhex(f"09 {STATUS_OF_5}"))],
+        [ACCEPTED + fresh_diagnosis(1, 5), bytes.fromhex(f"e5 {STATUS}"), b""],
+        [f"req 1 {slave_diag(1, 5).hex()} | WaitPrm none | reply {fresh_diagnosis(1, 5).hex()} Done", UNANSWERED, ANSWERED]),
+}
+
+
+@pytest.mark.parametrize("sent, answers, entries", DIALOGUES.values(), ids=DIALOGUES)
+def test_sessions_that_their_clients_end(serve, run, tmp_path, sent, answers, entries):
+    """What came before the end is answered, and is in the journal; the end of a session adds nothing to it."""
+    server = serve(rack(), "--until-input-ends", piped=True)
+    assert [half_closed(getattr(server.ports[1], kind), octets) for kind, octets in sent] == answers
+    server.end_input()
+    assert printed_audits(run, server.rack, server.wait().output, tmp_path) == {
+        1: [f"{place} {entry}" for place, entry in enumerate(entries, 1)]}
+
+
+def test_race_for_the_last_place(serve, run, tmp_path):
+    """On each of eight lines two masters ask at one moment, and one place is left before the halt: one master is answered."""
+    numbers, masters = range(1, 9), (1, 2)
+    text = rack(*(line(number, 5, masters=list(masters), capacity=2) for number in numbers), workers=16)
+    server = serve(text, "--until-input-ends", piped=True)
+    asking = [(number, master) for number in numbers for master in masters]
+
+    def ask(who):
+        number, master = who
+        return half_closed(server.ports[number].listen, bytes([master]) + slave_diag(master, 5) * 10)
+
+    received = at_once(ask, asking)
+    server.end_input()
+    journals = printed_audits(run, server.rack, server.wait().output, tmp_path)
+    for number in numbers:
+        answers = {master: octets for (own, master), octets in zip(asking, received) if own == number}
+        winners = [master for master in masters if answers[master] != ACCEPTED]
+        assert len(winners) == 1, answers
+        asks, answer = slave_diag(winners[0], 5), fresh_diagnosis(winners[0], 5)
+        assert answers[winners[0]] == ACCEPTED + answer
+        assert journals[number] == [
+            f"1 req {winners[0]} {asks.hex()} | WaitPrm none | reply {answer.hex()} Done", "2 halt | none | released"]
 
 
 def test_sessions_that_are_open_at_the_end_of_the_input(serve, run, tmp_path):

@@ -12,6 +12,7 @@ import pytest
 from rackd import frames
 from rackd.master import GET_CFG, MASTER
 from support.clients import answer_to, connect, exchange, open_master, receive, wait_for
+from support.line_time import at_once
 from support.printed_audits import printed_audits
 from support.processes import PATIENCE
 from support.racks import line, rack, slave
@@ -19,7 +20,7 @@ from support.sleeping import are_asleep, threads, wait_until_asleep
 from support.telegrams import ACCEPTED, FIRST, fresh_diagnosis, slave_diag
 
 # How many requests each of many masters sends.
-REQUESTS = 50
+REQUESTS = 100
 
 
 def test_more_masters_than_workers(serve):
@@ -38,27 +39,35 @@ def test_more_masters_than_workers(serve):
 
 
 class CrowdMember(threading.Thread):
-    """A master that asks for the diagnosis of slave 5 when all masters are accepted, and counts the right answers."""
+    """A master that asks for the diagnosis of a slave when all masters are accepted, and counts the right answers."""
 
-    def __init__(self, port, address, everybody):
+    def __init__(self, port, address, asked, everybody):
         super().__init__(daemon=True)
-        self.port, self.address, self.everybody, self.right = port, address, everybody, 0
+        self.port, self.address, self.asked, self.everybody, self.right = port, address, asked, everybody, 0
 
     def run(self):
         session = open_master(self.port, self.address)
         self.everybody.wait(PATIENCE)
         for _ in range(REQUESTS):
-            self.right += exchange(session, slave_diag(self.address, 5)) == fresh_diagnosis(self.address, 5)
+            self.right += exchange(session, slave_diag(self.address, self.asked)) == fresh_diagnosis(self.address, self.asked)
         session.close()
 
 
-@pytest.mark.parametrize("lines, addresses", [([1], range(11, 27)), ([4, 3, 1, 2], range(11, 15))],
-                         ids=["sixteen-of-a-line", "four-of-four-lines"])
-def test_sixteen_masters_at_once(serve, run, tmp_path, lines, addresses):
-    text = rack(*(line(number, 5, masters=list(addresses)) for number in lines), workers=16)
+# The numbers of the lines, and the masters and the slaves of each. All masters ask one slave, or each a slave of its own.
+CROWDS = {
+    "sixteen-of-a-line": ([1], range(11, 27), [5]),
+    "four-of-four-lines": ([4, 3, 1, 2], range(11, 15), [5]),
+    "sixteen-with-slaves-of-their-own": ([1], range(16), range(20, 84)),
+}
+
+
+@pytest.mark.parametrize("lines, addresses, slaves", CROWDS.values(), ids=CROWDS)
+def test_sixteen_masters_at_once(serve, run, tmp_path, lines, addresses, slaves):
+    text = rack(*(line(number, *slaves, masters=list(addresses)) for number in lines), workers=16)
     server = serve(text, "--until-input-ends", piped=True)
     everybody = threading.Barrier(len(lines) * len(addresses))
-    members = [CrowdMember(server.ports[number].listen, address, everybody) for number in lines for address in addresses]
+    members = [CrowdMember(server.ports[number].listen, address, slaves[4 * place % len(slaves)], everybody)
+               for number in lines for place, address in enumerate(addresses)]
     for member in members:
         member.start()
     for member in members:
@@ -69,6 +78,34 @@ def test_sixteen_masters_at_once(serve, run, tmp_path, lines, addresses):
     assert list(journals) == sorted(lines)
     for entries in journals.values():
         assert Counter(entry.split(" ")[2] for entry in entries) == {str(address): REQUESTS for address in addresses}
+
+
+def test_line_that_two_masters_contend_for(serve, run, tmp_path):
+    """Two masters send 10,000 requests each, a hundred in one piece, and an operator a tick beside them. Each is answered as if
+    the line had no other client, and each is one entry."""
+    server, pieces, size = serve(rack(), "--until-input-ends", piped=True), 100, 100
+
+    def ask(address):
+        session = open_master(server.ports[1].listen, address)
+        answer = fresh_diagnosis(address, 5) * size
+        right = 0
+        for _ in range(pieces):
+            session.send(slave_diag(address, 5) * size)
+            right += receive(session, len(answer)) == answer
+        session.close()
+        return right
+
+    def tick():
+        with server.operator() as operator:
+            return answer_to(operator, "tick 1")
+
+    answers = at_once(lambda work: work(), [lambda: ask(1), lambda: ask(2), tick])
+    assert answers == [pieces, pieces, "released"]
+    server.end_input()
+    entries = printed_audits(run, server.rack, server.wait().output, tmp_path)[1]
+    kinds = {f"req {address} {slave_diag(address, 5).hex()} | WaitPrm none | reply {fresh_diagnosis(address, 5).hex()} Done":
+             pieces * size for address in (1, 2)}
+    assert Counter(entry.split(" ", 1)[1] for entry in entries) == {**kinds, "tick 1 | none | released": 1}
 
 
 def send_until_blocked(connection, request, pid):

@@ -12,7 +12,7 @@ from support.racks import line, rack
 DIAG_1, FRESH_1 = "6805056885816d3c3eed16", "680b0b688185083e3c020500ff80a1af16"
 DIAG_2, FRESH_2 = "6805056885826d3c3eee16", "680b0b688285083e3c020500ff80a1b016"
 # Set_Prm with a watchdog of 10 units. The one of master 2 is sent with either FCB.
-LOCK_1 = "680c0c6885815d3d3e8802050b80a1019a16"
+LOCK_1, LOCK_1_FIRST = "680c0c6885815d3d3e8802050b80a1019a16", "680c0c6885816d3d3e8802050b80a101aa16"
 LOCK_2, LOCK_2_AGAIN = "680c0c6885826d3d3e8802050b80a101ab16", "680c0c6885825d3d3e8802050b80a1019b16"
 NOT_HOLDER = "100205030a16"
 # Chk_Cfg; Data_Exchange with either FCB, and its reply with inputs AA55.
@@ -106,6 +106,30 @@ def test_answers_and_journal(run, tmp_path, server, clients):
     assert list(found) == [1, 2]
     assert found[1] == JOURNAL
     assert found[2] == []
+
+
+# The same of a dialogue in which the operator looks at the line, and names a station that the line lacks.
+LOOKS = [
+    ("operator", "tick 1", "released"),
+    ("operator", "in 5 aa55", "done"),
+    ("master 1", LOCK_1_FIRST, ACCEPTED),
+    ("operator", "show 5", "show 5 WaitCfg 1 in aa55 out 0000 wd 10"),
+    ("operator", "owned 1", "owned 5"),
+    ("operator", "show 9", "refused NoStation"),
+    ("operator", "owned 9", "owned"),
+    ("operator", "in 9 -", "refused NoStation"),
+    ("operator", "busy 9 default on", "refused NoStation"),
+]
+
+
+def test_looks_and_refusals_make_no_entry(run, tmp_path, server, clients):
+    for who, what, answer in LOOKS:
+        assert clients.ask(who, what) == answer, (who, what)
+    assert journals(run, tmp_path, server, clients)[1] == [
+        "1 tick 1 | none | released",
+        "2 in 5 aa55 | WaitPrm none | done",
+        f"3 req 1 {LOCK_1_FIRST} | WaitPrm none | reply e5 Done",
+    ]
 
 
 def test_another_line_has_nothing_of_it(run, tmp_path, server, clients):

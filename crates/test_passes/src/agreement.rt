@@ -1,118 +1,149 @@
 //! Whether receipts agree with the journal of a closed line.
 
-use crate::lines::{ClosedDesk, Desk, closed_desk, fresh_desk};
+use arrayvec::ArrayVec;
 use dp_audit::Receipt;
-use dp_line::Outcome;
-use dp_shared::Closed;
+use dp_line::{Device, Op, Outcome};
+use dp_shared::{Closed, Line};
 use std::alloc::Global;
 use std::sync::Wait;
 use std::test::Fail;
-use test_fixtures::rows::{ARROW, is_reported};
+use test_fixtures::line_specs::{ample_line, line_spec};
+use test_fixtures::rows::{close, octets_of};
 
-/// The events of the line: two requests of master 1, one of master 2 between them, a tick, and an event of the
-/// operator that is refused.
-const PLAYED: &str = "\
-req 1 6805056885816d3c3eed16 -> first receipt
-req 2 6805056885826d3c3eee16 -> second
-req 1 6805056885816d3c3eed16 -> third
-tick 1 -> fourth
-busy 9 default on -> fifth
-";
-
-/// Returns the receipts with these numbers, from 1. After `~` the first octet of the reply is changed.
-fn chosen(alloc: Global, receipts: &[Receipt], numbers: &str) -> Result<Vec<Receipt>, Fail> {
-    let mut list = Vec::new(alloc);
-    for word in numbers.split_whitespace() {
-        list.push(receipt_of_word(receipts, word)?)?;
-    }
-    Ok(list)
+/// A closed line, and the receipts of its events in their order.
+#[derive(Drop)]
+struct Sent {
+    closed: Closed,
+    first: Receipt,
+    second: Receipt,
+    third: Receipt,
+    tick: Receipt,
+    refused: Receipt,
 }
 
-/// Returns the receipt with this number, from 1. After `~` the first octet of the reply is changed.
-fn receipt_of_word(receipts: &[Receipt], word: &str) -> Result<Receipt, Fail> {
-    let number = word.trim_start_matches('~').parse::<usize>()?;
-    let Some(receipt) = receipts.get(number.wrapping_sub(1)) else {
-        return Err(Fail::new("no receipt"));
+/// Master 1 sends two requests, and master 2 one between them. The operator sends a tick, and an input of a station that
+/// the line lacks, whose receipt has no place. Then the line is closed.
+fn sent<R: Wait>(rt: &R, alloc: Global) -> Result<Sent, Fail> {
+    let line = Line::open(alloc, &ample_line(alloc, 1, Device::Still)?)?;
+    let mut pass = line.open_pass(rt, 1)?;
+    let mut other = line.open_pass(rt, 2)?;
+    let mut operator = line.open_pass(rt, 127)?;
+    let (of_first, of_second) = (
+        octets_of("6805056885816d3c3eed16")?,
+        octets_of("6805056885826d3c3eee16")?,
+    );
+    let input = Op::Input {
+        address: 9,
+        octets: ArrayVec::new(),
     };
-    let mut receipt = receipt.clone()?;
-    if word.starts_with('~') {
-        garble(&mut receipt.outcome)?;
+    let first = line.exchange(rt, &mut pass, &of_first);
+    let second = line.exchange(rt, &mut other, &of_second);
+    let third = line.exchange(rt, &mut pass, &of_first);
+    let tick = line.operate(rt, &mut operator, Op::Tick(1));
+    let refused = line.operate(rt, &mut operator, input);
+    line.hand_back(rt, pass);
+    line.hand_back(rt, other);
+    line.hand_back(rt, operator);
+    match close(line, Vec::new(alloc)) {
+        Ok(closed) => Ok(Sent {
+            closed,
+            first,
+            second,
+            third,
+            tick,
+            refused,
+        }),
+        Err(_) => Err(Fail::new("a pass is out")),
     }
-    Ok(receipt)
 }
 
-/// Changes the first octet of a reply.
-fn garble(outcome: &mut Outcome) -> Result<(), Fail> {
-    let Outcome::Reply { octets, .. } = outcome else {
-        return Err(Fail::new("no reply"));
-    };
-    let Some(first) = octets.first_mut() else {
-        return Err(Fail::new("an empty reply"));
-    };
-    *first ^= 1;
+/// A receipt without a place changes nothing.
+#[test]
+fn receipts_agree(rt: HostRuntime) -> Result<(), Fail> {
+    let Sent {
+        closed,
+        first,
+        second,
+        third,
+        tick,
+        refused,
+    } = sent(&rt, rt.alloc())?;
+    assert!(rt; closed.book().count() == 4);
+    assert!(rt; closed.agrees(1, &[first, refused.clone()?, third]));
+    assert!(rt; closed.agrees(2, &[second]));
+    assert!(rt; closed.agrees(127, &[tick, refused]));
     Ok(())
 }
 
-/// Returns whether the receipts of a row, `ADDRESS: NUMBER ..`, agree.
-fn agrees(alloc: Global, closed: &Closed, receipts: &[Receipt], row: &str) -> Result<bool, Fail> {
-    let Some((address, numbers)) = row.split_once(':') else {
-        return Err(Fail::new("no address"));
+/// Receipts that are missing, in another order or of another master don't agree.
+#[test]
+fn other_receipts_do_not_agree(rt: HostRuntime) -> Result<(), Fail> {
+    let Sent {
+        closed,
+        first,
+        second,
+        third,
+        ..
+    } = sent(&rt, rt.alloc())?;
+    assert!(rt; !closed.agrees(127, &[]));
+    assert!(rt; !closed.agrees(2, &[]));
+    assert!(rt; !closed.agrees(1, &[second]));
+    assert!(rt; !closed.agrees(1, &[first.clone()?]));
+    assert!(rt; !closed.agrees(1, &[third.clone()?]));
+    assert!(rt; !closed.agrees(1, &[third, first]));
+    Ok(())
+}
+
+/// The reply of 17 octets is left out of a receipt.
+#[test]
+fn a_changed_receipt_does_not_agree(rt: HostRuntime) -> Result<(), Fail> {
+    let Sent {
+        closed,
+        mut second,
+        ..
+    } = sent(&rt, rt.alloc())?;
+    let Outcome::Reply { octets, .. } = &mut second.outcome else {
+        return Err(Fail::new("no reply"));
     };
-    let list = chosen(alloc, receipts, numbers)?;
-    Ok(closed.agrees(address.parse::<u8>()?, list.as_slice()))
+    assert!(rt; octets.len() == 17);
+    octets.clear();
+    assert!(rt; !closed.agrees(2, &[second]));
+    Ok(())
 }
 
-/// Returns a line that has taken [`PLAYED`].
-fn played_desk<R: Wait>(rt: &R, alloc: Global) -> Result<Desk, Fail> {
-    let mut desk = fresh_desk(rt, alloc, 1000)?;
-    desk.play_rows(rt, alloc, PLAYED)?;
-    Ok(desk)
-}
-
-/// Returns each row that has an arrow, with whether its receipts agree.
-fn answers(alloc: Global, desk: &ClosedDesk, rows: &str) -> Result<String, Fail> {
-    let mut reported = String::new(alloc);
-    for row in rows.lines() {
-        if let Some((row, _)) = row.split_once(ARROW) {
-            let answer = agrees(alloc, &desk.closed, desk.receipts.as_slice(), row)?;
-            reported.push_str(&format!(in alloc; "{row}{ARROW}{answer}\n")?)?;
-        }
-    }
-    Ok(reported)
-}
-
-/// Checks a transcript of lists of receipts: whether each list agrees with the journal after [`PLAYED`].
-fn agreements<R: Wait>(rt: &R, alloc: Global, transcript: &str) -> Result<(), Fail> {
-    let desk = closed_desk(rt, alloc, played_desk(rt, alloc)?)?;
-    is_reported(answers(alloc, &desk, transcript)?, transcript)
-}
-
+/// An endless line that stores at most two entries takes two ticks. Master 2 has no receipts.
 #[test]
-fn receipts_agree(rt: HostRuntime) -> Result<(), Fail> {
-    agreements(
-        &rt,
-        rt.alloc(),
-        "\
-1: 1 5 3 -> true
-2: 2 -> true
-127: 4 5 -> true
-",
-    )
+fn receipts_agree_if_no_entry_is_forgotten(rt: HostRuntime) -> Result<(), Fail> {
+    let alloc = rt.alloc();
+    let mut spec = line_spec(alloc, 1, 2, Device::Still)?;
+    let line = Line::open_endless(alloc, &mut spec)?;
+    let mut operator = line.open_pass(&rt, 127)?;
+    line.operate(&rt, &mut operator, Op::Tick(1));
+    line.operate(&rt, &mut operator, Op::Tick(1));
+    line.hand_back(&rt, operator);
+    let Ok(closed) = close(line, Vec::new(alloc)) else {
+        return Err(Fail::new("a pass is out"));
+    };
+    assert!(rt; closed.agrees(2, &[]));
+    Ok(())
 }
 
+/// An endless line that stores at most two entries takes three ticks. Master 2 has no receipts.
 #[test]
-fn agrees_refuses(rt: HostRuntime) -> Result<(), Fail> {
-    agreements(
-        &rt,
-        rt.alloc(),
-        "\
-1: 1 -> false
-1: 3 -> false
-1: 3 1 -> false
-1: 2 -> false
-127: -> false
-2: -> false
-2: ~2 -> false
-",
-    )
+fn no_receipts_agree_once_an_entry_is_forgotten(rt: HostRuntime) -> Result<(), Fail> {
+    let alloc = rt.alloc();
+    let mut spec = line_spec(alloc, 1, 2, Device::Still)?;
+    let line = Line::open_endless(alloc, &mut spec)?;
+    let mut operator = line.open_pass(&rt, 127)?;
+    line.operate(&rt, &mut operator, Op::Tick(1));
+    line.operate(&rt, &mut operator, Op::Tick(1));
+    line.operate(&rt, &mut operator, Op::Tick(1));
+    assert!(rt; line.entry(&rt, &mut operator, 1).value.is_none());
+    assert!(rt; line.entry(&rt, &mut operator, 3).value.is_some());
+    line.hand_back(&rt, operator);
+    let Ok(closed) = close(line, Vec::new(alloc)) else {
+        return Err(Fail::new("a pass is out"));
+    };
+    assert!(rt; !closed.agrees(2, &[]));
+    Ok(())
 }

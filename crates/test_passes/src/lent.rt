@@ -15,7 +15,7 @@ use std::alloc::Global;
 use std::sync::Wait;
 use std::test::Fail;
 use test_fixtures::line_specs::ample_line;
-use test_fixtures::rows::{closed_with, hex_of, is_reported, octets_of};
+use test_fixtures::rows::{close, octets_of};
 
 /// Serves a master by its pass, either with the reads counted in the contract or without.
 fn serve_master<T: Wait>(
@@ -40,16 +40,31 @@ fn serve_master<T: Wait>(
     }
 }
 
-/// Serves master 2 on a fresh line by a pass, hands the pass back and closes the line. Checks how the session ended, how
-/// many reads it made, what it wrote, and the journal.
-fn check_master<T: Wait>(
+/// How a session ended, and the numbers of its reads, of the octets that it wrote, and of the entries of the closed line.
+#[derive(Drop)]
+struct Counts {
+    end: SessionEnd,
+    made: u32,
+    written: usize,
+    entries: u32,
+}
+
+/// Returns the number of entries of a line that is closed without passes.
+fn entries_at_the_end(alloc: Global, line: Line) -> Result<u32, Fail> {
+    match close(line, Vec::new(alloc)) {
+        Ok(closed) => Ok(closed.book().count()),
+        Err(_) => Err(Fail::new("a pass is out")),
+    }
+}
+
+/// Serves master 2 on a fresh line by a pass, hands the pass back and closes the line.
+fn master_counts<T: Wait>(
     rt: &T,
     alloc: Global,
     counted: bool,
     octets: &str,
     turns: u32,
-    expected: &str,
-) -> Result<(), Fail> {
+) -> Result<Counts, Fail> {
     let line = Line::open(alloc, &ample_line(alloc, 1, Device::Still)?)?;
     let mut pass = line.open_pass(rt, 2)?;
     let octets = octets_of(octets)?;
@@ -65,12 +80,12 @@ fn check_master<T: Wait>(
         turns,
     );
     line.hand_back(rt, pass);
-    let (made, written) = (reader.made, hex_of(alloc, &writer)?);
-    let journal = closed_with(alloc, line, Vec::new(alloc))?;
-    is_reported(
-        format!(in alloc; "{end:?}, {made} reads, {written}\n{journal}")?,
-        expected,
-    )
+    Ok(Counts {
+        end,
+        made: reader.made,
+        written: writer.len(),
+        entries: entries_at_the_end(alloc, line)?,
+    })
 }
 
 /// Serves an operator by its pass, either with the reads counted in the contract or without.
@@ -98,16 +113,14 @@ fn serve_lines<T: Wait>(
     }
 }
 
-/// Serves an operator on a fresh line by a pass, hands the pass back and closes the line. Checks how the session ended,
-/// how many reads it made, what it wrote, and the journal.
-fn check_operator<T: Wait>(
+/// Serves an operator on a fresh line by a pass, hands the pass back and closes the line.
+fn operator_counts<T: Wait>(
     rt: &T,
     alloc: Global,
     counted: bool,
     lines: &str,
     turns: u32,
-    expected: &str,
-) -> Result<(), Fail> {
+) -> Result<Counts, Fail> {
     let spec = ample_line(alloc, 1, Device::Still)?;
     let line = Line::open(alloc, &spec)?;
     let mut pass = line.open_pass(rt, 127)?;
@@ -124,23 +137,16 @@ fn check_operator<T: Wait>(
         turns,
     );
     line.hand_back(rt, pass);
-    let (made, written) = (reader.made, String::from_utf8(writer)?);
-    let journal = closed_with(alloc, line, Vec::new(alloc))?;
-    is_reported(
-        format!(in alloc; "{end:?}, {made} reads\n{written}{journal}")?,
-        expected,
-    )
+    Ok(Counts {
+        end,
+        made: reader.made,
+        written: writer.len(),
+        entries: entries_at_the_end(alloc, line)?,
+    })
 }
 
-/// Serves a master at a new port with a reader that counts its reads. Checks how the session ended, how many reads it
-/// made, and what it wrote.
-fn check_port<T: Wait>(
-    rt: &T,
-    alloc: Global,
-    octets: &str,
-    turns: u32,
-    expected: &str,
-) -> Result<(), Fail> {
+/// Serves a master at a new port with a reader that counts its reads, and closes the line.
+fn port_counts<T: Wait>(rt: &T, alloc: Global, octets: &str, turns: u32) -> Result<Counts, Fail> {
     let spec = ample_line(alloc, 1, Device::Still)?;
     let (claims, mut seat) = one_seat(alloc, &spec)?;
     let line = Line::open(alloc, &spec)?;
@@ -157,112 +163,70 @@ fn check_port<T: Wait>(
         &OpenGate,
         turns,
     );
-    let (made, written) = (reader.made, hex_of(alloc, &writer)?);
-    is_reported(
-        format!(in alloc; "{end:?}, {made} reads, {written}")?,
-        expected,
-    )
+    Ok(Counts {
+        end,
+        made: reader.made,
+        written: writer.len(),
+        entries: entries_at_the_end(alloc, port.line)?,
+    })
+}
+
+/// Returns whether a session ended so, with these numbers of reads, of octets that it wrote, and of entries.
+fn is_counted(counts: &Counts, end: SessionEnd, made: u32, written: usize, entries: u32) -> bool {
+    counts.end == end
+        && counts.made == made
+        && counts.written == written
+        && counts.entries == entries
 }
 
 /// The first read returns the address of master 1, the second read the request, and the third read nothing.
 #[test]
 fn serve_by_answers_a_master(rt: HostRuntime) -> Result<(), Fail> {
-    check_port(
-        &rt,
-        rt.alloc(),
-        "016805056885816d3c3eed16",
-        4,
-        "EndOfInput, 3 reads, e5680b0b688185083e3c020500ff80a1af16",
-    )
+    let counts = port_counts(&rt, rt.alloc(), "016805056885816d3c3eed16", 4)?;
+    assert!(rt; is_counted(&counts, SessionEnd::EndOfInput, 3, 18, 1));
+    Ok(())
 }
 
 /// The only read returns the address.
 #[test]
 fn serve_by_makes_one_read(rt: HostRuntime) -> Result<(), Fail> {
-    check_port(
-        &rt,
-        rt.alloc(),
-        "016805056885816d3c3eed16",
-        1,
-        "TurnLimit, 1 reads, e5",
-    )
+    let counts = port_counts(&rt, rt.alloc(), "016805056885816d3c3eed16", 1)?;
+    assert!(rt; is_counted(&counts, SessionEnd::TurnLimit, 1, 1, 0));
+    Ok(())
 }
 
-/// A request to no station, and a request for the FDL status of the slave. The first read returns both, and the second
-/// read returns nothing.
+/// A request to no station, and a request for the FDL status of the slave, which gets six octets. The first read returns
+/// both, and the second read returns nothing.
 const TWO_REQUESTS: &str = "100902495416100502495016";
 
 #[test]
 fn serve_pass_answers_a_master(rt: HostRuntime) -> Result<(), Fail> {
-    check_master(
-        &rt,
-        rt.alloc(),
-        false,
-        TWO_REQUESTS,
-        3,
-        "\
-EndOfInput, 2 reads, 100205000716
-rack-audit 2 line 1
-1 req 2 100902495416 | none | silence NoStation
-2 req 2 100502495016 | WaitPrm none | reply 100205000716 Status
-",
-    )
+    let counts = master_counts(&rt, rt.alloc(), false, TWO_REQUESTS, 3)?;
+    assert!(rt; is_counted(&counts, SessionEnd::EndOfInput, 2, 6, 2));
+    Ok(())
 }
 
 #[test]
 fn serve_pass_by_makes_one_read(rt: HostRuntime) -> Result<(), Fail> {
-    check_master(
-        &rt,
-        rt.alloc(),
-        true,
-        TWO_REQUESTS,
-        1,
-        "\
-TurnLimit, 1 reads, 100205000716
-rack-audit 2 line 1
-1 req 2 100902495416 | none | silence NoStation
-2 req 2 100502495016 | WaitPrm none | reply 100205000716 Status
-",
-    )
+    let counts = master_counts(&rt, rt.alloc(), true, TWO_REQUESTS, 1)?;
+    assert!(rt; is_counted(&counts, SessionEnd::TurnLimit, 1, 6, 2));
+    Ok(())
 }
 
-/// Three lines of an operator. The first read returns them, and the second read returns nothing.
+/// Three lines of an operator, which are answered by 9, 18 and 44 octets. The first read returns them, and the second
+/// read returns nothing.
 const THREE_LINES: &str = "tick 1\nin 9 aa\nshow 5\n";
 
 #[test]
 fn serve_operator_pass_answers_an_operator(rt: HostRuntime) -> Result<(), Fail> {
-    check_operator(
-        &rt,
-        rt.alloc(),
-        false,
-        THREE_LINES,
-        3,
-        "\
-EndOfInput, 2 reads
-released
-refused NoStation
-show 5 WaitPrm none in 0000 out 0000 wd off
-rack-audit 2 line 1
-1 tick 1 | none | released
-",
-    )
+    let counts = operator_counts(&rt, rt.alloc(), false, THREE_LINES, 3)?;
+    assert!(rt; is_counted(&counts, SessionEnd::EndOfInput, 2, 71, 1));
+    Ok(())
 }
 
 #[test]
 fn serve_operator_pass_by_makes_one_read(rt: HostRuntime) -> Result<(), Fail> {
-    check_operator(
-        &rt,
-        rt.alloc(),
-        true,
-        THREE_LINES,
-        1,
-        "\
-TurnLimit, 1 reads
-released
-refused NoStation
-show 5 WaitPrm none in 0000 out 0000 wd off
-rack-audit 2 line 1
-1 tick 1 | none | released
-",
-    )
+    let counts = operator_counts(&rt, rt.alloc(), true, THREE_LINES, 1)?;
+    assert!(rt; is_counted(&counts, SessionEnd::TurnLimit, 1, 71, 1));
+    Ok(())
 }

@@ -1,8 +1,12 @@
-//! Tests what threads share of a rack (`dp_shared`), the inputs of devices (`rack_devices`) and sessions by passes that
-//! are lent or handed back (`dp_sessions`); it has only tests and opens no sockets.
+//! Has clients of sessions and passes that use only public contracts, and tests calls of `dp_shared` and `dp_sessions`
+//! that the program doesn't make; it has only tests and opens no sockets.
 //!
-//! Most tests are a transcript: rows, each with its result after an arrow, and the state at the end. A helper, proved
-//! once, carries out the rows and writes the transcript that is compared.
+//! The clients are in [`threads`], [`tied`], [`returned_pass`], [`hand_backs`] and [`lent`]. Their contracts say what was
+//! read and written, and what is in the journal, if they succeed. So each is run with values once or twice, to show that it
+//! succeeds: its test compares the numbers of reads, octets and entries. `test_sessions_that_their_clients_end` of
+//! `tests/serve/test_ends.py` compares all octets and entries of these sessions over sockets.
+//!
+//! The other calls are in [`agreement`], [`claims`], [`passes`] and [`faults`].
 #![tactic(auto)]
 
 #[cfg(test)]
@@ -12,25 +16,17 @@ mod claims;
 #[cfg(test)]
 mod counting;
 #[cfg(test)]
-mod devices;
-#[cfg(test)]
-mod endless;
-#[cfg(test)]
 mod faults;
 #[cfg(test)]
 mod hand_backs;
 #[cfg(test)]
 mod lent;
 #[cfg(test)]
-mod lines;
-#[cfg(test)]
 mod passes;
 #[cfg(test)]
 mod returned_pass;
 #[cfg(test)]
 mod seats;
-#[cfg(test)]
-mod senders;
 #[cfg(test)]
 mod threads;
 #[cfg(test)]
