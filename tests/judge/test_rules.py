@@ -15,6 +15,9 @@ WATCHED = bring_up(status=0x88, watchdog=(2, 5))
 LOST = [*WATCHED, exchange(), "tick 5", get_cfg(), "tick 5", exchange()]
 # A request to a slave that is not there. Each further one is a retry.
 ABSENT = diag(9, fc=FIRST)
+LATER = diag(9, fc=FCB_1)
+# Tokens of master 1: to itself, and to master 2.
+OWN_TOKEN, TOKEN = "m 1 dc 01 01", "m 1 dc 02 01"
 
 
 class Broken(NamedTuple):
@@ -51,17 +54,52 @@ BROKEN = [
     Broken("broadcast-needs-reply", [status(127)], [1]),
     Broken("unknown-point", [Request(5, 51, b"\x01")], [1]),
     # Tokens of the master to itself, a response with its source, and a short acknowledgement.
-    Broken("no-request", [*["m 1 dc 01 01"] * 3, "m 1 10 05 01 08 0e 16", "m 1 e5"], [4]),
+    Broken("no-request", [*[OWN_TOKEN] * 3, "m 1 10 05 01 08 0e 16", "m 1 e5"], [4]),
 ]
 
 # What several rules need: other retries, other stages of a slave.
 FURTHER = {
     # Retries with FCV 1 count also after a tick and after a token is passed on.
     "retries with FCV 1": (
-        [*[diag(9, fc=FCB_1)] * 3, "tick 1", diag(9, fc=FCB_1), "m 1 dc 02 01", diag(9, fc=FCB_1)],
+        [*[LATER] * 3, "tick 1", LATER, TOKEN, LATER],
         [("fcb-first", 1, 1), ("retry-limit", 1, 7)]),
     # A slave repeats its answer also to the FCB of a first request, which has FCV 0.
     "the FCB of a first request": ([diag(), prm(fc=FCB_1)], [("fcb-repeated", 1, 2)]),
+    "no rule is broken": ([*WATCHED, exchange()], []),
+    # The first SRD has FCV 0, the same FCB again is no new telegram, and FDL status has none.
+    "frame count bits": (
+        [diag(fc=FCB_0), diag(fc=FCB_0), prm(status=0x88, watchdog=(2, 5), fc=FCB_0), status(5, fc=0x69)],
+        [("fcb-first", 1, 1), ("fcb-not-alternated", 1, 2), ("fcb-repeated", 1, 3), ("fcb-not-allowed", 1, 4)]),
+    # Set_Prm at first; Data_Exchange without a diagnosis; after an Unlock_Req Chk_Cfg without parameters, and Data_Exchange.
+    "the order of the bring-up": (
+        [prm(status=0x88, watchdog=(2, 5)), cfg(), exchange(), prm(status=0x48, watchdog=(2, 5)), cfg(), exchange()],
+        [("prm-before-diag", 1, 1), ("exchange-without-diag", 1, 3), ("cfg-before-prm", 1, 5), ("exchange-before-ready", 1, 6)]),
+    # Each gap counts at the request that ends it, whatever the answer.
+    "two gaps as long as the watchdog": (
+        [*WATCHED, exchange(), "tick 10", get_cfg(), "tick 10", exchange(), exchange()],
+        [("watchdog-short", 1, 7), ("watchdog-short", 1, 9), ("exchange-after-rs", 1, 10)]),
+    "a slave of another master": (
+        [*by(2, *bring_up()), diag(), prm(status=0x88, watchdog=(2, 5), min_tsdr=10), exchange()],
+        [("prm-of-other", 1, 6), ("min-tsdr", 1, 6), ("exchange-of-other", 1, 7)]),
+    # A wrong length counts from the second time on, also with a right one between, until Set_Prm is acknowledged.
+    "wrong lengths": (
+        [*WATCHED, exchange(b"\x12"), exchange(), exchange(b"\x12"), exchange(b"\x12"), *WATCHED[1:], exchange(b"\x12")],
+        [("length-repeated", 1, 7), ("length-repeated", 1, 8)]),
+    "a group that no slave has, and both of a pair": (
+        [*bring_up(group=1), control(0x0C, group=2)], [("group-not-set", 1, 5), ("control-both", 1, 5)]),
+    # Points 54 and 55 are points of DP-V0; of the functions between masters some are SDN.
+    "telegrams on their own": (
+        [control(0x41), status(127), Request(5, 51), Request(5, 54, b"\x01"), Request(5, 55, b"\x07\x80\xa1\x00"),
+         Request(5, 54, b"\x01", fc=0x44), Request(5, 55, b"\x01", fc=0x44), Request(5, 61, fc=0x44)],
+        [("control-reserved", 1, 1), ("broadcast-needs-reply", 1, 2), ("unknown-point", 1, 3), ("sdn-needs-reply", 1, 7),
+         ("sdn-needs-reply", 1, 8)]),
+    # A token that is passed on is no entry of the hundred, and the fourth of these is reported alone.
+    "stray octets and tokens that are passed on": (
+        [OWN_TOKEN, TOKEN, "m 1 e5", "m 1 10 05 01 08 0e 16", TOKEN, OWN_TOKEN, OWN_TOKEN, TOKEN], [("no-request", 1, 6)]),
+    # With FCV 0 the same request is a new one after a tick, and after a token is passed on.
+    "retries with FCV 0": ([*[ABSENT] * 6, "tick 10", *[ABSENT] * 4, TOKEN, ABSENT], [("retry-limit", 1, 5)]),
+    "retries with FCV 1 after ticks and a token": (
+        [LATER, "tick 10", LATER, TOKEN, LATER, LATER, "tick 10", LATER, LATER], [("fcb-first", 1, 1), ("retry-limit", 1, 8)]),
     # A slave can be lost before its first Data_Exchange.
     "a slave that was ready is lost": (
         [*WATCHED, "tick 5", get_cfg(), "tick 5", exchange(), exchange()], [("exchange-after-rs", 1, 9)]),
@@ -107,4 +145,5 @@ def test_rule_left_out(text_of, broken):
 
 @pytest.mark.parametrize("script, findings", FURTHER.values(), ids=[name.replace(" ", "-") for name in FURTHER])
 def test_further_cases_of_rules(text_of, script, findings):
-    assert text_of(*script).findings() == (findings, 1)
+    has_error = any(rule not in WARNINGS for rule, _, _ in findings)
+    assert text_of(*script).findings() == (findings, 1 if has_error else 0)

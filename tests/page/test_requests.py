@@ -70,8 +70,8 @@ def test_hosts_methods_and_paths(port, method, path, host, status):
     assert ask(port, method, path, named).status == status
 
 
-def statuses_of(port, octets):
-    """Sends octets and ends the connection in this direction, and returns the statuses of all answers that come then."""
+def answers_to(port, octets):
+    """Sends octets and ends the connection in this direction, and returns all octets that come then."""
     got = b""
     with connect_socket(port) as client:
         # it may answer and close the connection before it has read everything
@@ -81,7 +81,88 @@ def statuses_of(port, octets):
         with contextlib.suppress(ConnectionResetError):
             while piece := client.recv(65536):
                 got += piece
-    return [status.decode() for status in re.findall(rb"HTTP/1\.[01] (\d\d\d)", got)]
+    return got
+
+
+def statuses_of(port, octets):
+    """Returns the statuses of all answers to these octets."""
+    return [status.decode() for status in re.findall(rb"HTTP/1\.[01] (\d\d\d)", answers_to(port, octets))]
+
+
+# The fields of each answer behind `content-type`, in their order.
+FIELD_ROWS = "".join(f"{name}: {value}\r\n" for name, value in FIELDS.items())
+TEXT = "text/plain; charset=utf-8"
+# Status, kind and body of each answer. The body of a file of the page is its name in angle brackets.
+ANSWERS = {
+    "document": ("200 OK", HTML, "<page.html>"),
+    "style sheet": ("200 OK", CSS, "<page.css>"),
+    "script": ("200 OK", SCRIPT, "<page.js>"),
+    "no such page": ("404 Not Found", TEXT, "no such page\n"),
+    "another method": ("405 Method Not Allowed", TEXT, "only GET and HEAD\n"),
+    "another host": ("421 Misdirected Request", TEXT, "this server has another name\n"),
+}
+# The two names of the server.
+NUMBERED, NAMED = "127.0.0.1:{port}", "localhost:{port}"
+# The line of a request without its version, its Host, and the answer.
+WHOLE_ANSWERS = [
+    ("GET /", NUMBERED, "document"),
+    ("HEAD /", NAMED, "document"),
+    ("GET /page.css", NUMBERED, "style sheet"),
+    ("GET /page.js", NAMED, "script"),
+    ("GET /page.html", NUMBERED, "no such page"),
+    ("POST /", NUMBERED, "another method"),
+    ("OPTIONS *", NAMED, "another method"),
+    ("POST /", "example.org", "another host"),
+    ("GET /", "localhost", "another host"),
+    ("GET /page.css", "localhost:{port}0", "another host"),
+    ("GET /page.js", "LOCALHOST:{port}", "another host"),
+    ("GET http://localhost:{port}/", NAMED, "document"),
+    ("GET http://127.0.0.1:{port}/page.css", NAMED, "style sheet"),
+    ("GET http://localhost:{port}/", "example.org", "another host"),
+    ("GET http://example.org/", NAMED, "another host"),
+    ("GET http://me@localhost:{port}/", NAMED, "another host"),
+    ("GET https://localhost:{port}/", NAMED, "another host"),
+    ("CONNECT localhost:{port}", NAMED, "another method"),
+]
+BAD_REQUEST = "HTTP/1.1 400 Bad Request\r\nconnection: close\r\ncontent-length: 0\r\n\r\n"
+OLD_BAD_REQUEST = (f"HTTP/1.0 400 Bad Request\r\ncontent-type: {TEXT}\r\n{FIELD_ROWS}content-length: 29\r\n"
+                   "connection: close\r\n\r\nexactly one Host is required\n")
+# What has not one Host, and all that is answered: before the page sees the request, and by the page in HTTP/1.0.
+HOSTS = [
+    ("GET / HTTP/1.1\r\nHost: localhost:{port}\r\nHost: localhost:{port}\r\n\r\n", BAD_REQUEST),
+    ("GET / HTTP/1.1\r\n\r\n", BAD_REQUEST),
+    ("GET / HTTP/1.0\r\n\r\n", OLD_BAD_REQUEST),
+]
+
+
+def octets_of(top, line, answer):
+    """Returns all octets of an answer. To HEAD its body is not sent."""
+    status, kind, body = ANSWERS[answer]
+    octets = (top / "crates" / "watch_page" / "page" / body[1:-1]).read_bytes() if body.startswith("<") else body.encode()
+    head = f"HTTP/1.1 {status}\r\ncontent-type: {kind}\r\n{FIELD_ROWS}content-length: {len(octets)}\r\n\r\n"
+    return head.encode() + (b"" if line.startswith("HEAD ") else octets)
+
+
+@pytest.mark.parametrize("line, host, answer", WHOLE_ANSWERS)
+def test_answers_to_the_octet(port, top, line, host, answer):
+    """The server is judged first, then the method. A target may name the server's own host as its authority."""
+    request = f"{line} HTTP/1.1\r\nHost: {host}\r\n\r\n".format(port=port)
+    assert answers_to(port, request.encode()) == octets_of(top, line, answer)
+
+
+@pytest.mark.parametrize("request_text, answer", HOSTS, ids=["two", "none", "none-in-http-1.0"])
+def test_one_host_is_required(port, request_text, answer):
+    assert answers_to(port, request_text.format(port=port).encode()).decode() == answer
+
+
+@pytest.mark.parametrize("line", ["GET /state.json", "GET /state.json?run=7&after=12"])
+def test_state_has_the_fields(port, line):
+    """The state is JSON with the fields of all answers; to HEAD its length comes without it."""
+    get, head = (answers_to(port, f"{word} {line[4:]} HTTP/1.1\r\nHost: localhost:{port}\r\n\r\n".encode())
+                 for word in ("GET", "HEAD"))
+    fields, body = get.split(b"\r\n\r\n", 1)
+    assert fields.decode() == (f"HTTP/1.1 200 OK\r\ncontent-type: {JSON}\r\n{FIELD_ROWS}content-length: {len(body)}")
+    assert head == fields + b"\r\n\r\n"
 
 
 # Octets of requests, in which {here} is the right Host, and the status that each gets.

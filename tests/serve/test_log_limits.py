@@ -66,8 +66,12 @@ def test_operators_whose_rows_are_no_commands(serve):
 
 
 def test_one_row_about_a_delay(serve):
-    """A rack that was stopped has one row about it, whatever the number of its lines, and a halted line has none."""
+    """A rack that was stopped has one row about it, whatever the number of its lines, and a halted line has none.
+
+    The row has the time that a line lost, not that of all lines together.
+    """
     stops, stopped, row = 3, 1.5, r"(\d\d:\d\d:\d\d)\.\d\d\d (\d+) ms were discarded: the rack was delayed"
+    begun = time.monotonic()
     server = serve(rack(*(line(number, 5) for number in range(1, 9))), "--tick", 100, "--log", "--until-input-ends", piped=True)
     for number in range(3, 9):
         assert answer_to(server.operator(number), "halt") == "released"
@@ -78,6 +82,7 @@ def test_one_row_about_a_delay(serve):
         wait_for(lambda stop=stop: sum(int(found[1]) for found in re.findall(row, server.errors())) >= stop * 1000)
     server.end_input()
     rows = re.findall(row, server.wait().errors)
+    assert sum(int(lost) for _, lost in rows) <= (time.monotonic() - begun) * 1000
     seconds = [second for second, _ in rows]
     assert len(rows) >= stops
     assert len(set(seconds)) == len(seconds), "a second has two rows about a delay"

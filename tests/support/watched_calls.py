@@ -112,6 +112,10 @@ class CallWatch(threading.Thread):
         """Has the call fail with an error of the system, or return 0 if the error is 0."""
         self._reply(question, 0, -error, goes_on=False)
 
+    def take_part(self, question, count):
+        """Has a write say that it has taken this number of octets, which it has not."""
+        self._reply(question, count, 0, goes_on=False)
+
     def hold(self, question, seconds=0.0, released=None, error=0):
         """Holds up the call for a number of seconds, or until an event is set. Then it goes on, or fails with the error."""
         self._held.append((time.monotonic() + seconds, released, question, error))

@@ -48,12 +48,12 @@ fn play_rows<R: Wait>(
     alloc: Global,
     port: &Port,
     spec: &LineSpec,
-    tick: Option<u32>,
+    tick: u32,
     rows: &str,
 ) -> Result<String, Fail>
     requires described { line_of port.now.line ≡ spec.now }
 {
-    let Some(clock) = LineClock::open(rt, port, spec, tick) else {
+    let Some(clock) = LineClock::open(rt, port, spec, Some(tick)) else {
         return Err(Fail::new("no pass"));
     };
     let played = played_by(rt, alloc, &clock, rows)?;
@@ -63,12 +63,7 @@ fn play_rows<R: Wait>(
 
 /// Checks the transcript of a new clock and its line: in each line with an arrow a moment or `step`, and the result; then
 /// the audit text of the line, which closes because the clock has handed its pass back.
-fn check_clock<R: Wait>(
-    rt: &R,
-    alloc: Global,
-    tick: Option<u32>,
-    transcript: &str,
-) -> Result<(), Fail> {
+fn check_clock<R: Wait>(rt: &R, alloc: Global, tick: u32, transcript: &str) -> Result<(), Fail> {
     let spec = ample_line(alloc, 1, Device::Counter)?;
     let Place { port, .. } = fresh_place(alloc, &spec)?;
     let mut played = play_rows(rt, alloc, &port, &spec, tick, transcript)?;
@@ -82,7 +77,7 @@ fn time_passes_to_the_unit(rt: HostRuntime) -> Result<(), Fail> {
     check_clock(
         &rt,
         rt.alloc(),
-        Some(100),
+        100,
         "\
 9 -> 0 and 0
 25 -> 2 and 0
@@ -98,24 +93,6 @@ rack-audit 2 line 1
 3 tick 1 | none | released
 4 tick 20 | none | released
 5 tick 1 | none | released
-",
-    )
-}
-
-/// A clock without ticks has devices step, and lets no time pass.
-#[test]
-fn no_time_passes_without_ticks(rt: HostRuntime) -> Result<(), Fail> {
-    check_clock(
-        &rt,
-        rt.alloc(),
-        None,
-        "\
-5000 -> 0 and 0
-step -> done
-step -> done
-rack-audit 2 line 1
-1 in 5 0001 | WaitPrm none | done
-2 in 5 0002 | WaitPrm none | done
 ",
     )
 }

@@ -7,37 +7,21 @@ use audit_trail::{Tail, WriteParts};
 use dp_line::{Device, Op};
 use dp_shared::{Line, Pass};
 use std::alloc::Global;
-use std::io::{ErrorKind, Result as IoResult, Write};
+use std::io::{Result as IoResult, Write};
 use std::sync::Wait;
 use std::test::Fail;
 use test_fixtures::line_specs::line_spec;
 use test_fixtures::rows::{ARROW, is_reported};
 
-/// A writer of a text in parts: the next one is due when this many rows were written to a part, its head counted as one.
+/// A writer of a text that has one part.
 #[derive(Drop)]
-struct PartsWriter {
+struct OnePart {
     text: Vec<u8>,
-    rows: usize,
-    most: usize,
-    /// Whether no part can be begun.
-    full: bool,
 }
 
-impl PartsWriter {
-    fn new(alloc: Global, most: usize, full: bool) -> PartsWriter {
-        PartsWriter {
-            text: Vec::new(alloc),
-            rows: 0,
-            most,
-            full,
-        }
-    }
-}
-
-impl Write for PartsWriter {
+impl Write for OnePart {
     fn write(&mut self, buf: &[u8]) -> IoResult<usize> {
         self.text.extend_from_slice(buf)?;
-        self.rows = self.rows.saturating_add(1);
         Ok(buf.len())
     }
 
@@ -46,21 +30,9 @@ impl Write for PartsWriter {
     }
 }
 
-impl WriteParts for PartsWriter {
-    ghost use Rattle.std.specs.Prelude.{nat_le};
-
-    ghost due = { λ writer. nat_le writer.most writer.rows };
-
+impl WriteParts for OnePart {
     fn part_is_due(&self) -> bool {
-        self.rows >= self.most
-    }
-
-    fn begin_part(&mut self) -> IoResult<()> {
-        if self.full {
-            return Err(ErrorKind::StorageFull.into());
-        }
-        self.rows = 0;
-        Ok(())
+        false
     }
 }
 
@@ -69,7 +41,7 @@ impl WriteParts for PartsWriter {
 struct Desk<'l> {
     line: &'l Line,
     operator: Pass,
-    tail: Tail<'l, PartsWriter>,
+    tail: Tail<'l, OnePart>,
     ghost ours: { operator.table ≡ table_of line.now },
     ghost address: { operator.view.address ≡ 127 },
 }
@@ -104,18 +76,16 @@ impl Desk<'_> {
     }
 }
 
-/// Checks the transcript of a new line and its trail, which writes to these parts: in each line with an arrow the number of
-/// ticks before the trail catches up, and the result; then the text that the trail wrote.
-fn check_trail<R: Wait>(
-    rt: &R,
-    alloc: Global,
-    parts: PartsWriter,
-    transcript: &str,
-) -> Result<(), Fail> {
+/// Checks the transcript of a new line and its trail: in each line with an arrow the number of ticks before the trail catches
+/// up, and the result; then the text that the trail wrote.
+fn check_trail<R: Wait>(rt: &R, alloc: Global, transcript: &str) -> Result<(), Fail> {
     let mut spec = line_spec(alloc, 1, 2, Device::Still)?;
     let line = Line::open_endless(alloc, &mut spec)?;
     let operator = line.open_pass(rt, 127)?;
-    let tail = Tail::open(rt, alloc, &line, parts)?;
+    let writer = OnePart {
+        text: Vec::new(alloc),
+    };
+    let tail = Tail::open(rt, alloc, &line, writer)?;
     let mut desk = Desk {
         line: &line,
         operator,
@@ -123,100 +93,28 @@ fn check_trail<R: Wait>(
     };
     let mut played = desk.play_rows(rt, alloc, transcript)?;
     let Desk { tail, .. } = desk;
-    let (parts, _) = tail.close(rt);
-    played.push_str(&String::from_utf8(parts.text)?)?;
+    let (written, _) = tail.close(rt);
+    played.push_str(&String::from_utf8(written.text)?)?;
     is_reported(played, transcript)
 }
 
-/// After three ticks the entry of the trail's next place is forgotten. A broken trail stays broken, and writes nothing.
+/// After one or two ticks the entry of the trail's next place is still there, and after three it is forgotten. A broken trail
+/// stays broken, and writes nothing.
 #[test]
 fn three_ticks_break_a_trail(rt: HostRuntime) -> Result<(), Fail> {
     check_trail(
         &rt,
         rt.alloc(),
-        PartsWriter::new(rt.alloc(), 100, false),
         "\
 1 -> caught up true, broken None
+2 -> caught up true, broken None
 3 -> caught up false, broken Some(Overtaken)
 0 -> caught up false, broken Some(Overtaken)
 1 -> caught up false, broken Some(Overtaken)
 rack-audit 3 line 1
 1 tick 1 | none | released
-",
-    )
-}
-
-/// After one or two ticks the entry of the trail's next place is still there.
-#[test]
-fn a_trail_follows_an_endless_line(rt: HostRuntime) -> Result<(), Fail> {
-    check_trail(
-        &rt,
-        rt.alloc(),
-        PartsWriter::new(rt.alloc(), 100, false),
-        "\
-1 -> caught up true, broken None
-1 -> caught up true, broken None
-1 -> caught up true, broken None
-2 -> caught up true, broken None
-2 -> caught up true, broken None
-rack-audit 3 line 1
-1 tick 1 | none | released
 2 tick 1 | none | released
 3 tick 1 | none | released
-4 tick 1 | none | released
-5 tick 1 | none | released
-6 tick 1 | none | released
-7 tick 1 | none | released
-",
-    )
-}
-
-/// Each part but the first begins with the head of the line behind the entries before it: its time, and its slave with all
-/// that is remembered of both masters.
-#[test]
-fn parts_begin_with_a_head(rt: HostRuntime) -> Result<(), Fail> {
-    check_trail(
-        &rt,
-        rt.alloc(),
-        PartsWriter::new(rt.alloc(), 3, false),
-        "\
-1 -> caught up true, broken None
-2 -> caught up true, broken None
-0 -> caught up true, broken None
-1 -> caught up true, broken None
-rack-audit 3 line 1
-1 tick 1 | none | released
-2 tick 1 | none | released
-3 tick 1 | none | released
-rack-audit 3 line 1 from 3
-line running 3
-slave 5 WaitPrm none 0 off --------
-set 5 11 none 0 ---
-prm 5 none
-in 5 0000 0000
-out 5 0000 0000
-diag 5 ------- -
-last 5 1 none
-last 5 2 none
-4 tick 1 | none | released
-",
-    )
-}
-
-/// A part that cannot be begun breaks the trail, and nothing more is written.
-#[test]
-fn no_part_breaks_a_trail(rt: HostRuntime) -> Result<(), Fail> {
-    check_trail(
-        &rt,
-        rt.alloc(),
-        PartsWriter::new(rt.alloc(), 3, true),
-        "\
-1 -> caught up true, broken None
-1 -> caught up false, broken Some(WriteFault)
-1 -> caught up false, broken Some(WriteFault)
-rack-audit 3 line 1
-1 tick 1 | none | released
-2 tick 1 | none | released
 ",
     )
 }

@@ -1,12 +1,9 @@
-//! What is logged while lines are served.
-
-ghost use Rattle.std.specs.Prelude.{◌≡◌, ◌≤◌};
+//! What is logged if a master is answered between the halt of an operator and its report.
 
 use arrayvec::ArrayString;
 use dp_audit::Receipt;
-use dp_line::{Device, Op, Outcome, Rule, Step};
-use dp_sessions::{Gate, NotRecorded, OpenGate, Port, SessionEnd, serve_operator_at, serve_pass};
-use dp_telegram::WholeFrame;
+use dp_line::{Device, Op};
+use dp_sessions::{Gate, NotRecorded, OpenGate, Port, serve_operator_at, serve_pass};
 use log::kv::Source;
 use log::span::Spans;
 use log::{Log, Metadata, Record};
@@ -20,7 +17,7 @@ use std::sync::atomic::AtomicU64;
 use std::sync::atomic::Ordering::SeqCst;
 use std::test::Fail;
 use std::time::{Clock, Duration};
-use test_fixtures::line_specs::line_spec;
+use test_fixtures::line_specs::ample_line;
 use test_fixtures::place::{Place, fresh_place};
 
 /// A request of master 1 for the FDL status of slave 5.
@@ -140,17 +137,8 @@ fn two_lines() -> LineNumbers {
 }
 
 /// Checks what is logged while an operator of line 3 sends these lines, and master 1 sends a request after each.
-fn reports<T: Wait>(
-    rt: &T,
-    alloc: Global,
-    capacity: u32,
-    lines: &str,
-    rows: &[&str],
-) -> Result<(), Fail>
-    requires least { 2 ≤ capacity }
-    requires most { capacity ≤ 65536 }
-{
-    let spec = line_spec(alloc, 3, capacity, Device::Still)?;
+fn reports<T: Wait>(rt: &T, alloc: Global, lines: &str, rows: &[&str]) -> Result<(), Fail> {
+    let spec = ample_line(alloc, 3, Device::Still)?;
     let Place { port, .. } = fresh_place(alloc, &spec)?;
     let log = Expecting::new(rows);
     let notes = Notes::new(&log, LogDetail::Warnings, two_lines(), 1);
@@ -163,93 +151,8 @@ fn reports<T: Wait>(
     log.is_met(alloc)
 }
 
-/// Reports that a token of line 3 was answered with this outcome.
-fn answer_token<W: Wait, L: Log + Clock>(
-    rt: &W,
-    notes: &Notes<'_, L>,
-    outcome: Outcome,
-) -> Result<(), Fail> {
-    let Some(frame) = WholeFrame::read(&[0xDC, 1, 1]) else {
-        return Err(Fail::new("no frame"));
-    };
-    let mut answer = Step::blank();
-    answer.outcome = outcome;
-    notes.answered(rt, 3, 1, &frame, &answer);
-    Ok(())
-}
-
 #[test]
 fn operator_halts_before_a_master_is_answered(rt: HostRuntime) -> Result<(), Fail> {
     let rows = ["line 3: halted, by its operator"];
-    reports(&rt, rt.alloc(), 1000, "tick 1\nhalt\n", &rows)
-}
-
-#[test]
-fn full_journal_is_reported_once(rt: HostRuntime) -> Result<(), Fail> {
-    let rows = ["line 3: halted, its journal is full"];
-    reports(&rt, rt.alloc(), 2, "tick 1\nhalt\n", &rows)
-}
-
-#[test]
-fn sessions_are_counted_by_line_and_master(rt: HostRuntime) -> Result<(), Fail> {
-    let rows = [
-        "line 3: master 1 connected",
-        "line 7: master 1 connected",
-        "line 7: master 1 ended: EndOfInput, 0 requests, 0 refused",
-        "line 3: master 1 ended: ReadFault, 2 requests, 1 refused",
-    ];
-    let log = Expecting::new(&rows);
-    let notes = Notes::new(&log, LogDetail::Sessions, two_lines(), 2);
-    notes.accepted(&rt, 3, 1);
-    notes.accepted(&rt, 7, 1);
-    answer_token(&rt, &notes, Outcome::Silence(Rule::Token))?;
-    answer_token(&rt, &notes, Outcome::Silence(Rule::NoStation))?;
-    notes.ended(&rt, 7, 1, SessionEnd::EndOfInput);
-    notes.ended(&rt, 3, 1, SessionEnd::ReadFault);
-    log.is_met(rt.alloc())
-}
-
-#[test]
-fn waiting_connection_names_its_line(rt: HostRuntime) -> Result<(), Fail> {
-    let rows = [
-        "line 7: a connection waits, all 1 workers are busy",
-        "line 7: no address came: ReadFault",
-    ];
-    let log = Expecting::new(&rows);
-    let notes = Notes::new(&log, LogDetail::Sessions, two_lines(), 1);
-    notes.waits(&rt, 0);
-    notes.waits(&rt, 1);
-    notes.rejected(&rt, 1, None, SessionEnd::ReadFault);
-    log.is_met(rt.alloc())
-}
-
-#[test]
-fn a_delay_of_all_lines_is_reported_once(rt: HostRuntime) -> Result<(), Fail> {
-    let rows = ["390 ms were discarded: the rack was delayed"];
-    let log = Expecting::new(&rows);
-    let notes = Notes::new(&log, LogDetail::Warnings, two_lines(), 1);
-    notes.discarded(&rt, 3, 390);
-    notes.discarded(&rt, 7, 380);
-    log.is_met(rt.alloc())
-}
-
-#[test]
-fn busy_workers_are_reported_once_until_one_is_free(rt: HostRuntime) -> Result<(), Fail> {
-    let rows = [
-        "line 7: a connection waits, all 1 workers are busy",
-        "line 3: a connection waits, all 1 workers are busy",
-    ];
-    let log = Expecting::new(&rows);
-    let notes = Notes::new(&log, LogDetail::Warnings, two_lines(), 1);
-    notes.waits(&rt, 0);
-    notes.waits(&rt, 1);
-    notes.waits(&rt, 0);
-    notes.ended(&rt, 3, 1, SessionEnd::EndOfInput);
-    notes.waits(&rt, 1);
-    notes.ended(&rt, 7, 1, SessionEnd::EndOfInput);
-    notes.ended(&rt, 3, 1, SessionEnd::EndOfInput);
-    notes.ended(&rt, 7, 1, SessionEnd::EndOfInput);
-    notes.waits(&rt, 0);
-    notes.waits(&rt, 0);
-    log.is_met(rt.alloc())
+    reports(&rt, rt.alloc(), "tick 1\nhalt\n", &rows)
 }
