@@ -16,6 +16,9 @@ DROPPED = {
     "3368050468": "dropped 5 octets: NoStart, BadHead (33 68 05 04 68)",
     "100501494e16": "dropped 6 octets: BadEnd (10 05 01 49 4e 16), the check sequence is 4e, not 4f",
     "100501494f17": "dropped 6 octets: BadEnd (10 05 01 49 4f 17), the end delimiter is 17, not 16",
+    "6805056885816d3c3eed17": "dropped 11 octets: BadEnd (68 05 05 68 85 81 6d 3c 3e ed 17), the end delimiter is 17, not 16",
+    "a20501490102030405060708ff00":
+        "dropped 14 octets: BadEnd (a2 05 01 49 01 02 03 04 05 06 07 08 ff 00), the check sequence is ff, not 73",
     "33" * 20: "dropped 20 octets: NoStart (33 33 33 33 33 33 33 33 33 33 33 33 33 33 33 33 ..)",
     "33100501494e16": "dropped 7 octets: NoStart, BadEnd (33 10 05 01 49 4e 16), the check sequence is 4e, not 4f",
 }
