@@ -46,6 +46,8 @@ FAULTS = {
     "length-octets": ("c101", ENDS_WITHIN),
     "outputs": ("807f807f", "has more than 244 octets of inputs or of outputs from octet 3 on"),
     "one-octet-of-outputs-too-many": ("807f803f8034", "has more than 244 octets of inputs or of outputs from octet 5 on"),
+    # An end within an identifier is reported before the length of those in front of it.
+    "a-cut-behind-too-many-octets": ("807f807fc1", "ends within its identifier at octet 5"),
     "one-octet-of-inputs-too-many": ("407f403f4034", "has more than 244 octets of inputs or of outputs from octet 5 on"),
 }
 
@@ -96,13 +98,6 @@ def test_each_octet_that_is_cut(run, head):
 @pytest.mark.parametrize(("cfg", "cause"), FAULTS.values(), ids=FAULTS)
 def test_fault(run, cfg, cause):
     assert refused(run, cfg) == refusal(cause)
-
-
-def test_identifier_that_is_cut_behind_too_many_octets(run):
-    """An end within an identifier is reported before the length of those in front of it."""
-    status, output, errors = refused(run, "807f807fc1")
-    assert (status, output) == (2, "")
-    assert errors.startswith("rackd: rack line 1 BadCfg\n  line 1, slave 1: configuration 1 ends within its identifier at octet ")
 
 
 # A slave whose first and last configurations are equal. What it has of a Chk_Cfg: the number of the configuration, and the

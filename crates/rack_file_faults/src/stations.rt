@@ -80,13 +80,26 @@ pub(crate) fn cut_configuration(line: &LineSpec) -> Option<(Option<usize>, Wrong
 fn wrong_configuration(position: usize, octets: &Configuration) -> Option<Wrong> {
     match CfgIds::parse(octets) {
         Ok(_) => None,
-        Err(CfgFault::Cut) => Some(Wrong::Cut(position, last_identifier(octets))),
-        Err(CfgFault::TooLong) => Some(Wrong::TooLong(position, last_identifier(octets))),
+        Err(CfgFault::Cut) => Some(Wrong::Cut(position, cut_identifier(octets))),
+        Err(CfgFault::TooLong) => Some(Wrong::TooLong(position, long_identifier(octets))),
     }
 }
 
+/// Returns the number of the octet, from 1, behind the longest part at the front of these octets that splits into identifiers.
+fn cut_identifier(octets: &Configuration) -> usize {
+    let mut behind = 0;
+    for count in 0..octets.len() {
+        match CfgIds::parse(&octets[..count]) {
+            Ok(_) => behind = count,
+            Err(CfgFault::TooLong) => behind = count,
+            Err(CfgFault::Cut) => {}
+        }
+    }
+    behind.saturating_add(1)
+}
+
 /// Returns the number of the octet, from 1, behind the longest part at the front of these octets that is a configuration.
-fn last_identifier(octets: &Configuration) -> usize {
+fn long_identifier(octets: &Configuration) -> usize {
     let mut behind = 0;
     for count in 0..octets.len() {
         if CfgIds::parse(&octets[..count]).is_ok() {
