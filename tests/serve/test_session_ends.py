@@ -62,7 +62,7 @@ def journal_of(server, run, folder):
     return printed_audits(run, server.rack, server.wait().output, folder)[1]
 
 
-def test_masters_one_after_another(serve, run, tmp_path):
+def test_serve_answers(serve, run, tmp_path):
     """Each frame is exchanged once, in order. After each end the address is free, and what is left of a frame is nothing."""
     server = serve(rack(), *LOGGED, piped=True)
     for count, (octets, answers, _) in enumerate(MASTERS, 1):
@@ -217,7 +217,7 @@ def test_write_to_an_operator_fails(serve, run, tmp_path, behind, taken, rows, g
 
 
 @pytest.mark.parametrize("number, master", [(1, 2), (2, 1)], ids=["of-the-same-line", "of-another-line"])
-def test_session_beside_one_that_is_held_up(serve, number, master):
+def test_pool_overlaps(serve, number, master):
     """While the reply of one session is held up, another session is accepted and answered."""
     watch = WatchedSockets()
     server = serve(rack(line(1, 5), line(2, 5), workers=2), before=watch.ask)

@@ -23,7 +23,7 @@ struct Sent {
 
 /// Master 1 sends two requests, and master 2 one between them. The operator sends a tick, and an input of a station that
 /// the line lacks, whose receipt has no place. Then the line is closed.
-fn sent<R: Wait>(rt: &R, alloc: Global) -> Result<Sent, Fail> {
+fn closed_after_events<R: Wait>(rt: &R, alloc: Global) -> Result<Sent, Fail> {
     let line = Line::open(alloc, &ample_line(alloc, 1, Device::Still)?)?;
     let mut pass = line.open_pass(rt, 1)?;
     let mut other = line.open_pass(rt, 2)?;
@@ -67,7 +67,7 @@ fn receipts_agree(rt: HostRuntime) -> Result<(), Fail> {
         third,
         tick,
         refused,
-    } = sent(&rt, rt.alloc())?;
+    } = closed_after_events(&rt, rt.alloc())?;
     assert!(rt; closed.book().count() == 4);
     assert!(rt; closed.agrees(1, &[first, refused.clone()?, third]));
     assert!(rt; closed.agrees(2, &[second]));
@@ -84,7 +84,7 @@ fn other_receipts_do_not_agree(rt: HostRuntime) -> Result<(), Fail> {
         second,
         third,
         ..
-    } = sent(&rt, rt.alloc())?;
+    } = closed_after_events(&rt, rt.alloc())?;
     assert!(rt; !closed.agrees(127, &[]));
     assert!(rt; !closed.agrees(2, &[]));
     assert!(rt; !closed.agrees(1, &[second]));
@@ -101,7 +101,7 @@ fn a_changed_receipt_does_not_agree(rt: HostRuntime) -> Result<(), Fail> {
         closed,
         mut second,
         ..
-    } = sent(&rt, rt.alloc())?;
+    } = closed_after_events(&rt, rt.alloc())?;
     let Outcome::Reply { octets, .. } = &mut second.outcome else {
         return Err(Fail::new("no reply"));
     };

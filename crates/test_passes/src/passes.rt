@@ -77,7 +77,7 @@ fn pass_65(rt: HostRuntime) -> Result<(), Fail> {
 }
 
 #[test]
-fn close_without_passes(rt: HostRuntime) -> Result<(), Fail> {
+fn close_succeeds(rt: HostRuntime) -> Result<(), Fail> {
     assert!(rt; closes_without_entries(fresh_desk(&rt, rt.alloc(), 0)?)?);
     Ok(())
 }
