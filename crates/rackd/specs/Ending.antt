@@ -1,6 +1,7 @@
 -- How the program ends: its status, and the first row on standard error (own).
 use Rattle.std.specs.Prelude.{codes, ℕ, List, ◌++◌, Option, Some, None}
 use Rattle.std.specs.Fmt.{decimal}
+use Rattle.audit_files.specs.AuditNames.{audit_name_text}
 use Rattle.rack_file.specs.declared.fault.RackFault.TheVariants as racks
 use Rattle.rack_script.specs.declared.run_fault.RunFault.TheVariants as runs
 use Rattle.rack_script.specs.FaultTexts.{run_fault_text}
@@ -28,6 +29,7 @@ serve_status serves.WriteFault = 4
 abbrev pub status_of : Fault → ℕ
 status_of faults.BadWord = 2
 status_of (faults.CannotRead path cause) = 2
+status_of (faults.CannotReadPart folder part cause) = 2
 status_of (faults.OtherText path first) = 2
 status_of (faults.CannotMake path cause) = 2
 status_of (faults.CannotConnect port cause) = 2
@@ -53,6 +55,7 @@ status_of (faults.Serve fault) = serve_status fault
 abbrev pub fault_text : Fault → List ℕ
 fault_text faults.BadWord = codes "rackd: a word is not UTF-8"
 fault_text (faults.CannotRead path cause) = codes "rackd: cannot read " ++ path.now
+fault_text (faults.CannotReadPart folder part cause) = codes "rackd: cannot read " ++ folder.now ++ audit_name_text part
 fault_text (faults.OtherText path first) = codes "rackd: cannot read " ++ path.now
 fault_text (faults.CannotMake path cause) = codes "rackd: cannot make " ++ path.now
 fault_text (faults.CannotConnect port cause) = codes "rackd: cannot connect to " ++ decimal port
@@ -82,6 +85,7 @@ serve_cause serves.WriteFault = None
 abbrev pub cause_of : Fault → Option Cause
 cause_of faults.BadWord = None
 cause_of (faults.CannotRead path cause) = Some cause
+cause_of (faults.CannotReadPart folder part cause) = Some cause
 cause_of (faults.OtherText path first) = None
 cause_of (faults.CannotMake path cause) = Some cause
 cause_of (faults.CannotConnect port cause) = Some cause

@@ -1,12 +1,12 @@
 //! The commands that read files and write to standard output.
 
-use crate::capture::capture_files;
 use crate::ending::Fault;
-use crate::follow::follow_files;
+use crate::files::read_file;
 use crate::gsd::{write_gsd, write_slave};
-use crate::judge::judge_files;
-use crate::texts::{check_files, explain_files, run_files};
-use rackd_cli::{Entries, FileCommand};
+use crate::reporting::reported;
+use crate::scripts::run_files;
+use audit_host::{TextFault, capture_text, check_text, explain_text, follow_text, judge_text};
+use rackd_cli::{Entries, FileCommand, Judging};
 use std::process::ExitCode;
 use std::rt::Runtime;
 use std::sync::Wait;
@@ -36,14 +36,16 @@ pub(crate) fn run_command<'a, H: Runtime + AllocGlobal + Wait + Clock>(
             rack,
             audit,
             entries,
-            follows,
+            follows: true,
+        } => follow_files(rt, rack, audit.as_slice(), entries),
+        FileCommand::Explain {
+            rack,
+            audit,
+            entries,
+            follows: false,
         } => {
-            if follows {
-                follow_files(rt, rack, audit.as_slice(), entries)
-            } else {
-                let shows = shows_progress(terminals, entries.only_summary);
-                explain_files(rt, rack, audit.as_slice(), entries, shows)
-            }
+            let shows = shows_progress(terminals, entries.only_summary);
+            explain_files(rt, rack, audit.as_slice(), entries, shows)
         }
         FileCommand::Judge {
             rack,
@@ -54,7 +56,10 @@ pub(crate) fn run_command<'a, H: Runtime + AllocGlobal + Wait + Clock>(
             judge_files(rt, rack, audit.as_slice(), judging, shows)
         }
         FileCommand::Capture { rack, audit } => {
-            capture_files(rt, rack, audit.as_slice(), terminals)
+            if terminals.output {
+                return Err(Fault::OutputIsTerminal);
+            }
+            capture_files(rt, rack, audit.as_slice(), terminals.errors)
         }
         FileCommand::Gsd { rack, described } => write_gsd(rt, rack, described),
         FileCommand::Slave { gsd, modules } => write_slave(rt, gsd, modules.as_slice()),
@@ -65,4 +70,84 @@ pub(crate) fn run_command<'a, H: Runtime + AllocGlobal + Wait + Clock>(
 /// a terminal.
 fn shows_progress(terminals: Terminals, only_summary: bool) -> bool {
     terminals.errors && (only_summary || !terminals.output)
+}
+
+/// Checks the audit text of these files on the rack of another.
+fn check_files<'a, H: Runtime + AllocGlobal>(
+    rt: &H,
+    rack: &'a str,
+    audit: &[&'a str],
+    shows: bool,
+) -> Result<ExitCode, Fault<'a>> {
+    let rack = read_file(rt, rack)?;
+    reported_text(
+        rt,
+        rack.as_str(),
+        check_text(rt, rack.as_str(), audit, shows),
+    )
+}
+
+/// Explains the audit text of these files on the rack of another.
+fn explain_files<'a, H: Runtime + AllocGlobal>(
+    rt: &H,
+    rack: &'a str,
+    audit: &[&'a str],
+    entries: Entries,
+    shows: bool,
+) -> Result<ExitCode, Fault<'a>> {
+    let rack = read_file(rt, rack)?;
+    let explained = explain_text(rt, rack.as_str(), audit, entries, shows);
+    reported_text(rt, rack.as_str(), explained)
+}
+
+/// Explains the audit text of these files on the rack of another while a rack writes the text.
+fn follow_files<'a, H: Runtime + AllocGlobal + Wait + Clock>(
+    rt: &H,
+    rack: &'a str,
+    audit: &[&'a str],
+    entries: Entries,
+) -> Result<ExitCode, Fault<'a>> {
+    let rack = read_file(rt, rack)?;
+    reported_text(
+        rt,
+        rack.as_str(),
+        follow_text(rt, rack.as_str(), audit, entries),
+    )
+}
+
+/// Judges the masters of the audit text of these files on the rack of another.
+fn judge_files<'a, H: Runtime + AllocGlobal>(
+    rt: &H,
+    rack: &'a str,
+    audit: &[&'a str],
+    judging: Judging<'_>,
+    shows: bool,
+) -> Result<ExitCode, Fault<'a>> {
+    let rack = read_file(rt, rack)?;
+    let judged = judge_text(rt, rack.as_str(), audit, judging, shows);
+    reported_text(rt, rack.as_str(), judged)
+}
+
+/// Writes the telegrams of the audit text of these files, on the rack of another, to standard output.
+fn capture_files<'a, H: Runtime + AllocGlobal>(
+    rt: &H,
+    rack: &'a str,
+    audit: &[&'a str],
+    shows: bool,
+) -> Result<ExitCode, Fault<'a>> {
+    let rack = read_file(rt, rack)?;
+    reported_text(
+        rt,
+        rack.as_str(),
+        capture_text(rt, rack.as_str(), audit, shows),
+    )
+}
+
+/// Returns the exit status of what was done with an audit text, as [`reported`] does.
+fn reported_text<'a>(
+    rt: &(impl Eprint + AllocGlobal),
+    rack: &str,
+    done: Result<ExitCode, TextFault<'a>>,
+) -> Result<ExitCode, Fault<'a>> {
+    reported(rt, rt.alloc(), rack, done.map_err(Fault::from))
 }

@@ -4,6 +4,7 @@ ghost use Rattle.std.specs.Prelude.{◌≡◌, Some};
 ghost use Rattle.rackd.specs.Ending.{cause_of, fault_text, serve_cause, serve_status, status_of};
 
 use audit_files::AuditName;
+use audit_host::TextFault;
 use operate_host::ClientFault;
 use rack_file::RackFault;
 use rack_script::RunFault;
@@ -20,6 +21,8 @@ pub enum Fault<'a> {
     BadWord,
     /// The file at this path, or standard input for `-`, cannot be read or is not UTF-8.
     CannotRead(&'a str, Cause),
+    /// The part of this name of an audit text, in this folder, cannot be read or is not UTF-8.
+    CannotReadPart(&'a str, AuditName, Cause),
     /// The file at this path is one of another audit text than the file with this name, which is given before it.
     OtherText(&'a str, AuditName),
     /// The file at this path, which names ports, cannot be made.
@@ -53,6 +56,21 @@ pub enum Fault<'a> {
 impl<'a> From<RunFault> for Fault<'a> {
     fn from(fault: RunFault) -> Fault<'a> {
         Fault::Run(fault)
+    }
+}
+
+impl<'a> From<TextFault<'a>> for Fault<'a> {
+    fn from(fault: TextFault<'a>) -> Fault<'a> {
+        match fault {
+            TextFault::CannotRead(path, cause) => Fault::CannotRead(path, cause),
+            TextFault::CannotReadPart(folder, part, cause) => {
+                Fault::CannotReadPart(folder, part, cause)
+            }
+            TextFault::OtherText(path, first) => Fault::OtherText(path, first),
+            TextFault::NoSlave(address) => Fault::NoSlave(address),
+            TextFault::NoMaster(address) => Fault::NoMaster(address),
+            TextFault::Run(fault) => Fault::Run(fault),
+        }
     }
 }
 
@@ -94,7 +112,7 @@ pub fn status(fault: Fault<'_>) -> u8
         Fault::Run(RunFault::OutOfMemory | RunFault::Rack(RackFault::OutOfMemory)) => 3,
         Fault::Run(RunFault::WriteFault) => 4,
         Fault::BadWord | Fault::CannotRead(_, _) | Fault::CannotMake(_, _) => 2,
-        Fault::OtherText(_, _) => 2,
+        Fault::CannotReadPart(_, _, _) | Fault::OtherText(_, _) => 2,
         Fault::CannotConnect(_, _) | Fault::PortEnded(_) | Fault::LongAnswer(_) => 2,
         Fault::NoSlave(_) | Fault::NoMaster(_) | Fault::NoLine(_) => 2,
         Fault::BadName | Fault::BadGsd(_) | Fault::OutputIsTerminal | Fault::FewThreads => 2,
@@ -124,7 +142,7 @@ pub fn cause(fault: Fault<'_>) -> Option<Cause>
 {
     match fault {
         Fault::CannotRead(_, cause) | Fault::CannotMake(_, cause) => Some(cause),
-        Fault::CannotConnect(_, cause) => Some(cause),
+        Fault::CannotReadPart(_, _, cause) | Fault::CannotConnect(_, cause) => Some(cause),
         Fault::BadWord | Fault::PortEnded(_) | Fault::LongAnswer(_) | Fault::Run(_) => None,
         Fault::OtherText(_, _) => None,
         Fault::NoSlave(_) | Fault::NoMaster(_) | Fault::NoLine(_) => None,
@@ -151,6 +169,9 @@ impl<'a> fmt::Display for Fault<'a> {
         match self {
             Fault::BadWord => f.write_str("rackd: a word is not UTF-8"),
             Fault::CannotRead(path, _) => write!(f, "rackd: cannot read {path}"),
+            Fault::CannotReadPart(folder, part, _) => {
+                write!(f, "rackd: cannot read {folder}{part}")
+            }
             Fault::OtherText(path, _) => write!(f, "rackd: cannot read {path}"),
             Fault::CannotMake(path, _) => write!(f, "rackd: cannot make {path}"),
             Fault::CannotConnect(port, _) => write!(f, "rackd: cannot connect to {port}"),

@@ -2,8 +2,8 @@
 
 use crate::ending::Fault;
 use crate::files::{read_fault, read_file};
-use crate::output::{buffered, flushed};
 use crate::reporting::{report, reported};
+use audit_host::{buffered, flushed};
 use gsd_slaves::{GsdFault, SlaveFault, run_gsd, run_slave};
 use rack_script::RunFault;
 use rackd_cli::DescribedSlave;

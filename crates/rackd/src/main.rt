@@ -11,42 +11,30 @@
 #![tactic(auto)]
 
 mod answers;
-mod audit_text;
 mod cable;
-mod capture;
 mod commands;
-mod cut_end;
-mod differences;
 mod ending;
 mod files;
-mod follow;
-mod followed_parts;
 mod gsd;
-mod judge;
 mod missing_port;
-mod next_part;
-mod output;
-mod progress;
 mod rack_cause;
 mod reporting;
 mod script_form;
-mod stations;
-mod text_files;
-mod texts;
-mod verdict;
+mod scripts;
 mod watching;
 
 use answers::answer_words;
+use audit_host::{buffered, flushed};
 use cable::run_cable;
 use commands::{Terminals, run_command};
 use ending::Fault;
 use files::read_file;
 use log::{Level, Log, Logged, info};
 use operate_host::operate;
-use output::{buffered, flushed};
 use rack_script::RunFault;
 use rackd_cli::{Invocation, read_words, words_of};
 use reporting::{ended, report, reported};
+use scripts::run_input;
 use serve_log::{RowQueue, Written};
 use serve_options::ServeOptions;
 use serve_rack::{Host, InputEnd, ServeFault, Served, serve_text};
@@ -58,7 +46,6 @@ use std::process::ExitCode;
 use std::rt::Runtime;
 use std::sync::Wait;
 use std::thread::{self, Threads};
-use texts::run_input;
 use watch_host::WatchHost;
 use watching::{OpeningOutput, ServedPage, ShutPage, StartingPage, open_served_page, watch_folder};
 

@@ -3,17 +3,16 @@
 ghost use Rattle.std.specs.Prelude.{◌≡◌};
 ghost use Rattle.explain_texts.specs.TextRows.{nothing_read};
 
-use crate::audit_text::{AuditText, Beginning, FileEntries, entries_of};
-use crate::ending::Fault;
-use crate::text_files::{AuditFiles, FileRows};
+use crate::audit_text::{AuditText, Beginning, entries_of, files_of};
+use crate::fault::TextFault;
+use crate::text_files::FileReader;
 use audit_parts::PartsCheck;
 use dp_audit::AuditFault;
 use explain_texts::TextRows;
-use rack_file::Rack;
 use rack_script::{Choice, RunFault, report_verdict_by, run_check, run_parts_check};
 use std::alloc::Global;
 use std::fs::Files;
-use std::io::Read;
+use std::io::{BufRead, Read};
 use std::rt::Runtime;
 use std::str::from_utf8;
 
@@ -27,6 +26,8 @@ pub(crate) struct Verdict {
     pub(crate) status: u8,
     /// The row of the verdict, with its LF.
     pub(crate) row: Vec<u8>,
+    /// Whether it is about the head with which the text begins.
+    pub(crate) is_of_head: bool,
     /// Whether the text ends within the last row that was read.
     is_cut: bool,
 }
@@ -45,10 +46,10 @@ impl Verdict {
 }
 
 /// Checks an audit text that has no parts.
-pub(crate) fn check_rows<H: Runtime + AllocGlobal + Files<File = R>, R: Read + Drop>(
+fn check_rows<R: BufRead>(
     alloc: Global,
     rack: &str,
-    rows: &mut FileEntries<'_, '_, '_, H, R>,
+    rows: &mut TextRows<R>,
 ) -> Result<Verdict, RunFault>
     requires { rows.old.text ≡ nothing_read }
 {
@@ -58,15 +59,16 @@ pub(crate) fn check_rows<H: Runtime + AllocGlobal + Files<File = R>, R: Read + D
     Ok(Verdict {
         status,
         row,
+        is_of_head: false,
         is_cut,
     })
 }
 
 /// Checks the rows of an audit text behind its beginning. A text that ends within the head of a part ends within a row.
-pub(crate) fn check_part_rows<H: Runtime + AllocGlobal + Files<File = R>, R: Read + Drop>(
+fn check_part_rows<R: BufRead>(
     alloc: Global,
     check: PartsCheck,
-    rows: &mut FileRows<'_, '_, '_, H, R>,
+    rows: &mut TextRows<R>,
 ) -> Result<Verdict, RunFault>
     requires { rows.old.text ≡ nothing_read }
 {
@@ -77,47 +79,64 @@ pub(crate) fn check_part_rows<H: Runtime + AllocGlobal + Files<File = R>, R: Rea
     Ok(Verdict {
         status,
         row,
+        is_of_head: false,
         is_cut,
     })
 }
 
 /// Returns the verdict on a text that begins with a head that has this fault. `front` has the rows of the head that were read.
-pub(crate) fn verdict_on_head(
-    alloc: Global,
-    front: &[u8],
-    fault: AuditFault,
-) -> Result<Verdict, RunFault> {
+fn verdict_on_head(alloc: Global, front: &[u8], fault: AuditFault) -> Result<Verdict, RunFault> {
     let mut row = new_row(alloc)?;
     let status = report_verdict_by(&every_entry(), Err(fault), &mut row)?;
     let is_cut = !front.ends_with(b"\n");
     Ok(Verdict {
         status,
         row,
+        is_of_head: true,
         is_cut,
     })
 }
 
-/// Checks the audit text of these files on a rack, which `rack` describes as text. The files are opened and read again.
-pub(crate) fn check_again<'a, H: Runtime + AllocGlobal>(
-    rt: &H,
+/// Checks an audit text on the rack that `rack` describes.
+pub(crate) fn verdict_of<'a, H: Runtime + AllocGlobal + Files<File = R>, R: Read + Drop>(
+    alloc: Global,
     rack: &str,
-    described: &Rack,
-    audit: &[&'a str],
-) -> Result<Verdict, Fault<'a>> {
-    let alloc = rt.alloc();
+    text: AuditText<'a, '_, H, R>,
+) -> Result<Verdict, TextFault<'a>> {
     let AuditText {
         beginning,
         front,
         reader,
-    } = AuditText::read(alloc, described, AuditFiles::open(rt, audit)?)?;
-    let checked = match beginning {
-        Beginning::NoPart => check_rows(alloc, rack, &mut entries_of(alloc, None, front, reader)?),
-        Beginning::FirstPart(check) | Beginning::LaterPart(_, check) => {
-            check_part_rows(alloc, check, &mut TextRows::new(alloc, reader))
-        }
-        Beginning::WrongHead(fault) => verdict_on_head(alloc, front.as_slice(), fault),
-    };
-    Ok(checked?)
+    } = text;
+    match beginning {
+        Beginning::NoPart => check_whole(alloc, rack, front, reader),
+        Beginning::FirstPart(check) => check_parts(alloc, check, reader),
+        Beginning::LaterPart(_, check) => check_parts(alloc, check, reader),
+        Beginning::WrongHead(fault) => Ok(verdict_on_head(alloc, front.as_slice(), fault)?),
+    }
+}
+
+/// Checks an audit text that has no parts. `first` is its first row.
+fn check_whole<'a, H: Runtime + AllocGlobal + Files<File = R>, R: Read + Drop>(
+    alloc: Global,
+    rack: &str,
+    first: Vec<u8>,
+    reader: FileReader<'a, '_, H, R>,
+) -> Result<Verdict, TextFault<'a>> {
+    let mut rows = entries_of(alloc, None, first, reader)?;
+    let checked = check_rows(alloc, rack, &mut rows);
+    files_of(&rows).ended(checked)
+}
+
+/// Checks an audit text in parts behind its beginning.
+fn check_parts<'a, H: Runtime + AllocGlobal + Files<File = R>, R: Read + Drop>(
+    alloc: Global,
+    check: PartsCheck,
+    reader: FileReader<'a, '_, H, R>,
+) -> Result<Verdict, TextFault<'a>> {
+    let mut rows = TextRows::new(alloc, reader);
+    let checked = check_part_rows(alloc, check, &mut rows);
+    rows.reader().get_ref().ended(checked)
 }
 
 /// Returns an empty row with room for a verdict.
@@ -129,7 +148,7 @@ fn new_row(alloc: Global) -> Result<Vec<u8>, RunFault> {
 }
 
 /// Returns the choice of every entry, in rows.
-pub(crate) fn every_entry() -> Choice {
+fn every_entry() -> Choice {
     Choice {
         from: None,
         to: None,

@@ -1,7 +1,9 @@
 //! Reports that an audit text ends within a row, as after a kill.
 
-use crate::ending::Fault;
-use crate::verdict::{Verdict, check_again};
+use crate::audit_text::AuditText;
+use crate::fault::TextFault;
+use crate::text_files::AuditFiles;
+use crate::verdict::{Verdict, verdict_of};
 use rack_file::Rack;
 use rack_script::RunFault;
 use serve_log::Escaped;
@@ -12,22 +14,37 @@ use std::rt::Runtime;
 
 /// Returns the exit status of what was done with the audit text of these files. If the text is not legal since it ends within a
 /// row, reports that. Then the files are opened and read again. Nothing is reported if that fails.
+///
+/// Returns `OutOfMemory` if memory runs out.
 pub(crate) fn noted_end<'a, H: Runtime + AllocGlobal>(
     rt: &H,
     rack: &str,
     described: &Rack,
     audit: &[&'a str],
-    done: Result<ExitCode, Fault<'a>>,
-) -> Result<ExitCode, Fault<'a>> {
-    let code = done?;
+    code: ExitCode,
+) -> Result<ExitCode, TextFault<'a>> {
     if code == ExitCode::FAILURE && is_cut(rt, audit) {
         match check_again(rt, rack, described, audit) {
             Ok(verdict) => note_cut_row(rt, audit, &verdict),
-            Err(Fault::Run(RunFault::OutOfMemory)) => return Err(Fault::Run(RunFault::OutOfMemory)),
+            Err(TextFault::Run(RunFault::OutOfMemory)) => {
+                return Err(TextFault::Run(RunFault::OutOfMemory));
+            }
             Err(_) => {}
         }
     }
     Ok(code)
+}
+
+/// Opens the files of an audit text again, and checks it on a rack, which `rack` describes as text.
+fn check_again<'a, H: Runtime + AllocGlobal>(
+    rt: &H,
+    rack: &str,
+    described: &Rack,
+    audit: &[&'a str],
+) -> Result<Verdict, TextFault<'a>> {
+    let files = AuditFiles::open(rt, audit)?;
+    let text = AuditText::read(rt.alloc(), described, files)?;
+    verdict_of(rt.alloc(), rack, text)
 }
 
 /// Reports the row within which the audit text of these files ends, if this is the verdict on it.

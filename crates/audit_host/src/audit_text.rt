@@ -3,14 +3,15 @@
 ghost use Rattle.std.specs.Prelude.{◌≡◌, IfOk};
 ghost use Rattle.explain_texts.specs.TextRows.{nothing_read};
 
-use crate::ending::Fault;
-use crate::text_files::AuditFiles;
-use audit_parts::{EntryRows, PartsCheck, read_beginning};
+use crate::entry_reader::EntryReader;
+use crate::fault::TextFault;
+use crate::text_files::{AuditFiles, FileReader, open_files};
+use audit_parts::{PartsCheck, read_beginning};
 use dp_audit::{AuditFault, set_header_line, version_of};
 use dp_line::LineSpec;
 use dp_text::{Text, is_text};
 use explain_texts::TextRows;
-use rack_file::Rack;
+use rack_file::{Rack, read_rack};
 use rack_script::RunFault;
 use std::alloc::Global;
 use std::fs::Files;
@@ -20,13 +21,8 @@ use std::rt::Runtime;
 /// The first characters of every audit text.
 pub(crate) const HEADER: &[u8] = b"rack-audit ";
 
-/// A reader of an audit text in files.
-type FileReader<'a, 'p, 'h, H, R> = BufReader<AuditFiles<'a, 'p, 'h, H, R>>;
-
 /// The rows of an audit text in files, without those of heads.
-pub(crate) type FileEntries<'a, 'p, 'h, H, R> = TextRows<
-    BufReader<EntryRows<FileReader<'a, 'p, 'h, H, R>>>,
->;
+pub(crate) type FileEntries<'a, 'p, H, R> = TextRows<BufReader<EntryReader<'a, 'p, H, R>>>;
 
 /// How an audit text begins.
 #[derive(Drop)]
@@ -54,29 +50,23 @@ pub(crate) enum FirstRow {
 
 /// An audit text in files, of which the beginning was read.
 #[derive(Drop)]
-pub(crate) struct AuditText<'a, 'p, 'h, H, R> {
+pub(crate) struct AuditText<'a, 'p, H, R> {
     pub(crate) beginning: Beginning,
     /// The first row, or all rows of the head.
     pub(crate) front: Vec<u8>,
     /// What follows.
-    pub(crate) reader: FileReader<'a, 'p, 'h, H, R>,
+    pub(crate) reader: FileReader<'a, 'p, H, R>,
 }
 
-impl<'a, 'p, 'h, R: Read + Drop, H: Runtime + AllocGlobal + Files<File = R>> AuditText<
-    'a,
-    'p,
-    'h,
-    H,
-    R,
-> {
+impl<'a, 'p, R: Read + Drop, H: Runtime + AllocGlobal + Files<File = R>> AuditText<'a, 'p, H, R> {
     /// Reads the beginning of the audit text of these files, on the line of the rack that its first row names.
     pub(crate) fn read(
         alloc: Global,
         rack: &Rack,
-        files: AuditFiles<'a, 'p, 'h, H, R>,
-    ) -> Result<AuditText<'a, 'p, 'h, H, R>, Fault<'a>> {
+        files: AuditFiles<'a, 'p, H, R>,
+    ) -> Result<AuditText<'a, 'p, H, R>, TextFault<'a>> {
         let Ok(mut reader) = BufReader::new(alloc, files) else {
-            return Err(Fault::Run(RunFault::OutOfMemory));
+            return Err(TextFault::Run(RunFault::OutOfMemory));
         };
         let mut front = Vec::new(alloc);
         match read_front(alloc, rack, &mut front, &mut reader) {
@@ -86,8 +76,8 @@ impl<'a, 'p, 'h, R: Read + Drop, H: Runtime + AllocGlobal + Files<File = R>> Aud
                 reader,
             }),
             Err(error) => match error.kind() {
-                ErrorKind::OutOfMemory => Err(Fault::Run(RunFault::OutOfMemory)),
-                _ => Err(reader.get_ref().first_fault()),
+                ErrorKind::OutOfMemory => Err(TextFault::Run(RunFault::OutOfMemory)),
+                _ => Err(reader.get_ref().fault()),
             },
         }
     }
@@ -106,18 +96,36 @@ impl<'a, 'p, 'h, R: Read + Drop, H: Runtime + AllocGlobal + Files<File = R>> Aud
     }
 }
 
+/// Opens the audit text of these files, and reads its beginning, on the rack that `rack` describes. Returns the rack too.
+/// `shows` is whether the progress of reading the text is shown, if it is long.
+pub(crate) fn open_text<'a, 'p, H: Runtime + AllocGlobal + Files<File = R>, R: Read + Drop>(
+    rt: &'p H,
+    rack: &str,
+    audit: &'p [&'a str],
+    shows: bool,
+) -> Result<(Rack, AuditText<'a, 'p, H, R>), TextFault<'a>> {
+    let files = open_files(rt, audit, shows)?;
+    let rack = rack_of(rt.alloc(), rack)?;
+    let text = AuditText::read(rt.alloc(), &rack, files)?;
+    Ok((rack, text))
+}
+
+/// Returns the rack that a text describes.
+pub(crate) fn rack_of(alloc: Global, rack: &str) -> Result<Rack, RunFault> {
+    match read_rack(alloc, rack) {
+        Ok(rack) => Ok(rack),
+        Err(fault) => Err(RunFault::Rack(fault)),
+    }
+}
+
 /// Returns the rows of a text from its header on, without those of heads. A text that begins with a later part is given as it
 /// is, and has no header.
 pub(crate) fn entries_from_header<
     'a,
     'p,
-    'h,
     H: Runtime + AllocGlobal + Files<File = R>,
     R: Read + Drop,
->(
-    alloc: Global,
-    text: AuditText<'a, 'p, 'h, H, R>,
-) -> Result<FileEntries<'a, 'p, 'h, H, R>, RunFault>
+>(alloc: Global, text: AuditText<'a, 'p, H, R>) -> Result<FileEntries<'a, 'p, H, R>, RunFault>
     ensures { IfOk result (λ rows. rows.text ≡ nothing_read) }
 {
     let AuditText {
@@ -134,25 +142,25 @@ pub(crate) fn entries_from_header<
 
 /// Returns the rows of a text without those of heads. `check` is the check of its parts, and None if it has no parts. `first`
 /// is given before what the reader has.
-pub(crate) fn entries_of<'a, 'p, 'h, H: Runtime + AllocGlobal + Files<File = R>, R: Read + Drop>(
+pub(crate) fn entries_of<'a, 'p, H: Runtime + AllocGlobal + Files<File = R>, R: Read + Drop>(
     alloc: Global,
     check: Option<PartsCheck>,
     first: Vec<u8>,
-    reader: FileReader<'a, 'p, 'h, H, R>,
-) -> Result<FileEntries<'a, 'p, 'h, H, R>, RunFault>
+    reader: FileReader<'a, 'p, H, R>,
+) -> Result<FileEntries<'a, 'p, H, R>, RunFault>
     ensures { IfOk result (λ rows. rows.text ≡ nothing_read) }
 {
-    match BufReader::new(alloc, EntryRows::new(check, first, reader)) {
+    match BufReader::new(alloc, EntryReader::new(check, first, reader)) {
         Ok(reader) => Ok(TextRows::new(alloc, reader)),
         Err(_) => Err(RunFault::OutOfMemory),
     }
 }
 
 /// Returns the files of these rows.
-pub(crate) fn files_of<'r, 'a, 'p, 'h, H: Runtime + AllocGlobal + Files<File = R>, R: Read + Drop>(
-    rows: &'r FileEntries<'a, 'p, 'h, H, R>,
-) -> &'r AuditFiles<'a, 'p, 'h, H, R> {
-    rows.reader().get_ref().reader().get_ref()
+pub(crate) fn files_of<'r, 'a, 'p, H: Runtime + AllocGlobal + Files<File = R>, R: Read + Drop>(
+    rows: &'r FileEntries<'a, 'p, H, R>,
+) -> &'r AuditFiles<'a, 'p, H, R> {
+    rows.reader().get_ref().files()
 }
 
 /// Reads the first row of a text, and the other rows of a head with which it begins.

@@ -3,18 +3,15 @@
 ghost use Rattle.std.specs.Prelude.{◌≡◌, [], IfOk};
 ghost use Rattle.std.specs.Io.{ReadsAtMost};
 
-use crate::ending::Fault;
-use crate::files::read_fault;
-use crate::next_part::{has_later_part, name_in, path_behind};
+use crate::fault::TextFault;
+use crate::next_part::{folder_in, has_later_part, name_in, path_in};
 use crate::progress::Progress;
-use crate::reporting::report;
 use audit_files::AuditName;
 use explain_texts::TextRows;
 use rack_script::RunFault;
 use std::collections::VecDeque;
 use std::fs::{self, Files};
 use std::io::{self, BufReader, ErrorKind, Read};
-use std::process::ExitCode;
 use std::rt::Runtime;
 use system_errors::Cause;
 
@@ -22,13 +19,16 @@ use system_errors::Cause;
 /// are read.
 const MOST_OPEN: usize = 32;
 
+/// A reader of an audit text in files.
+pub(crate) type FileReader<'a, 'p, H, R> = BufReader<AuditFiles<'a, 'p, H, R>>;
+
 /// The rows of an audit text in files.
-pub(crate) type FileRows<'a, 'p, 'h, H, R> = TextRows<BufReader<AuditFiles<'a, 'p, 'h, H, R>>>;
+pub(crate) type FileRows<'a, 'p, H, R> = TextRows<FileReader<'a, 'p, H, R>>;
 
 /// The files of an audit text, one after another, as one reader. It knows why a read failed.
 #[derive(Drop)]
-pub(crate) struct AuditFiles<'a, 'p, 'h, H, R> {
-    host: &'h H,
+pub(crate) struct AuditFiles<'a, 'p, H, R> {
+    host: &'p H,
     /// The paths of the files.
     paths: &'p [&'a str],
     /// The index of the path of the file that is read.
@@ -39,28 +39,22 @@ pub(crate) struct AuditFiles<'a, 'p, 'h, H, R> {
     later: VecDeque<R>,
     /// Whether it goes on to later parts of the text, which have no path here.
     follows: bool,
-    /// The path of the later part that is read.
-    part: Option<String>,
+    /// The name of the later part that is read. It is in the folder of the last path.
+    part: Option<AuditName>,
     /// Why a read failed.
     cause: Option<Cause>,
     progress: Option<Progress>,
 }
 
-impl<'a, 'p, 'h, R: Read + Drop, H: Runtime + AllocGlobal + Files<File = R>> AuditFiles<
-    'a,
-    'p,
-    'h,
-    H,
-    R,
-> {
+impl<'a, 'p, R: Read + Drop, H: Runtime + AllocGlobal + Files<File = R>> AuditFiles<'a, 'p, H, R> {
     /// Opens all files with these paths.
     ///
     /// Returns `OtherText` if the names of two files are those of different audit texts, and `CannotRead` for a file that can't be
     /// opened, whichever comes first.
     pub(crate) fn open(
-        host: &'h H,
+        host: &'p H,
         paths: &'p [&'a str],
-    ) -> Result<AuditFiles<'a, 'p, 'h, H, R>, Fault<'a>> {
+    ) -> Result<AuditFiles<'a, 'p, H, R>, TextFault<'a>> {
         let file = open_file(host, path_at(paths, 0))?;
         let later = open_later(host, paths)?;
         Ok(AuditFiles {
@@ -77,14 +71,14 @@ impl<'a, 'p, 'h, R: Read + Drop, H: Runtime + AllocGlobal + Files<File = R>> Aud
     }
 
     /// Returns these files as a text that goes on to its later parts, once they are there.
-    pub(crate) fn followed(self) -> AuditFiles<'a, 'p, 'h, H, R> {
+    pub(crate) fn followed(self) -> AuditFiles<'a, 'p, H, R> {
         let mut files = self;
         files.follows = true;
         files
     }
 
     /// Returns these files as a text whose progress is shown on standard error, if the size of the text is known.
-    pub(crate) fn shown(self) -> AuditFiles<'a, 'p, 'h, H, R> {
+    pub(crate) fn shown(self) -> AuditFiles<'a, 'p, H, R> {
         let mut files = self;
         if let Some(size) = size_of_text(files.host, files.paths) {
             files.progress = Progress::start(files.host, size);
@@ -92,36 +86,35 @@ impl<'a, 'p, 'h, R: Read + Drop, H: Runtime + AllocGlobal + Files<File = R>> Aud
         files
     }
 
-    /// Clears the progress that is shown.
-    pub(crate) fn clear_progress(&self) {
+    /// Clears the progress that is shown, and returns what was done with the text. If the text could not be read, the fault has
+    /// the path of the file.
+    pub(crate) fn ended<T>(&self, done: Result<T, RunFault>) -> Result<T, TextFault<'a>> {
         if let Some(progress) = &self.progress {
             progress.clear(self.host);
+        }
+        match done {
+            Ok(done) => Ok(done),
+            Err(RunFault::CannotRead | RunFault::NotText) => Err(self.fault()),
+            Err(fault) => Err(TextFault::Run(fault)),
         }
     }
 
     /// Returns the fault of the text: why a read failed, or else that the file that is read is not UTF-8.
-    pub(crate) fn fault(&self) -> Fault<'_> {
-        match self.cause {
-            Some(cause) => Fault::CannotRead(self.path(), cause),
-            None => Fault::CannotRead(self.path(), Cause::NotText),
+    pub(crate) fn fault(&self) -> TextFault<'a> {
+        let cause = match self.cause {
+            Some(cause) => cause,
+            None => Cause::NotText,
+        };
+        match self.part {
+            Some(part) => TextFault::CannotReadPart(folder_in(self.path()), part, cause),
+            None => TextFault::CannotRead(self.path(), cause),
         }
     }
 
-    /// Returns the fault of the text, of which no later part that has no path here was read.
-    pub(crate) fn first_fault(&self) -> Fault<'a> {
-        let path = path_at(self.paths, self.index);
-        match self.cause {
-            Some(cause) => Fault::CannotRead(path, cause),
-            None => Fault::CannotRead(path, Cause::NotText),
-        }
-    }
-
-    /// Returns the path of the file that is read: that of the row that a reader with a buffer read last.
-    pub(crate) fn path(&self) -> &str {
-        match &self.part {
-            Some(path) => path.as_str(),
-            None => path_at(self.paths, self.index),
-        }
+    /// Returns the path of the file that is read, which a reader with a buffer read last. Of a part that has no path here, it is
+    /// the last path.
+    pub(crate) fn path(&self) -> &'a str {
+        path_at(self.paths, self.index)
     }
 
     /// Reads from the file that is read.
@@ -152,7 +145,7 @@ impl<'a, 'p, 'h, R: Read + Drop, H: Runtime + AllocGlobal + Files<File = R>> Aud
     fn read_next_part(&mut self, buf: &mut [u8]) -> io::Result<usize>
         ensures { ReadsAtMost result buf.new }
     {
-        let Some(path) = self.next_part()? else {
+        let Some(part) = self.next_part()? else {
             return Ok(0);
         };
         // The part before it has ended now, but what was written to it last may not have been read.
@@ -160,33 +153,52 @@ impl<'a, 'p, 'h, R: Read + Drop, H: Runtime + AllocGlobal + Files<File = R>> Aud
         if count > 0 {
             return Ok(count);
         }
-        self.part = Some(path);
-        self.file = self.open_path()?;
+        self.part = Some(part);
+        self.file = self.open_part(part)?;
         self.read_file(buf)
     }
 
-    /// Returns the path of the next part of the text, if it is there and these files go on to it. It is also returned if it is not
+    /// Returns the name of the next part of the text, if it is there and these files go on to it. It is also returned if it is not
     /// there but a later part is: then it was deleted before it was read, and cannot be opened.
-    fn next_part(&mut self) -> io::Result<Option<String>> {
+    fn next_part(&self) -> io::Result<Option<AuditName>> {
         if !self.follows {
             return Ok(None);
         }
-        let path = match path_behind(self.host.alloc(), self.path()) {
-            Ok(Some(path)) => path,
-            Ok(None) => return Ok(None),
-            Err(_) => return Err(io::Error::from(ErrorKind::OutOfMemory)),
+        let Some(next) = self.name_of_next() else {
+            return Ok(None);
         };
-        let is_there = fs::metadata(self.host, path.as_str()).is_ok();
-        if is_there || has_later_part(self.host, path.as_str()) {
-            Ok(Some(path))
+        let folder = folder_in(self.path());
+        let path = path_in(self.host.alloc(), folder, next)?;
+        if fs::metadata(self.host, path.as_str()).is_ok()
+            || has_later_part(self.host, folder, next)
+        {
+            Ok(Some(next))
         } else {
             Ok(None)
         }
     }
 
-    /// Opens the file whose path is that of the file that is read.
+    /// Returns the name that the next part of the text has; None if the file that is read is no part.
+    fn name_of_next(&self) -> Option<AuditName> {
+        let name = match self.part {
+            Some(part) => part,
+            None => name_in(self.path())?,
+        };
+        name.next_part()
+    }
+
+    /// Opens the file at the path that comes next.
     fn open_path(&mut self) -> io::Result<R> {
         match fs::open(self.host, self.path()) {
+            Ok(file) => Ok(file),
+            Err(error) => Err(self.failed(error)),
+        }
+    }
+
+    /// Opens the part of this name.
+    fn open_part(&mut self, part: AuditName) -> io::Result<R> {
+        let path = path_in(self.host.alloc(), folder_in(self.path()), part)?;
+        match fs::open(self.host, path.as_str()) {
             Ok(file) => Ok(file),
             Err(error) => Err(self.failed(error)),
         }
@@ -206,8 +218,7 @@ impl<'a, 'p, 'h, R: Read + Drop, H: Runtime + AllocGlobal + Files<File = R>> Aud
     }
 }
 
-impl<R: Read + Drop, H: Runtime + AllocGlobal + Files<File = R>> Read
-    for AuditFiles<'_, '_, '_, H, R> {
+impl<R: Read + Drop, H: Runtime + AllocGlobal + Files<File = R>> Read for AuditFiles<'_, '_, H, R> {
     fn read(&mut self, buf: &mut [u8]) -> io::Result<usize> {
         if buf.is_empty() {
             return Ok(0);
@@ -227,19 +238,19 @@ impl<R: Read + Drop, H: Runtime + AllocGlobal + Files<File = R>> Read
 }
 
 /// Opens all files of an audit text. `shows` is whether the progress of reading it is shown, if it is long.
-pub(crate) fn open_files<'a, 'p, 'h, H: Runtime + AllocGlobal + Files<File = R>, R: Read + Drop>(
-    host: &'h H,
+pub(crate) fn open_files<'a, 'p, H: Runtime + AllocGlobal + Files<File = R>, R: Read + Drop>(
+    host: &'p H,
     paths: &'p [&'a str],
     shows: bool,
-) -> Result<AuditFiles<'a, 'p, 'h, H, R>, Fault<'a>> {
+) -> Result<AuditFiles<'a, 'p, H, R>, TextFault<'a>> {
     let files = AuditFiles::open(host, paths)?;
     if shows { Ok(files.shown()) } else { Ok(files) }
 }
 
 /// Returns the rows of an audit text in these files.
-pub(crate) fn rows_of<'a, 'p, 'h, H: Runtime + AllocGlobal + Files<File = R>, R: Read + Drop>(
-    files: AuditFiles<'a, 'p, 'h, H, R>,
-) -> Result<FileRows<'a, 'p, 'h, H, R>, RunFault>
+pub(crate) fn rows_of<'a, 'p, H: Runtime + AllocGlobal + Files<File = R>, R: Read + Drop>(
+    files: AuditFiles<'a, 'p, H, R>,
+) -> Result<FileRows<'a, 'p, H, R>, RunFault>
     ensures { IfOk result (λ rows. rows.text.past ≡ []) }
 {
     let alloc = files.host.alloc();
@@ -249,18 +260,11 @@ pub(crate) fn rows_of<'a, 'p, 'h, H: Runtime + AllocGlobal + Files<File = R>, R:
     }
 }
 
-/// Returns the exit status of what was done with the audit text of these files. If the text could not be read, reports this
-/// here, with the path of the file.
-pub(crate) fn reported_read<'a, H: Runtime + AllocGlobal + Files<File = R>, R: Read + Drop>(
-    errors: &impl Eprint,
-    files: &AuditFiles<'_, '_, '_, H, R>,
-    done: Result<ExitCode, Fault<'a>>,
-) -> Result<ExitCode, Fault<'a>> {
-    match done {
-        Err(Fault::Run(RunFault::CannotRead | RunFault::NotText)) => {
-            Ok(report(errors, files.fault()))
-        }
-        _ => done,
+/// Returns the fault of a file that cannot be read, for this reason.
+fn read_fault(error: io::Error, path: &str) -> TextFault<'_> {
+    match error.kind() {
+        ErrorKind::OutOfMemory => TextFault::Run(RunFault::OutOfMemory),
+        _ => TextFault::CannotRead(path, Cause::from_error(&error)),
     }
 }
 
@@ -273,7 +277,7 @@ fn path_at<'a>(paths: &[&'a str], index: usize) -> &'a str {
 }
 
 /// Opens a file for reading.
-fn open_file<'a, H: Runtime>(host: &H, path: &'a str) -> Result<H::File, Fault<'a>> {
+fn open_file<'a, H: Runtime>(host: &H, path: &'a str) -> Result<H::File, TextFault<'a>> {
     match fs::open(host, path) {
         Ok(file) => Ok(file),
         Err(error) => Err(read_fault(error, path)),
@@ -284,7 +288,7 @@ fn open_file<'a, H: Runtime>(host: &H, path: &'a str) -> Result<H::File, Fault<'
 fn open_later<'a, H: Runtime + AllocGlobal>(
     host: &H,
     paths: &[&'a str],
-) -> Result<VecDeque<H::File>, Fault<'a>> {
+) -> Result<VecDeque<H::File>, TextFault<'a>> {
     let mut later = VecDeque::new(host.alloc());
     let Some((first, others)) = paths.split_first() else {
         return Ok(later);
@@ -294,7 +298,7 @@ fn open_later<'a, H: Runtime + AllocGlobal>(
         check_name(&mut text, *path)?;
         let file = open_file(host, path)?;
         if later.len() < MOST_OPEN && later.push_back(file).is_err() {
-            return Err(Fault::Run(RunFault::OutOfMemory));
+            return Err(TextFault::Run(RunFault::OutOfMemory));
         }
     }
     Ok(later)
@@ -302,7 +306,7 @@ fn open_later<'a, H: Runtime + AllocGlobal>(
 
 /// Returns `OtherText` if the name of the file with this path is that of another audit text than `text`, which has the first name of
 /// a file that is one of an audit text.
-fn check_name<'a>(text: &mut Option<AuditName>, path: &'a str) -> Result<(), Fault<'a>> {
+fn check_name<'a>(text: &mut Option<AuditName>, path: &'a str) -> Result<(), TextFault<'a>> {
     let Some(name) = name_in(path) else {
         return Ok(());
     };
@@ -315,7 +319,7 @@ fn check_name<'a>(text: &mut Option<AuditName>, path: &'a str) -> Result<(), Fau
             if first.is_same_text(name) {
                 Ok(())
             } else {
-                Err(Fault::OtherText(path, first))
+                Err(TextFault::OtherText(path, first))
             }
         }
     }

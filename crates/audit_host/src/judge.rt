@@ -1,39 +1,35 @@
 //! Judges the masters of audit texts.
 
-ghost use Rattle.std.specs.Prelude.{◌≡◌};
-ghost use Rattle.explain_texts.specs.TextRows.{nothing_read};
-
-use crate::audit_text::{AuditText, FileEntries, FirstRow, entries_from_header, files_of};
+use crate::audit_text::{AuditText, FirstRow, entries_from_header, files_of, open_text};
 use crate::cut_end::noted_end;
-use crate::ending::Fault;
-use crate::files::read_file;
-use crate::output::{buffered, has_reader};
-use crate::reporting::reported;
+use crate::fault::TextFault;
+use crate::notes::noted_first_part;
+use crate::output::{buffered, written};
 use crate::stations::check_stations;
-use crate::text_files::{open_files, reported_read};
-use crate::texts::{noted_first_part, rack_of};
 use judge_rules::JudgeRule;
 use judge_texts::{Form, JudgeChoice, run_judge};
 use rack_script::RunFault;
 use rackd_cli::{Entries, Findings, Judging};
 use std::alloc::{AllocError, Global};
 use std::fs::Files;
-use std::io::Read;
+use std::io::{Read, Write};
 use std::process::ExitCode;
 use std::rt::Runtime;
 
-/// Judges the masters of the audit text of these files on the rack of another. `shows` is whether the progress of a long
-/// text is shown.
-pub(crate) fn judge_files<'a, H: Runtime + AllocGlobal>(
+/// Judges the masters of the audit text of these files on the rack that `rack` describes, and writes the findings on standard
+/// output. If its reader ends before, the rest is not written, and that is no fault. `shows` is whether the progress of a long
+/// text is shown on standard error.
+///
+/// Returns the exit status: 0 if the text is legal and no master broke a rule, else 1.
+pub fn judge_text<'a, H: Runtime + AllocGlobal>(
     rt: &H,
-    rack: &'a str,
+    rack: &str,
     audit: &[&'a str],
     judging: Judging<'_>,
     shows: bool,
-) -> Result<ExitCode, Fault<'a>> {
-    let rack = read_file(rt, rack)?;
+) -> Result<ExitCode, TextFault<'a>> {
     let Ok(rules) = rules_of(rt.alloc(), judging.rules) else {
-        return Err(Fault::Run(RunFault::OutOfMemory));
+        return Err(TextFault::Run(RunFault::OutOfMemory));
     };
     let choice = JudgeChoice {
         rules: rules.as_slice(),
@@ -41,54 +37,58 @@ pub(crate) fn judge_files<'a, H: Runtime + AllocGlobal>(
         retries: judging.retries,
         form: form_of(judging.findings),
     };
-    let judged = judge_on(rt, rack.as_str(), audit, &choice, shows);
-    reported(rt, rt.alloc(), rack.as_str(), judged)
+    judge_by(rt, rack, audit, &choice, shows)
 }
 
-/// Judges the masters of the audit text of these files on a rack.
-fn judge_on<'a, H: Runtime + AllocGlobal>(
+/// Judges the masters as this choice says.
+fn judge_by<'a, H: Runtime + AllocGlobal>(
     rt: &H,
     rack: &str,
     audit: &[&'a str],
     choice: &JudgeChoice<'_>,
     shows: bool,
-) -> Result<ExitCode, Fault<'a>> {
-    let files = open_files(rt, audit, shows)?;
-    let described = rack_of(rt.alloc(), rack)?;
-    let text = AuditText::read(rt.alloc(), &described, files)?;
+) -> Result<ExitCode, TextFault<'a>> {
+    let (described, text) = open_text(rt, rack, audit, shows)?;
     check_stations(
         &described,
         text.front.as_slice(),
         only_master(choice.master),
     )?;
     let first_row = text.first_row();
-    let mut rows = entries_from_header(rt.alloc(), text)?;
-    let judged = judge_out(rt, rack, choice, first_row, &mut rows);
-    let judged = reported_read(rt, files_of(&rows), judged);
+    let Some(status) = judge_out(rt, rack, text, choice)? else {
+        return Ok(ExitCode::SUCCESS);
+    };
+    let code = noted_first_part(rt, first_row, status);
     if first_row == FirstRow::PartHeader {
-        return judged;
+        return Ok(code);
     }
-    noted_end(rt, rack, &described, audit, judged)
+    noted_end(rt, rack, &described, audit, code)
 }
 
-/// Judges an audit text on a rack, and writes the findings on standard output. If its reader ends before, the rest is not
-/// written, and that is no fault.
+/// Judges an audit text, and writes the findings on standard output. Returns the exit status; None if standard output has no
+/// reader any more.
 fn judge_out<'a, H: Runtime + AllocGlobal + Files<File = R>, R: Read + Drop>(
     rt: &H,
     rack: &str,
+    text: AuditText<'a, '_, H, R>,
     choice: &JudgeChoice<'_>,
-    first_row: FirstRow,
-    rows: &mut FileEntries<'_, '_, '_, H, R>,
-) -> Result<ExitCode, Fault<'a>>
-    requires { rows.old.text ≡ nothing_read }
-{
+) -> Result<Option<u8>, TextFault<'a>> {
     let mut output = buffered(rt, rt.alloc())?;
-    let judged = run_judge(rt.alloc(), rack, rows, choice, &mut output);
-    files_of(rows).clear_progress();
-    if !has_reader(output)? {
-        return Ok(ExitCode::SUCCESS);
-    }
-    Ok(noted_first_part(rt, first_row, judged?))
+    let judged = judge_rows(rt.alloc(), rack, text, choice, &mut output);
+    written(output, judged)
+}
+
+/// Judges an audit text, and returns the exit status.
+fn judge_rows<'a, H: Runtime + AllocGlobal + Files<File = R>, R: Read + Drop, W: Write>(
+    alloc: Global,
+    rack: &str,
+    text: AuditText<'a, '_, H, R>,
+    choice: &JudgeChoice<'_>,
+    output: &mut W,
+) -> Result<u8, TextFault<'a>> {
+    let mut rows = entries_from_header(alloc, text)?;
+    let judged = run_judge(alloc, rack, &mut rows, choice, output);
+    files_of(&rows).ended(judged)
 }
 
 /// Returns the choice of all entries of this master, which has to be a master of the line.

@@ -1,13 +1,13 @@
 //! Explains an audit text while a rack writes it.
 
-use crate::ending::Fault;
-use crate::files::read_file;
+use crate::audit_text::rack_of;
+use crate::explain::choice_of;
+use crate::fault::TextFault;
 use crate::followed_parts::FollowedParts;
+use crate::notes::note_header;
 use crate::output::{buffered, reaches_reader};
-use crate::reporting::reported;
 use crate::stations::{check_line, line_of};
-use crate::text_files::{AuditFiles, FileRows, reported_read, rows_of};
-use crate::texts::{choice_of, note_header, rack_of};
+use crate::text_files::{AuditFiles, FileRows, rows_of};
 use audit_parts::{is_part_header, rows_behind_header};
 use dp_audit::AuditFault;
 use dp_line::LineSpec;
@@ -26,32 +26,22 @@ use std::time::{Clock, Duration};
 /// How long it waits at the end of the text before it reads on, in milliseconds.
 const READ_INTERVAL_MS: u64 = 100;
 
-/// Explains the audit text of these files on the rack of another. A rack may still be writing the last file, or a later part
-/// of the same text: each entry is explained once its row is there. It ends at the first wrong row with the row of a check,
-/// or when nobody reads standard output any more.
-pub(crate) fn follow_files<'a, H: Runtime + AllocGlobal + Wait + Clock>(
-    rt: &H,
-    rack: &'a str,
-    audit: &[&'a str],
-    entries: Entries,
-) -> Result<ExitCode, Fault<'a>> {
-    let rack = read_file(rt, rack)?;
-    let followed = follow_on(rt, rack.as_str(), audit, entries);
-    reported(rt, rt.alloc(), rack.as_str(), followed)
-}
-
-/// Follows the text of these files on a rack.
-fn follow_on<'a, H: Runtime + AllocGlobal + Wait + Clock>(
+/// Explains the audit text of these files on the rack that `rack` describes. A rack may still be writing the last file, or a later
+/// part of the same text: each entry is explained once its row is there. It ends at the first wrong row with the row of a
+/// check, or when nobody reads standard output any more.
+pub fn follow_text<'a, H: Runtime + AllocGlobal + Wait + Clock>(
     rt: &H,
     rack: &str,
     audit: &[&'a str],
     entries: Entries,
-) -> Result<ExitCode, Fault<'a>> {
+) -> Result<ExitCode, TextFault<'a>> {
     let files = AuditFiles::open(rt, audit)?;
     let rack = rack_of(rt.alloc(), rack)?;
     let mut rows = rows_of(files.followed())?;
-    let followed = follow_rows(rt, &rack, entries, &mut rows);
-    reported_read(rt, rows.reader().get_ref(), followed)
+    match follow_rows(rt, &rack, entries, &mut rows) {
+        Err(TextFault::Run(fault)) => rows.reader().get_ref().ended(Err(fault)),
+        followed => followed,
+    }
 }
 
 /// Follows a text on the line of the rack that its first row names.
@@ -59,8 +49,8 @@ fn follow_rows<'a, H: Runtime + AllocGlobal + Files<File = R> + Wait + Clock, R:
     rt: &H,
     rack: &Rack,
     entries: Entries,
-    rows: &mut FileRows<'_, '_, '_, H, R>,
-) -> Result<ExitCode, Fault<'a>> {
+    rows: &mut FileRows<'_, '_, H, R>,
+) -> Result<ExitCode, TextFault<'a>> {
     let mut output = buffered(rt, rt.alloc())?;
     if !read_next(rt, rows, &mut output)? {
         return Ok(ExitCode::SUCCESS);
@@ -82,14 +72,14 @@ fn follow_line<'a, H: Runtime + AllocGlobal + Wait + Clock, R: BufRead, W: Write
     rows: &mut TextRows<R>,
     choice: &Choice,
     output: &mut W,
-) -> Result<ExitCode, Fault<'a>> {
+) -> Result<ExitCode, TextFault<'a>> {
     let mut front = Vec::new(rt.alloc());
     if !read_front(rt, line, rows, &mut front, output)? {
         return Ok(ExitCode::SUCCESS);
     }
     let mut parts = match FollowedParts::open(rt.alloc(), line, front.as_slice()) {
         Ok(parts) => parts,
-        Err(AuditFault::OutOfMemory) => return Err(Fault::Run(RunFault::OutOfMemory)),
+        Err(AuditFault::OutOfMemory) => return Err(TextFault::Run(RunFault::OutOfMemory)),
         Err(fault) => return end_at(fault, choice, output),
     };
     for _ in rt.forever() {
@@ -163,7 +153,7 @@ fn end_at_header<'a, W: Write>(
     row: &[u8],
     choice: &Choice,
     output: &mut W,
-) -> Result<ExitCode, Fault<'a>> {
+) -> Result<ExitCode, TextFault<'a>> {
     note_header(errors, row);
     end_at(AuditFault::BadLine(1), choice, output)
 }
@@ -173,7 +163,7 @@ fn end_at<'a, W: Write>(
     fault: AuditFault,
     choice: &Choice,
     output: &mut W,
-) -> Result<ExitCode, Fault<'a>> {
+) -> Result<ExitCode, TextFault<'a>> {
     let status = report_verdict_by(choice, Err(fault), output)?;
     if reaches_reader(output)? {
         Ok(ExitCode::from(status))
@@ -183,12 +173,12 @@ fn end_at<'a, W: Write>(
 }
 
 /// Returns the fault for rows that were not written. That nobody reads standard output any more is none.
-fn end_early<'a, W: Write>(fault: ExplainFault, output: &mut W) -> Result<ExitCode, Fault<'a>> {
+fn end_early<'a, W: Write>(fault: ExplainFault, output: &mut W) -> Result<ExitCode, TextFault<'a>> {
     match fault {
-        ExplainFault::OutOfMemory => Err(Fault::Run(RunFault::OutOfMemory)),
+        ExplainFault::OutOfMemory => Err(TextFault::Run(RunFault::OutOfMemory)),
         ExplainFault::WriteFault => {
             if reaches_reader(output)? {
-                Err(Fault::Run(RunFault::WriteFault))
+                Err(TextFault::Run(RunFault::WriteFault))
             } else {
                 Ok(ExitCode::SUCCESS)
             }

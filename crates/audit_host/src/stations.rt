@@ -1,6 +1,6 @@
 //! Addresses that the line of an audit text does not have.
 
-use crate::ending::Fault;
+use crate::fault::TextFault;
 use audit_parts::is_part_header;
 use dp_line::LineSpec;
 use dp_text::Lines;
@@ -14,7 +14,7 @@ pub(crate) fn check_stations<'a>(
     rack: &Rack,
     front: &[u8],
     entries: Entries,
-) -> Result<(), Fault<'a>> {
+) -> Result<(), TextFault<'a>> {
     match line_of(rack, front) {
         Some(line) => check_line(line, entries),
         None => Ok(()),
@@ -37,16 +37,16 @@ pub(crate) fn line_of<'a>(rack: &'a Rack, front: &[u8]) -> Option<&'a LineSpec> 
 }
 
 /// Returns a fault if a line lacks the slave or the master whose entries are asked for.
-pub(crate) fn check_line<'a>(line: &LineSpec, entries: Entries) -> Result<(), Fault<'a>> {
+pub(crate) fn check_line<'a>(line: &LineSpec, entries: Entries) -> Result<(), TextFault<'a>> {
     if let Some(address) = entries.slave
         && !line.slaves.iter().any(|slave| slave.address == address)
     {
-        return Err(Fault::NoSlave(address));
+        return Err(TextFault::NoSlave(address));
     }
     if let Some(address) = entries.master
         && !line.masters.contains(&address)
     {
-        return Err(Fault::NoMaster(address));
+        return Err(TextFault::NoMaster(address));
     }
     Ok(())
 }

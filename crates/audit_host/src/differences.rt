@@ -2,7 +2,7 @@
 
 use crate::audit_text::AuditText;
 use crate::cut_end::place_words;
-use crate::ending::Fault;
+use crate::fault::TextFault;
 use crate::stations::line_of;
 use crate::text_files::AuditFiles;
 use explain_texts::{ReadFault, TextRows};
@@ -28,7 +28,7 @@ pub(crate) fn note_difference<R: Read + Drop, H: Runtime + AllocGlobal + Files<F
     };
     let text = match AuditText::read(rt.alloc(), rack, files) {
         Ok(text) => text,
-        Err(Fault::Run(RunFault::OutOfMemory)) => return Err(RunFault::OutOfMemory),
+        Err(TextFault::Run(RunFault::OutOfMemory)) => return Err(RunFault::OutOfMemory),
         Err(_) => return Ok(()),
     };
     let Some(line) = line_of(rack, text.front.as_slice()) else {

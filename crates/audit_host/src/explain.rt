@@ -1,0 +1,192 @@
+//! Explains audit texts.
+
+ghost use Rattle.std.specs.Prelude.{◌≡◌};
+ghost use Rattle.explain_texts.specs.TextRows.{nothing_read};
+
+use crate::audit_text::{
+    AuditText, Beginning, FileEntries, FirstRow, entries_of, files_of, open_text,
+};
+use crate::cut_end::noted_end;
+use crate::fault::TextFault;
+use crate::notes::noted_header;
+use crate::output::{buffered, flushed, written};
+use crate::stations::check_stations;
+use audit_parts::fault_of_head;
+use dp_audit::AuditFault;
+use dp_line::LineSpec;
+use dp_text::Text;
+use explain_texts::{Choice, Follower, TextRows, explain_entries};
+use rack_file::Rack;
+use rack_script::{RunFault, report_verdict_by, run_explain};
+use rackd_cli::Entries;
+use std::alloc::Global;
+use std::fs::Files;
+use std::io::{BufRead, Read, Write};
+use std::process::ExitCode;
+use std::rt::Runtime;
+
+/// Explains the audit text of these files on the rack that `rack` describes, and writes the explanation on standard output. If
+/// its reader ends before, the rest is not written, and that is no fault. `shows` is whether the progress of a long text is
+/// shown on standard error.
+///
+/// Returns the exit status: 0 if the text is legal, else 1.
+pub fn explain_text<'a, H: Runtime + AllocGlobal>(
+    rt: &H,
+    rack: &str,
+    audit: &[&'a str],
+    entries: Entries,
+    shows: bool,
+) -> Result<ExitCode, TextFault<'a>> {
+    let (described, text) = open_text(rt, rack, audit, shows)?;
+    check_stations(&described, text.front.as_slice(), entries)?;
+    let code = explain_from(rt, rack, &described, &choice_of(entries), text)?;
+    noted_end(rt, rack, &described, audit, code)
+}
+
+/// Explains an audit text on a rack, which `rack` describes as text.
+fn explain_from<'a, H: Runtime + AllocGlobal + Files<File = R>, R: Read + Drop>(
+    rt: &H,
+    rack: &str,
+    described: &Rack,
+    choice: &Choice,
+    text: AuditText<'a, '_, H, R>,
+) -> Result<ExitCode, TextFault<'a>> {
+    let alloc = rt.alloc();
+    let first_row = text.first_row();
+    let AuditText {
+        beginning,
+        front,
+        reader,
+    } = text;
+    let (check, first, head) = match beginning {
+        Beginning::NoPart => (None, front, None),
+        Beginning::FirstPart(check) => (Some(check), front, None),
+        Beginning::LaterPart(index, check) => (Some(check), Vec::new(alloc), Some((index, front))),
+        Beginning::WrongHead(fault) => return Ok(end_at(rt, fault, choice)?),
+    };
+    let rows = entries_of(alloc, check, first, reader)?;
+    let Some((index, head)) = head else {
+        return explain_rows(rt, rack, Start::Header, choice, first_row, rows);
+    };
+    match described.lines.get(index) {
+        Some(line) => {
+            let start = Start::Head(&line.spec, head.as_slice());
+            explain_rows(rt, rack, start, choice, first_row, rows)
+        }
+        None => Err(TextFault::Run(RunFault::CannotRead)),
+    }
+}
+
+/// Where an explanation begins.
+#[derive(Clone, Copy)]
+enum Start<'l> {
+    /// At the header of the text.
+    Header,
+    /// Behind the head of a part of this line, of which these are the rows.
+    Head(&'l LineSpec, &'l [u8]),
+}
+
+/// Explains the rows of an audit text, and writes the explanation on standard output.
+fn explain_rows<'a, H: Runtime + AllocGlobal + Files<File = R>, R: Read + Drop>(
+    rt: &H,
+    rack: &str,
+    start: Start<'_>,
+    choice: &Choice,
+    first_row: FirstRow,
+    rows: FileEntries<'a, '_, H, R>,
+) -> Result<ExitCode, TextFault<'a>>
+    requires { rows.text ≡ nothing_read }
+{
+    let mut output = buffered(rt, rt.alloc())?;
+    let explained = explain_out(rt.alloc(), rack, start, choice, rows, &mut output);
+    match written(output, explained)? {
+        Some(status) => Ok(noted_header(rt, first_row, status)),
+        None => Ok(ExitCode::SUCCESS),
+    }
+}
+
+/// Explains the rows of an audit text, and returns the exit status.
+fn explain_out<'a, H: Runtime + AllocGlobal + Files<File = R>, R: Read + Drop, W: Write>(
+    alloc: Global,
+    rack: &str,
+    start: Start<'_>,
+    choice: &Choice,
+    rows: FileEntries<'a, '_, H, R>,
+    output: &mut W,
+) -> Result<u8, TextFault<'a>>
+    requires { rows.text ≡ nothing_read }
+{
+    let mut rows = rows;
+    let explained = explain_from_start(alloc, rack, start, choice, &mut rows, output);
+    files_of(&rows).ended(explained)
+}
+
+/// Explains rows from this start on, and returns the exit status.
+fn explain_from_start<R: BufRead, W: Write>(
+    alloc: Global,
+    rack: &str,
+    start: Start<'_>,
+    choice: &Choice,
+    rows: &mut TextRows<R>,
+    output: &mut W,
+) -> Result<u8, RunFault>
+    requires { rows.old.text ≡ nothing_read }
+{
+    match start {
+        Start::Header => run_explain(alloc, rack, rows, choice, output),
+        Start::Head(line, head) => explain_behind(alloc, line, head, choice, rows, output),
+    }
+}
+
+/// Explains the rows behind the head of a part of this line, and returns the exit status.
+fn explain_behind<R: BufRead, W: Write>(
+    alloc: Global,
+    line: &LineSpec,
+    head: &[u8],
+    choice: &Choice,
+    rows: &mut TextRows<R>,
+    output: &mut W,
+) -> Result<u8, RunFault>
+    requires { rows.old.text ≡ nothing_read }
+{
+    // No line of an accepted rack has a fault.
+    if line.fault().is_some() {
+        return Err(RunFault::CannotRead);
+    }
+    match Follower::open_behind(alloc, line, head, &mut Text::new()) {
+        Ok(follower) => {
+            let mut follower = follower;
+            match explain_entries(&mut follower, line, rows, choice, output) {
+                Ok(status) => Ok(status),
+                Err(fault) => Err(RunFault::of_rows(fault)),
+            }
+        }
+        Err(fault) => report_verdict_by(choice, Err(fault_of_head(line, fault)), output),
+    }
+}
+
+/// Writes the verdict on a text that has this fault on standard output, and returns its exit status.
+fn end_at(
+    rt: &(impl Runtime + AllocGlobal),
+    fault: AuditFault,
+    choice: &Choice,
+) -> Result<ExitCode, RunFault> {
+    let mut output = buffered(rt, rt.alloc())?;
+    let status = report_verdict_by(choice, Err(fault), &mut output)?;
+    flushed(output)?;
+    Ok(ExitCode::from(status))
+}
+
+/// Returns the entries that the words choose.
+pub(crate) fn choice_of(entries: Entries) -> Choice {
+    Choice {
+        from: entries.from,
+        to: entries.to,
+        slave: entries.slave,
+        master: entries.master,
+        faults: entries.are_faults,
+        refused: entries.are_refused,
+        summary: entries.only_summary,
+        json: entries.as_json,
+    }
+}
