@@ -53,7 +53,7 @@ def test_port_ends_right_behind_an_answer(operate, tmp_path):
             assert port.row() == b"owned 1"
             port.answer("owned")
             assert port.row() == b"owned 2"
-            with measured(client.pid) as found:
+            with measured(has_ending=True) as found:
                 port.answer(f"owned {number}")
                 port.end()
                 status = client.wait()

@@ -32,7 +32,7 @@ def test_sessions_end(serve, run, tmp_path):
     assert sessions[3].receive(None).startswith(b"show 5 ")
     assert exchange(sessions[0], slave_diag(1, 5)) == fresh_diagnosis(1, 5)
     assert server.process.poll() is None
-    with measured(server.pid) as machine:
+    with measured(has_ending=True) as machine:
         server.end_input()
         begun = time.monotonic()
         assert all(map(has_ended, sessions))
@@ -67,7 +67,7 @@ def test_session_ends_in_a_flood(serve, run, tmp_path):
     asking = threading.Thread(target=ask)
     asking.start()
     wait_for(lambda: sum(got) > 1000 * reply)
-    with measured(server.pid) as machine:
+    with measured(has_ending=True) as machine:
         server.end_input()
         begun = time.monotonic()
         asking.join(60)
