@@ -52,7 +52,13 @@ last 5 2 none
 2 halt | none | released
 """
 # The texts that are legal: their last place, and the places that an explanation has.
-LEGAL = {"head": (HEAD, 7160, []), "two-parts": (HEAD + BEHIND, 7162, [7161, 7162]), "from-the-start": (WHOLE, 2, [1, 2])}
+LEGAL = {
+    "head": (HEAD, 7160, []),
+    # A line that goes on from a head has the same head.
+    "head-again": (HEAD + HEAD + "7161 halt | none | released 5\n", 7161, [7161]),
+    "two-parts": (HEAD + BEHIND, 7162, [7161, 7162]),
+    "from-the-start": (WHOLE, 2, [1, 2]),
+}
 WHOLE_WITHOUT_HEADS = "rack-audit 3 line 7\n1 tick 1 | none | released\n2 halt | none | released\n"
 
 
@@ -120,11 +126,13 @@ WHOLE_CHANGES = [Changed(*change) for change in [
 HEAD_CHANGES = [Changed(*change) for change in [
     ("audit 3", "audit 2", "bad line 1"),
     ("line 7", "line 8", "bad line 1"),
+    ("slave 5", "slave 6", "bad line 3"),
     ("out 5", "out 6", "bad line 7"),
     ("in 5 aa55", "in 5 AA55", "bad line 6"),
     ("in 5 aa55", "in 5 aa5500", "bad line 3"),
     ("DataExch 1", "DataExch 3", "not the policy 3"),
     ("1 4 95", "1 0 95", "not the policy 3"),
+    ("prm 5 100", "prm 5 off", "not the policy 3"),
     ("from 7160", "from 4294967295", "not the policy 2"),
     ("line running", "line halted", "not the policy 2"),
 ]]

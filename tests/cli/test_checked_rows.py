@@ -115,42 +115,6 @@ def test_events_that_are_well_formed(run, tmp_path):
     assert verdict(run, tmp_path, text) == ended("legal 5")
 
 
-# A head of line 1 with slave 5, and the row behind it.
-HEAD = """\
-rack-audit 3 line 1 from 7160
-line running 18929
-slave 5 DataExch 1 4 95 -----d--
-set 5 60 0 0 -f-
-prm 5 100 -f 60 3 0aff
-in 5 aa55 aa54
-out 5 0102 0102
-diag 5 e--u-c- 0407
-last 5 1 1 6805056801050aaa540e16
-last 5 2 none
-"""
-NEXT = "7161 halt | none | released 5\n"
-# What stands in the head, what stands there instead, and what `check` writes.
-CHANGES = {
-    "another-slave": ("slave 5 ", "slave 6 ", "bad line 3"),
-    "upper-case": ("in 5 aa55", "in 5 AA55", "bad line 6"),
-    "inputs-of-another-length": ("in 5 aa55 ", "in 5 aa5500 ", "bad line 3"),
-    "a-holder-that-is-no-master": ("DataExch 1 ", "DataExch 3 ", "not the policy 3"),
-    "parameters-without-the-watchdog-that-runs": ("prm 5 100 ", "prm 5 off ", "not the policy 3"),
-}
-
-
-def test_head(run, tmp_path):
-    """A line goes on from a head, and has the same head: behind no entry, and the row behind it is that of this line."""
-    assert verdict(run, tmp_path, HEAD + NEXT, capacity=20_000) == ended("legal 7161")
-    assert verdict(run, tmp_path, HEAD + HEAD + NEXT, capacity=20_000) == ended("legal 7161")
-
-
-@pytest.mark.parametrize(("was", "is_now", "written"), CHANGES.values(), ids=CHANGES)
-def test_head_that_is_refused(run, tmp_path, was, is_now, written):
-    assert was in HEAD
-    assert verdict(run, tmp_path, HEAD.replace(was, is_now) + NEXT, capacity=20_000) == ended(written)
-
-
 # The head behind six entries. Master 1 has locked slave 7 and then slave 5, master 2 slave 6; slave 8 waits for parameters, and
 # its point of Set_Prm is busy. Six units are left of two watchdogs of ten.
 SIX_ENTRIES = """\
