@@ -4,7 +4,6 @@ import os
 import select
 import signal
 import subprocess
-import time
 
 from support.processes import PATIENCE
 from support.servers import PR_SET_PDEATHSIG, libc
@@ -18,9 +17,9 @@ class Stream:
         self.file, self.is_over = file, file is None
         self._octets = bytearray()
 
-    def _read(self, until):
-        left = until - time.monotonic()
-        assert left > 0 and select.select([self.file], [], [], left)[0], f"nothing comes behind {bytes(self._octets[-200:])}"
+    def _read(self, within):
+        """Reads what comes next. How long all of it takes is no matter: a machine that is busy is no fault of the program."""
+        assert select.select([self.file], [], [], within)[0], f"nothing comes behind {bytes(self._octets[-200:])}"
         try:
             more = os.read(self.file.fileno(), 65536)
         except OSError:
@@ -31,10 +30,9 @@ class Stream:
 
     def row(self, within=PATIENCE):
         """Returns the next row, without its LF."""
-        until = time.monotonic() + within
         while b"\n" not in self._octets:
             assert not self.is_over, f"the stream has ended with {bytes(self._octets)}"
-            self._read(until)
+            self._read(within)
         end = self._octets.index(b"\n")
         row = self._octets[:end].decode(errors="backslashreplace")
         del self._octets[:end + 1]
@@ -46,19 +44,17 @@ class Stream:
 
     def take(self, count, within=PATIENCE):
         """Returns this number of octets."""
-        until = time.monotonic() + within
         while len(self._octets) < count:
             assert not self.is_over, f"the stream has ended after {len(self._octets)} of {count} octets"
-            self._read(until)
+            self._read(within)
         octets = bytes(self._octets[:count])
         del self._octets[:count]
         return octets
 
     def rest(self, within=PATIENCE):
         """Returns all that was not read yet, once nothing comes any more."""
-        until = time.monotonic() + within
         while not self.is_over:
-            self._read(until)
+            self._read(within)
         text = self._octets.decode(errors="backslashreplace")
         self._octets.clear()
         return text
@@ -66,7 +62,7 @@ class Stream:
     def so_far(self):
         """Returns what has come and was not taken, without waiting."""
         while not self.is_over and select.select([self.file], [], [], 0)[0]:
-            self._read(time.monotonic() + PATIENCE)
+            self._read(PATIENCE)
         return self._octets.decode(errors="backslashreplace")
 
 
