@@ -13,7 +13,7 @@ agreed true b e = sym e
 agreed false true e = absurd cc
 agreed false false e = refl
 
-zeros_zero : (n : ℕ) → are_zero (zeros n) ≡ true
+pub zeros_zero : (n : ℕ) → are_zero (zeros n) ≡ true
 zeros_zero zero = refl
 zeros_zero (suc n) = zeros_zero n
 

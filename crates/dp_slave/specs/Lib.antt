@@ -9,8 +9,10 @@ pub mod Controls
 pub mod Services
 pub mod Soundness
 pub mod Sound
+pub mod Reachable
 pub mod Images
 pub mod View
 pub mod Codes
 pub mod Names
 pub mod SlaveExamples
+pub mod ReachableExamples

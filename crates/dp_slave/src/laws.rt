@@ -1,12 +1,14 @@
 //! Laws of a slave: each is what a function that does nothing ensures.
 
-ghost use Rattle.std.specs.Prelude.{◌≡◌, ◌≢◌, ◌+◌, ◌<◌, ℕ, List, length, not, true, false};
+ghost use Rattle.std.specs.Prelude.{◌≡◌, ◌≢◌, ◌+◌, ◌<◌, ◌≤◌, ℕ, All, List, length, not, Option, true, false};
+ghost use Rattle.dp_sap.specs.AccessTable.{is_listed};
 ghost use Rattle.dp_prm.specs.Requests.{AsksUnsupported, IsLocking};
 ghost use Rattle.dp_slave.specs.declared.description.SlaveSpec.{SlaveSpec};
-ghost use Rattle.dp_slave.specs.SlaveRecord.{SlaveRecord, configurations, is_held_by, limits_of, output_length, released, starting_slave, zeros};
+ghost use Rattle.dp_slave.specs.SlaveRecord.{SlaveRecord, configurations, is_held_by, limits_of, output_length, points_of, released, starting_slave, zeros};
 ghost use Rattle.dp_slave.specs.Acts.{Act, Control, configures, exchanges, halts, is_controlled, is_read, releases, sends_diagnosis, ticks};
 ghost use Rattle.dp_slave.specs.Fields.{acted};
-ghost use Rattle.dp_slave.specs.Services.{set_prm_act};
+ghost use Rattle.dp_slave.specs.Services.{service_act, set_prm_act};
+ghost use Rattle.dp_slave.specs.Reachable.{all_suit, is_reachable, suits};
 ghost use Rattle.dp_slave.specs.Sound.{is_sound};
 ghost use Rattle.dp_slave.specs.Soundness.{acts_after, all_fit, ends_clearing, fits, IsSound};
 
@@ -34,6 +36,39 @@ pub fn a_sound_slave_passes_the_test()
         → IsSound slave
         → slave.shape < length (configurations slave.description)
         → is_sound slave ≡ true }
+{}
+
+/// What a request does suits the slave: who locks it may do so, it takes the parameters of a lock, a
+/// fault is for something that is not supported only if the slave lacks Sync or Freeze, and a
+/// configuration is one that a master can choose. The lists of the slave let the sender use the point
+/// of the request, and its octets are below 256.
+pub fn a_request_suits_the_slave()
+    ensures { (slave : SlaveRecord) (sender place : ℕ) (point : Option ℕ) (octets : List ℕ)
+        → All (λ octet. octet < 256) octets
+        → is_listed (points_of slave) point sender ≡ true
+        → suits slave (service_act slave sender place point octets) ≡ true }
+{
+    dp_prm::laws::lock_or_fault();
+    dp_prm::laws::not_supported_is_sync_or_freeze();
+}
+
+/// A slave that has a configuration passes the test of the slaves to which acts can have led: at its
+/// start, after an act that fits and suits it if it passed before, and so after any such acts from its
+/// start.
+pub fn a_slave_stays_reachable()
+    ensures start { (masters : List ℕ) (description : SlaveSpec)
+        → 1 ≤ length (configurations description)
+        → is_reachable (starting_slave masters description) ≡ true }
+    ensures act { (slave : SlaveRecord) (act : Act)
+        → is_reachable slave ≡ true
+        → fits slave act ≡ true
+        → suits slave act ≡ true
+        → is_reachable (acted slave act) ≡ true }
+    ensures acts { (masters : List ℕ) (description : SlaveSpec) (acts : List Act)
+        → 1 ≤ length (configurations description)
+        → all_fit (starting_slave masters description) acts ≡ true
+        → all_suit (starting_slave masters description) acts ≡ true
+        → is_reachable (acts_after (starting_slave masters description) acts) ≡ true }
 {}
 
 /// A locking request for an unsupported Sync or Freeze is reported as Not_Supported in addition to

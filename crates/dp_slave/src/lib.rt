@@ -11,6 +11,7 @@ mod fields;
 mod image;
 pub mod laws;
 mod linked;
+mod reachable;
 mod services;
 mod slave;
 mod soundness;

@@ -29,7 +29,7 @@ impl Slave {
     }
 
     /// Returns whether it is in Wait_Prm.
-    fn is_waiting(&self) -> bool
+    pub(crate) fn is_waiting(&self) -> bool
         ensures { result ≡ is_in_wait_prm self.now.slave.state }
     {
         match self.points.state() {
@@ -96,7 +96,7 @@ fn agree(one: bool, other: bool) -> bool
     if one { other } else { !other }
 }
 
-fn are_zero(octets: &[u8]) -> bool
+pub(crate) fn are_zero(octets: &[u8]) -> bool
     ensures { result ≡ are_zero octets.now }
 {
     octets.iter().all(|octet| *octet == 0)
