@@ -15,23 +15,25 @@ use Rattle.dp_line.specs.declared.fault.OperatorFault.{OperatorFault}
 use Rattle.dp_line.specs.declared.fault.RestoreFault.TheVariants.{SharedPlace, UnsoundCount}
 use Rattle.dp_line.specs.World.{Description, HaveMasters, World, ascending, is_last_place, opening_fault, slave_is_within_limits, start_of}
 use Rattle.dp_line.specs.Endless.{endless}
-use Rattle.dp_line.specs.Bus.{HasPlace}
+use Rattle.dp_line.specs.Bus.{HasPlace, HasShortConfigurations, HasShortReport}
+use Rattle.dp_line.specs.EventOctets.{HasOctets}
 use Rattle.dp_line.specs.Hearing.{heard}
 use Rattle.dp_line.specs.Effects.{effect, halted_world, held_addresses, slave_after}
 use Rattle.dp_line.specs.Served.{served}
 use Rattle.dp_line.specs.Steps.{run, step, step_by_fit, reported_halted, unrecorded}
 use Rattle.dp_line.specs.Events.{operator_fault}
-use Rattle.dp_line.specs.SoundWorld.{fault_of_slave, have_own_places, has_sound_count, is_sound_on, restore_fault}
+use Rattle.dp_line.specs.SoundWorld.{fault_of_slave, have_own_places, has_sound_count, is_reachable_on, is_slave_on, is_sound_on, restore_fault}
 use Rattle.dp_line.proofs.Starting.{opened}
 use Rattle.dp_line.proofs.Kept.{HasMaster, has_after, op_holder}
 use Rattle.dp_line.proofs.Moves.{served_move}
 use Rattle.dp_line.proofs.BusSteps.{IsWay, leaves, reaches, operates, Keeps, all_start, kept_run, way}
 use Rattle.dp_line.proofs.BusVerdict.{heard_by_slaves, not_false}
-use Rattle.dp_line.proofs.BusLives.{StaysSound, world_sound}
+use Rattle.dp_line.proofs.BusLives.{world_sound}
 use Rattle.dp_line.proofs.BusHalt.{all_released}
 use Rattle.dp_line.proofs.BusPlaces.{AreApart, IsApart, IsPlaced, line_places}
 use Rattle.dp_line.proofs.Descriptions.{is_of}
 use Rattle.dp_line.proofs.Restorable.{ascending_have}
+use Rattle.dp_line.proofs.ReachableLines.{HasLaws, line_passes}
 
 -- ---- each holder is a master
 
@@ -143,11 +145,13 @@ all_of masters count (slave ∷ slaves) sound within have placed =
       all_of masters count slaves sound.1 within.1 have.1 placed.1,
     )
 
-none_unsound : PassesTest → (masters : List ℕ) (count : ℕ) (slaves : List SlaveRecord) → AllByRecursion (IsOfLine masters count) slaves → find (λ s. not (is_sound_on masters count s)) slaves ≡ None
-none_unsound test masters count [] all = refl
-none_unsound test masters count (slave ∷ slaves) all =
-    ap (λ (b : Bool). cond (not b) (Some slave) (find (λ s. not (is_sound_on masters count s)) slaves)) (passes test masters count slave all.0)
-    ∙ none_unsound test masters count slaves all.1
+none_unsound : PassesTest → (masters : List ℕ) (count : ℕ) (slaves : List SlaveRecord) → AllByRecursion (IsOfLine masters count) slaves
+    → AllByRecursion (λ s. is_reachable_on masters count s ≡ true) slaves → find (λ s. not (is_slave_on masters count s)) slaves ≡ None
+none_unsound test masters count [] all reached = refl
+none_unsound test masters count (slave ∷ slaves) all reached =
+    ap (λ (b : Bool). cond (not b) (Some slave) (find (λ s. not (is_slave_on masters count s)) slaves))
+    (and_from (is_sound_on masters count slave) (is_reachable_on masters count slave) (passes test masters count slave all.0) reached.0)
+    ∙ none_unsound test masters count slaves all.1 reached.1
 
 -- ---- no two locks have one place
 
@@ -190,17 +194,32 @@ none_held : (slaves : List SlaveRecord) → AllByRecursion IsReleased slaves →
 none_held [] all = refl
 none_held (slave ∷ slaves) all = or_from (is_held slave) (list_any is_held slaves) (free_when_released slave all.0) (none_held slaves all.1)
 
-count_by : (world : World) (b : Bool) → world.halted ≡ b → (world.halted ≡ true → AllByRecursion IsReleased world.slaves) → HasRoom world
-    → cond b (not (list_any is_held world.slaves)) (nat_lt world.count world.capacity) ≡ true
-count_by world true halted quiet room = not_from_false (list_any is_held world.slaves) (none_held world.slaves (quiet halted))
-count_by world false running quiet room = lt-ltb world.count world.capacity (room running)
+-- a halted line has recorded its halt
+abbrev HasRecorded : World → Type 0
+HasRecorded world = world.halted ≡ true → 1 ≤ world.count
+
+recorded_kept : Keeps HasRecorded
+unfolding effect
+recorded_kept world event running fit has = λ halted. omega arith
+
+line_recorded : (line : Description) (events : List Event) → HasRecorded (run (start_of line) events).world
+line_recorded line events = kept_run HasRecorded (start_of line) events recorded_kept (λ halted. absurd cc)
+
+count_by : (world : World) (b : Bool) → world.halted ≡ b → (world.halted ≡ true → AllByRecursion IsReleased world.slaves) → HasRecorded world → HasRoom world
+    → cond b (not (list_any is_held world.slaves) && leb 1 world.count) (nat_lt world.count world.capacity) ≡ true
+count_by world true halted quiet recorded room =
+    and_from (not (list_any is_held world.slaves)) (leb 1 world.count) (not_from_false (list_any is_held world.slaves) (none_held world.slaves (quiet halted)))
+    (le-leb 1 world.count (recorded halted))
+count_by world false running quiet recorded room = lt-ltb world.count world.capacity (room running)
 
 no_fault : (found : Option SlaveRecord) (own right : Bool) → found ≡ None → own ≡ true → right ≡ true
     → fault_of_slave found (cond (not own) (Some SharedPlace) (cond (not right) (Some UnsoundCount) None)) ≡ None
 no_fault found own right none is count = rw (none, is, count) refl
 
-pub goes_on_from_each : StaysSound → PassesTest → (line : Description) (events : List Event) → opening_fault line ≡ None → restore_fault (run (start_of (endless line)) events).world ≡ None
-goes_on_from_each sound test line events opens =
+pub goes_on_from_each : HasLaws → PassesTest → (line : Description) (events : List Event) → opening_fault line ≡ None → AllByRecursion HasShortConfigurations line.slaves
+    → AllByRecursion HasShortReport events → AllByRecursion HasOctets events → restore_fault (run (start_of (endless line)) events).world ≡ None
+goes_on_from_each laws test line events opens short reports below =
+    let sound = laws.sound in
     let world = (run (start_of (endless line)) events).world in
     let places = line_places sound (endless line) events in
     let of = is_of (endless line) events in
@@ -208,6 +227,6 @@ goes_on_from_each sound test line events opens =
     let all = all_of world.masters world.count world.slaves (world_sound sound world places.lived)
     (subst (λ (ds : List SlaveSpec). AllByRecursion (λ d. slave_is_within_limits d ≡ true) ds) (sym of.slaves) (ascending_have slave_is_within_limits line.slaves (opened line opens).within))
     masters places.placed in
-    no_fault (find (λ s. not (is_sound_on world.masters world.count s)) world.slaves) (have_own_places world.slaves) (has_sound_count world)
-    (none_unsound test world.masters world.count world.slaves all) (own_places world.count world.slaves places.placed places.apart)
-    (count_by world world.halted refl (all_released (endless line) events) (room_run (start_of (endless line)) events (λ running. omega arith)))
+    no_fault (find (λ s. not (is_slave_on world.masters world.count s)) world.slaves) (have_own_places world.slaves) (has_sound_count world)
+    (none_unsound test world.masters world.count world.slaves all (line_passes laws line events opens short reports below)) (own_places world.count world.slaves places.placed places.apart)
+    (count_by world world.halted refl (all_released (endless line) events) (line_recorded (endless line) events) (room_run (start_of (endless line)) events (λ running. omega arith)))

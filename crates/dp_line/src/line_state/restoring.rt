@@ -6,13 +6,15 @@ ghost use Rattle.std.specs.Option.{option_copied, option_map_or};
 ghost use Rattle.dp_slave.specs.SlaveRecord.{is_held};
 ghost use Rattle.dp_slave.specs.Sound.{agree};
 ghost use Rattle.dp_line.specs.World.{ascending, description_of, opening_fault};
-ghost use Rattle.dp_line.specs.SoundWorld.{have_own_places, has_sound_count, is_sound_on, restore_fault};
+ghost use Rattle.dp_line.specs.SoundWorld.{have_own_places, has_place_of_chk_cfg, has_sound_count, is_reachable_on, is_slave_on, is_sound_on, restore_fault};
 ghost use Rattle.dp_line.specs.Stations.{restored_world, slaves_of};
 
 use super::LineState;
 use crate::description::LineSpec;
 use crate::fault::RestoreFault;
+use crate::remembered::is_memory_of;
 use crate::stations::Stations;
+use dp_sap::State;
 use dp_slave::Slave;
 use std::alloc::Global;
 
@@ -72,14 +74,43 @@ fn restore_fault(masters: &[u8], count: u32, halted: bool, slaves: &[Slave]) -> 
 
 /// Returns the first slave that isn't one of a line with these masters, behind this place.
 fn unsound<'a>(masters: &[u8], count: u32, slaves: &'a [Slave]) -> Option<&'a Slave>
-    ensures { option_copied result ≡ find (λ p. not (is_sound_on masters.now count p.slave)) slaves.now }
+    ensures { option_copied result ≡ find (λ p. not (is_slave_on masters.now count p.slave)) slaves.now }
 {
     slaves
         .iter()
-        .find(|slave| !is_sound_on(masters, count, slave))
+        .find(|slave| !is_slave_on(masters, count, slave))
 }
 
 /// Returns whether a slave is one of a line with these masters, behind this place.
+fn is_slave_on(masters: &[u8], count: u32, slave: &Slave) -> bool
+    ensures { result ≡ is_slave_on masters.now count slave.now.slave }
+{
+    is_sound_on(masters, count, slave) && is_reachable_on(masters, count, slave)
+}
+
+/// Returns whether the events of a line with these masters, up to this place, can have led to a slave, as far as
+/// single fields show it.
+fn is_reachable_on(masters: &[u8], count: u32, slave: &Slave) -> bool
+    ensures { result ≡ is_reachable_on masters.now count slave.now.slave }
+{
+    slave.is_reachable()
+        && has_place_of_chk_cfg(count, slave)
+        && is_memory_of(masters, slave.address(), slave.memory().entries())
+}
+
+/// Returns whether a slave is outside Data_Exch or its lock is before this place, which is the last one so far.
+fn has_place_of_chk_cfg(count: u32, slave: &Slave) -> bool
+    ensures { result ≡ has_place_of_chk_cfg count slave.now.slave }
+{
+    match slave.state() {
+        State::WaitPrm => true,
+        State::WaitCfg => true,
+        State::DataExch => slave.since() < count,
+    }
+}
+
+/// Returns whether state, hold and data of a slave agree, its holder is one of the masters, and the place of its lock
+/// is not behind this one.
 fn is_sound_on(masters: &[u8], count: u32, slave: &Slave) -> bool
     ensures { result ≡ is_sound_on masters.now count slave.now.slave }
 {
@@ -141,7 +172,7 @@ fn has_sound_count(count: u32, halted: bool, slaves: &[Slave]) -> bool
     ensures { (masters : List ℕ) → result ≡ has_sound_count (restored_world masters count halted slaves.now) }
 {
     if halted {
-        !is_one_held(slaves)
+        !is_one_held(slaves) && count >= 1
     } else {
         count < u32::MAX
     }
