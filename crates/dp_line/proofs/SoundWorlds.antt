@@ -22,7 +22,7 @@ use Rattle.dp_line.specs.Effects.{effect, halted_world, held_addresses, slave_af
 use Rattle.dp_line.specs.Served.{served}
 use Rattle.dp_line.specs.Steps.{run, step, step_by_fit, reported_halted, unrecorded}
 use Rattle.dp_line.specs.Events.{operator_fault}
-use Rattle.dp_line.specs.SoundWorld.{fault_of_slave, have_own_places, has_sound_count, is_reachable_on, is_slave_on, is_sound_on, restore_fault}
+use Rattle.dp_line.specs.SoundWorld.{fault_of_slave, have_own_places, has_sound_count, has_sound_end, is_reachable_on, is_slave_on, is_sound_on, restore_fault}
 use Rattle.dp_line.proofs.Starting.{opened}
 use Rattle.dp_line.proofs.Kept.{HasMaster, has_after, op_holder}
 use Rattle.dp_line.proofs.Moves.{served_move}
@@ -33,6 +33,8 @@ use Rattle.dp_line.proofs.BusHalt.{all_released}
 use Rattle.dp_line.proofs.BusPlaces.{AreApart, IsApart, IsPlaced, line_places}
 use Rattle.dp_line.proofs.Descriptions.{is_of}
 use Rattle.dp_line.proofs.Restorable.{ascending_have}
+use Rattle.dp_line.specs.NeededPlaces.{have_places}
+use Rattle.dp_line.proofs.NeededPlaces.{places_enough}
 use Rattle.dp_line.proofs.ReachableLines.{HasLaws, line_passes}
 
 -- ---- each holder is a master
@@ -229,4 +231,5 @@ goes_on_from_each laws test line events opens short reports below =
     masters places.placed in
     no_fault (find (λ s. not (is_slave_on world.masters world.count s)) world.slaves) (have_own_places world.slaves) (has_sound_count world)
     (none_unsound test world.masters world.count world.slaves all (line_passes laws line events opens short reports below)) (own_places world.count world.slaves places.placed places.apart)
-    (count_by world world.halted refl (all_released (endless line) events) (line_recorded (endless line) events) (room_run (start_of (endless line)) events (λ running. omega arith)))
+    (and_from (have_places world.count world.slaves) (has_sound_end world) (places_enough sound (endless line) events)
+    (count_by world world.halted refl (all_released (endless line) events) (line_recorded (endless line) events) (room_run (start_of (endless line)) events (λ running. omega arith))))

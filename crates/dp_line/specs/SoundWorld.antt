@@ -6,6 +6,7 @@ use Rattle.dp_slave.specs.SlaveRecord.{SlaveRecord, is_held}
 use Rattle.dp_sap.specs.States.{is_in_data_exch}
 use Rattle.dp_slave.specs.Sound.{agree, is_sound}
 use Rattle.dp_slave.specs.Reachable.{is_reachable}
+use Rattle.dp_line.specs.NeededPlaces.{have_places}
 use Rattle.dp_line.specs.RememberedReplies.{is_memory_of}
 use Rattle.dp_line.specs.declared.fault.RestoreFault.{RestoreFault}
 use Rattle.dp_line.specs.declared.fault.RestoreFault.TheVariants.{UnsoundSlave, SharedPlace, UnsoundCount}
@@ -40,9 +41,13 @@ have_own_places (slave ∷ slaves) =
     (slave.since == 0 || not (list_any (λ other. other.since == slave.since) slaves)) && have_own_places slaves
 
 -- a halted line has released its slaves and recorded at least the halt, and one that runs has a place left
-abbrev pub has_sound_count : World → Bool
-has_sound_count world =
+abbrev pub has_sound_end : World → Bool
+has_sound_end world =
     if world.halted then not (list_any is_held world.slaves) && nat_le 1 world.count else nat_lt world.count world.capacity
+
+-- and its places so far are enough for the locks of its slaves and for the Chk_Cfg after them
+abbrev pub has_sound_count : World → Bool
+has_sound_count world = have_places world.count world.slaves && has_sound_end world
 
 abbrev pub fault_of_slave : Option SlaveRecord → Option RestoreFault → Option RestoreFault
 fault_of_slave (Some slave) other = Some (UnsoundSlave (address_of_slave slave))

@@ -6,12 +6,13 @@ ghost use Rattle.std.specs.Option.{option_copied, option_map_or};
 ghost use Rattle.dp_slave.specs.SlaveRecord.{is_held};
 ghost use Rattle.dp_slave.specs.Sound.{agree};
 ghost use Rattle.dp_line.specs.World.{ascending, description_of, opening_fault};
-ghost use Rattle.dp_line.specs.SoundWorld.{have_own_places, has_place_of_chk_cfg, has_sound_count, is_reachable_on, is_slave_on, is_sound_on, restore_fault};
+ghost use Rattle.dp_line.specs.SoundWorld.{have_own_places, has_place_of_chk_cfg, has_sound_count, has_sound_end, is_reachable_on, is_slave_on, is_sound_on, restore_fault};
 ghost use Rattle.dp_line.specs.Stations.{restored_world, slaves_of};
 
 use super::LineState;
 use crate::description::LineSpec;
 use crate::fault::RestoreFault;
+use crate::needed_places::have_places;
 use crate::remembered::is_memory_of;
 use crate::stations::Stations;
 use dp_sap::State;
@@ -24,7 +25,8 @@ impl LineState {
     /// line can be opened from the description, and that each of its slaves is there.
     ///
     /// Returns `UnsoundSlave` exactly if a slave isn't one of such a line; else `SharedPlace` exactly if two were
-    /// locked at one place; else `UnsoundCount` exactly if the halt doesn't agree with slaves and count; else
+    /// locked at one place; else `UnsoundCount` exactly if the places so far are too few for the holds, or the halt
+    /// doesn't agree with slaves and count; else
     /// `OutOfMemory` if there is not enough memory (own).
     pub fn restore(
         alloc: Global,
@@ -167,9 +169,16 @@ fn any_locked_at(slaves: &[Slave], place: u32) -> bool
     slaves.iter().any(|slave| slave.since() == place)
 }
 
-/// Returns whether the halt agrees with the slaves and the count.
+/// Returns whether the places are enough for the holds of the slaves, and the halt agrees with the slaves and the count.
 fn has_sound_count(count: u32, halted: bool, slaves: &[Slave]) -> bool
     ensures { (masters : List ℕ) → result ≡ has_sound_count (restored_world masters count halted slaves.now) }
+{
+    have_places(count, slaves) && has_sound_end(count, halted, slaves)
+}
+
+/// Returns whether the halt agrees with the slaves and the count.
+fn has_sound_end(count: u32, halted: bool, slaves: &[Slave]) -> bool
+    ensures { (masters : List ℕ) → result ≡ has_sound_end (restored_world masters count halted slaves.now) }
 {
     if halted {
         !is_one_held(slaves) && count >= 1
