@@ -1,10 +1,12 @@
 -- A slave to which acts can have led, as a test (own). It looks at fields that a sound slave leaves open.
-use Rattle.std.specs.Prelude.{ℕ, zero, suc, ◌/◌, ◌%◌, ◌==◌, nat_eq, nat_le, Bool, true, false, not, ◌&&◌, ◌||◌, List, [], ◌∷◌, length, Option, Some}
+use Rattle.std.specs.Prelude.{ℕ, zero, suc, ◌/◌, ◌%◌, ◌==◌, nat_eq, nat_le, Bool, true, false, not, ◌&&◌, ◌||◌, List, [], ◌∷◌, length, Option, Some, is_some}
+use Rattle.std.specs.List.{list_any}
 use Rattle.std.specs.Option.{option_eq, option_map_or}
 use Rattle.dp_sap.specs.AccessTable.{may_lock}
 use Rattle.dp_sap.specs.States.{is_in_wait_prm}
 use Rattle.dp_prm.specs.declared.prm.Prm.{Prm}
 use Rattle.dp_cfg.specs.Choosing.{chosen, same_octets}
+use Rattle.dp_cfg.specs.Reading.{input_octets, output_octets}
 use Rattle.dp_diag.specs.declared.diag.Diag.{Diag}
 use Rattle.dp_slave.specs.declared.description.SlaveSpec.{SlaveSpec}
 use Rattle.dp_slave.specs.SlaveRecord.{SlaveRecord, configuration, configurations, full_time}
@@ -37,6 +39,19 @@ takes description prm =
 -- Chk_Cfg with the octets of the configuration of this number chooses this number: no configuration before it is equal to it
 abbrev pub is_choosable : SlaveSpec → ℕ → Bool
 is_choosable description number = option_eq nat_eq (chosen (configurations description) (configuration description number)) (Some number)
+
+-- ---- what the configurations of a slave can have
+
+-- one of them has this number of inputs, or of outputs
+abbrev pub has_inputs : SlaveSpec → ℕ → Bool
+has_inputs description count = list_any (λ octets. input_octets octets == count) (configurations description)
+
+abbrev pub has_outputs : SlaveSpec → ℕ → Bool
+has_outputs description count = list_any (λ octets. output_octets octets == count) (configurations description)
+
+-- these are the octets of one of them
+abbrev pub has_configuration : SlaveSpec → List ℕ → Bool
+has_configuration description octets = is_some (chosen (configurations description) octets)
 
 -- ---- the conditions
 

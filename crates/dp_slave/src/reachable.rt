@@ -1,17 +1,19 @@
 //! Whether a slave is one to which acts can have led, by fields that a sound slave leaves open.
 
-ghost use Rattle.std.specs.Prelude.{◌≡◌, ◌≤◌, true};
+ghost use Rattle.std.specs.Prelude.{◌≡◌, ◌≤◌, ◌==◌, true};
+ghost use Rattle.std.specs.List.{list_any};
 ghost use Rattle.std.specs.Option.{option_map_or};
 ghost use Rattle.dp_cfg.specs.Choosing.{same_octets};
+ghost use Rattle.dp_cfg.specs.Reading.{input_octets, output_octets};
 ghost use Rattle.dp_sap.specs.States.{is_in_wait_prm};
 ghost use Rattle.dp_slave.specs.SlaveRecord.{full_time};
 ghost use Rattle.dp_slave.specs.Fields.{freeze_is_asked, sync_is_asked};
-ghost use Rattle.dp_slave.specs.Reachable.{has_asked_modes, has_choosable_shape, has_factor, has_faults, has_listed_holder, has_min_tsdr, has_put_out, has_reachable_data, has_reachable_hold, has_sound_faults, has_sound_frozen_inputs, has_taken_prm, has_time_left, has_unsupported, is_factor, is_left_of, is_reachable, is_watchdog_time, takes};
+ghost use Rattle.dp_slave.specs.Reachable.{has_asked_modes, has_choosable_shape, has_configuration, has_factor, has_faults, has_inputs, has_listed_holder, has_min_tsdr, has_outputs, has_put_out, has_reachable_data, has_reachable_hold, has_sound_faults, has_sound_frozen_inputs, has_taken_prm, has_time_left, has_unsupported, is_factor, is_left_of, is_reachable, is_watchdog_time, takes};
 
 use crate::description::SlaveSpec;
 use crate::slave::Slave;
 use crate::soundness::are_zero;
-use dp_cfg::choose;
+use dp_cfg::{CfgIds, choose};
 use dp_diag::Diag;
 use dp_prm::Prm;
 use dp_sap::SET_PRM;
@@ -20,6 +22,27 @@ use dp_sap::SET_PRM;
 const MOST_FACTOR: u32 = 255;
 
 impl Slave {
+    /// Returns whether one of its configurations has this number of inputs.
+    pub fn has_inputs(&self, count: usize) -> bool
+        ensures { result ≡ has_inputs self.now.slave.description count }
+    {
+        have_inputs(&self.configurations, count)
+    }
+
+    /// Returns whether one of its configurations has this number of outputs.
+    pub fn has_outputs(&self, count: usize) -> bool
+        ensures { result ≡ has_outputs self.now.slave.description count }
+    {
+        have_outputs(&self.configurations, count)
+    }
+
+    /// Returns whether these are the octets of one of its configurations.
+    pub fn has_configuration(&self, octets: &[u8]) -> bool
+        ensures { result ≡ has_configuration self.now.slave.description octets.now }
+    {
+        choose(&self.configurations, octets).is_some()
+    }
+
     /// Returns whether acts can have led to the slave, as far as single fields show it: its holder may lock it, it
     /// takes its parameters, its watchdog has time left, a mode that is on was asked for, it has put out its data, its
     /// frozen inputs and its faults are possible, and a master can choose its shape. Every slave to which acts led
@@ -154,6 +177,18 @@ impl Slave {
     {
         choose(&self.configurations, self.get_cfg()) == Some(self.shape)
     }
+}
+
+fn have_inputs(configurations: &[CfgIds], count: usize) -> bool
+    ensures { result ≡ list_any (λ octets. input_octets octets == count) configurations.now }
+{
+    configurations.iter().any(|configuration| usize::from(configuration.input_len()) == count)
+}
+
+fn have_outputs(configurations: &[CfgIds], count: usize) -> bool
+    ensures { result ≡ list_any (λ octets. output_octets octets == count) configurations.now }
+{
+    configurations.iter().any(|configuration| usize::from(configuration.output_len()) == count)
 }
 
 /// Returns whether a slave of this description takes the parameters.
