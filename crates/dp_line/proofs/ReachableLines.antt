@@ -26,7 +26,7 @@ use Rattle.dp_slave.specs.Acts.{Act, locks, releases}
 use Rattle.dp_slave.specs.Fields.{acted}
 use Rattle.dp_slave.specs.Services.{service_act}
 use Rattle.dp_slave.specs.Soundness.{IsSound, fits}
-use Rattle.dp_slave.specs.Reachable.{is_reachable, suits}
+use Rattle.dp_slave.specs.Reachable.{has_choosable_shape, has_reachable_data, has_reachable_hold, has_sound_faults, is_reachable, suits}
 use Rattle.dp_line.specs.declared.event.Event.{Event}
 use Rattle.dp_line.specs.declared.event.Op.{Op}
 use Rattle.dp_line.specs.declared.event.Op.TheVariants.{Input, Diag, Busy, Tick, Halt}
@@ -51,7 +51,7 @@ use Rattle.dp_line.proofs.BusAnswers.{HaveAnswers, IsAnswering, IsServed, answer
 use Rattle.dp_line.proofs.BusPlaces.{HavePlaces, IsPlaced, line_places, places_kept}
 use Rattle.dp_line.proofs.BusReasons.{TextsAgree}
 use Rattle.dp_line.proofs.IsolationOfLines.{of_a_line}
-use Rattle.dp_line.proofs.RememberedReplies.{AreRemembered, extensions_of, served_remembers}
+use Rattle.dp_line.proofs.RememberedReplies.{AreRemembered, extensions_of, giving, served_remembers}
 
 -- the laws that are used
 pub record HasLaws : Type 0 where
@@ -112,7 +112,7 @@ heard_octets world master octets telegram parts concerned below =
 record IsReached (count : ℕ) (slave : SlaveRecord) : Type 0 where
   pub reachable : is_reachable slave ≡ true
   pub later : has_place_of_chk_cfg count slave ≡ true
-  pub remembers : AreRemembered (address_of_slave slave) slave.memory
+  pub remembers : AreRemembered slave.description slave.memory
 
 low_by : (count since : ℕ) (holder : Option ℕ) → HasPlace count since holder → since ≤ count
 low_by count since None place = omega (arith, place)
@@ -166,7 +166,7 @@ op_suits (Busy address point on) slave = refl
 op_suits (Tick time) slave = refl
 op_suits Halt slave = refl
 
-op_remembers : (op : Op) (slave : SlaveRecord) → AreRemembered (address_of_slave slave) slave.memory → AreRemembered (address_of_slave (acted slave (act_of_op op))) (acted slave (act_of_op op)).memory
+op_remembers : (op : Op) (slave : SlaveRecord) → AreRemembered slave.description slave.memory → AreRemembered (acted slave (act_of_op op)).description (acted slave (act_of_op op)).memory
 unfolding acted
 op_remembers op slave was = was
 
@@ -185,8 +185,9 @@ served_reached : HasLaws → (world : World) (master : ℕ) (octets : ArrayVec �
 served_reached laws world master octets slave telegram parts concerned below sound answering for low reached = record {
   reachable = served_reachable laws slave master (world.count + 1) telegram parts (heard_octets world master octets.items telegram parts concerned below) reached.reachable;
   later = later_served slave master (world.count + 1) world.count telegram parts low;
-  remembers = subst (λ (d : SlaveSpec). AreRemembered d.address (served slave master (world.count + 1) telegram parts).memory) (sym (served_description slave master (world.count + 1) telegram parts))
-      (served_remembers laws.agree slave master (world.count + 1) (address_of_slave slave) telegram parts for (is_short slave sound answering)
+  remembers = subst (λ (d : SlaveSpec). AreRemembered d (served slave master (world.count + 1) telegram parts).memory) (sym (served_description slave master (world.count + 1) telegram parts))
+      (served_remembers laws.agree slave master (world.count + 1) telegram parts for (is_short slave sound answering)
+      (giving slave sound (and_parts (has_reachable_hold slave && has_reachable_data slave && has_sound_faults slave) (has_choosable_shape slave) reached.reachable).1)
       (read_is world master octets.items telegram parts concerned) reached.remembers);
 }
 
@@ -232,9 +233,9 @@ reached_kept laws world event running fit typed have = record {
       (all_fitting world event have.answers.lived.ascend fit) have.reached;
 }
 
-nothing_remembered : (station : ℕ) (masters : List ℕ) → AreRemembered station (no_memory masters)
-nothing_remembered station [] = refl
-nothing_remembered station (master ∷ masters) = nothing_remembered station masters
+nothing_remembered : (d : SlaveSpec) (masters : List ℕ) → AreRemembered d (no_memory masters)
+nothing_remembered d [] = refl
+nothing_remembered d (master ∷ masters) = nothing_remembered d masters
 
 some_configuration : (description : SlaveSpec) → slave_is_within_limits description ≡ true → 1 ≤ length (configurations description)
 some_configuration description within =
@@ -245,7 +246,7 @@ start_reached : HasLaws → (masters : List ℕ) (descriptions : List SlaveSpec)
     → AllByRecursion (IsReached 0) (map (starting_slave masters) descriptions)
 start_reached laws masters [] within = tt
 start_reached laws masters (description ∷ descriptions) within = (
-  record { reachable = laws.starts masters description (some_configuration description within.0); later = refl; remembers = nothing_remembered description.address masters },
+  record { reachable = laws.starts masters description (some_configuration description within.0); later = refl; remembers = nothing_remembered description masters },
   start_reached laws masters descriptions within.1,
 )
 
@@ -274,9 +275,9 @@ same_by xs ys is = subst (λ (l : List ℕ). same_octets xs l ≡ true) is (itse
 
 reached_passes : (masters : List ℕ) (count : ℕ) (slave : SlaveRecord) → map (λ (m : MasterMemory). m.master) slave.memory ≡ masters → IsReached count slave → is_reachable_on masters count slave ≡ true
 reached_passes masters count slave knows reached =
-    and_from (is_reachable slave && has_place_of_chk_cfg count slave) (is_memory_of masters (address_of_slave slave) slave.memory)
+    and_from (is_reachable slave && has_place_of_chk_cfg count slave) (is_memory_of masters slave.description slave.memory)
     (and_from (is_reachable slave) (has_place_of_chk_cfg count slave) reached.reachable reached.later)
-    (and_from (same_octets (map (λ (m : MasterMemory). m.master) slave.memory) masters) (list_all (is_remembered (address_of_slave slave)) slave.memory)
+    (and_from (same_octets (map (λ (m : MasterMemory). m.master) slave.memory) masters) (list_all (is_remembered slave.description) slave.memory)
     (same_by (map (λ (m : MasterMemory). m.master) slave.memory) masters knows) reached.remembers)
 
 all_pass : (masters : List ℕ) (count : ℕ) (slaves : List SlaveRecord) → AllByRecursion (λ s. map (λ (m : MasterMemory). m.master) s.memory ≡ masters) slaves → AllByRecursion (IsReached count) slaves

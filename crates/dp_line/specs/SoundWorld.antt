@@ -28,7 +28,7 @@ has_place_of_chk_cfg count slave = not (is_in_data_exch slave.state) || nat_lt s
 -- a slave to which the events of a line with these masters can have led, up to this place, as far as single fields show it
 abbrev pub is_reachable_on : List ℕ → ℕ → SlaveRecord → Bool
 is_reachable_on masters count slave =
-    is_reachable slave && has_place_of_chk_cfg count slave && is_memory_of masters (address_of_slave slave) slave.memory
+    is_reachable slave && has_place_of_chk_cfg count slave && is_memory_of masters slave.description slave.memory
 
 -- both
 abbrev pub is_slave_on : List ℕ → ℕ → SlaveRecord → Bool

@@ -1,12 +1,13 @@
 //! Whether a slave can remember what it remembers of masters.
 
 ghost use Rattle.std.specs.Prelude.{◌≡◌, map, Some};
-ghost use Rattle.std.specs.List.{list_all, list_any};
+ghost use Rattle.std.specs.List.{list_all};
 ghost use Rattle.dp_cfg.specs.Choosing.{same_octets};
-ghost use Rattle.dp_line.specs.RememberedReplies.{has_data_from, has_data_parts, has_length_from, has_no_data, is_data_reply, is_memory_of, is_reading, is_remembered, is_reply_of, is_reply_telegram, is_short_reply, least_from};
+ghost use Rattle.dp_line.specs.RememberedReplies.{has_data_from, has_data_function, has_data_parts, has_no_data, is_data_reply, is_memory_of, is_remembered, is_reply_of, is_reply_telegram, is_short_reply};
 
 use dp_responder::MasterEntry;
 use dp_sap::{GET_CFG, MOST_DATA, RD_INP, RD_OUTP, SLAVE_DIAG};
+use dp_slave::Slave;
 use dp_telegram::function_code::{DH, DL, RR, RS, UE};
 use dp_telegram::{Frame, Parts, Telegram, decode};
 
@@ -16,12 +17,12 @@ const SD3: u8 = 0xA2;
 /// The octets of a diagnosis before its extended ones (IEC 61158-6-3, Slave_Diag response).
 const LEAST_DIAGNOSIS: usize = 6;
 
-/// Returns whether the slave of this address can remember these entries on a line with these masters: the masters are
-/// those of the entries, in their order, and what it remembers of each is a reply that it can have sent to this master.
-pub(crate) fn is_memory_of(masters: &[u8], station: u8, entries: &[MasterEntry]) -> bool
-    ensures { result ≡ is_memory_of masters.now station entries.now }
+/// Returns whether the slave can remember these entries on a line with these masters: the entries are of the masters,
+/// in their order, and what it remembers of each is a reply that it can have sent to this master.
+pub(crate) fn is_memory_of(masters: &[u8], slave: &Slave, entries: &[MasterEntry]) -> bool
+    ensures { result ≡ is_memory_of masters.now slave.now.slave.description entries.now }
 {
-    are_of(entries, masters) && all_remembered(station, entries)
+    are_of(entries, masters) && all_remembered(slave, entries)
 }
 
 /// Returns whether the entries are of these masters, in their order.
@@ -37,115 +38,114 @@ fn are_of(entries: &[MasterEntry], masters: &[u8]) -> bool
     }
 }
 
-/// Returns whether the slave of this address can remember each of the entries.
-fn all_remembered(station: u8, entries: &[MasterEntry]) -> bool
-    ensures { result ≡ list_all (is_remembered station) entries.now }
+/// Returns whether the slave can remember each of the entries.
+fn all_remembered(slave: &Slave, entries: &[MasterEntry]) -> bool
+    ensures { result ≡ list_all (is_remembered slave.now.slave.description) entries.now }
 {
-    entries.iter().all(|entry| is_remembered(station, entry))
+    entries.iter().all(|entry| is_remembered(slave, entry))
 }
 
-/// Returns whether the entry has no reply, or one that the slave of this address can have sent to its master.
-fn is_remembered(station: u8, entry: &MasterEntry) -> bool
-    ensures { result ≡ is_remembered station entry.now }
+/// Returns whether the entry has no reply, or one that the slave can have sent to its master.
+fn is_remembered(slave: &Slave, entry: &MasterEntry) -> bool
+    ensures { result ≡ is_remembered slave.now.slave.description entry.now }
 {
     match &entry.last {
-        Some(last) => is_reply_of(entry.master, station, &last.reply),
+        Some(last) => is_reply_of(entry.master, slave, &last.reply),
         None => true,
     }
 }
 
-/// Returns whether a slave of this address can have sent these octets to the master as a reply to an SRD: the short
-/// acknowledgement, or a telegram to the master.
-fn is_reply_of(master: u8, station: u8, octets: &[u8]) -> bool
-    ensures { result ≡ is_reply_of master station octets.now }
+/// Returns whether the slave can have sent these octets to the master as a reply to an SRD: the short acknowledgement, or
+/// a telegram to the master.
+fn is_reply_of(master: u8, slave: &Slave, octets: &[u8]) -> bool
+    ensures { result ≡ is_reply_of master slave.now.slave.description octets.now }
 {
     if octets.first() == Some(&SD3) {
         return false;
     }
     match decode(octets) {
         Ok(Frame::Ack) => true,
-        Ok(Frame::Telegram(telegram)) => is_reply_telegram(master, station, &telegram),
+        Ok(Frame::Telegram(telegram)) => is_reply_telegram(master, slave, &telegram),
         Ok(Frame::Token { .. }) => false,
         Err(_) => false,
     }
 }
 
-/// Returns whether the telegram is one of the station to the master, without data unit or with points and data.
-fn is_reply_telegram(master: u8, station: u8, telegram: &Telegram) -> bool
-    ensures { result ≡ is_reply_telegram master station telegram.now }
+/// Returns whether the telegram is one of the slave to the master, without data unit or with points and data.
+fn is_reply_telegram(master: u8, slave: &Slave, telegram: &Telegram) -> bool
+    ensures { result ≡ is_reply_telegram master slave.now.slave.description telegram.now }
 {
     if telegram.du.is_empty() {
-        is_short_reply(master, station, telegram)
+        is_short_reply(master, slave, telegram)
     } else {
-        is_data_reply(master, station, telegram)
+        is_data_reply(master, slave, telegram)
     }
 }
 
-/// Returns whether the telegram is one of the station to the master with a function of a reply without data.
-fn is_short_reply(master: u8, station: u8, telegram: &Telegram) -> bool
-    ensures { result ≡ is_short_reply master station telegram.now }
+/// Returns whether the telegram is one of the slave to the master with a function of a reply without data.
+fn is_short_reply(master: u8, slave: &Slave, telegram: &Telegram) -> bool
+    ensures { result ≡ is_short_reply master slave.now.slave.description telegram.now }
 {
-    telegram.da == master && telegram.sa == station && has_no_data(telegram.fc)
+    telegram.da == master && telegram.sa == slave.address() && has_no_data(slave, telegram.fc)
 }
 
-fn has_no_data(fc: u8) -> bool
-    ensures { result ≡ has_no_data fc }
+/// Returns whether the slave can have sent a reply without data with this function.
+fn has_no_data(slave: &Slave, fc: u8) -> bool
+    ensures { result ≡ has_no_data slave.now.slave.description fc }
 {
-    fc == UE || fc == RR || fc == RS || fc == DH
+    fc == UE || fc == RR || fc == RS || fc == DH && slave.has_inputs(0)
 }
 
-/// Returns whether the telegram is one of the station to the master with points and data of a reply.
-fn is_data_reply(master: u8, station: u8, telegram: &Telegram) -> bool
-    ensures { result ≡ is_data_reply master station telegram.now }
+/// Returns whether the telegram is one of the slave to the master with points and data of a reply.
+fn is_data_reply(master: u8, slave: &Slave, telegram: &Telegram) -> bool
+    ensures { result ≡ is_data_reply master slave.now.slave.description telegram.now }
 {
     telegram.destination() == master
-        && telegram.source() == station
-        && has_data_parts(telegram.fc, telegram.parts())
+        && telegram.source() == slave.address()
+        && has_data_parts(slave, telegram.fc, telegram.parts())
 }
 
-/// Returns whether these are points and data of a reply with this function.
-fn has_data_parts(fc: u8, parts: Option<Parts>) -> bool
-    ensures { result ≡ has_data_parts fc parts }
+/// Returns whether these are points and data of a reply of the slave with this function.
+fn has_data_parts(slave: &Slave, fc: u8, parts: Option<Parts>) -> bool
+    ensures { result ≡ has_data_parts slave.now.slave.description fc parts }
 {
     match parts {
         Some(parts) => {
-            has_data_from(fc, parts.ssap) && has_length_from(parts.ssap, parts.payload.len())
+            has_data_function(fc, parts.ssap)
+                && parts.payload.len() >= 1
+                && parts.payload.len() <= MOST_DATA
+                && has_data_from(slave, parts.ssap, parts.payload.as_slice())
         }
         None => false,
     }
 }
 
 /// Returns whether a reply with data from this point can have this function.
-fn has_data_from(fc: u8, point: Option<u8>) -> bool
-    ensures { result ≡ has_data_from fc point }
+fn has_data_function(fc: u8, point: Option<u8>) -> bool
+    ensures { result ≡ has_data_function fc point }
+{
+    fc == DL || fc == DH && point.is_none()
+}
+
+/// Returns whether these can be the data of a reply of the slave from this point.
+fn has_data_from(slave: &Slave, point: Option<u8>, octets: &[u8]) -> bool
+    ensures { result ≡ has_data_from slave.now.slave.description point octets.now }
 {
     match point {
-        None => fc == DL || fc == DH,
-        Some(number) => fc == DL && is_reading(number),
+        None => slave.has_inputs(octets.len()),
+        Some(number) => has_data_at(slave, number, octets),
     }
 }
 
-/// Returns whether the point answers with data of low priority.
-fn is_reading(number: u8) -> bool
-    ensures { result ≡ is_reading number }
+/// Returns whether these can be the data of a reply of the slave from the point of this number.
+fn has_data_at(slave: &Slave, number: u8, octets: &[u8]) -> bool
+    ensures { result ≡ has_data_from slave.now.slave.description (Some number) octets.now }
 {
-    number == RD_INP || number == RD_OUTP || number == GET_CFG || number == SLAVE_DIAG
-}
-
-/// Returns whether a reply with data from this point can have this number of octets.
-fn has_length_from(point: Option<u8>, long: usize) -> bool
-    ensures { result ≡ has_length_from point long }
-{
-    least_from(point) <= long && long <= MOST_DATA
-}
-
-/// Returns the least number of octets of data from this point.
-fn least_from(point: Option<u8>) -> usize
-    ensures { result ≡ least_from point }
-{
-    if point == Some(SLAVE_DIAG) {
-        LEAST_DIAGNOSIS
-    } else {
-        1
+    match number {
+        RD_INP => slave.has_inputs(octets.len()),
+        RD_OUTP => slave.has_outputs(octets.len()),
+        GET_CFG => slave.has_configuration(octets),
+        SLAVE_DIAG => octets.len() >= LEAST_DIAGNOSIS,
+        _ => false,
     }
 }

@@ -97,7 +97,7 @@ fn is_reachable_on(masters: &[u8], count: u32, slave: &Slave) -> bool
 {
     slave.is_reachable()
         && has_place_of_chk_cfg(count, slave)
-        && is_memory_of(masters, slave.address(), slave.memory().entries())
+        && is_memory_of(masters, slave, slave.memory().entries())
 }
 
 /// Returns whether a slave is outside Data_Exch or its lock is before this place, which is the last one so far.
