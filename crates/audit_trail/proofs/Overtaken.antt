@@ -12,7 +12,7 @@ use Rattle.dp_audit.proofs.Histories.{place_bounds}
 use Rattle.dp_audit.proofs.Newest.{none_forgotten, none_lost}
 use Rattle.dp_audit.proofs.Texts.{HasRoom, room_kept}
 use Rattle.dp_audit.proofs.Written.{is_there}
-use Rattle.dp_shared.specs.Content.{Content}
+use Rattle.dp_shared.specs.Content.{Content, IsHistory}
 use Rattle.dp_shared.specs.LineLock.{FitsLook, FitsPass, IsOf, IsPassAt, LineRule, Slotted, answer_in, first_entries, world_after}
 use Rattle.dp_shared.specs.declared.line_view.Answer.{Answer}
 use Rattle.dp_shared.specs.declared.line_view.Answer.TheVariants as answers
@@ -47,21 +47,23 @@ nobody : (none : Option Entry) → None ≡ none → IsSome none → ⊥
 nobody None is never = absurd cc
 nobody (Some entry) is some = absurd cc
 
+pub never_missed_closed : (line : LineSpec) (content : Content) (pass : PassView) (seen : ℕ)
+    → opening_fault (description_of line) ≡ None → IsOf line content.book → IsHistory content → FitsPass content pass → MissedOne pass.looks seen → ⊥
+never_missed_closed line content pass seen accepted of_line history fits missed =
+    let (least, most) = place_bounds (description_of line) accepted in
+    let room : content.book.room ≡ line.capacity = of_line.kept (omega (arith, most)) in
+    let from_start : IsLegal (start_of (description_of line)) content.book.entries = subst (λ (w : World). IsLegal w content.book.entries) of_line.opening history.legal in
+    let all : 0 + length content.book.entries ≤ line.capacity = within (start_of (description_of line)) content.book.entries from_start (has_room line accepted) (omega (arith, least)) in
+    let fit : FitsLook content missed.last = last_of (FitsLook content) missed.earlier missed.last (subst (AllByRecursion (FitsLook content)) missed.in_order fits.looks) in
+    let there = fit.there in
+    let behind = missed.behind in
+    let long : length (take missed.last.count content.book.entries) ≡ missed.last.count = length-take-le missed.last.count content.book.entries there in
+    let none_lost_here : forgotten content.book.room (length (take missed.last.count content.book.entries)) ≡ 0 = none_lost content.book.room (length (take missed.last.count content.book.entries)) (omega (arith, long, there, all, room)) in
+    let reported : answers.Entry None ≡ answer_in content.book.room (world_after content missed.last.count) (first_entries content missed.last.count) (asks.Entry (seen + 1)) =
+    sym missed.none.1 ∙ fit.value ∙ ap (answer_in content.book.room (world_after content missed.last.count) (first_entries content missed.last.count)) missed.none.0 in
+    nobody None refl (is_there (take missed.last.count content.book.entries) seen None (omega (arith, long, behind)) (ap entry_reported reported ∙ none_forgotten content.book.room (take missed.last.count content.book.entries) (seen + 1) none_lost_here))
+
 pub never_missed : (line : LineSpec) (state : Slotted) (rule : LineRule line state) (seat index : ℕ) (pass : PassView) (seen : ℕ)
     → opening_fault (description_of line) ≡ None → IsPassAt state seat index pass → MissedOne pass.looks seen → ⊥
-never_missed line state rule seat index pass seen accepted at missed = by (rule.content) (rule.of_line) (rule.history.legal) (fits_now line state rule seat index pass at)
-  where
-    by : (content : Content) → IsOf line content.book → IsLegal content.book.opening content.book.entries → FitsPass content pass → ⊥
-    by content of_line legal fits =
-        let (least, most) = place_bounds (description_of line) accepted in
-        let room : content.book.room ≡ line.capacity = of_line.kept (omega (arith, most)) in
-        let from_start : IsLegal (start_of (description_of line)) content.book.entries = subst (λ (w : World). IsLegal w content.book.entries) of_line.opening legal in
-        let all : 0 + length content.book.entries ≤ line.capacity = within (start_of (description_of line)) content.book.entries from_start (has_room line accepted) (omega (arith, least)) in
-        let fit : FitsLook content missed.last = last_of (FitsLook content) missed.earlier missed.last (subst (AllByRecursion (FitsLook content)) missed.in_order fits.looks) in
-        let there = fit.there in
-        let behind = missed.behind in
-        let long : length (take missed.last.count content.book.entries) ≡ missed.last.count = length-take-le missed.last.count content.book.entries there in
-        let none_lost_here : forgotten content.book.room (length (take missed.last.count content.book.entries)) ≡ 0 = none_lost content.book.room (length (take missed.last.count content.book.entries)) (omega (arith, long, there, all, room)) in
-        let reported : answers.Entry None ≡ answer_in content.book.room (world_after content missed.last.count) (first_entries content missed.last.count) (asks.Entry (seen + 1)) =
-        sym missed.none.1 ∙ fit.value ∙ ap (answer_in content.book.room (world_after content missed.last.count) (first_entries content missed.last.count)) missed.none.0 in
-        nobody None refl (is_there (take missed.last.count content.book.entries) seen None (omega (arith, long, behind)) (ap entry_reported reported ∙ none_forgotten content.book.room (take missed.last.count content.book.entries) (seen + 1) none_lost_here))
+never_missed line state rule seat index pass seen accepted at =
+    never_missed_closed line rule.content pass seen accepted rule.of_line rule.history (fits_now line state rule seat index pass at)

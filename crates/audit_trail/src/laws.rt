@@ -4,8 +4,8 @@ ghost use Rattle.std.specs.Prelude.{◌≡◌, ◌≤◌, ℕ, List, ◌∷◌, 
 ghost use Rattle.dp_line.specs.World.{description_of, opening_fault};
 ghost use Rattle.dp_line.specs.declared.description.LineSpec.{LineSpec};
 ghost use Rattle.audit_heads.specs.Head.{Head};
-ghost use Rattle.dp_shared.specs.Content.{Content, head_behind};
-ghost use Rattle.dp_shared.specs.LineLock.{FitsPass, IsPassAt, LineRule, Slotted, first_entries, world_after};
+ghost use Rattle.dp_shared.specs.Content.{Content, IsHistory, head_behind};
+ghost use Rattle.dp_shared.specs.LineLock.{FitsPass, IsOf, IsPassAt, LineRule, Slotted, first_entries, world_after};
 ghost use Rattle.dp_shared.specs.declared.line_view.Answer.{Answer};
 ghost use Rattle.dp_shared.specs.declared.line_view.Look.{Look};
 ghost use Rattle.dp_shared.specs.declared.line_view.Question.{Question};
@@ -37,10 +37,13 @@ pub fn a_trail_that_is_written_up_to_has_all()
 {}
 
 /// The trail of an ordinary line is never overtaken: no pass of such a line looks for an entry that is
-/// forgotten. So a trail that breaks with `Overtaken` is one of an endless line.
+/// forgotten. So a trail that breaks with `Overtaken` is one of an endless line. This holds at every moment, as above; the
+/// premises of `closed` are what [`Line::close_with`](dp_shared::Line::close_with) ensures of its journal and of each pass.
 pub fn no_trail_of_an_ordinary_line_is_overtaken()
-    ensures { (line : LineSpec) (state : Slotted) (rule : LineRule line state) (seat index : ℕ) (pass : PassView) (seen : ℕ)
+    ensures always { (line : LineSpec) (state : Slotted) (rule : LineRule line state) (seat index : ℕ) (pass : PassView) (seen : ℕ)
         → opening_fault (description_of line) ≡ None → IsPassAt state seat index pass → MissedOne pass.looks seen → ⊥ }
+    ensures closed { (line : LineSpec) (content : Content) (pass : PassView) (seen : ℕ)
+        → opening_fault (description_of line) ≡ None → IsOf line content.book → IsHistory content → FitsPass content pass → MissedOne pass.looks seen → ⊥ }
 {}
 
 /// A text in parts has the header and the text line of each entry that its trail saw, and heads between them: without its
