@@ -9,6 +9,7 @@ pub mod card_lists;
 pub mod clients;
 #[cfg(test)]
 mod endless_books;
+pub mod journal_clients;
 #[cfg(test)]
 mod names;
 pub mod part_clients;
