@@ -22,7 +22,7 @@ counted_within time (moment ∷ moments) latest all within =
     let head = All-head (λ m. m ≤ latest) moment moments all in
     counted_within (time_after time moment) moments latest (All-tail (λ m. m ≤ latest) moment moments all) (omega (arith, within, head))
 
-after_one_more : (time : LineTime) (moments : List ℕ) (moment : ℕ) → time_after_all time (moments ++ moment ∷ []) ≡ time_after (time_after_all time moments) moment
+pub after_one_more : (time : LineTime) (moments : List ℕ) (moment : ℕ) → time_after_all time (moments ++ moment ∷ []) ≡ time_after (time_after_all time moments) moment
 after_one_more time [] moment = refl
 after_one_more time (first ∷ moments) moment = after_one_more (time_after time first) moments moment
 
@@ -31,7 +31,7 @@ counted_last : (time : LineTime) (moments : List ℕ) (moment : ℕ)
 counted_last time moments moment = ap (λ (after : LineTime). after.counted) (after_one_more time moments moment)
 
 -- one tick has no more units at a later moment than at first
-most_stays : (time : LineTime) (moments : List ℕ) → (time_after_all time moments).most ≡ time.most
+pub most_stays : (time : LineTime) (moments : List ℕ) → (time_after_all time moments).most ≡ time.most
 most_stays time [] = refl
 most_stays time (moment ∷ moments) = most_stays (time_after time moment) moments
 

@@ -10,6 +10,7 @@
 #![tactic(auto)]
 
 mod beat;
+mod counted_units;
 pub mod laws;
 mod line_clock;
 mod line_time;

@@ -4,16 +4,17 @@
 //! that was not counted yet, and the lock is held only while the line takes a tick. So a session waits for another one,
 //! or for the thread of the clock, only while the tick is taken that it needs itself.
 
-ghost use Rattle.std.specs.Prelude.{◌≡◌};
+ghost use Rattle.std.specs.Prelude.{◌≡◌, ◌≤◌, ◌+◌};
 ghost use Rattle.dp_shared.specs.Passes.{line_of};
+ghost use Rattle.serve_clock.specs.Advances.{IsTickOf};
+ghost use Rattle.serve_clock.specs.Moments.{units_passed};
 
-use crate::line_time::{Advance, units_passed};
+use crate::counted_units::CountedUnits;
+use crate::line_time::Advance;
 use crate::ticker::{Ticked, Ticker};
 use dp_line::LineSpec;
 use dp_sessions::{Gate, Port, serve_operator_at};
 use std::io;
-use std::sync::atomic::AtomicU64;
-use std::sync::atomic::Ordering::SeqCst;
 use std::sync::{Mutex, Wait};
 
 /// The line of an operator that updates the inputs of the devices.
@@ -34,7 +35,7 @@ pub struct LineClock<'l> {
     port: &'l Port,
     spec: &'l LineSpec,
     /// The units of time that were counted, for a session to which they suffice.
-    counted: AtomicU64,
+    counted: CountedUnits,
     /// What sends ticks; None if the line has no ticks.
     ticker: Mutex<Option<Ticker<'l>>>,
     ghost described: { line_of port.now.line ≡ spec.now },
@@ -57,7 +58,7 @@ impl<'l> LineClock<'l> {
             return Some(LineClock {
                 port,
                 spec,
-                counted: AtomicU64::new(u64::MAX),
+                counted: CountedUnits::all(),
                 ticker: Mutex::new(None),
             });
         };
@@ -65,7 +66,7 @@ impl<'l> LineClock<'l> {
         Some(LineClock {
             port,
             spec,
-            counted: AtomicU64::new(0),
+            counted: CountedUnits::none(),
             ticker: Mutex::new(Some(ticker)),
         })
     }
@@ -79,8 +80,10 @@ impl<'l> LineClock<'l> {
 
     /// Advances the time of the line to a moment, and reports the tick to the gate. When it returns, all units that have
     /// passed by the moment are counted. It waits for the line, and for another call that takes a tick.
-    pub fn advance<T: Wait, G: Gate>(&self, rt: &T, gate: &G, moment: u64) -> Advance {
-        if units_passed(moment) <= self.counted.load(SeqCst) {
+    pub fn advance<T: Wait, G: Gate>(&self, rt: &T, gate: &G, moment: u64) -> Advance
+        ensures { result.units + result.cut_off ≤ units_passed moment }
+    {
+        if self.counted.include(moment) {
             return NOTHING;
         }
         let Ticked { advance, receipt } = self.tick(rt, moment);
@@ -90,13 +93,17 @@ impl<'l> LineClock<'l> {
         advance
     }
 
-    /// Has the line take the tick of a moment.
-    fn tick<T: Wait>(&self, rt: &T, moment: u64) -> Ticked {
+    /// Has the line take the tick of a moment, and then counts its units. They are counted behind the tick: a session to which
+    /// they suffice exchanges without the lock.
+    fn tick<T: Wait>(&self, rt: &T, moment: u64) -> Ticked
+        ensures within { result.advance.units + result.advance.cut_off ≤ units_passed moment }
+        ensures receipt { IsTickOf result.advance.units result.receipt }
+    {
         let mut ticker = self.ticker.lock(rt);
         match &mut *ticker {
             Some(ticker) => {
                 let ticked = ticker.advance(rt, moment);
-                self.counted.store(ticker.counted(), SeqCst);
+                self.counted.count(ticker, ticker.counted());
                 ticked
             }
             None => Ticked {
