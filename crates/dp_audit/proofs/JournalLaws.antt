@@ -218,7 +218,7 @@ below : (world : World) (entry : Entry) (master : ℕ) (octets : ArrayVec ℕ) �
 below world entry master octets follows is = below_by world entry master octets (is_last_place world) refl follows is
 
 -- so the line's answer to it has the outcome of the entry
-outcome_is : (world : World) (entry : Entry) (master : ℕ) (octets : ArrayVec ℕ) → Follows world entry → entry.event ≡ Request master octets
+pub outcome_is : (world : World) (entry : Entry) (master : ℕ) (octets : ArrayVec ℕ) → Follows world entry → entry.event ≡ Request master octets
     → (step world (Request master octets)).answer.outcome ≡ entry.outcome
 outcome_is world entry master octets follows is =
     ap (λ (e : Event). (step world e).answer.outcome) (sym is)

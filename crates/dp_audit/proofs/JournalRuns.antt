@@ -241,3 +241,10 @@ entry_answer world before rest entry legal =
     answered (run world (events_of before)).world entry (entry_follows world before rest entry legal)
     ∙ ap (λ (n : ℕ). answer_of n entry)
     (ap (λ (w : World). w.capacity) (sym (is_run world before (legal_before world before (entry ∷ rest) legal))) ∙ same_capacity world before)
+
+pub entry_world : (world : World) (before rest : List Entry) (entry : Entry) → IsLegal world (before ++ entry ∷ rest)
+    → after_entries world (before ++ entry ∷ []) ≡ (step (run world (events_of before)).world entry.event).world
+entry_world world before rest entry legal =
+    after_both world before (entry ∷ [])
+    ∙ ap (λ (w : World). after_entry w entry) (is_run world before (legal_before world before (entry ∷ rest) legal))
+    ∙ sym (stepped (run world (events_of before)).world entry (entry_follows world before rest entry legal)).world_is

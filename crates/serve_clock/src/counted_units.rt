@@ -9,9 +9,9 @@ use std::sync::atomic::Ordering::SeqCst;
 
 /// The units of time that were counted on a line, which threads read without the lock of the ticker.
 ///
-/// A session that finds all units counted that have passed exchanges its request without a tick. So a unit may be counted here only
-/// when its tick is in the journal. [`CountedUnits::count`] requires the ticker that has counted these units. By its type it has
-/// sent their ticks, and they are receipts of its pass, unless the line is halted.
+/// A session that finds all units counted that have passed exchanges its request without a tick. So a unit may be
+/// counted here only when its tick is in the journal. [`CountedUnits::count`] requires the ticker that has counted
+/// these units. By its type it has sent their ticks, and they are receipts of its pass, unless the line is halted.
 #[derive(Drop)]
 pub(crate) struct CountedUnits {
     units: AtomicU64,

@@ -1,5 +1,5 @@
-//! Clients of journals: what a program with books concludes of their entries from the contracts of [`Book`] and the laws of
-//! journals only. The prover reads these functions, and nothing runs them.
+//! Clients of journals: what a program with books concludes of their entries from the contracts of [`Book`] and the
+//! laws of journals only. The prover reads these functions, and nothing runs them.
 
 ghost use Rattle.std.specs.Prelude.{◌≡◌, ◌<◌, ◌∷◌, ◌++◌, ℕ, List, length, map, true, false};
 ghost use Rattle.std.specs.List.{AllByRecursion};
@@ -31,9 +31,9 @@ pub fn a_book_is_a_run(book: &Book)
     dp_audit::journal_laws::a_legal_journal_is_a_run();
 }
 
-/// States what two books show to a master that holds a slave in both. They agree on it behind some first entries, their other
-/// entries have the same events except for the requests of other masters, and neither book is full. Then the master
-/// sees the same in both. Does nothing at run time.
+/// States what two books show to a master that holds a slave in both. They agree on it behind some first entries,
+/// their other entries have the same events except for the requests of other masters, and neither book is full. Then
+/// the master sees the same in both. Does nothing at run time.
 pub fn the_holder_sees_the_same(one: &Book, other: &Book)
     ensures { (master address : ℕ) (line there : Description) (before before_there entries entries_there : List Entries)
         → one.now.opening ≡ start_of line
@@ -52,8 +52,8 @@ pub fn the_holder_sees_the_same(one: &Book, other: &Book)
     dp_audit::journal_laws::isolation_in_journals();
 }
 
-/// States that a book has the same octets for a repeat: of two entries with the same octets of a master, between which it has
-/// no other request of this master. Does nothing at run time.
+/// States that a book has the same octets for a repeat: of two entries with the same octets of a master, between
+/// which it has no other request of this master. Does nothing at run time.
 pub fn a_book_repeats_the_octets(book: &Book)
     ensures { (line : Description) (before between rest : List Entries) (first again : Entries) (master : ℕ) (octets reply : Vectors ℕ) (rule : Rules) (telegram : Telegrams)
         → book.now.opening ≡ start_of line
