@@ -1,11 +1,12 @@
 //! Tests sessions with a line (`dp_sessions`), clocks (`serve_clock`), trails (`audit_trail`) and the log
-//! (`serve_log`), also of endless lines; it has only tests and doesn't run rackd.
+//! (`serve_log`), also of endless lines, and has a client of the clock; it doesn't run rackd.
 //!
 //! What connections and files show is tested by `tests/serve` and `tests/audit`. Here is what only calls in the process can bring
 //! about. Most tests are a transcript: rows, each with its result after an arrow, and the state at the end. A helper, proved once,
 //! carries out the rows and writes the transcript that is compared.
 #![tactic(auto)]
 
+pub mod clock_clients;
 #[cfg(test)]
 mod clocks;
 #[cfg(test)]
