@@ -1,11 +1,9 @@
 -- Why an event gets no place.
 use Rattle.std.specs.Prelude.{IfNone}
 use Rattle.std.specs.List.{AllByRecursion}
-use Rattle.std.proofs.Common.{◌≡◌, ℕ, ◌+◌, List, [], ◌∷◌, sym, ap, subst, ◌∙◌, Option, Some, None, refl}
+use Rattle.std.proofs.Common.{◌≡◌, ℕ, ◌+◌, List, [], ◌∷◌, sym, ap, subst, ◌∙◌, Option, Some, None}
 use Rattle.std.proofs.lemmas.Option.{none-some}
-use Rattle.dp_line.specs.World.{World}
 use Rattle.dp_line.specs.Effects.{Stepped, effect}
-use Rattle.dp_line.specs.Events.{operator_fault}
 use Rattle.dp_line.specs.Steps.{step}
 use Rattle.dp_line.specs.declared.event.Event.{Event}
 use Rattle.dp_line.specs.declared.event.Event.TheVariants.{Operator}
