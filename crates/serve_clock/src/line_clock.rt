@@ -93,8 +93,8 @@ impl<'l> LineClock<'l> {
         advance
     }
 
-    /// Has the line take the tick of a moment, and then counts its units. They are counted behind the tick: a session to which
-    /// they suffice exchanges without the lock.
+    /// Has the line take the tick of a moment, and then counts its units. In the other order a session to which they suffice
+    /// could exchange before the tick is in the journal.
     fn tick<T: Wait>(&self, rt: &T, moment: u64) -> Ticked
         ensures within { result.advance.units + result.advance.cut_off ≤ units_passed moment }
         ensures receipt { IsTickOf result.advance.units result.receipt }
