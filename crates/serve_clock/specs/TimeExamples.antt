@@ -1,5 +1,8 @@
 -- Examples of moments.
 use Rattle.std.specs.Prelude.{◌≡◌, ℕ, true, false, List, [], ◌∷◌, Some, None, map, refl}
+use Rattle.dp_line.specs.declared.event.Event.TheVariants.{Operator}
+use Rattle.dp_line.specs.declared.event.Op.TheVariants.{Tick}
+use Rattle.serve_clock.specs.Advances.{ticks_of}
 use Rattle.serve_clock.specs.Moments.{advances_at_each, due_at, first_beat, first_schedule, first_time, schedule_after, times_due, wait_at, wait_for_both}
 
 -- the units that pass on a line at each moment, if a tick comes at least once in this number of milliseconds
@@ -27,6 +30,10 @@ held_up = refl
 
 pub what_is_cut_off : cut_off_by 10 (10 ∷ 420 ∷ 430 ∷ []) ≡ 0 ∷ 39 ∷ 0 ∷ []
 what_is_cut_off = refl
+
+-- each moment at which a unit passes has one tick, and the others have none
+pub the_ticks_of_moments : ticks_of (advances_at_each (first_time 10) (7 ∷ 10 ∷ 15 ∷ 420 ∷ 430 ∷ [])) ≡ Operator (Tick 1) ∷ Operator (Tick 2) ∷ Operator (Tick 1) ∷ []
+the_ticks_of_moments = refl
 
 -- a clock that went back advances nothing
 pub a_moment_before : units_by 100 (150 ∷ 120 ∷ 160 ∷ []) ≡ 15 ∷ 0 ∷ 1 ∷ []
