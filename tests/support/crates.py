@@ -8,7 +8,6 @@ from support.documents import blocks_of
 USERS = {
     "audit_files": "makes and deletes the files of audit texts",
     "audit_trail": "implements its trait WriteParts for a File that it is given, and opens none",
-    "bench": "measures over sockets, in threads",
     "dp_sessions": "has the pool of workers",
     "dp_shared": "yields while another thread has the lock of a line",
     "rackd": "is the program",

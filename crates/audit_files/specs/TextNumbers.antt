@@ -10,7 +10,7 @@ IsAtLeast line names number = All (λ name. name.line ≡ line → name.number �
 abbrev pub IsNumberIn : ℕ → List AuditName → ℕ → Type 0
 IsNumberIn line names number = (name : AuditName) × Contains names name × (name.line ≡ line) × (name.number ≡ number)
 
--- the number is the highest one of a text of the line among these names, or 0 if there is no text of the line with another number
+-- the number is the highest one of a text of the line among these names, or 0 if the line has no text
 pub record IsHighest (line : ℕ) (names : List AuditName) (number : ℕ) : Type 0 where
   pub least : IsAtLeast line names number
   pub used : 0 < number → IsNumberIn line names number
