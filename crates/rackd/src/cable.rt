@@ -1,7 +1,7 @@
 //! Serves a cable.
 
 use crate::ending::Fault;
-use crate::stand_ins;
+use crate::invoking::stand_ins;
 use cable_faults::{Chance, Covered, Options};
 use cable_host::{CableFault, CableSettings, listen_at, serve_cable};
 use rack_script::RunFault;

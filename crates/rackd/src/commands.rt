@@ -15,6 +15,8 @@ use std::time::Clock;
 /// Which standard streams are terminals.
 #[derive(Clone, Copy)]
 pub(crate) struct Terminals {
+    /// Whether standard input is one.
+    pub(crate) input: bool,
     /// Whether standard output is one.
     pub(crate) output: bool,
     /// Whether standard error is one.

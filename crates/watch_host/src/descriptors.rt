@@ -11,7 +11,7 @@ use system_errors::Cause;
 
 /// Descriptors that are held for the page. They are free again once this is dropped.
 #[derive(Drop)]
-pub struct HeldDescriptors {
+pub(crate) struct HeldDescriptors {
     held: Vec<TcpListener>,
 }
 
@@ -21,7 +21,7 @@ impl HeldDescriptors {
     /// text of a line.
     ///
     /// Returns `CannotListen` if there are too few descriptors, or `OutOfMemory`. No descriptor is held then.
-    pub fn hold(
+    pub(crate) fn hold(
         alloc: Global,
         listener: &TcpListener,
         port: u16,

@@ -10,7 +10,7 @@ const REST: u32 = 9;
 
 /// How much of a processor following takes at the most.
 #[derive(Clone, Copy, Debug, PartialEq, Eq)]
-pub enum ProcessorShare {
+pub(crate) enum ProcessorShare {
     /// All of one, until all that was written is read.
     Whole,
     /// A tenth of one, so that a rack that is served beside it answers as fast as without it.

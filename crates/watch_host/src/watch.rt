@@ -23,19 +23,19 @@ pub(crate) const WORKERS: usize = 16;
 
 /// Where the rack and its audit texts are.
 #[derive(Clone, Copy)]
-pub struct Folder<'a> {
+pub(crate) struct Folder<'a> {
     /// The text of the rack file.
-    pub rack: &'a str,
+    pub(crate) rack: &'a str,
     /// The path of the rack file.
-    pub file: &'a str,
+    pub(crate) file: &'a str,
     /// The path of the folder with the audit texts.
-    pub folder: &'a str,
+    pub(crate) folder: &'a str,
 }
 
 /// Listens at a port of the loopback address; for 0 the system chooses one.
 ///
 /// Returns `CannotListen` if that fails.
-pub fn listen<N: Net>(net: &N, port: u16) -> Result<N::Listener, WatchFault> {
+pub(crate) fn listen<N: Net>(net: &N, port: u16) -> Result<N::Listener, WatchFault> {
     match TcpListener::bind(net, (Ipv4Addr::LOCALHOST, port)) {
         Ok(listener) => Ok(listener),
         Err(error) => Err(WatchFault::CannotListen(port, Cause::from_error(&error))),
@@ -49,7 +49,7 @@ pub fn listen<N: Net>(net: &N, port: u16) -> Result<N::Listener, WatchFault> {
 /// fault, nothing is, and the fault is returned.
 ///
 /// Returns `Rack` if the rack is not accepted, `FewThreads` if a thread is refused, and `OutOfMemory` if memory is.
-pub fn watch_at<'a, H: WatchHost + Sync, F: FnOnce() -> Result<(), WatchFault>>(
+pub(crate) fn watch_at<'a, H: WatchHost + Sync, F: FnOnce() -> Result<(), WatchFault>>(
     host: &'a H,
     listener: &'a TcpListener,
     port: u16,
