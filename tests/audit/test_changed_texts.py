@@ -15,7 +15,7 @@ set 5 60 0 0 -f-
 prm 5 100 -f 60 3 0aff
 in 5 aa55 aa54
 out 5 0102 0102
-diag 5 e--u-c- 0407
+diag 5 e--u--- 0407
 last 5 1 1 6805056801050aaa540e16
 last 5 2 none
 """
@@ -30,7 +30,7 @@ set 5 60 0 0 -f-
 prm 5 100 -f 60 3 0aff
 in 5 aa55 aa54
 out 5 0102 0102
-diag 5 e--u-c- 0407
+diag 5 e--u--- 0407
 last 5 1 1 6805056801050aaa540e16
 last 5 2 none
 7162 halt | none | released 5
@@ -94,8 +94,9 @@ BEHIND_CHANGES = [Changed(*change) for change in [
     ("aa55 aa54", "aa55 aa55", "not the policy 7163"),
     ("out 5 0102", "out 5 0103", "not the policy 7163"),
     ("0102 0102", "0102 0103", "not the policy 7163"),
-    ("e--u-c-", "e----c-", "not the policy 7163"),
-    ("c- 0407", "c- 0408", "not the policy 7163"),
+    ("e--u---", "e------", "not the policy 7163"),
+    ("e--u---", "e--u-c-", "not the policy 7163"),
+    ("- 0407", "- 0408", "not the policy 7163"),
     ("last 5 1 1", "last 5 1 0", "not the policy 7163"),
     ("0e16", "0f16", "not the policy 7163"),
     ("5 2 none", "5 2 1 e5", "not the policy 7163"),
