@@ -13,8 +13,8 @@ from support.racks import line, rack, slave
 from support.telegrams import FIRST, chk_cfg, data_exchange, global_control, set_prm, slave_diag
 
 MASTERS = [1, 2, 3]
-# Slave 5 has Sync and Freeze. Slave 6 has Sync and is fail-safe; of its configurations 2 equals 0, and 3 has no inputs. Slave 7 has
-# Freeze and no inputs. Nobody may lock slave 8.
+# Slave 5 has Sync and Freeze. Slave 6 has Sync and is fail-safe; of its configurations 2 equals 0, and 3 has no inputs. Slave 7
+# has Freeze and no inputs. Nobody may lock slave 8.
 RACK = rack(line(7, slave(5, sync=True, freeze=True, user_max=3, lockers=[1, 2]),
                  slave(6, sync=True, failsafe=True, cfg=["2111", "2010", "2111", "21"]),
                  slave(7, freeze=True, cfg="21", user_max=0), slave(8, cfg="11", lockers=[]), masters=MASTERS, capacity=1000))
@@ -157,7 +157,7 @@ class GoodHead:
         yield from self.letters([("sync mode", "s"), ("freeze mode", "f"), ("cleared", "c")], row, 5)
 
     def changes_of_shape(self, row, given):
-        """Yields changes of the shape, and of the configuration that was sent, with data of zeros that are as long as it says."""
+        """Yields changes of the shape, and also of the configuration that was sent, with data of zeros of its lengths."""
         lengths = LENGTHS[int(given[1])]
         for number in range(5):
             inputs, outputs = ("00" * length or "-" for length in (lengths[number] if number < len(lengths) else (0, 0)))
@@ -172,8 +172,8 @@ class GoodHead:
         if given[2] != "none":
             left = self.rows[row - 2][5]
             values = around(int(left)) if left != "off" else []
-            yield from self.numbers("watchdog", row, 2, ("off", 0, 1, 255, 256, 257, 510, *values, 65021, 65025, 65026, 65280, 70000,
-                                                         2**32 - 1), 2**32 - 1)
+            times = ("off", 0, 1, 255, 256, 257, 510, *values, 65021, 65025, 65026, 65280, 70000, 2**32 - 1)
+            yield from self.numbers("watchdog", row, 2, times, 2**32 - 1)
             yield from self.letters([("Sync_Req", "s"), ("Freeze_Req", "f")], row, 3)
             yield from self.numbers("min TSDR of Set_Prm", row, 4, (0, 11, 255))
             yield from self.numbers("group", row, 5, (0, 1, 255))
@@ -204,9 +204,18 @@ class GoodHead:
             yield from words("reply", row, 4, ("", given[4][:-2], given[4] + "00", given[4].upper()))
 
 
-CHANGES_OF_ROWS = {"slave": GoodHead.changes_of_state, "set": GoodHead.changes_of_settings, "prm": GoodHead.changes_of_parameters,
-                   "in": GoodHead.changes_of_inputs, "out": GoodHead.changes_of_outputs, "diag": GoodHead.changes_of_diagnosis,
-                   "last": GoodHead.changes_of_memory}
+CHANGES_OF_ROWS = {"slave": GoodHead.changes_of_state, "set": GoodHead.changes_of_settings,
+                   "prm": GoodHead.changes_of_parameters, "in": GoodHead.changes_of_inputs, "out": GoodHead.changes_of_outputs,
+                   "diag": GoodHead.changes_of_diagnosis, "last": GoodHead.changes_of_memory}
+# Function codes of telegrams without data: of replies to an SRD, of other responses, and of requests.
+SHORT_CODES = (0x01, 0x02, 0x03, 0x0A, 0x00, 0x04, 0x08, 0x0F, 0x13, 0x43, 0x6D, 0x83)
+# Of telegrams with access points: bit 7 of DA and SA, the function code and the data unit. In the last two a point is not
+# plain, or is missing.
+POINTED = (
+    (0x80, 0x80, 0x08, b"\x3e\x39\x05"), (0x80, 0x80, 0x0A, b"\x3e\x38\x05"), (0x80, 0x80, 0x08, b"\x3e\x3d\x05"),
+    (0x80, 0x80, 0x08, b"\x3e\x38"), (0, 0x80, 0x08, b"\x3b\x21\x11"), (0, 0x80, 0x08, b"\x3c" + bytes(5)),
+    (0, 0x80, 0x08, b"\x3c" + bytes(6)), (0x80, 0, 0x0A, b"\x3e\x05"), (0x80, 0, 0x08, b"\x40\x05"),
+    (0x80, 0x80, 0x08, b"\x3e"))
 # The octets of inputs and outputs of each configuration of the slaves.
 LENGTHS = {5: [(2, 2)], 6: [(2, 2), (1, 1), (2, 2), (0, 2)], 7: [(0, 2)], 8: [(2, 0)]}
 
@@ -230,15 +239,16 @@ def octets(field, row, word, given):
 def replies_to(address, master):
     """Yields octets that may be a reply of a slave to a master: replies, other telegrams, and octets that are no telegram."""
     data = frames.sd2(master, address, 0x08, b"\xaa\x54")
-    codes = [frames.sd1(master, address, code) for code in (0x00, 0x03, 0x04, 0x0A, 0x0F, 0x2D, 0x43, 0x6D, 0x83, 0xC3)]
+    codes = [frames.sd1(master, address, code) for code in SHORT_CODES]
     addresses = [frames.sd1(*pair, 0x03) for pair in ((master, address ^ 1), (master ^ 4, address), (address, master),
                                                       (master | 0x80, address), (master, address | 0x80), (127, address))]
-    forms = [data, frames.sd2(master | 0x80, address | 0x80, 0x08, b"\x3e\x3c\x02\x05"), frames.sd2(master, address, 0x0A, b"\x01"),
-             frames.sd2(master, address, 0x08, bytes(246)), frames.sd3(master, address, 0x08, bytes(8)),
-             frames.token(master, address), b"\xe5"]
+    forms = [b"\xe5", frames.token(master, address), frames.sd3(master, address, 0x08, bytes(8)), data,
+             frames.sd2(master, address, 0x0A, b"\x01"), frames.sd2(master, address, 0x03, b"\x01"),
+             frames.sd2(master, address, 0x08, bytes(244)), frames.sd2(master, address, 0x08, bytes(245))]
+    pointed = [frames.sd2(master | to, address | of, code, du) for to, of, code, du in POINTED]
     broken = [b"", bytes.fromhex("deadbeef"), data[:-2] + bytes([data[-2] ^ 1, 0x16]), data[:-1] + b"\x17", data + b"\x00",
               data[:-1], data[:1] + b"\x06" + data[2:], b"\xe5\xe5", bytes(256)]
-    return [reply.hex() or "-" for reply in codes + addresses + forms + broken]
+    return [reply.hex() or "-" for reply in codes + addresses + forms + pointed + broken]
 
 
 def fit_together(one: Change, other: Change) -> bool:

@@ -165,7 +165,7 @@ last 6 1 none
 last 6 2 none
 """
 REPLY = "1 1 6805056801050aaa540e16"
-# The head, the old octets, the new ones, and the row that is reported. Slave 5 has its rows from row 3 on, slave 6 from row 11 on.
+# The head, the old octets, the new ones, and the row that is reported. Slave 5 has its rows from row 3 on, slave 6 from row 11.
 FORGED = {
     "more-time-left-than-there-was": (FORGED_HEAD, "1 4 95", "1 4 4000000000", 3),
     "no-time-left": (FORGED_HEAD, "1 4 95", "1 4 0", 3),

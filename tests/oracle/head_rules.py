@@ -6,14 +6,21 @@ holds". `verdict_on` is the verdict on a text that is one head of a line.
 from dataclasses import dataclass
 from typing import Callable, Dict, List, Optional, Tuple
 
-from oracle.explainer import (DATA_EXCH, ENDLESS_CAPACITY, INPUTS, LARGEST_OCTET, LARGEST_WORD, NO_OCTETS, OUTPUTS, WAIT_CFG,
-                              WAIT_PRM, Acknowledgement, FrameFault, LineSpec, SlaveSpec, Telegram, configuration_size, read_frame)
+from oracle.explainer import (DATA_EXCH, DIAGNOSIS_HEAD, ENDLESS_CAPACITY, GET_CFG, INPUTS, LARGEST_OCTET, LARGEST_WORD,
+                             NO_OCTETS, OUTPUTS, RD_INP, RD_OUTP, REPLY_DH, REPLY_DL, REPLY_RR, REPLY_RS, REPLY_UE, SLAVE_DIAG,
+                             WAIT_CFG, WAIT_PRM, Acknowledgement, FrameFault, LineSpec, SlaveSpec, Telegram, configuration_size,
+                             read_frame)
 from oracle.heads import BUSY_LETTERS, DIAGNOSIS_LETTERS, MODE_LETTERS, REQUEST_LETTERS
 
 LARGEST_TIME = 2**64 - 1
 # The most octets of user parameters, of inputs and of outputs, of an extended diagnosis, and of a remembered reply.
 USER_LIMIT, DATA_LIMIT, EXTENDED_LIMIT, REPLY_LIMIT = 237, 244, 238, 255
 LARGEST_FACTOR = 255
+# The function codes of replies without data to an SRD; the points that answer with data, other than the default one; and the
+# least octets of data that a point answers with, if that is not 1.
+CODES_WITHOUT_DATA = (REPLY_UE, REPLY_RR, REPLY_RS, REPLY_DH)
+READING_POINTS = (RD_INP, RD_OUTP, GET_CFG, SLAVE_DIAG)
+LEAST_DATA = {SLAVE_DIAG: DIAGNOSIS_HEAD}
 # The rows of a head: its header, that of the line, and the first one of the first slave, which has six and one for each master.
 HEADER_ROW, LINE_ROW, FIRST_SLAVE_ROW, ROWS_OF_SLAVE = 1, 2, 3, 6
 
@@ -157,9 +164,11 @@ def read_parameters(said: dict, words: List[str]) -> None:
     said['parameters'] = None
     if words != ['none']:
         watchdog, requests, min_tsdr, group, user = words
-        number_of(min_tsdr), number_of(group)
-        said['parameters'] = HeadParameters(optional_number(watchdog, 'off', LARGEST_WORD), *flags_of(requests, REQUEST_LETTERS),
-                                            octets_of(user, USER_LIMIT))
+        for octet in (min_tsdr, group):
+            number_of(octet)
+        sync, freeze = flags_of(requests, REQUEST_LETTERS)
+        time = optional_number(watchdog, 'off', LARGEST_WORD)
+        said['parameters'] = HeadParameters(time, sync, freeze, octets_of(user, USER_LIMIT))
 
 
 def read_inputs(said: dict, words: List[str]) -> None:
@@ -313,15 +322,25 @@ def lacks_what_is_not_supported(line: LineSpec, head: Head, slave: HeadSlave) ->
     return not slave.not_supported or slave.prm_fault and not (slave.spec.sync and slave.spec.freeze)
 
 
+def has_data_of_a_reply(frame: Telegram) -> bool:
+    """Returns whether a telegram has points, data and a function code that belong together in a reply with data."""
+    parts = frame.parts()
+    if parts is None or not LEAST_DATA.get(parts.ssap, 1) <= len(parts.payload) <= DATA_LIMIT:
+        return False
+    return frame.fc in (REPLY_DL, REPLY_DH) if parts.ssap is None else frame.fc == REPLY_DL and parts.ssap in READING_POINTS
+
+
 def is_reply(octets: bytes, slave: int, master: int) -> bool:
-    """Returns whether octets are a reply that a slave can have sent to a master."""
+    """Returns whether octets are a reply that a slave can have sent to an SRD of a master."""
     try:
         frame = read_frame(octets)
     except FrameFault:
         return False
     if not isinstance(frame, Telegram):
         return isinstance(frame, Acknowledgement)
-    return frame.destination == master and frame.source == slave and not frame.is_request
+    if frame.layout == 'SD1':
+        return (frame.da, frame.sa) == (master, slave) and frame.fc in CODES_WITHOUT_DATA
+    return frame.layout == 'SD2' and (frame.destination, frame.source) == (master, slave) and has_data_of_a_reply(frame)
 
 
 def remembers_replies(line: LineSpec, head: Head, slave: HeadSlave) -> bool:
