@@ -212,8 +212,9 @@ SHORT_CODES = (0x01, 0x02, 0x03, 0x0A, 0x00, 0x04, 0x08, 0x0F, 0x13, 0x43, 0x6D,
 # Of telegrams with access points: bit 7 of DA and SA, the function code and the data unit. In the last two a point is not
 # plain, or is missing.
 POINTED = (
-    (0x80, 0x80, 0x08, b"\x3e\x39\x05"), (0x80, 0x80, 0x0A, b"\x3e\x38\x05"), (0x80, 0x80, 0x08, b"\x3e\x3d\x05"),
-    (0x80, 0x80, 0x08, b"\x3e\x38"), (0, 0x80, 0x08, b"\x3b\x21\x11"), (0, 0x80, 0x08, b"\x3c" + bytes(5)),
+    (0x80, 0x80, 0x08, b"\x3e\x38\xaa\x55"), (0x80, 0x80, 0x0A, b"\x3e\x38\xaa\x55"), (0x80, 0x80, 0x08, b"\x3e\x39\x05"),
+    (0x80, 0x80, 0x08, b"\x3e\x39\x05\x06"), (0x80, 0x80, 0x08, b"\x3e\x3d\x05\x06"), (0x80, 0x80, 0x08, b"\x3e\x38"),
+    (0, 0x80, 0x08, b"\x3b\x21\x11"), (0, 0x80, 0x08, b"\x3b\x21"), (0, 0x80, 0x08, b"\x3c" + bytes(5)),
     (0, 0x80, 0x08, b"\x3c" + bytes(6)), (0x80, 0, 0x0A, b"\x3e\x05"), (0x80, 0, 0x08, b"\x40\x05"),
     (0x80, 0x80, 0x08, b"\x3e"))
 # The octets of inputs and outputs of each configuration of the slaves.
@@ -243,8 +244,8 @@ def replies_to(address, master):
     addresses = [frames.sd1(*pair, 0x03) for pair in ((master, address ^ 1), (master ^ 4, address), (address, master),
                                                       (master | 0x80, address), (master, address | 0x80), (127, address))]
     forms = [b"\xe5", frames.token(master, address), frames.sd3(master, address, 0x08, bytes(8)), data,
-             frames.sd2(master, address, 0x0A, b"\x01"), frames.sd2(master, address, 0x03, b"\x01"),
-             frames.sd2(master, address, 0x08, bytes(244)), frames.sd2(master, address, 0x08, bytes(245))]
+             *(frames.sd2(master, address, code, bytes(count)) for code, count in (
+                 (0x0A, 1), (0x0A, 2), (0x03, 2), (0x08, 1), (0x08, 3), (0x08, 244), (0x08, 245)))]
     pointed = [frames.sd2(master | to, address | of, code, du) for to, of, code, du in POINTED]
     broken = [b"", bytes.fromhex("deadbeef"), data[:-2] + bytes([data[-2] ^ 1, 0x16]), data[:-1] + b"\x17", data + b"\x00",
               data[:-1], data[:1] + b"\x06" + data[2:], b"\xe5\xe5", bytes(256)]

@@ -104,19 +104,23 @@ def test_each_field_is_accepted_and_refused(all_changed):
     assert len(all_changed) >= LEAST
 
 
-def only_rule_broken(text):
-    """Returns the name of the rule that a head breaks, if its rows have the form of one and it breaks one rule."""
+def deciding_rule(text):
+    """Returns the name of the rule without which a head would have another verdict, or None."""
     try:
         broken = broken_rules(SPEC, read_head(SPEC, text))
     except WrongRow:
         return None
-    return broken[0][1] if len(broken) == 1 else None
+    if not broken:
+        return None
+    row, rule = broken[0]
+    others = [other_row for other_row, other in broken if other != rule]
+    return rule if others[:1] != [row] else None
 
 
 def test_each_rule_decides(all_changed):
-    """Each rule is the only one that some changed head breaks, so a program without the rule would accept this head."""
+    """Each rule decides the verdict on some changed head, so a program without the rule would have another verdict."""
     rules = {rule.__name__ for rule in [*RULES_OF_SLAVES, *(rule for _, rule in RULES_OF_LINES)]}
-    assert rules - {only_rule_broken(changed.text) for changed in all_changed} == set()
+    assert rules - {deciding_rule(changed.text) for changed in all_changed} == set()
 
 
 # ---- Heads that were forged by hand
@@ -192,7 +196,12 @@ FORGED = {
     "reply-with-a-wrong-check-sequence": (FORGED_HEAD, REPLY, "1 1 6805056801050aaa540f16", 3),
     "reply-of-another-station": (FORGED_HEAD, REPLY, "1 1 6805056801060aaa540f16", 3),
     "reply-to-another-master": (FORGED_HEAD, REPLY, "1 1 6805056802050aaa540f16", 3),
+    "reply-of-more-inputs-than-there-are": (FORGED_HEAD, REPLY, "1 1 6806066801050aaa54000e16", 3),
+    "reply-of-another-configuration": (FORGED_HEAD, "6 2 1 e5", "6 2 1 680606680286083b2112fe16", 11),
+    "diagnosis-of-five-octets": (FORGED_HEAD, "6 2 1 e5", "6 2 1 680909680286083c0000000000cc16", 11),
     "request-as-a-reply": (FORGED_HEAD, REPLY, "1 1 6805056801054aaa544e16", 3),
+    "two-slaves-of-one-place": (FORGED_HEAD, "1 4 95", "1 7158 95", 1),
+    "too-few-places-for-two-chk-cfg": (FORGED_HEAD, "1 4 95", "1 7159 95", 2),
     "halt-without-an-entry": (WAITING_HEAD, "line running none", "line halted 5", 2),
 }
 

@@ -6,21 +6,16 @@ holds". `verdict_on` is the verdict on a text that is one head of a line.
 from dataclasses import dataclass
 from typing import Callable, Dict, List, Optional, Tuple
 
-from oracle.explainer import (DATA_EXCH, DIAGNOSIS_HEAD, ENDLESS_CAPACITY, GET_CFG, INPUTS, LARGEST_OCTET, LARGEST_WORD,
-                             NO_OCTETS, OUTPUTS, RD_INP, RD_OUTP, REPLY_DH, REPLY_DL, REPLY_RR, REPLY_RS, REPLY_UE, SLAVE_DIAG,
-                             WAIT_CFG, WAIT_PRM, Acknowledgement, FrameFault, LineSpec, SlaveSpec, Telegram, configuration_size,
-                             read_frame)
+from oracle.explainer import (DATA_EXCH, DATA_EXCHANGE, DIAGNOSIS_HEAD, ENDLESS_CAPACITY, GET_CFG, INPUTS, LARGEST_OCTET,
+                              LARGEST_WORD, NO_OCTETS, OUTPUTS, RD_INP, RD_OUTP, REPLY_DH, REPLY_DL, REPLY_RR, REPLY_RS,
+                              REPLY_UE, SLAVE_DIAG, WAIT_CFG, WAIT_PRM, Acknowledgement, FrameFault, LineSpec, SlaveSpec,
+                              Telegram, configuration_size, read_frame)
 from oracle.heads import BUSY_LETTERS, DIAGNOSIS_LETTERS, MODE_LETTERS, REQUEST_LETTERS
 
 LARGEST_TIME = 2**64 - 1
 # The most octets of user parameters, of inputs and of outputs, of an extended diagnosis, and of a remembered reply.
 USER_LIMIT, DATA_LIMIT, EXTENDED_LIMIT, REPLY_LIMIT = 237, 244, 238, 255
 LARGEST_FACTOR = 255
-# The function codes of replies without data to an SRD; the points that answer with data, other than the default one; and the
-# least octets of data that a point answers with, if that is not 1.
-CODES_WITHOUT_DATA = (REPLY_UE, REPLY_RR, REPLY_RS, REPLY_DH)
-READING_POINTS = (RD_INP, RD_OUTP, GET_CFG, SLAVE_DIAG)
-LEAST_DATA = {SLAVE_DIAG: DIAGNOSIS_HEAD}
 # The rows of a head: its header, that of the line, and the first one of the first slave, which has six and one for each master.
 HEADER_ROW, LINE_ROW, FIRST_SLAVE_ROW, ROWS_OF_SLAVE = 1, 2, 3, 6
 
@@ -322,15 +317,35 @@ def lacks_what_is_not_supported(line: LineSpec, head: Head, slave: HeadSlave) ->
     return not slave.not_supported or slave.prm_fault and not (slave.spec.sync and slave.spec.freeze)
 
 
-def has_data_of_a_reply(frame: Telegram) -> bool:
-    """Returns whether a telegram has points, data and a function code that belong together in a reply with data."""
+def lengths_of(spec: SlaveSpec, direction: str) -> List[int]:
+    """Returns how many inputs or outputs the configurations of a slave have."""
+    return [configuration_size(configuration, direction) for configuration in spec.configurations]
+
+
+def is_data_of(point: Optional[int], data: bytes, spec: SlaveSpec) -> bool:
+    """Returns whether a point of a slave can answer an SRD with these data."""
+    if point in (DATA_EXCHANGE, RD_INP):
+        return len(data) in lengths_of(spec, INPUTS)
+    if point == RD_OUTP:
+        return len(data) in lengths_of(spec, OUTPUTS)
+    return data in spec.configurations if point == GET_CFG else point == SLAVE_DIAG and len(data) >= DIAGNOSIS_HEAD
+
+
+def is_short_reply(frame: Telegram, spec: SlaveSpec) -> bool:
+    """Returns whether the function code is that of a reply without data to an SRD."""
+    return frame.fc in (REPLY_UE, REPLY_RR, REPLY_RS) or frame.fc == REPLY_DH and 0 in lengths_of(spec, INPUTS)
+
+
+def is_reply_with_data(frame: Telegram, spec: SlaveSpec) -> bool:
+    """Returns whether the function code, the access points and the data are those of a reply with data to an SRD."""
     parts = frame.parts()
-    if parts is None or not LEAST_DATA.get(parts.ssap, 1) <= len(parts.payload) <= DATA_LIMIT:
+    if parts is None or not 1 <= len(parts.payload) <= DATA_LIMIT:
         return False
-    return frame.fc in (REPLY_DL, REPLY_DH) if parts.ssap is None else frame.fc == REPLY_DL and parts.ssap in READING_POINTS
+    codes = (REPLY_DL, REPLY_DH) if parts.ssap == DATA_EXCHANGE else (REPLY_DL,)
+    return frame.fc in codes and is_data_of(parts.ssap, parts.payload, spec)
 
 
-def is_reply(octets: bytes, slave: int, master: int) -> bool:
+def is_reply(octets: bytes, spec: SlaveSpec, master: int) -> bool:
     """Returns whether octets are a reply that a slave can have sent to an SRD of a master."""
     try:
         frame = read_frame(octets)
@@ -339,12 +354,13 @@ def is_reply(octets: bytes, slave: int, master: int) -> bool:
     if not isinstance(frame, Telegram):
         return isinstance(frame, Acknowledgement)
     if frame.layout == 'SD1':
-        return (frame.da, frame.sa) == (master, slave) and frame.fc in CODES_WITHOUT_DATA
-    return frame.layout == 'SD2' and (frame.destination, frame.source) == (master, slave) and has_data_of_a_reply(frame)
+        return (frame.da, frame.sa) == (master, spec.address) and is_short_reply(frame, spec)
+    addresses = frame.destination, frame.source
+    return frame.layout == 'SD2' and addresses == (master, spec.address) and is_reply_with_data(frame, spec)
 
 
 def remembers_replies(line: LineSpec, head: Head, slave: HeadSlave) -> bool:
-    return all(is_reply(octets, slave.spec.address, master) for master, octets in slave.replies.items())
+    return all(is_reply(octets, slave.spec, master) for master, octets in slave.replies.items())
 
 
 def was_locked_at_a_place(line: LineSpec, head: Head, slave: HeadSlave) -> bool:
@@ -378,6 +394,16 @@ def have_own_places(head: Head) -> bool:
     return len(set(places)) == len(places)
 
 
+def needed_places(slaves: List[HeadSlave], place: int) -> int:
+    """Returns how many places from this one on the locks of slaves need, and the Chk_Cfg behind them."""
+    return sum(2 if slave.state == DATA_EXCH else 1 for slave in slaves if slave.holder is not None and slave.since >= place)
+
+
+def has_places_for_its_locks(head: Head) -> bool:
+    return all(needed_places(head.slaves, slave.since) <= head.count - slave.since + 1
+               for slave in head.slaves if slave.holder is not None)
+
+
 def has_released_its_slaves_by_its_halt(head: Head) -> bool:
     return not head.halted or all(slave.holder is None for slave in head.slaves)
 
@@ -391,8 +417,9 @@ def has_a_place_left(head: Head) -> bool:
 
 
 # The rules with the row that is reported for them.
-RULES_OF_LINES = ((HEADER_ROW, have_own_places), (LINE_ROW, has_released_its_slaves_by_its_halt),
-                  (LINE_ROW, has_an_entry_of_its_halt), (LINE_ROW, has_a_place_left))
+RULES_OF_LINES = (
+    (HEADER_ROW, have_own_places), (LINE_ROW, has_places_for_its_locks), (LINE_ROW, has_released_its_slaves_by_its_halt),
+    (LINE_ROW, has_an_entry_of_its_halt), (LINE_ROW, has_a_place_left))
 
 
 # ---- The verdict
