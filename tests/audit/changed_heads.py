@@ -18,8 +18,8 @@ MASTERS = [1, 2, 3]
 RACK = rack(line(7, slave(5, sync=True, freeze=True, user_max=3, lockers=[1, 2]),
                  slave(6, sync=True, failsafe=True, cfg=["2111", "2010", "2111", "21"]),
                  slave(7, freeze=True, cfg="21", user_max=0), slave(8, cfg="11", lockers=[]), masters=MASTERS, capacity=1000))
-LINE = "rack-audit 3 line 7\n"
-FREEZE, SYNC, CLEAR = 0x08, 0x20, 0x02
+HEADER = "rack-audit 2 line 7\n"
+CLEAR, UNFREEZE, FREEZE, SYNC = 0x02, 0x04, 0x08, 0x20
 # Function codes of SRD with FCV 1, by the FCB, and of one with neither.
 WITH_0, WITH_1, WITHOUT = 0x5D, 0x7D, 0x4D
 
@@ -54,7 +54,7 @@ FAULTS = [
 # Slave 5 is in no mode, with an old copy of its inputs; 6 has no inputs; 7 was locked at the last place.
 PLAIN = [
     "in 5 0102", *bring_up(1, 5, watchdog_ms=650250, freeze=True, user=b"\x01"), says(1, global_control(1, FREEZE, slave=5)),
-    says(1, global_control(1, 0x04, slave=5)), "in 5 0304", says(1, data_exchange(1, 5, FIRST, b"\x05\x06")),
+    says(1, global_control(1, UNFREEZE, slave=5)), "in 5 0304", says(1, data_exchange(1, 5, FIRST, b"\x05\x06")),
     *bring_up(1, 6, b"\x21", sync=True, group=255), "diag 6 e 0155", says(1, data_exchange(1, 6, FIRST, b"\x07\x08")),
     "in 8 ffff", "tick 65024", says(2, slave_diag(2, 8)), says(2, set_prm(2, 7, FIRST)),
 ]
@@ -72,7 +72,7 @@ def head_behind(run, folder, script: List[str]) -> str:
     script_file.write_text("".join(f"{row}\n" for row in [*script, "journal"]), encoding="ascii")
     done = run("run", rack_file, script_file)
     assert (done.status, done.errors) == (0, "")
-    entries = rows_of(done.output[done.output.index("rack-audit 2 line 7\n"):])[1:]
+    entries = rows_of(done.output[done.output.index(HEADER):])[1:]
     assert len(entries) == len(script), done.output
     states = states_behind(Line(spec_of_line(), ENDLESS_CAPACITY), entries)
     assert len(states) == len(entries) + 1, f"the explainer refuses entry {len(states)}"
