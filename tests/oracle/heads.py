@@ -15,6 +15,7 @@ from oracle.explainer import (CHK_CFG, DATA_EXCH, DATA_EXCHANGE, ENDLESS_CAPACIT
 
 BUSY_LETTERS = ((DATA_EXCHANGE, 'x'), (RD_INP, 'i'), (RD_OUTP, 'o'), (GLOBAL_CONTROL, 'g'), (GET_CFG, 'c'), (SLAVE_DIAG, 'd'),
                 (SET_PRM, 'p'), (CHK_CFG, 'k'))
+MODE_LETTERS, REQUEST_LETTERS, DIAGNOSIS_LETTERS = 'sfc', 'sf', 'esoupcn'
 
 
 # ---- Heads
@@ -36,7 +37,7 @@ def parameter_words(parameters: Optional[Parameters]) -> str:
     if parameters is None:
         return 'none'
     watchdog = word(parameters.watchdog if parameters.watchdog_on else None, 'off')
-    requests = flags(((parameters.sync, 's'), (parameters.freeze, 'f')))
+    requests = flags(zip((parameters.sync, parameters.freeze), REQUEST_LETTERS))
     return f'{watchdog} {requests} {parameters.min_tsdr} {parameters.groups} {octets(parameters.user)}'
 
 
@@ -44,9 +45,9 @@ def slave_rows(slave: Slave, masters: List[int]) -> List[str]:
     """Returns the rows of a slave. It has a configuration exactly in data exchange: then it is the one in force."""
     address, configuration = slave.address, slave.shape if slave.state == DATA_EXCH else None
     busy = flags((point in slave.busy, letter) for point, letter in BUSY_LETTERS)
-    modes = flags(((slave.sync_mode, 's'), (slave.freeze_mode, 'f'), (slave.cleared, 'c')))
-    diagnosis = flags(((slave.ext, 'e'), (slave.stat, 's'), (slave.overflow, 'o'), (slave.unread, 'u'), (slave.prm_fault, 'p'),
-                       (slave.cfg_fault, 'c'), (slave.not_supported, 'n')))
+    modes = flags(zip((slave.sync_mode, slave.freeze_mode, slave.cleared), MODE_LETTERS))
+    diagnosis = flags(zip((slave.ext, slave.stat, slave.overflow, slave.unread, slave.prm_fault, slave.cfg_fault,
+                           slave.not_supported), DIAGNOSIS_LETTERS))
     remembered = [(master, slave.memory.get(master)) for master in masters]
     return [f'slave {address} {slave.state} {word(slave.holder, "none")} {slave.since} {word(slave.left, "off")} {busy}',
             f'set {address} {slave.min_tsdr} {word(configuration, "none")} {slave.shape} {modes}',
