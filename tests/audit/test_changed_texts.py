@@ -6,6 +6,8 @@ import pytest
 from support.racks import line, rack, slave
 
 RACK = rack(line(7, slave(5, sync=True, freeze=True), masters=[1, 2], capacity=20_000))
+# A Data_Exchange with two inputs, of high priority, from slave 5 to master 1.
+REPLY = "6805056801050aaa540e16"
 # A head of line 7.
 HEAD = """\
 rack-audit 3 line 7 from 7160
@@ -15,7 +17,7 @@ set 5 60 0 0 -f-
 prm 5 100 -f 60 3 0aff
 in 5 aa55 aa54
 out 5 0102 0102
-diag 5 e--u-c- 0407
+diag 5 e--u--- 0407
 last 5 1 1 6805056801050aaa540e16
 last 5 2 none
 """
@@ -30,7 +32,7 @@ set 5 60 0 0 -f-
 prm 5 100 -f 60 3 0aff
 in 5 aa55 aa54
 out 5 0102 0102
-diag 5 e--u-c- 0407
+diag 5 e--u--- 0407
 last 5 1 1 6805056801050aaa540e16
 last 5 2 none
 7162 halt | none | released 5
@@ -94,8 +96,8 @@ BEHIND_CHANGES = [Changed(*change) for change in [
     ("aa55 aa54", "aa55 aa55", "not the policy 7163"),
     ("out 5 0102", "out 5 0103", "not the policy 7163"),
     ("0102 0102", "0102 0103", "not the policy 7163"),
-    ("e--u-c-", "e----c-", "not the policy 7163"),
-    ("c- 0407", "c- 0408", "not the policy 7163"),
+    ("e--u---", "e------", "not the policy 7163"),
+    ("-- 0407", "-- 0408", "not the policy 7163"),
     ("last 5 1 1", "last 5 1 0", "not the policy 7163"),
     ("0e16", "0f16", "not the policy 7163"),
     ("5 2 none", "5 2 1 e5", "not the policy 7163"),
@@ -133,6 +135,29 @@ HEAD_CHANGES = [Changed(*change) for change in [
     ("DataExch 1", "DataExch 3", "not the policy 3"),
     ("1 4 95", "1 0 95", "not the policy 3"),
     ("prm 5 100", "prm 5 off", "not the policy 3"),
+    # Its lock leaves no place for the Chk_Cfg after it.
+    ("DataExch 1 4", "DataExch 1 7160", "not the policy 3"),
+    # The watchdog has no time left, or more than its full time, which is the product of two octets.
+    ("4 95 -", "4 0 -", "not the policy 3"),
+    ("4 95 -", "4 101 -", "not the policy 3"),
+    ("prm 5 100", "prm 5 257", "not the policy 3"),
+    # No master sets min TSDR 0. Its parameters asked for Freeze only, and it is not in sync mode.
+    ("set 5 60", "set 5 0", "not the policy 3"),
+    ("100 -f 60", "100 -- 60", "not the policy 3"),
+    ("0 0 -f-", "0 0 sf-", "not the policy 3"),
+    ("0102 0102", "0102 0103", "not the policy 3"),
+    # A lock clears all faults.
+    ("e--u---", "e--up--", "not the policy 3"),
+    ("e--u---", "e--u-c-", "not the policy 3"),
+    ("e--u---", "e--u--n", "not the policy 3"),
+    # It remembers a reply to another master, one of another slave, one of another length, the FDL status, a request, no frame, nothing.
+    (REPLY, "6805056802050aaa540f16", "not the policy 3"),
+    (REPLY, "6805056801060aaa540f16", "not the policy 3"),
+    (REPLY, "6806066801050aaa54000e16", "not the policy 3"),
+    (REPLY, "100105000616", "not the policy 3"),
+    (REPLY, "1001056d7316", "not the policy 3"),
+    (REPLY, "6805056801050aaa540f16", "not the policy 3"),
+    (REPLY, "-", "not the policy 3"),
     ("from 7160", "from 4294967295", "not the policy 2"),
     ("line running", "line halted", "not the policy 2"),
 ]]
