@@ -10,6 +10,7 @@ import time
 
 import pytest
 
+from support.clients import wait_for
 from support.line_time import (DIGIT, UNIT, Poller, ReleaseLog, at_once, new_folder, rack_of, since, units_before_rows,
                                whole_rows)
 from support.premises import measured, suppose, tried_again
@@ -119,6 +120,19 @@ def test_sixteen_masters_poll_at_once(serve, run, tmp_path):
     rows = whole_rows(audit / "line-1-1.audit")
     (tmp_path / "text").write_bytes(rows)
     assert run("check", server.rack, tmp_path / "text").output == f"legal {rows.count(10) - 1}\n"
+
+
+def test_time_passes_while_an_operator_stays(serve):
+    """If the last session of a master has ended, time goes on for as long as an operator is served."""
+    server = serve(rack_of([1], [5]), "--sessions", 1, "--tick", 10)
+    with server.operator() as operator:
+        poller = Poller(server, 1, 5)
+        poller.lock(60000)
+        poller.close()
+        left = operator.ask("show 5")
+        assert re.fullmatch(r"show 5 WaitCfg 1 in 0000 out 0000 wd \d+", left)
+        wait_for(lambda: operator.ask("show 5") != left)
+    assert server.wait().status == 0
 
 
 def test_no_time_passes_without_a_clock(serve, tmp_path):
