@@ -12,3 +12,4 @@ mod endless_books;
 #[cfg(test)]
 mod names;
 pub mod part_clients;
+mod typed_values;
