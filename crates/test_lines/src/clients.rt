@@ -29,6 +29,7 @@ ghost use Rattle.dp_line.specs.Steps.{run, step};
 ghost use Rattle.dp_line.specs.Refusals.{IsUndone};
 ghost use Rattle.dp_line.specs.Isolation.{Agrees, MeetsNoLastPlace, only_requests_of, seen_by, watched};
 
+use crate::typed_values::{prove_events, prove_line};
 use dp_line::laws::take_each;
 use dp_line::{Event, LineSpec, LineState, Op, OpenFault, RestoreFault, SlaveView, Step};
 use std::alloc::Global;
@@ -157,6 +158,8 @@ pub fn go_on(
 {
     dp_line::laws::a_line_goes_on_from_each_of_its_worlds();
     dp_line::bus_laws::a_line_keeps_its_description();
+    prove_line(spec);
+    prove_events(events);
     let mut line = LineState::open(alloc, spec)?;
     line.lift_limit();
     take_each(&mut line, events);

@@ -13,3 +13,4 @@ pub mod journal_clients;
 #[cfg(test)]
 mod names;
 pub mod part_clients;
+mod typed_values;

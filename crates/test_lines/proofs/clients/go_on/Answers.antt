@@ -59,4 +59,4 @@ returns c =
     (sym (ap (λ (w : World). w.masters) world ∙ kept.masters (endless line) c.args.events.now)) (ap (λ (w : World). w.capacity) world ∙ kept.capacity (endless line) c.args.events.now)
     c.count.ensures c.is_halted.ensures c.slaves.ensures in
     same_world c.restore-other.result (restored_world line.masters c.count.result c.is_halted.result c.slaves.result.now) c.take_each.new.line.world same
-    (c.restore-other.ensures.restored (ap restore_fault (same ∙ world) ∙ c.a_line_goes_on_from_each_of_its_worlds.ensures line c.args.events.now opens))
+    (c.restore-other.ensures.restored (ap restore_fault (same ∙ world) ∙ c.a_line_goes_on_from_each_of_its_worlds.ensures line c.args.events.now opens c.prove_line.ensures c.prove_events.ensures.short c.prove_events.ensures.octets))
