@@ -9,3 +9,4 @@ pub mod TyingOperators
 pub mod Dropping
 pub mod Recording
 pub mod RecordingLines
+pub mod ServingJobs

@@ -10,3 +10,4 @@ pub mod TiedOperators
 pub mod Dropped
 pub mod Recorded
 pub mod Recording
+pub mod ServedJobs

@@ -1,16 +1,21 @@
 //! A pool of workers that serve sessions at the ports of a rack.
 
-ghost use Rattle.std.specs.Prelude.{◌≡◌, ◌≤◌, All, IfErr, length, nat_lt};
+ghost use Rattle.std.specs.Prelude.{◌≡◌, ◌≤◌, ◌+◌, ℕ, true, All, IfErr, IfNone, IfSome, is_some, length, nat_lt};
 ghost use Rattle.std.specs.List.{AllZip};
 ghost use Rattle.dp_shared.specs.Claims.{Seated};
+ghost use Rattle.dp_sessions.specs.Ended.{end_of};
 ghost use Rattle.dp_sessions.specs.Pools.{HasSeats};
+ghost use Rattle.dp_sessions.specs.ServedJobs.{IsServedAt};
+ghost use Rattle.dp_sessions.specs.Sessions.{Streams};
+ghost use Rattle.dp_sessions.specs.declared.session.Session.{Session as TheSession};
 
 use crate::gate::Gate;
 use crate::pool_fault::PoolFault;
 use crate::port::Port;
-use crate::reads::Uncounted;
+use crate::reads::{Reads, Uncounted};
 use crate::serving::serve_session;
 use crate::session::Session;
+use crate::session_end::SessionEnd;
 use crossbeam_channel::Receiver;
 use dp_shared::WorkerSeat;
 use std::io::{Read, Write};
@@ -35,7 +40,12 @@ trait Serve {
     /// The seat is one for this port, and holds nothing.
     ghost ours: { Self → Seated → Type 0 };
 
-    fn serve<H: Wait, R: Read, W: Write, G: Gate>(
+    /// The seat served this session here, in at most this many reads, with these octets read and written. The function
+    /// says which places of a line are recorded.
+    ghost serves: { Self → (ℕ → ℕ → Type 0) → ℕ → Streams → Seated → Seated → TheSession → Type 0 };
+
+    /// Serves a session here with a seat of its own.
+    fn serve<H: Wait, R: Read, C: Reads<R>, W: Write, G: Gate>(
         &self,
         rt: &H,
         seat: &mut WorkerSeat,
@@ -45,15 +55,25 @@ trait Serve {
         turns: u32,
     ) -> Session
         requires { Self.ours self.now seat.old }
-        ensures { Self.ours self.now seat.new };
+        ensures ours { Self.ours self.now seat.new }
+        ensures reads { C.reads reader.new ≤ C.reads reader.old + turns }
+        ensures failed { end_of result ≡ SessionEnd.ReadFault → C.failed reader.new ≡ true }
+        ensures served { Self.serves self.now (G.recorded gate.now) turns
+            (record { left = R.remaining reader.old; left_after = R.remaining reader.new; written = W.contents writer.old; written_after = W.contents writer.new })
+            seat.old seat.new result };
 }
 
 impl Serve for Port {
+    ghost use Rattle.dp_shared.specs.Passes.{line_of, table_of};
     ghost use Rattle.dp_sessions.specs.Pools.{IsSeatAt};
+    ghost use Rattle.dp_sessions.specs.ServedJobs.{IsPortSession};
 
     ghost ours = { λ port seat. IsSeatAt port.claims seat };
 
-    fn serve<H: Wait, R: Read, W: Write, G: Gate>(
+    ghost serves = { λ port recorded turns streams before after session.
+        IsPortSession (table_of port.line) (line_of port.line).number port.claims.masters recorded turns streams before after session };
+
+    fn serve<H: Wait, R: Read, C: Reads<R>, W: Write, G: Gate>(
         &self,
         rt: &H,
         seat: &mut WorkerSeat,
@@ -62,7 +82,7 @@ impl Serve for Port {
         gate: &G,
         turns: u32,
     ) -> Session {
-        serve_session::<H, R, Uncounted, W, G>(rt, reader, writer, self, seat, gate, turns)
+        serve_session::<H, R, C, W, G>(rt, reader, writer, self, seat, gate, turns)
     }
 }
 
@@ -150,10 +170,13 @@ fn work<P: Serve, H: Wait, R: Read + Drop, W: Write + Drop, G: Gate>(
     requires { AllZip P.ours ports.now seats.items }
 {
     for _ in rt.forever() {
-        let Ok(job) = jobs.recv(rt) else {
+        let Ok(mut job) = jobs.recv(rt) else {
             return;
         };
-        if serve_job(rt, ports, &mut seats, job, gate, turns) {
+        let session = serve_job::<P, H, R, Uncounted, W, G>(
+            rt, ports, &mut seats, &mut job, gate, turns,
+        );
+        if session.is_some() {
             let mut count = served.lock(rt);
             *count = count.saturating_add(1);
         }
@@ -161,32 +184,41 @@ fn work<P: Serve, H: Wait, R: Read + Drop, W: Write + Drop, G: Gate>(
     unreachable!()
 }
 
-/// Serves a job at its port, with the worker's seat there. Returns false if there is no such port; the job is then
-/// dropped.
-fn serve_job<P: Serve, H: Wait, R: Read + Drop, W: Write + Drop, G: Gate>(
+/// Serves a job at its port, with the worker's seat there, and returns the session. Returns None if there is no such
+/// port; the job is then unchanged.
+fn serve_job<P: Serve, H: Wait, R: Read, C: Reads<R>, W: Write, G: Gate>(
     rt: &H,
     ports: &[P],
     seats: &mut [WorkerSeat],
-    job: Job<R, W>,
+    job: &mut Job<R, W>,
     gate: &G,
     turns: u32,
-) -> bool
+) -> Option<Session>
     requires ours { AllZip P.ours ports.now seats.old }
     ensures ours { AllZip P.ours ports.now seats.new }
-    ensures served { result ≡ nat_lt job.port (length ports.now) }
+    ensures known { is_some result ≡ nat_lt job.old.port (length ports.now) }
+    ensures unserved { IfNone result ((job.new ≡ job.old) × (seats.new ≡ seats.old)) }
+    ensures reads { C.reads job.new.reader ≤ C.reads job.old.reader + turns }
+    ensures failed { IfSome result (λ session. end_of session ≡ SessionEnd.ReadFault → C.failed job.new.reader ≡ true) }
+    ensures served { IfSome result (λ session. IsServedAt
+        (λ port. P.serves port (G.recorded gate.now) turns
+        (record { left = R.remaining job.old.reader; left_after = R.remaining job.new.reader; written = W.contents job.old.writer; written_after = W.contents job.new.writer }))
+        ports.now job.old.port seats.old seats.new session) }
 {
-    let Job {
-        port,
-        mut reader,
-        mut writer,
-    } = job;
-    let index = usize::from(port);
+    let index = usize::from(job.port);
     let Some(here) = ports.get(index) else {
-        return false;
+        return None;
     };
-    let session = here.serve(rt, &mut seats[index], &mut reader, &mut writer, gate, turns);
-    if let Session::Rejected { address, end } = session {
-        gate.rejected(rt, port, address, end);
+    let session = here.serve::<H, R, C, W, G>(
+        rt,
+        &mut seats[index],
+        &mut job.reader,
+        &mut job.writer,
+        gate,
+        turns,
+    );
+    if let Session::Rejected { address, end } = &session {
+        gate.rejected(rt, job.port, *address, *end);
     }
-    true
+    Some(session)
 }
