@@ -84,7 +84,7 @@ nothing_is_one : {X : Type 0} (s : Seen) → [] ≡ s ∷ [] → X
 nothing_is_one s is = absurd (let e : 0 ≡ 1 = ap length is in omega arith)
 
 -- of a look that found an entry its text line is written
-row_written : (number : ℕ) (question : Question) (answer : Answer) (place : ℕ) (entry : Entry) → found_by question answer ≡ (place, entry) ∷ []
+pub row_written : (number : ℕ) (question : Question) (answer : Answer) (place : ℕ) (entry : Entry) → found_by question answer ≡ (place, entry) ∷ []
     → written_by number question answer ≡ line_text (entry_text entry)
 row_written number (asks.Entry p) (answers.Entry (Some e)) place entry is =
     sym (append-nil (line_text (entry_text e))) ∙ ap rows_of is ∙ append-nil (line_text (entry_text entry))
@@ -319,7 +319,7 @@ after_cut_head version number seen before now after old new (head, looks, writte
 abbrev Stands : List Entry → Seen → Type 0
 Stands entries seen = slice_get entries (seen.0 - 1) ≡ Some seen.1
 
-got_in_front : (entries : List Entry) (count index : ℕ) (entry : Entry) → slice_get (take count entries) index ≡ Some entry → slice_get entries index ≡ Some entry
+pub got_in_front : (entries : List Entry) (count index : ℕ) (entry : Entry) → slice_get (take count entries) index ≡ Some entry → slice_get entries index ≡ Some entry
 got_in_front entries zero index entry is = absurd (none-some entry is)
 got_in_front [] (suc count) index entry is = absurd (none-some entry is)
 got_in_front (e ∷ entries) (suc count) zero entry is = is

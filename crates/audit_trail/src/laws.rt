@@ -1,8 +1,9 @@
 //! Laws of trails. Each law is what an empty function ensures.
 
-ghost use Rattle.std.specs.Prelude.{◌≡◌, ◌≤◌, ℕ, List, ◌∷◌, ◌++◌, None, Some, length, map, take};
+ghost use Rattle.std.specs.Prelude.{◌≡◌, ◌≤◌, ℕ, List, ◌∷◌, ◌++◌, None, Some, length, map, slice_get, take};
 ghost use Rattle.dp_line.specs.World.{description_of, opening_fault};
 ghost use Rattle.dp_line.specs.declared.description.LineSpec.{LineSpec};
+ghost use Rattle.dp_audit.specs.declared.entry.Receipt.{Receipt};
 ghost use Rattle.audit_heads.specs.Head.{Head};
 ghost use Rattle.dp_shared.specs.Content.{Content, IsHistory, head_behind};
 ghost use Rattle.dp_shared.specs.LineLock.{FitsPass, IsOf, IsPassAt, LineRule, Slotted, first_entries, world_after};
@@ -10,6 +11,7 @@ ghost use Rattle.dp_shared.specs.declared.line_view.Answer.{Answer};
 ghost use Rattle.dp_shared.specs.declared.line_view.Look.{Look};
 ghost use Rattle.dp_shared.specs.declared.line_view.Question.{Question};
 ghost use Rattle.dp_shared.specs.declared.line_view.PassView.{PassView};
+ghost use Rattle.audit_trail.specs.TextLines.{HasLineOf};
 ghost use Rattle.audit_trail.specs.Trails.{AreFrom, HeadsFollow, MissedOne, SawAll, found, parts_text, seen_text, without_heads};
 
 /// The entries that a pass saw at the places from 1 on are the first entries of its line's journal. This holds
@@ -34,6 +36,20 @@ pub fn a_trail_that_is_written_up_to_has_all()
         → FitsPass content pass → AreFrom 1 (found pass.looks) → length (found pass.looks) ≡ seen → (all : SawAll pass.looks seen)
         → (seen ≡ all.last.count) × (all.last.count ≤ length content.book.entries)
         × (map (λ one. one.1) (found pass.looks) ≡ take all.last.count content.book.entries) }
+{}
+
+/// The text of a trail has the text line of each event of the line that the trail has seen: if a pass of the line has a
+/// receipt with a place that the trail's pass has seen, the text has the text line of the journal's entry at that place,
+/// and the receipt is that of this entry. So the reply in a receipt is that of the text line. This holds at every
+/// moment, as above; the premises of `closed` are what [`Line::close_with`](dp_shared::Line::close_with) ensures of its
+/// journal and of both passes.
+pub fn a_receipt_that_a_trail_saw_has_its_text_line()
+    ensures always { (line : LineSpec) (state : Slotted) (rule : LineRule line state) (seat index trail_seat trail_index : ℕ) (pass tail : PassView) (version place at : ℕ) (receipt : Receipt)
+        → IsPassAt state seat index pass → IsPassAt state trail_seat trail_index tail → AreFrom 1 (found tail.looks) → place ≤ length (found tail.looks)
+        → slice_get pass.receipts at ≡ Some receipt → receipt.place ≡ Some place → HasLineOf rule.content version line.number place tail.looks receipt }
+    ensures closed { (line : LineSpec) (content : Content) (pass tail : PassView) (version place at : ℕ) (receipt : Receipt)
+        → IsOf line content.book → IsHistory content → FitsPass content pass → FitsPass content tail → AreFrom 1 (found tail.looks) → place ≤ length (found tail.looks)
+        → slice_get pass.receipts at ≡ Some receipt → receipt.place ≡ Some place → HasLineOf content version line.number place tail.looks receipt }
 {}
 
 /// The trail of an ordinary line is never overtaken: no pass of such a line looks for an entry that is

@@ -3,7 +3,7 @@
 //! A trail can't ask an endless line to keep or to forget entries: if that call came late, the line would
 //! have to wait or stop. The line forgets its oldest entries, and a trail that meets a forgotten one breaks.
 
-ghost use Rattle.std.specs.Prelude.{◌≡◌, ◌<◌, ◌≤◌, ◌+◌, ◌^◌, [], length, false, None, Some, Ok, Err, IfErr, IfOk, IfSome, MatchResult, OnOk};
+ghost use Rattle.std.specs.Prelude.{◌≡◌, ◌<◌, ◌≤◌, ◌+◌, ◌^◌, ◌&&◌, nat_le, [], length, false, None, Some, Ok, Err, IfErr, IfOk, IfSome, MatchResult, OnOk};
 ghost use Rattle.dp_audit.specs.AuditText.{version_of as version_by};
 ghost use Rattle.dp_shared.specs.Passes.{line_of, new_pass, table_of};
 ghost use Rattle.audit_trail.specs.Trails.{AreFrom, BeginsPart, Breaks, HeadsFollow, IsBegun, IsWhole, OnlyLooks, SawAll, Steps, found, parts_text};
@@ -100,6 +100,14 @@ impl<'l, W: Write + Drop> Tail<'l, W> {
             ..
         } = self;
         (writer, line.hand_back(rt, pass))
+    }
+
+    /// Returns whether the tail has seen the entry of this place. Places count from 1. If the tail is not broken, the text
+    /// line of the entry is written.
+    pub fn has_row(&self, place: u32) -> bool
+        ensures { result ≡ nat_le 1 place && nat_le place self.now.seen }
+    {
+        0 < place && place <= self.seen
     }
 
     /// Returns the reason why the trail is broken, or None if it is not broken. A broken trail writes nothing

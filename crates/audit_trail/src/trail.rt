@@ -56,8 +56,13 @@ impl<'l, W: Write + Drop, J: Naming> Trail<'l, W, J> {
         }
     }
 
-    /// Returns the tail, once no thread shares the trail any more.
-    pub fn into_tail(self) -> Tail<'l, W> {
+    /// Returns the tail, once no thread shares the trail any more. Its pass has one of the names.
+    ///
+    /// No clause says that its looks begin with those of an evidence that the trail gave: what is known of a value under a
+    /// lock is only what its type says. [`Tail::has_row`] shows at run time which places the tail has written.
+    pub fn into_tail(self) -> Tail<'l, W>
+        ensures { IsOneOf J.trails result.pass }
+    {
         let NamedTail { tail, .. } = self.tail.into_inner();
         tail
     }
