@@ -1,16 +1,15 @@
 //! The acceptors of a rack.
 
-ghost use Rattle.std.specs.Prelude.{◌≡◌, ◌≤◌, ◌+◌, [], ◌∷◌, ◌++◌, IfOk, OnOk, length, map};
+ghost use Rattle.std.specs.Prelude.{◌≡◌, ◌+◌, [], ◌∷◌, ◌++◌, IfOk, OnOk, length, map};
 ghost use Rattle.std.specs.List.{range_with_len};
-ghost use Rattle.serve_rack.specs.ServeOutput.{AreOpened};
+ghost use Rattle.serve_rack.specs.Serving.{AreServedLines};
 
 use crate::listening::Listeners;
 use crate::masters::{MasterAcceptor, MasterJob};
+use crate::opened_lines::ServedLines;
 use crate::operators::{OperatedLine, OperatorAcceptor};
-use crate::served_line::ServedLine;
 use crate::server_context::ServerContext;
 use crossbeam_channel::{Sender, bounded};
-use dp_sessions::Port;
 use std::alloc::AllocError;
 use std::net::TcpListener;
 use std::sync::Wait;
@@ -31,17 +30,16 @@ impl<'a, H: Wait> Acceptors<'a, H> {
     /// Returns an error if memory is refused.
     pub(crate) fn new(
         context: &'a ServerContext<'a, H>,
+        served: ServedLines<'a>,
         listening: Vec<Listeners<TcpListener>>,
-        lines: &'a [ServedLine],
-        ports: &'a [Port],
         jobs: Sender<MasterJob<'a, H>>,
     ) -> Result<Acceptors<'a, H>, AllocError>
-        requires opened { AreOpened lines.now ports.now }
-        requires each { length listening.items ≡ length lines.now }
-        requires few { length lines.now ≤ 8 }
-        ensures masters { IfOk result (λ all. map (λ acceptor. acceptor.port) all.masters.items ≡ range_with_len 0 (length ports.now)) }
-        ensures operators { IfOk result (λ all. map (λ acceptor. acceptor.target.port.now) all.operators.items ≡ ports.now) }
+        requires served { AreServedLines served }
+        requires each { length listening.items ≡ length served.lines.now }
+        ensures masters { IfOk result (λ all. map (λ acceptor. acceptor.port) all.masters.items ≡ range_with_len 0 (length served.entry.ports.now)) }
+        ensures operators { IfOk result (λ all. map (λ acceptor. acceptor.target.port.now) all.operators.items ≡ served.entry.ports.now) }
     {
+        let ServedLines { lines, ports } = served;
         let mut all = Acceptors {
             masters: Vec::new(context.alloc),
             operators: Vec::new(context.alloc),

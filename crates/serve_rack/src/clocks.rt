@@ -1,11 +1,9 @@
 //! The clocks of the lines of a rack.
 
-ghost use Rattle.std.specs.Prelude.{◌≤◌, length};
-ghost use Rattle.serve_rack.specs.ServeOutput.{AreOpened};
+ghost use Rattle.serve_rack.specs.Serving.{AreServedLines};
 
-use crate::served_line::ServedLine;
+use crate::opened_lines::ServedLines;
 use crate::server_context::ServerContext;
-use dp_sessions::Port;
 use serve_clock::{LineClock, Schedule};
 use std::alloc::AllocError;
 use std::sync::Wait;
@@ -20,12 +18,11 @@ pub(crate) fn schedule_of<H>(context: &ServerContext<'_, H>) -> Schedule {
 /// Returns an error if memory is refused or a line gives no pass.
 pub(crate) fn open_clocks<'l, H: Wait>(
     context: &ServerContext<'_, H>,
-    lines: &'l [ServedLine],
-    ports: &'l [Port],
+    served: ServedLines<'l>,
 ) -> Result<Vec<LineClock<'l>>, AllocError>
-    requires opened { AreOpened lines.now ports.now }
-    requires few { length lines.now ≤ 8 }
+    requires { AreServedLines served }
 {
+    let ServedLines { lines, ports } = served;
     let mut clocks = Vec::new(context.alloc);
     if context.tick.is_none() && context.step.is_none() {
         return Ok(clocks);

@@ -87,9 +87,12 @@ fn port_of(listener: &TcpListener, named: u16) -> u16 {
 
 /// Returns whether two ports of these lines have this number.
 fn is_twice(lines: &[ServedLine], port: u16) -> bool {
-    let masters = lines.iter().filter(|line| line.listen == port).count();
-    let operators = lines.iter().filter(|line| line.operator == port).count();
-    masters > 1 || operators > 1 || masters == 1 && operators == 1
+    let mut count: u8 = 0;
+    for line in lines {
+        count = count.saturating_add(u8::from(line.listen == port));
+        count = count.saturating_add(u8::from(line.operator == port));
+    }
+    count > 1
 }
 
 /// Checks that there are enough file descriptors, by duplicating a listener and closing the duplicates.

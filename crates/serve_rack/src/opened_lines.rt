@@ -29,6 +29,24 @@ pub(crate) struct OpenedLines {
     pub(crate) seats: Vec<Vec<WorkerSeat>>,
 }
 
+/// The lines of a rack while it is served, and what was opened for each, in the same order. A rack has at most 8 lines.
+#[derive(Clone, Copy, Drop)]
+pub(crate) struct ServedLines<'l> {
+    /// The lines.
+    pub(crate) lines: &'l [ServedLine],
+    /// What was opened for each line.
+    pub(crate) ports: &'l [Port],
+}
+
+/// The workers of a rack, 1 to 32: each has a seat at each port, in the order of the ports.
+#[derive(Drop)]
+pub(crate) struct SeatedWorkers<'l> {
+    /// The ports.
+    pub(crate) ports: &'l [Port],
+    /// The seats of each worker.
+    pub(crate) seats: Vec<Vec<WorkerSeat>>,
+}
+
 /// Opens lines in their initial state, for this number of workers.
 ///
 /// Returns an error if memory or a table is refused.

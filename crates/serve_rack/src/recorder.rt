@@ -4,22 +4,21 @@
 //! stops serving. Each session sees that within 100 ms, by the timeout of its reads and writes. So the audit texts still come
 //! on standard output, and the program ends with status 5.
 
-ghost use Rattle.std.specs.Prelude.{◌≡◌, ◌≤◌, All, Contains, IfErr, IfOk, IfSome, Some, length};
+ghost use Rattle.std.specs.Prelude.{◌≡◌, All, Contains, IfErr, IfOk, IfSome, Some, length};
 ghost use Rattle.audit_trail.specs.Named.{name_of};
 ghost use Rattle.audit_files.specs.FileFaults.{IsRecordingFault};
 ghost use Rattle.serve_rack.specs.Recordings.{AreRecordedIn, IsPartOfOne, paths_of};
 ghost use Rattle.serve_rack.specs.ServedLines.{line_numbers};
-ghost use Rattle.serve_rack.specs.ServeOutput.{AreOpened};
+ghost use Rattle.serve_rack.specs.Serving.{AreServedLines};
 
 use crate::host::Host;
-use crate::served_line::ServedLine;
+use crate::opened_lines::ServedLines;
+use crate::server_context::ServerContext;
 use audit_files::{
-    AuditFile, FileFault, FileTail, FileTrail, IncompleteFile, OldParts, begin_text, complete_text,
+    AuditFile, FileFault, FileTail, FileTrail, IncompleteFile, begin_text, complete_text,
     make_folder,
 };
 use audit_trail::{Naming, RecordEntries, Trail, TrailBreak};
-use dp_sessions::Port;
-use serve_log::Notes;
 use serve_options::PartOptions;
 use serve_sockets::ServePhase;
 use std::alloc::Global;
@@ -55,26 +54,24 @@ impl<N: Net, T: RecordEntries> RecordEntries for Recorder<'_, '_, N, T> {
 }
 
 /// Makes the folder, begins a new audit text in it for each line, and returns the recorders. `parts` is `None` if each text has
-/// one file, and `old_parts` is `None` if no part is deleted.
+/// one file.
 ///
 /// Returns `CannotMake` with the path that cannot be made, or `OutOfMemory`.
 pub(crate) fn record_lines<'a, 's, H: Host>(
-    host: &'s H,
-    notes: &'s Notes<'s, H>,
-    alloc: Global,
-    serve_phase: &'s ServePhase,
-    old_parts: Option<&'s OldParts<'s, H>>,
+    context: &ServerContext<'s, H>,
     folder: &'a str,
     parts: Option<PartOptions>,
-    lines: &[ServedLine],
-    ports: &'s [Port],
+    served: ServedLines<'s>,
 ) -> Result<Vec<UnnamedRecorder<'a, 's, H>>, FileFault<'a>>
-    requires opened { AreOpened lines.now ports.now }
-    requires few { length lines.now ≤ 8 }
-    ensures each { IfOk result (λ all. length all.items ≡ length lines.now) }
-    ensures paths { IfOk result (λ all. AreRecordedIn folder.now (line_numbers lines.now) (paths_of all.items)) }
-    ensures fault { IfErr result (IsRecordingFault (Some folder.entry) (line_numbers lines.now)) }
+    requires { AreServedLines served }
+    ensures each { IfOk result (λ all. length all.items ≡ length served.entry.lines.now) }
+    ensures paths { IfOk result (λ all. AreRecordedIn folder.now (line_numbers served.entry.lines.now) (paths_of all.items)) }
+    ensures fault { IfErr result (IsRecordingFault (Some folder.entry) (line_numbers served.entry.lines.now)) }
 {
+    let ServedLines { lines, ports } = served;
+    let (alloc, old_parts) = (context.alloc, context.old_parts);
+    let (host, notes) = (context.sockets.rt, context.sockets.notes);
+    let serve_phase = context.sockets.serve_phase;
     match make_folder(host, folder) {
         Ok(()) => {}
         Err(fault) => return Err(fault),

@@ -10,10 +10,10 @@ ghost use Rattle.serve_rack.specs.ServeOutput.{AreOpened, Serves, ServesLines, S
 use crate::audits::write_audits;
 use crate::host::Host;
 use crate::listening::{Listeners, check_descriptors, listen_at_lines, ports_of};
-use crate::opened_lines::{OpenedLines, open_lines};
+use crate::opened_lines::{OpenedLines, SeatedWorkers, ServedLines, open_lines};
 use crate::serve_fault::ServeFault;
 use crate::served_line::{ServedLine, lines_to_serve};
-use crate::serving::{numbers_of, serve_connections};
+use crate::serving::{ListeningLines, numbers_of, serve_connections};
 use rack_file::laws::{
     accepted_lines_can_be_opened, accepted_racks_have_1_to_8_lines,
     accepted_racks_have_1_to_32_workers,
@@ -152,6 +152,10 @@ fn serve_lines<'a, 's, H: Host + Sync, W: Write>(
         ports,
         seats,
     } = opened;
+    let served = ServedLines {
+        lines: &lines,
+        ports: &ports,
+    };
     let serve_phase = ServePhase::new(ports_of(&lines, &listening));
     let notes = Notes::new(
         rt,
@@ -159,6 +163,14 @@ fn serve_lines<'a, 's, H: Host + Sync, W: Write>(
         numbers_of(&lines),
         seats.len() as u32,
     );
+    let listening = ListeningLines {
+        served,
+        listening,
+        workers: SeatedWorkers {
+            ports: &ports,
+            seats,
+        },
+    };
     let outcome = serve_connections(
         rt,
         alloc,
@@ -166,10 +178,7 @@ fn serve_lines<'a, 's, H: Host + Sync, W: Write>(
         &notes,
         options,
         input,
-        &lines,
         listening,
-        &ports,
-        seats,
         writer,
     );
     notes.sum_up(rt);

@@ -3,18 +3,19 @@
 ghost use Rattle.std.specs.Prelude.{◌≡◌, ◌≤◌, ℕ, Bool, List, Option, All, Contains, Err, IfErr, IfOk, IfSome, None, OnOk, Some, length};
 ghost use Rattle.std.specs.Borrow.{Bor};
 ghost use Rattle.std.specs.Io.KnownBytes.{Appends};
-ghost use Rattle.dp_sessions.specs.Pools.{HasSeats};
 ghost use Rattle.audit_trail.specs.Named.{name_of};
 ghost use Rattle.audit_files.specs.AuditPaths.{IsFileIn};
 ghost use Rattle.serve_rack.specs.Recordings.{IsPartOfOne, paths_of};
 ghost use Rattle.serve_rack.specs.declared.served_line.ServedLine.{ServedLine};
 ghost use Rattle.serve_rack.specs.ServedLines.{line_numbers};
-ghost use Rattle.serve_rack.specs.ServeOutput.{AreOpened, AreServed, ServesConnections, ServesLines, ready, serving_result};
+ghost use Rattle.serve_rack.specs.Serving.{AreListening, AreSeated, AreServedLines};
+ghost use Rattle.serve_rack.specs.ServeOutput.{AreServed, ServesConnections, ServesLines, ready, serving_result};
 
 use crate::acceptors::Acceptors;
 use crate::clocks::{close_clocks, open_clocks, schedule_of};
 use crate::host::Host;
 use crate::listening::Listeners;
+use crate::opened_lines::{SeatedWorkers, ServedLines};
 use crate::operators::operator_workers;
 use crate::ready::{name_ports, write_ready};
 use crate::recorder::{UnnamedRecorder, first_incomplete, name_trails, record_lines};
@@ -23,13 +24,11 @@ use crate::serve_fault::{OutputFault, ServeFault};
 use crate::served_line::ServedLine;
 use crate::server_context::ServerContext;
 use crate::session_gate::{KeepTime, SessionGate, TimedGate};
-use crate::threads::{accept_and_serve, can_start};
+use crate::threads::{Sessions, accept_and_serve, can_start};
 use audit_files::{IncompleteFile, OldParts};
 use audit_trail::{Naming, NoTrail, RecordEntries};
 use crossbeam_channel::bounded;
-use dp_sessions::Port;
-use dp_shared::WorkerSeat;
-use serve_clock::LineClock;
+use serve_clock::{LineClock, Schedule};
 use serve_log::{LineNumbers, MOST_OPERATORS, Notes};
 use serve_options::{PartOptions, ServeOptions};
 use serve_sockets::{InputEnd, ServePhase, SocketContext};
@@ -46,6 +45,17 @@ const MOST_WAITING: usize = 64;
 
 /// The most lines of a rack.
 const MOST_LINES: usize = rack_file::MOST_LINES as usize;
+
+/// The lines of a rack that are listened at, and the workers of the sessions of their masters.
+#[derive(Drop)]
+pub(crate) struct ListeningLines<'l> {
+    /// The lines.
+    pub(crate) served: ServedLines<'l>,
+    /// The listeners of each line.
+    pub(crate) listening: Vec<Listeners<TcpListener>>,
+    /// The workers.
+    pub(crate) workers: SeatedWorkers<'l>,
+}
 
 /// How serving the connections of all lines has ended.
 #[derive(Clone, Copy)]
@@ -85,20 +95,13 @@ pub(crate) fn serve_connections<'a, 's, H: Host + Sync, W: Write>(
     notes: &'s Notes<'s, H>,
     options: ServeOptions<'a>,
     input: Option<&'s InputEnd>,
-    lines: &'s [ServedLine],
-    listening: Vec<Listeners<TcpListener>>,
-    ports: &'s [Port],
-    seats: Vec<Vec<WorkerSeat>>,
+    listening: ListeningLines<'s>,
     writer: &mut W,
 ) -> Result<ServingOutcome<'a>, ServeFault<'a>>
-    requires few { length lines.now ≤ 8 }
-    requires each { length listening.items ≡ length lines.now }
-    requires opened { AreOpened lines.now ports.now }
-    requires workers { (1 ≤ length seats.items) × (length seats.items ≤ 32) }
-    requires seats { All (λ own. HasSeats ports.now own.items) seats.items }
+    requires { AreListening listening }
     ensures ok { OnOk result (Appends (W.contents writer.old) (W.contents writer.new) ready) }
-    ensures incomplete { IfOk result (λ outcome. IfSome outcome.incomplete (λ file. IsFileIn options.entry.audit (line_numbers lines.now) file.path)) }
-    ensures err { IfErr result (λ fault. (endless : Bool) → ServesLines options.entry.audit endless lines.now (W.contents writer.old) (W.contents writer.new) (Err fault)) }
+    ensures incomplete { IfOk result (λ outcome. IfSome outcome.incomplete (λ file. IsFileIn options.entry.audit (line_numbers listening.entry.served.lines.now) file.path)) }
+    ensures err { IfErr result (λ fault. (endless : Bool) → ServesLines options.entry.audit endless listening.entry.served.lines.now (W.contents writer.old) (W.contents writer.new) (Err fault)) }
 {
     let Ok(old_parts) = old_parts_of(rt, notes, alloc, options) else {
         return Err(ServeFault::OutOfMemory);
@@ -119,12 +122,10 @@ pub(crate) fn serve_connections<'a, 's, H: Host + Sync, W: Write>(
         operators: AtomicU32::new(0),
     };
     let Some(folder) = options.audit else {
-        return serve_unrecorded(&context, lines, listening, ports, seats, writer);
+        return serve_unrecorded(&context, listening, writer);
     };
     let parts = options.endless;
-    serve_recorded(
-        &context, folder, parts, lines, listening, ports, seats, writer,
-    )
+    serve_recorded(&context, folder, parts, listening, writer)
 }
 
 /// Returns the old parts of the audit texts, or `None` if no part is deleted.
@@ -148,23 +149,16 @@ fn old_parts_of<'s, H: Host>(
 /// Serves the connections of all lines, which are not recorded.
 fn serve_unrecorded<'a, 's, H: Host + Sync, W: Write>(
     context: &'s ServerContext<'s, H>,
-    lines: &'s [ServedLine],
-    listening: Vec<Listeners<TcpListener>>,
-    ports: &'s [Port],
-    seats: Vec<Vec<WorkerSeat>>,
+    listening: ListeningLines<'s>,
     writer: &mut W,
 ) -> Result<ServingOutcome<'a>, ServeFault<'a>>
-    requires few { length lines.now ≤ 8 }
-    requires each { length listening.items ≡ length lines.now }
-    requires opened { AreOpened lines.now ports.now }
-    requires workers { (1 ≤ length seats.items) × (length seats.items ≤ 32) }
-    requires seats { All (λ own. HasSeats ports.now own.items) seats.items }
+    requires { AreListening listening }
     ensures ok { OnOk result (Appends (W.contents writer.old) (W.contents writer.new) ready) }
     ensures incomplete { IfOk result (λ outcome. outcome.incomplete ≡ None) }
-    ensures err { IfErr result (λ fault. (folder : Option (Bor (List ℕ))) → (endless : Bool) → ServesLines folder endless lines.now (W.contents writer.old) (W.contents writer.new) (Err fault)) }
+    ensures err { IfErr result (λ fault. (folder : Option (Bor (List ℕ))) → (endless : Bool) → ServesLines folder endless listening.entry.served.lines.now (W.contents writer.old) (W.contents writer.new) (Err fault)) }
 {
-    let none = &[NoTrail; MOST_LINES][..lines.len()];
-    let served = serve_with_recorders(context, lines, listening, ports, seats, none, writer);
+    let none = &[NoTrail; MOST_LINES][..listening.served.lines.len()];
+    let served = serve_with_recorders(context, listening, none, writer);
     match served {
         Ok(served) => Ok(ServingOutcome {
             served,
@@ -179,41 +173,19 @@ fn serve_recorded<'a, 's, H: Host + Sync, W: Write>(
     context: &'s ServerContext<'s, H>,
     folder: &'a str,
     parts: Option<PartOptions>,
-    lines: &'s [ServedLine],
-    listening: Vec<Listeners<TcpListener>>,
-    ports: &'s [Port],
-    seats: Vec<Vec<WorkerSeat>>,
+    listening: ListeningLines<'s>,
     writer: &mut W,
 ) -> Result<ServingOutcome<'a>, ServeFault<'a>>
-    requires few { length lines.now ≤ 8 }
-    requires each { length listening.items ≡ length lines.now }
-    requires opened { AreOpened lines.now ports.now }
-    requires workers { (1 ≤ length seats.items) × (length seats.items ≤ 32) }
-    requires seats { All (λ own. HasSeats ports.now own.items) seats.items }
+    requires { AreListening listening }
     ensures ok { OnOk result (Appends (W.contents writer.old) (W.contents writer.new) ready) }
-    ensures incomplete { IfOk result (λ outcome. IfSome outcome.incomplete (λ file. IsFileIn (Some folder.entry) (line_numbers lines.now) file.path)) }
-    ensures err { IfErr result (λ fault. (endless : Bool) → ServesLines (Some folder.entry) endless lines.now (W.contents writer.old) (W.contents writer.new) (Err fault)) }
+    ensures incomplete { IfOk result (λ outcome. IfSome outcome.incomplete (λ file. IsFileIn (Some folder.entry) (line_numbers listening.entry.served.lines.now) file.path)) }
+    ensures err { IfErr result (λ fault. (endless : Bool) → ServesLines (Some folder.entry) endless listening.entry.served.lines.now (W.contents writer.old) (W.contents writer.new) (Err fault)) }
 {
-    let (rt, alloc) = (context.sockets.rt, context.alloc);
-    let (serve_phase, notes) = (context.sockets.serve_phase, context.sockets.notes);
-    let old_parts = context.old_parts;
-    let recorders = match record_lines(
-        rt,
-        notes,
-        alloc,
-        serve_phase,
-        old_parts,
-        folder,
-        parts,
-        lines,
-        ports,
-    ) {
+    let recorders = match record_lines(context, folder, parts, listening.served) {
         Ok(recorders) => recorders,
         Err(fault) => return Err(ServeFault::from(fault)),
     };
-    let served = serve_named::<Brand, H, W>(
-        context, lines, listening, ports, seats, recorders, writer,
-    );
+    let served = serve_named::<Brand, H, W>(context, listening, recorders, writer);
     match served {
         Ok(outcome) => Ok(outcome),
         Err(fault) => Err(ServeFault::from(fault)),
@@ -223,19 +195,12 @@ fn serve_recorded<'a, 's, H: Host + Sync, W: Write>(
 /// Serves the connections of all lines, each with its recorder, whose trail `J` names.
 fn serve_named<'a, 's, J: Naming + Send + Sync, H: Host + Sync, W: Write>(
     context: &'s ServerContext<'s, H>,
-    lines: &'s [ServedLine],
-    listening: Vec<Listeners<TcpListener>>,
-    ports: &'s [Port],
-    seats: Vec<Vec<WorkerSeat>>,
+    listening: ListeningLines<'s>,
     recorders: Vec<UnnamedRecorder<'a, 's, H>>,
     writer: &mut W,
 ) -> Result<ServingOutcome<'a>, OutputFault>
-    requires few { length lines.now ≤ 8 }
-    requires each { length listening.items ≡ length lines.now }
-    requires opened { AreOpened lines.now ports.now }
+    requires listening { AreListening listening }
     requires named { All (λ recorder. Contains J.trails (name_of recorder.file.trail.pass)) recorders.items }
-    requires workers { (1 ≤ length seats.items) × (length seats.items ≤ 32) }
-    requires seats { All (λ own. HasSeats ports.now own.items) seats.items }
     ensures ok { OnOk result (Appends (W.contents writer.old) (W.contents writer.new) ready) }
     ensures incomplete { IfOk result (λ outcome. IfSome outcome.incomplete (λ file. IsPartOfOne (paths_of recorders.entry.items) file.path)) }
     ensures err { IfErr result (λ fault. ServesConnections (W.contents writer.old) (W.contents writer.new) (Err fault)) }
@@ -244,7 +209,7 @@ fn serve_named<'a, 's, J: Naming + Send + Sync, H: Host + Sync, W: Write>(
     let Some(recorders) = name_trails::<H, J>(alloc, recorders) else {
         return Err(OutputFault::OutOfMemory);
     };
-    let served = serve_with_recorders(context, lines, listening, ports, seats, &recorders, writer);
+    let served = serve_with_recorders(context, listening, &recorders, writer);
     match served {
         Ok(served) => {
             let incomplete = first_incomplete(rt, recorders);
@@ -267,25 +232,18 @@ fn delete_rest<H: Host>(old_parts: Option<&OldParts<'_, H>>) {
 /// Returns as [`serve_at_gate`] does, and `OutOfMemory` also if a line gives no pass for its clock.
 fn serve_with_recorders<'a, H: Host + Sync, C: RecordEntries + Sync, W: Write>(
     context: &'a ServerContext<'a, H>,
-    lines: &'a [ServedLine],
-    listening: Vec<Listeners<TcpListener>>,
-    ports: &'a [Port],
-    seats: Vec<Vec<WorkerSeat>>,
+    listening: ListeningLines<'a>,
     recorders: &'a [C],
     writer: &mut W,
 ) -> Result<Option<Served>, OutputFault>
-    requires few { length lines.now ≤ 8 }
-    requires each { length listening.items ≡ length lines.now }
-    requires opened { AreOpened lines.now ports.now }
-    requires workers { (1 ≤ length seats.items) × (length seats.items ≤ 32) }
-    requires seats { All (λ own. HasSeats ports.now own.items) seats.items }
+    requires { AreListening listening }
     ensures { ServesConnections (W.contents writer.old) (W.contents writer.new) result }
 {
-    let Ok(clocks) = open_clocks(context, lines, ports) else {
+    let Ok(clocks) = open_clocks(context, listening.served) else {
         return Err(OutputFault::OutOfMemory);
     };
     let served = serve_with_clocks::<H, C, LineClock<'a>, W>(
-        context, lines, listening, ports, seats, recorders, &clocks, writer,
+        context, listening, recorders, &clocks, writer,
     );
     close_clocks(context.sockets.rt, clocks);
     served
@@ -296,19 +254,12 @@ fn serve_with_recorders<'a, H: Host + Sync, C: RecordEntries + Sync, W: Write>(
 /// Returns as [`serve_at_gate`] does.
 fn serve_with_clocks<'a, H: Host + Sync, C: RecordEntries + Sync, D: KeepTime + Sync, W: Write>(
     context: &'a ServerContext<'a, H>,
-    lines: &'a [ServedLine],
-    listening: Vec<Listeners<TcpListener>>,
-    ports: &'a [Port],
-    seats: Vec<Vec<WorkerSeat>>,
+    listening: ListeningLines<'a>,
     recorders: &'a [C],
     clocks: &[D],
     writer: &mut W,
 ) -> Result<Option<Served>, OutputFault>
-    requires few { length lines.now ≤ 8 }
-    requires each { length listening.items ≡ length lines.now }
-    requires opened { AreOpened lines.now ports.now }
-    requires workers { (1 ≤ length seats.items) × (length seats.items ≤ 32) }
-    requires seats { All (λ own. HasSeats ports.now own.items) seats.items }
+    requires { AreListening listening }
     ensures { ServesConnections (W.contents writer.old) (W.contents writer.new) result }
 {
     let gate = SessionGate {
@@ -316,10 +267,10 @@ fn serve_with_clocks<'a, H: Host + Sync, C: RecordEntries + Sync, D: KeepTime + 
         notes: context.sockets.notes,
         start: Instant::now(context.sockets.rt).ok(),
         clocks,
-        numbers: numbers_of(lines),
+        numbers: numbers_of(listening.served.lines),
         recorders,
     };
-    serve_at_gate(context, lines, listening, ports, seats, &gate, writer)
+    serve_at_gate(context, listening, &gate, writer)
 }
 
 /// Writes the file that names the ports, if there is one, and `ready`, and then accepts and serves the connections of all
@@ -330,37 +281,24 @@ fn serve_with_clocks<'a, H: Host + Sync, C: RecordEntries + Sync, D: KeepTime + 
 /// cannot be made; nothing is written then. Returns `WriteFault` if `ready` is not written.
 fn serve_at_gate<'a, H: Host + Sync, G: TimedGate + Sync, W: Write>(
     context: &'a ServerContext<'a, H>,
-    lines: &'a [ServedLine],
-    listening: Vec<Listeners<TcpListener>>,
-    ports: &'a [Port],
-    seats: Vec<Vec<WorkerSeat>>,
+    listening: ListeningLines<'a>,
     gate: &'a G,
     writer: &mut W,
 ) -> Result<Option<Served>, OutputFault>
-    requires few { length lines.now ≤ 8 }
-    requires each { length listening.items ≡ length lines.now }
-    requires opened { AreOpened lines.now ports.now }
-    requires workers { (1 ≤ length seats.items) × (length seats.items ≤ 32) }
-    requires seats { All (λ own. HasSeats ports.now own.items) seats.items }
+    requires { AreListening listening }
     ensures { ServesConnections (W.contents writer.old) (W.contents writer.new) result }
 {
+    let ListeningLines {
+        served,
+        listening,
+        workers,
+    } = listening;
     let schedule = schedule_of(context);
-    let keepers = if schedule.wait(0).is_none() { 0 } else { 1 };
-    let waiting = if context.input.is_none() { 0 } else { 1 };
-    let deleting = if context.old_parts.is_none() { 0 } else { 1 };
-    let of_lines = lines.len() * (2 + MOST_OPERATORS);
-    let threads = seats.len() + of_lines + keepers + waiting + deleting;
+    let threads = threads_needed(context, schedule, served.lines.len(), workers.seats.len());
     if !can_start(context.sockets.rt, threads) {
         return Err(OutputFault::OutOfMemory);
     }
-    let Ok((sender, jobs)) = bounded(context.alloc, MOST_WAITING) else {
-        return Err(OutputFault::OutOfMemory);
-    };
-    let opened = Acceptors::new(context, listening, lines, ports, sender);
-    let Ok(acceptors) = opened else {
-        return Err(OutputFault::OutOfMemory);
-    };
-    let Ok(workers) = operator_workers(context.alloc, &acceptors.operators, gate) else {
+    let Ok(sessions) = open_sessions(context, gate, served, listening, workers) else {
         return Err(OutputFault::OutOfMemory);
     };
     match name_ports(context) {
@@ -370,15 +308,55 @@ fn serve_at_gate<'a, H: Host + Sync, G: TimedGate + Sync, W: Write>(
     let Ok(()) = write_ready(writer) else {
         return Err(OutputFault::WriteFault);
     };
-    match accept_and_serve(
-        context, gate, acceptors, workers, ports, seats, jobs, schedule,
-    ) {
+    match accept_and_serve(context, gate, schedule, sessions) {
         Ok(masters) => Ok(Some(Served {
             masters,
             operators: context.operators.load(SeqCst),
         })),
         Err(_) => Ok(None),
     }
+}
+
+/// Returns how many threads serve this number of lines with this number of workers.
+fn threads_needed<H>(
+    context: &ServerContext<'_, H>,
+    schedule: Schedule,
+    lines: usize,
+    workers: usize,
+) -> usize
+    requires lines { lines ≤ 8 }
+    requires workers { workers ≤ 32 }
+{
+    let keeping = usize::from(schedule.wait(0).is_some());
+    let waiting = usize::from(context.input.is_some());
+    let deleting = usize::from(context.old_parts.is_some());
+    workers + lines * (2 + MOST_OPERATORS) + keeping + waiting + deleting
+}
+
+/// Returns the acceptors and workers of all sessions, with this gate.
+///
+/// Returns an error if memory is refused.
+fn open_sessions<'a, H: Host + Sync, G: TimedGate + Sync>(
+    context: &'a ServerContext<'a, H>,
+    gate: &'a G,
+    served: ServedLines<'a>,
+    listening: Vec<Listeners<TcpListener>>,
+    workers: SeatedWorkers<'a>,
+) -> Result<Sessions<'a, H, G>, AllocError>
+    requires served { AreServedLines served }
+    requires each { length listening.items ≡ length served.lines.now }
+    requires seated { AreSeated workers }
+    ensures { IfOk result (λ sessions. AreSeated sessions.workers) }
+{
+    let (sender, jobs) = bounded(context.alloc, MOST_WAITING)?;
+    let acceptors = Acceptors::new(context, served, listening, sender)?;
+    let operator_workers = operator_workers(context.alloc, &acceptors.operators, gate)?;
+    Ok(Sessions {
+        acceptors,
+        operator_workers,
+        workers,
+        jobs,
+    })
 }
 
 /// Returns the numbers of lines.

@@ -1,18 +1,17 @@
 //! The threads that serve a rack.
 
-ghost use Rattle.std.specs.Prelude.{◌≡◌, ◌≤◌, All, length};
-ghost use Rattle.dp_sessions.specs.Pools.{HasSeats};
+ghost use Rattle.serve_rack.specs.Serving.{AreSeated};
 
 use crate::acceptors::Acceptors;
 use crate::host::Host;
 use crate::masters::MasterJob;
+use crate::opened_lines::SeatedWorkers;
 use crate::operators::{OperatedLine, OperatorWorker, ServeConnections};
 use crate::server_context::{MAX_READS, ServerContext};
 use crate::session_gate::TimedGate;
 use audit_files::{NewFiles, OldParts};
 use crossbeam_channel::{Receiver, RecvTimeoutError, bounded};
-use dp_sessions::{Gate, Job, PoolFault, Port, run_pool};
-use dp_shared::WorkerSeat;
+use dp_sessions::{Gate, Job, PoolFault, run_pool};
 use log::Log;
 use serve_clock::Schedule;
 use serve_sockets::{Accept, Phase, ServePhase, stop_with_input};
@@ -43,9 +42,22 @@ pub(crate) fn can_start<H: Threads + Wait + Sync>(rt: &H, count: usize) -> bool 
     })
 }
 
-/// Starts a thread for each acceptor and each worker of operators, and then serves the sessions of masters by one worker for each
-/// list of seats. It ends when each acceptor has accepted its number of connections and their sessions have ended. Meanwhile a thread keeps the time of the
-/// lines, if the schedule has ticks or steps, and another deletes old parts of audit texts, if parts are deleted.
+/// What serves the sessions of a rack.
+#[derive(Drop)]
+pub(crate) struct Sessions<'a, H: Wait, G> {
+    /// Accept the connections.
+    pub(crate) acceptors: Acceptors<'a, H>,
+    /// Serve the operators.
+    pub(crate) operator_workers: Vec<OperatorWorker<'a, OperatedLine<'a>, H, G>>,
+    /// Serve the masters.
+    pub(crate) workers: SeatedWorkers<'a>,
+    /// The sessions of masters that wait for a worker.
+    pub(crate) jobs: Receiver<MasterJob<'a, H>>,
+}
+
+/// Starts a thread for each acceptor and each worker of operators, and then serves the sessions of masters by the workers. It
+/// ends when each acceptor has accepted its number of connections and their sessions have ended. Meanwhile a thread keeps the
+/// time of the lines, if the schedule has ticks or steps, and another deletes old parts of audit texts, if parts are deleted.
 ///
 /// If there is an input, another thread waits for its end and stops serving then.
 ///
@@ -54,147 +66,60 @@ pub(crate) fn can_start<H: Threads + Wait + Sync>(rt: &H, count: usize) -> bool 
 pub(crate) fn accept_and_serve<'a, H: Host + Sync, G: TimedGate + Sync>(
     context: &'a ServerContext<'a, H>,
     session_gate: &'a G,
-    acceptors: Acceptors<'a, H>,
-    workers: Vec<OperatorWorker<'a, OperatedLine<'a>, H, G>>,
-    ports: &[Port],
-    seats: Vec<Vec<WorkerSeat>>,
-    jobs: Receiver<MasterJob<'a, H>>,
     schedule: Schedule,
+    sessions: Sessions<'a, H, G>,
 ) -> Result<u32, PoolFault>
-    requires workers { (1 ≤ length seats.items) × (length seats.items ≤ 32) }
-    requires seats { All (λ own. HasSeats ports.now own.items) seats.items }
+    requires { AreSeated sessions.workers }
 {
     let (rt, serve_phase) = (context.sockets.rt, context.sockets.serve_phase);
     let Some(input) = context.input else {
-        return serve_timed(
-            context,
-            session_gate,
-            acceptors,
-            workers,
-            ports,
-            seats,
-            jobs,
-            schedule,
-        );
+        return serve_sessions(context, session_gate, schedule, sessions);
     };
     let served = stop_with_input(
         rt,
         serve_phase,
         input,
         || -> Result<u32, PoolFault>
-            requires { (1 ≤ length seats.items) × (length seats.items ≤ 32)
-                × All (λ own. HasSeats ports.now own.items) seats.items }
-        {
-            serve_timed(
-                context,
-                session_gate,
-                acceptors,
-                workers,
-                ports,
-                seats,
-                jobs,
-                schedule,
-            )
-        },
+            requires { AreSeated sessions.workers }
+        { serve_sessions(context, session_gate, schedule, sessions) },
     );
     served.unwrap_or(Err(PoolFault::NoThread))
 }
 
-/// Serves the sessions of masters while the time of the lines is kept, as [`accept_and_serve`] does.
-fn serve_timed<'a, H: Host + Sync, G: TimedGate + Sync>(
+/// Starts the threads of all sessions, and serves those of masters, as [`accept_and_serve`] does.
+fn serve_sessions<'a, H: Host + Sync, G: TimedGate + Sync>(
     context: &'a ServerContext<'a, H>,
     session_gate: &'a G,
-    acceptors: Acceptors<'a, H>,
-    workers: Vec<OperatorWorker<'a, OperatedLine<'a>, H, G>>,
-    ports: &[Port],
-    seats: Vec<Vec<WorkerSeat>>,
-    jobs: Receiver<MasterJob<'a, H>>,
     schedule: Schedule,
+    sessions: Sessions<'a, H, G>,
 ) -> Result<u32, PoolFault>
-    requires workers { (1 ≤ length seats.items) × (length seats.items ≤ 32) }
-    requires seats { All (λ own. HasSeats ports.now own.items) seats.items }
+    requires { AreSeated sessions.workers }
 {
-    serve_while_keeping_time(
-        context.sockets.rt,
-        context.alloc,
-        session_gate,
-        schedule,
-        || -> Result<u32, PoolFault>
-            requires { (1 ≤ length seats.items) × (length seats.items ≤ 32)
-                × All (λ own. HasSeats ports.now own.items) seats.items }
-        {
-            serve_and_delete(
-                context,
-                session_gate,
-                acceptors,
-                workers,
-                ports,
-                seats,
-                jobs,
-            )
-        },
-    )
-}
-
-/// Serves the sessions of masters while old parts of audit texts are deleted, as [`accept_and_serve`] does.
-fn serve_and_delete<'a, H: Host + Sync, G: Gate + Sync>(
-    context: &'a ServerContext<'a, H>,
-    session_gate: &'a G,
-    acceptors: Acceptors<'a, H>,
-    workers: Vec<OperatorWorker<'a, OperatedLine<'a>, H, G>>,
-    ports: &[Port],
-    seats: Vec<Vec<WorkerSeat>>,
-    jobs: Receiver<MasterJob<'a, H>>,
-) -> Result<u32, PoolFault>
-    requires workers { (1 ≤ length seats.items) × (length seats.items ≤ 32) }
-    requires seats { All (λ own. HasSeats ports.now own.items) seats.items }
-{
-    serve_while_deleting(
-        context.sockets.rt,
-        context.old_parts,
-        || -> Result<u32, PoolFault>
-            requires { (1 ≤ length seats.items) × (length seats.items ≤ 32)
-                × All (λ own. HasSeats ports.now own.items) seats.items }
-        {
-            serve_all(
-                context,
-                session_gate,
-                acceptors,
-                workers,
-                ports,
-                seats,
-                jobs,
-            )
-        },
-    )
-}
-
-/// Starts a thread for each acceptor, and then serves the sessions of masters, as [`accept_and_serve`] does.
-fn serve_all<'a, H: Host + Sync, G: Gate + Sync>(
-    context: &'a ServerContext<'a, H>,
-    session_gate: &'a G,
-    acceptors: Acceptors<'a, H>,
-    workers: Vec<OperatorWorker<'a, OperatedLine<'a>, H, G>>,
-    ports: &[Port],
-    seats: Vec<Vec<WorkerSeat>>,
-    jobs: Receiver<MasterJob<'a, H>>,
-) -> Result<u32, PoolFault>
-    requires workers { (1 ≤ length seats.items) × (length seats.items ≤ 32) }
-    requires seats { All (λ own. HasSeats ports.now own.items) seats.items }
-{
+    let Sessions {
+        acceptors,
+        operator_workers,
+        workers,
+        jobs,
+    } = sessions;
     let Acceptors { masters, operators } = acceptors;
     let (rt, serve_phase) = (context.sockets.rt, context.sockets.serve_phase);
-    serve_while_accepting(
-        rt,
-        serve_phase,
+    let accepting = Accepting {
         masters,
         operators,
-        workers,
-        context.sessions,
+        operator_workers,
+        sessions: context.sessions,
+    };
+    serve_in_threads(
+        rt,
+        context.alloc,
+        serve_phase,
+        session_gate,
+        schedule,
+        context.old_parts,
+        accepting,
         || -> Result<u32, PoolFault>
-            requires { (1 ≤ length seats.items) × (length seats.items ≤ 32)
-                × All (λ own. HasSeats ports.now own.items) seats.items }
-        { serve_masters(rt, serve_phase, ports, seats, jobs, session_gate) },
+            requires { AreSeated workers }
+        { serve_masters(rt, serve_phase, workers, jobs, session_gate) },
     )
 }
 
@@ -208,14 +133,13 @@ fn serve_masters<
 >(
     rt: &H,
     serve_phase: &ServePhase,
-    ports: &[Port],
-    seats: Vec<Vec<WorkerSeat>>,
+    workers: SeatedWorkers<'_>,
     jobs: Receiver<Job<R, W>>,
     session_gate: &G,
 ) -> Result<u32, PoolFault>
-    requires workers { (1 ≤ length seats.items) × (length seats.items ≤ 32) }
-    requires seats { All (λ own. HasSeats ports.now own.items) seats.items }
+    requires { AreSeated workers }
 {
+    let SeatedWorkers { ports, seats } = workers;
     let served = run_pool(rt, ports, seats, jobs, session_gate, MAX_READS);
     if served.is_err() {
         serve_phase.stop(rt, rt);
@@ -223,19 +147,39 @@ fn serve_masters<
     served
 }
 
-/// Runs `serve` while a thread of its own keeps the time of the lines, if the schedule has ticks or steps.
+/// What accepts connections, this number at each port, and serves the operators.
+#[derive(Drop)]
+struct Accepting<M, O, P> {
+    masters: Vec<M>,
+    operators: Vec<O>,
+    operator_workers: Vec<P>,
+    sessions: u64,
+}
+
+/// Runs `serve` while threads of their own accept connections, serve operators, keep the time of the lines if the schedule has
+/// ticks or steps, and delete old parts of audit texts if parts are deleted. The last two end after all others, so that operators
+/// see the time pass after the last master has left.
 ///
-/// Returns `OutOfMemory` or `NoThread` if memory or the thread is refused; `serve` is not run then.
-fn serve_while_keeping_time<
+/// Returns `OutOfMemory` or `NoThread` if memory or a thread is refused; `serve` is not run then.
+fn serve_in_threads<
+    M: Accept + Send + Drop,
+    O: Accept + Send + Drop,
+    P: ServeConnections + Send + Drop,
     G: TimedGate + Sync,
-    H: Threads + Wait + Clock + Sync,
+    H: NewFiles + Threads + Wait + Log + Clock + Sync,
     S: FnOnce() -> Result<u32, PoolFault>,
->(rt: &H, alloc: Global, session_gate: &G, schedule: Schedule, serve: S) -> Result<u32, PoolFault>
+>(
+    rt: &H,
+    alloc: Global,
+    serve_phase: &ServePhase,
+    session_gate: &G,
+    schedule: Schedule,
+    old_parts: Option<&OldParts<'_, H>>,
+    accepting: Accepting<M, O, P>,
+    serve: S,
+) -> Result<u32, PoolFault>
     requires { S.pre serve }
 {
-    if schedule.wait(0).is_none() {
-        return serve();
-    }
     let Ok((ending, ended)) = bounded(alloc, 1) else {
         return Err(PoolFault::OutOfMemory);
     };
@@ -245,15 +189,67 @@ fn serve_while_keeping_time<
         |scope| -> Result<u32, PoolFault>
             requires { S.pre serve }
         {
-            let keeping = move || keep_time(rt, session_gate, schedule, ended);
-            if scope.spawn(keeping).is_err() {
-                return Err(PoolFault::NoThread);
-            }
-            let served = serve();
+            let have_started = start_clock(scope, rt, session_gate, schedule, ended)
+                && start_deleting(scope, old_parts);
+            let served = if have_started {
+                serve_while_accepting(rt, serve_phase, accepting, serve)
+            } else {
+                Err(PoolFault::NoThread)
+            };
             drop(ending);
+            if let Some(old_parts) = old_parts {
+                old_parts.end();
+            }
             served
         },
     )
+}
+
+/// Runs `serve` while threads of their own accept connections and serve operators, and waits until these threads have ended.
+///
+/// Returns `NoThread` if a thread is refused; `serve` is not run then.
+fn serve_while_accepting<
+    M: Accept + Send + Drop,
+    O: Accept + Send + Drop,
+    P: ServeConnections + Send + Drop,
+    H: Threads + Wait + Clock + Sync,
+    S: FnOnce() -> Result<u32, PoolFault>,
+>(
+    rt: &H,
+    serve_phase: &ServePhase,
+    accepting: Accepting<M, O, P>,
+    serve: S,
+) -> Result<u32, PoolFault>
+    requires { S.pre serve }
+{
+    thread::scope(
+        thread::scope_env(),
+        rt,
+        |scope| -> Result<u32, PoolFault>
+            requires { S.pre serve }
+        {
+            if !start_accepting(scope, rt, serve_phase, accepting) {
+                return Err(PoolFault::NoThread);
+            }
+            serve()
+        },
+    )
+}
+
+/// Starts a thread that keeps the time of the lines until the sender of `ended` is dropped, if the schedule has ticks or steps.
+/// Returns whether it was started or is not needed.
+fn start_clock<'s, E, G: TimedGate + Sync, H: Wait + Clock + Sync>(
+    scope: &Scope<'s, E>,
+    rt: &'s H,
+    session_gate: &'s G,
+    schedule: Schedule,
+    ended: Receiver<()>,
+) -> bool {
+    if schedule.wait(0).is_none() {
+        return true;
+    }
+    let keeping = move || keep_time(rt, session_gate, schedule, ended);
+    scope.spawn(keeping).is_ok()
 }
 
 /// Advances the time of the lines and has their devices step, whenever that is due, until the sender of `ended` is dropped.
@@ -283,75 +279,51 @@ fn keep_time<G: TimedGate, H: Wait + Clock>(
     unreachable!()
 }
 
-/// Runs `serve` while a thread of its own deletes old parts of audit texts, if parts are deleted.
-///
-/// Returns `NoThread` if the thread is refused; `serve` is not run then.
-fn serve_while_deleting<
-    H: NewFiles + Threads + Wait + Log + Clock + Sync,
-    S: FnOnce() -> Result<u32, PoolFault>,
->(rt: &H, old_parts: Option<&OldParts<'_, H>>, serve: S) -> Result<u32, PoolFault>
-    requires { S.pre serve }
-{
+/// Starts a thread that deletes old parts of audit texts, if parts are deleted. Returns whether it was started or is not needed.
+fn start_deleting<'s, E, H: NewFiles + Wait + Log + Clock + Sync>(
+    scope: &Scope<'s, E>,
+    old_parts: Option<&'s OldParts<'_, H>>,
+) -> bool {
     let Some(old_parts) = old_parts else {
-        return serve();
+        return true;
     };
-    thread::scope(
-        thread::scope_env(),
-        rt,
-        |scope| -> Result<u32, PoolFault>
-            requires { S.pre serve }
-        {
-            let deleting = move || old_parts.delete_each();
-            if scope.spawn(deleting).is_err() {
-                return Err(PoolFault::NoThread);
-            }
-            let served = serve();
-            old_parts.end();
-            served
-        },
-    )
+    let deleting = move || old_parts.delete_each();
+    scope.spawn(deleting).is_ok()
 }
 
-/// Runs `serve` while acceptors accept this number of connections each and workers serve those of operators, in threads of their
-/// own. Connections are accepted once all these threads have started.
-fn serve_while_accepting<
-    M: Accept + Send + Drop,
-    O: Accept + Send + Drop,
-    P: ServeConnections + Send + Drop,
-    H: Threads + Wait + Clock + Sync,
-    S: FnOnce() -> Result<u32, PoolFault>,
+/// Starts a thread for each acceptor and each worker of operators. Connections are accepted once all these threads have started.
+/// Returns whether all were started.
+fn start_accepting<
+    's,
+    E,
+    M: Accept + Send + Drop + 's,
+    O: Accept + Send + Drop + 's,
+    P: ServeConnections + Send + Drop + 's,
+    H: Wait + Clock + Sync,
 >(
-    rt: &H,
-    serve_phase: &ServePhase,
-    masters: Vec<M>,
-    operators: Vec<O>,
-    workers: Vec<P>,
-    sessions: u64,
-    serve: S,
-) -> Result<u32, PoolFault>
-    requires { S.pre serve }
-{
-    thread::scope(
-        thread::scope_env(),
-        rt,
-        |scope| -> Result<u32, PoolFault>
-            requires { S.pre serve }
-        {
-            let mut phase = serve_phase.lock(rt);
-            if !start_workers(scope, rt, workers)
-                || !start_acceptors(scope, rt, serve_phase, masters, sessions)
-                || !start_acceptors(scope, rt, serve_phase, operators, sessions)
-            {
-                return Err(PoolFault::NoThread);
-            }
-            // Serving may have stopped before.
-            if *phase == Phase::Starting {
-                *phase = Phase::Accepting;
-            }
-            drop(phase);
-            serve()
-        },
-    )
+    scope: &Scope<'s, E>,
+    rt: &'s H,
+    serve_phase: &'s ServePhase,
+    accepting: Accepting<M, O, P>,
+) -> bool {
+    let Accepting {
+        masters,
+        operators,
+        operator_workers,
+        sessions,
+    } = accepting;
+    let mut phase = serve_phase.lock(rt);
+    if !start_workers(scope, rt, operator_workers)
+        || !start_acceptors(scope, rt, serve_phase, masters, sessions)
+        || !start_acceptors(scope, rt, serve_phase, operators, sessions)
+    {
+        return false;
+    }
+    // Serving may have stopped before.
+    if *phase == Phase::Starting {
+        *phase = Phase::Accepting;
+    }
+    true
 }
 
 /// Starts a thread for each acceptor. Returns whether all were started.

@@ -1,4 +1,4 @@
-use Rattle.std.proofs.Common.{◌≡◌, ◌+◌, length, map, ap, refl, ◌∙◌, arith}
+use Rattle.std.proofs.Common.{◌+◌, length, map, ap, refl, ◌∙◌, arith}
 use Rattle.std.proofs.lemmas.List.{length-append, take_all}
 use Rattle.serve_rack.specs.ServedLines.{line_numbers}
 use Rattle.serve_rack.proofs.Opening.{one_more_number}

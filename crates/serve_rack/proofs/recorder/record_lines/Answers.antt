@@ -12,19 +12,19 @@ offset_bounds-ports-len g c =
 
 pub bounds-ports-len : goal.bounds-ports-len
 bounds-ports-len g c =
-    let long = AllZip-long (λ line port. line_of port.line ≡ line.spec) c.args.lines.now c.args.ports.now c.requires.opened in
+    let long = AllZip-long (λ line port. line_of port.line ≡ line.spec) c.args.served.lines.now c.args.served.ports.now c.requires.opened in
     let place : c.len.result ≡ length c.loop-line.all.items = search rules in
     let all = c.loop-line.invariant.0 in let within = c.loop-line-test.true in omega (arith, long, place, all, within)
 
 pub returns-in-Err-begin_text-clause-fault : goal.returns-in-Err-begin_text-clause-fault
 returns-in-Err-begin_text-clause-fault g c =
-    fault_among (Some c.args.folder) (line_numbers c.args.lines.now) c.line-item.result.spec.number c.in-Err-begin_text.fault
-    (number_at c.args.lines.now c.loop-line.line-index c.line-item.result c.loop-line-test.true (sym c.line-item.is)) c.in-Err-begin_text.ensures.fault
+    fault_among (Some c.args.folder) (line_numbers c.args.served.lines.now) c.line-item.result.spec.number c.in-Err-begin_text.fault
+    (number_at c.args.served.lines.now c.loop-line.line-index c.line-item.result c.loop-line-test.true (sym c.line-item.is)) c.in-Err-begin_text.ensures.fault
 
 pub loop-line-preserved : goal.loop-line-preserved
 loop-line-preserved g c =
-    let more : c.push.new.self.items ≡ c.loop-line.all.items ++ record { net = c.args.host; serve_phase = c.args.serve_phase; file = c.in-Ok-begin_text.file } ∷ [] = search rules in (
+    let more : c.push.new.self.items ≡ c.loop-line.all.items ++ record { net = c.args.context.now.sockets.rt; serve_phase = c.args.context.now.sockets.serve_phase; file = c.in-Ok-begin_text.file } ∷ [] = search rules in (
       search rules,
-      recorded_more c.args.folder.now c.args.lines.now c.loop-line.line-index c.line-item.result c.loop-line.all.items c.push.new.self.items _ c.loop-line-test.true (sym c.line-item.is)
+      recorded_more c.args.folder.now c.args.served.lines.now c.loop-line.line-index c.line-item.result c.loop-line.all.items c.push.new.self.items _ c.loop-line-test.true (sym c.line-item.is)
           c.loop-line.invariant.1 more c.in-Ok-begin_text.ensures.path,
     )

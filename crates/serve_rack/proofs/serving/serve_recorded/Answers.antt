@@ -12,12 +12,12 @@ serve_named-served-requires-clause-named g c κs within = each_gives (λ recorde
 
 pub returns-in-Err-clause-err : goal.returns-in-Err-clause-err
 returns-in-Err-clause-err g c = λ endless.
-    rw c.from.ensures (served_unopened (Some c.args.folder) endless c.args.lines.now (g.W.Write.contents c.args.writer.now) c.in-Err.fault c.in-Err.ensures.fault)
+    rw c.from.ensures (served_unopened (Some c.args.folder) endless c.args.listening.served.lines.now (g.W.Write.contents c.args.writer.now) c.in-Err.fault c.in-Err.ensures.fault)
 
 pub returns-in-Ok-served-clause-incomplete : goal.returns-in-Ok-served-clause-incomplete
 returns-in-Ok-served-clause-incomplete g c =
-    incomplete_in c.args.folder (line_numbers c.args.lines.now) (paths_of c.in-Ok.recorders.items) c.in-Ok-served.outcome.incomplete c.in-Ok.ensures.paths c.in-Ok-served.ensures.incomplete
+    incomplete_in c.args.folder (line_numbers c.args.listening.served.lines.now) (paths_of c.in-Ok.recorders.items) c.in-Ok-served.outcome.incomplete c.in-Ok.ensures.paths c.in-Ok-served.ensures.incomplete
 
 pub returns-in-Err-served-clause-err : goal.returns-in-Err-served-clause-err
 returns-in-Err-served-clause-err g c = λ endless.
-    rw c.from-in-Err-served.ensures (served_not_at_all (Some c.args.folder) endless c.args.lines.now (g.W.Write.contents c.args.writer.now) (g.W.Write.contents c.serve_named-served.new.writer) c.in-Err-served.fault c.in-Err-served.ensures.err)
+    rw c.from-in-Err-served.ensures (served_not_at_all (Some c.args.folder) endless c.args.listening.served.lines.now (g.W.Write.contents c.args.writer.now) (g.W.Write.contents c.serve_named-served.new.writer) c.in-Err-served.fault c.in-Err-served.ensures.err)

@@ -3,4 +3,4 @@ use Rattle.serve_rack.proofs.serving.serve_unrecorded.Goals as goal
 
 pub returns-in-Err-clause-err : goal.returns-in-Err-clause-err
 returns-in-Err-clause-err g c = λ folder endless.
-    rw c.from.ensures (served_not_at_all folder endless c.args.lines.now (g.W.Write.contents c.args.writer.now) (g.W.Write.contents c.serve_with_recorders-served.new.writer) c.in-Err.fault c.in-Err.ensures)
+    rw c.from.ensures (served_not_at_all folder endless c.args.listening.served.lines.now (g.W.Write.contents c.args.writer.now) (g.W.Write.contents c.serve_with_recorders-served.new.writer) c.in-Err.fault c.in-Err.ensures)
