@@ -13,6 +13,7 @@ ghost use Rattle.dp_sessions.specs.SessionProgress.{IsBrokenIn, IsServedTo};
 
 use crate::dropped::DroppedOctets;
 use crate::gate::Gate;
+use crate::order::enter;
 use crate::reads::{Reads, Uncounted};
 use crate::session_end::SessionEnd;
 use dp_line::{Outcome, Step};
@@ -223,8 +224,8 @@ fn answer<T: Wait, W: Write, G: Gate>(
             report(rt, gate, pass, dropped);
             let number = pass.line();
             let master = pass.address();
-            gate.enter(rt, number, master);
-            line.exchange_frame(rt, pass, &frame, step);
+            let entered = enter(rt, gate, number, master);
+            entered.exchange_frame(rt, line, pass, &frame, step);
             gate.answered(rt, number, master, &frame, step);
             let Ok(()) = gate.record(rt, number, step.place) else {
                 return Err(WriteFault);

@@ -11,6 +11,7 @@ mod gate;
 pub mod laws;
 mod operator;
 mod operator_line;
+mod order;
 mod pool;
 mod pool_fault;
 mod port;

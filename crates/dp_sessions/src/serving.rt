@@ -10,6 +10,7 @@ ghost use Rattle.dp_sessions.specs.Recorded.{EndsRecorded, IsRecordedSession};
 
 use crate::exchange::accept;
 use crate::gate::Gate;
+use crate::order::release;
 use crate::port::Port;
 use crate::reads::{Reads, Uncounted};
 use crate::session::Session;
@@ -130,7 +131,7 @@ pub fn serve_session<T: Wait, R: Read, C: Reads<R>, W: Write, G: Gate>(
     let end = accept::<T, R, C, W, G>(rt, reader, writer, &port.line, &mut pass, gate, turns - 1);
     let returned_pass = port.line.hand_back(rt, pass);
     gate.ended(rt, line, address, end);
-    port.claims.release(seat);
+    release(&port.claims, seat, &returned_pass);
     Session::Accepted { end, returned_pass }
 }
 
