@@ -9,7 +9,7 @@ use crate::audit_name::AuditName;
 use crate::audit_path::AuditPath;
 use crate::file_host::NewFiles;
 use crate::old_parts::OldParts;
-use audit_trail::WriteParts;
+use audit_trail::{BegunPart, WriteParts};
 use log::Log;
 use serve_log::Notes;
 use serve_options::PartOptions;
@@ -237,7 +237,7 @@ impl<H: NewFiles + Wait + Log + Clock> WriteParts for AuditWriter<'_, '_, H> {
     }
 
     /// Has the oldest part deleted if there is one more than those that are to stay.
-    fn end_head(&mut self) {
+    fn end_head(&mut self, _part: BegunPart) {
         if let Some(old_parts) = self.old_parts {
             old_parts.put_oldest(self.name());
         }

@@ -24,5 +24,5 @@ pub use naming::Naming;
 pub use recording::{NoTrail, RecordEntries};
 pub use tail::Tail;
 pub use trail::Trail;
-pub use write_parts::WriteParts;
+pub use write_parts::{BegunPart, WriteParts};
 pub use written_up_to::WrittenUpTo;

@@ -12,7 +12,7 @@ ghost use Rattle.dp_text.specs.Writes.{WritesPrefix};
 ghost use Rattle.dp_shared.specs.Passes.{table_of};
 ghost use Rattle.audit_trail.specs.Trails.{Looks, LooksAside, PartOutcome, was_due};
 
-use crate::write_parts::WriteParts;
+use crate::write_parts::{WriteParts, begin_part_of};
 use dp_audit::{Record, WriteFault};
 use dp_shared::{Line, Pass};
 use dp_telegram::GLOBAL_ADDRESS;
@@ -132,12 +132,12 @@ fn write_part<W: WriteParts>(writer: &mut W, head: &[u8]) -> Result<(), WriteFau
     ensures ok { OnOk result (Appends (W.contents writer.old) (W.contents writer.new) head.now) }
     ensures err { OnErr result (WritesPrefix (W.contents writer.old) (W.contents writer.new) head.now) }
 {
-    let Ok(()) = writer.begin_part() else {
+    let Ok(part) = begin_part_of(writer) else {
         return Err(WriteFault);
     };
     let Ok(()) = write_whole(writer, head) else {
         return Err(WriteFault);
     };
-    writer.end_head();
+    writer.end_head(part);
     Ok(())
 }
