@@ -27,9 +27,9 @@ one_among : (numbers : List ℕ) (line n : ℕ) → Contains numbers line → Co
 one_among numbers line n among (k, within, is) = subst (Contains numbers) (only line n k within is) among
 
 -- a line's number is among those of all
-pub number_at : (lines : List ServedLine) (i : ℕ) (line : ServedLine) → i < length lines → get_or lines i line ≡ line → Contains (line_numbers lines) line.spec.number
+pub number_at : (lines : List ServedLine) (i : ℕ) (line : ServedLine) → i < length lines → line ≡ get_or lines i line → Contains (line_numbers lines) line.spec.number
 number_at [] i line within is = let no : ⊥ = omega arith in absurd no
-number_at (x ∷ xs) zero line within is = (0, omega arith, ap number_of is)
+number_at (x ∷ xs) zero line within is = (0, omega arith, ap number_of (sym is))
 number_at (x ∷ xs) (suc i) line within is =
     Contains-append_right (x.spec.number ∷ []) (line_numbers xs) line.spec.number (number_at xs i line (omega arith) is)
 
@@ -59,10 +59,10 @@ fault_among folder numbers line fault among = fault_grows folder (line ∷ []) n
 
 -- one more line is recorded
 pub recorded_more : {N T : Type 0} (folder : List ℕ) (lines : List ServedLine) (i : ℕ) (line : ServedLine) (before after : List (Recorder N T)) (recorder : Recorder N T)
-    → i < length lines → get_or lines i line ≡ line → AreRecordedIn folder (line_numbers (take i lines)) (paths_of before) → after ≡ before ++ recorder ∷ []
+    → i < length lines → line ≡ get_or lines i line → AreRecordedIn folder (line_numbers (take i lines)) (paths_of before) → after ≡ before ++ recorder ∷ []
     → IsOfLine folder line.spec.number recorder.file.path → AreRecordedIn folder (line_numbers (take (i + 1) lines)) (paths_of after)
 recorded_more folder lines i line before after recorder within is so_far more here =
-    rw (take_more lines i line within, is, more, map-append number_of (take i lines) (line ∷ []), map-append (λ (r : Recorder _ _). r.file.path) before (recorder ∷ []))
+    rw (take_more lines i line within, sym is, more, map-append number_of (take i lines) (line ∷ []), map-append (λ (r : Recorder _ _). r.file.path) before (recorder ∷ []))
     (all_zipped_more (IsOfLine folder) (line_numbers (take i lines)) (paths_of before) line.spec.number recorder.file.path so_far here)
 
 -- each part of a line's text is a file of lines that contain the line

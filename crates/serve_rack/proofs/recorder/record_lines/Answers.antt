@@ -1,4 +1,4 @@
-use Rattle.std.proofs.Common.{rules, ◌≡◌, ◌++◌, ◌∷◌, [], length, Some, sym, arith}
+use Rattle.std.proofs.Common.{rules, ◌≡◌, ◌++◌, ◌∷◌, [], length, Some, arith}
 use Rattle.std.proofs.lemmas.Slice.Zip.{AllZip-long}
 use Rattle.dp_shared.specs.Passes.{line_of}
 use Rattle.serve_rack.specs.ServedLines.{line_numbers}
@@ -19,12 +19,12 @@ bounds-ports-len g c =
 pub returns-in-Err-begin_text-clause-fault : goal.returns-in-Err-begin_text-clause-fault
 returns-in-Err-begin_text-clause-fault g c =
     fault_among (Some c.args.folder) (line_numbers c.args.served.lines.now) c.line-item.result.spec.number c.in-Err-begin_text.fault
-    (number_at c.args.served.lines.now c.loop-line.line-index c.line-item.result c.loop-line-test.true (sym c.line-item.is)) c.in-Err-begin_text.ensures.fault
+    (number_at c.args.served.lines.now c.loop-line.line-index c.line-item.result c.loop-line-test.true c.line-item.is) c.in-Err-begin_text.ensures.fault
 
 pub loop-line-preserved : goal.loop-line-preserved
 loop-line-preserved g c =
     let more : c.push.new.self.items ≡ c.loop-line.all.items ++ record { net = c.args.context.now.sockets.rt; serve_phase = c.args.context.now.sockets.serve_phase; file = c.in-Ok-begin_text.file } ∷ [] = search rules in (
       search rules,
-      recorded_more c.args.folder.now c.args.served.lines.now c.loop-line.line-index c.line-item.result c.loop-line.all.items c.push.new.self.items _ c.loop-line-test.true (sym c.line-item.is)
+      recorded_more c.args.folder.now c.args.served.lines.now c.loop-line.line-index c.line-item.result c.loop-line.all.items c.push.new.self.items _ c.loop-line-test.true c.line-item.is
           c.loop-line.invariant.1 more c.in-Ok-begin_text.ensures.path,
     )
