@@ -2,8 +2,9 @@
 //!
 //! Locks are taken in the order trail, line.
 
-ghost use Rattle.std.specs.Prelude.{◌≡◌, None, Contains, IfOk};
-ghost use Rattle.audit_trail.specs.Named.{IsOneOf, name_of};
+ghost use Rattle.std.specs.Prelude.{◌≡◌, None, Contains, IfOk, IfSome, OnOk};
+ghost use Rattle.audit_trail.specs.CaughtUp.{HasCaughtUp};
+ghost use Rattle.audit_trail.specs.Named.{HasRow, IsOneOf, name_of};
 
 use crate::fault::TrailBreak;
 use crate::naming::Naming;
@@ -78,16 +79,16 @@ impl<'l, W: WriteParts + Drop, J: Naming> Trail<'l, W, J> {
     {
         self.tail.lock(rt).catch_up(rt)
     }
-}
 
-impl<W: WriteParts + Drop, J: Naming> RecordEntries for Trail<'_, W, J> {
-    ghost use Rattle.audit_trail.specs.Named.{HasRow};
-
-    ghost recorded = { λ trail line place. HasRow W.contents J.trails line place };
-
-    /// Catches up. It also fails, with `Overtaken`, if the trail is not of this line or has not seen the place. That is not
-    /// so after an event of its line got the place, but no clause says it.
-    fn record<T: Wait>(&self, rt: &T, line: u8, place: Option<u32>) -> Result<(), TrailBreak> {
+    /// Writes the text lines of all entries, also if there is no place. If there is one, the text line of that place of the
+    /// line with this number is then written.
+    ///
+    /// Returns the reason why the trail is broken, and `Overtaken` if the trail is not of this line or has not seen the
+    /// place.
+    fn catch_up_to<T: Wait>(&self, rt: &T, line: u8, place: Option<u32>) -> Result<(), TrailBreak>
+        ensures all { OnOk result (HasCaughtUp J.trails) }
+        ensures row { OnOk result (IfSome place (HasRow W.contents J.trails line)) }
+    {
         let written_up_to = match self.catch_up(rt) {
             Ok(written_up_to) => written_up_to,
             Err(why) => return Err(why),
@@ -100,5 +101,15 @@ impl<W: WriteParts + Drop, J: Naming> RecordEntries for Trail<'_, W, J> {
         } else {
             Err(TrailBreak::Overtaken)
         }
+    }
+}
+
+impl<W: WriteParts + Drop, J: Naming> RecordEntries for Trail<'_, W, J> {
+    ghost recorded = { λ trail line place. HasRow W.contents J.trails line place };
+
+    /// Catches up. It also fails, with `Overtaken`, if the trail is not of this line or has not seen the place. That is not
+    /// so after an event of its line got the place, but no clause says it.
+    fn record<T: Wait>(&self, rt: &T, line: u8, place: Option<u32>) -> Result<(), TrailBreak> {
+        self.catch_up_to(rt, line, place)
     }
 }
