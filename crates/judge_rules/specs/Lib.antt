@@ -13,5 +13,6 @@ pub mod Before
 pub mod Judges
 pub mod Reading
 pub mod Laws
+pub mod LawWords
 pub mod RuleExamples
 pub mod ReadingExamples

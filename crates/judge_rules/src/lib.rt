@@ -22,6 +22,7 @@ mod rule;
 mod services;
 mod stage;
 mod station;
+pub mod telegram_laws;
 mod telegram_rules;
 
 pub use entry::{Answer, Asked, Control, Diagnosis, Entry, Parameters, Request, Service};
