@@ -14,5 +14,6 @@ pub mod Judges
 pub mod Reading
 pub mod Laws
 pub mod LawWords
+pub mod Effects
 pub mod RuleExamples
 pub mod ReadingExamples

@@ -8,6 +8,7 @@
 #![tactic(auto)]
 
 mod answers;
+pub mod bring_up_laws;
 mod bring_up_rules;
 mod broken;
 mod bus;

@@ -1,0 +1,198 @@
+//! Laws of the rules of the bring-up: each is the contract of an empty function.
+
+ghost use Rattle.std.specs.Prelude.{◌≡◌, ◌++◌, ◌∷◌, ◌&&◌, ◌||◌, ℕ, true, false, List};
+ghost use Rattle.judge_rules.specs.declared.entry.Entry.{Entry};
+ghost use Rattle.judge_rules.specs.declared.entry.Entry.TheVariants as entries;
+ghost use Rattle.judge_rules.specs.declared.entry.Request.{Request};
+ghost use Rattle.judge_rules.specs.declared.rule.JudgeRule.TheVariants as rules;
+ghost use Rattle.judge_rules.specs.Effects.{asks_prm, changes_parameters, configures, effect, ends_readiness, exchanges, gives_parameters, goes_on, goes_on_or_is_ready, have_no_effect, is_configured_by, is_refused, may_lose_parameters, refuses, shows_any, shows_or_refuses, shows_other, shows_ready, shows_state, shows_unready, starts, starts_again, takes_parameters};
+ghost use Rattle.judge_rules.specs.Entries.{chk_cfg_asked, exchange_asked};
+ghost use Rattle.judge_rules.specs.Rules.{breaks};
+
+/// `prm-before-diag`: a Set_Prm to a station is reported exactly if before it no Slave_Diag of the station was answered, no
+/// Set_Prm to it was acknowledged that locks or releases, and no Data_Exchange with it was answered with data.
+pub fn set_prm_needs_a_reply_before()
+    ensures none { (limit : ℕ) (past : List Entry) (request : Request)
+        → have_no_effect shows_state request.address past ≡ true
+        → breaks limit past (entries.Request request) rules.PrmBeforeDiag ≡ asks_prm request }
+    ensures some { (limit : ℕ) (front back : List Entry) (before request : Request)
+        → before.address ≡ request.address
+        → shows_state (effect before) ≡ true
+        → breaks limit (front ++ entries.Request before ∷ back) (entries.Request request) rules.PrmBeforeDiag ≡ false }
+{}
+
+/// `exchange-of-other` and `prm-of-other`: of the requests to the station that show its state, let this be the last one. A
+/// Data_Exchange or a Set_Prm is reported exactly if that one is a Slave_Diag that shows another master. If there is none,
+/// neither is reported.
+pub fn the_last_reply_shows_whose_the_station_is()
+    ensures exchange { (limit : ℕ) (front back : List Entry) (before request : Request)
+        → before.address ≡ request.address
+        → shows_state (effect before) ≡ true
+        → have_no_effect shows_state request.address back ≡ true
+        → breaks limit (front ++ entries.Request before ∷ back) (entries.Request request) rules.ExchangeOfOther
+        ≡ (exchange_asked request && shows_other (effect before)) }
+    ensures prm { (limit : ℕ) (front back : List Entry) (before request : Request)
+        → before.address ≡ request.address
+        → shows_state (effect before) ≡ true
+        → have_no_effect shows_state request.address back ≡ true
+        → breaks limit (front ++ entries.Request before ∷ back) (entries.Request request) rules.PrmOfOther
+        ≡ (asks_prm request && shows_other (effect before)) }
+    ensures no_exchange { (limit : ℕ) (past : List Entry) (request : Request)
+        → have_no_effect shows_state request.address past ≡ true
+        → breaks limit past (entries.Request request) rules.ExchangeOfOther ≡ false }
+    ensures no_prm { (limit : ℕ) (past : List Entry) (request : Request)
+        → have_no_effect shows_state request.address past ≡ true
+        → breaks limit past (entries.Request request) rules.PrmOfOther ≡ false }
+{}
+
+/// `cfg-before-prm`: a Chk_Cfg is reported if the station never got parameters (a Set_Prm with Lock_Req was acknowledged, or
+/// a Data_Exchange was answered with data), or has lost them since: by a Set_Prm that releases it, by a Slave_Diag that shows
+/// another master or Prm_Req, or by RS to a Data_Exchange. It is not reported if nothing of that came after the parameters.
+/// RS to a Data_Exchange that itself was too early (`exchange-before-ready`) changes nothing.
+pub fn chk_cfg_needs_parameters()
+    ensures none { (limit : ℕ) (past : List Entry) (request : Request)
+        → have_no_effect gives_parameters request.address past ≡ true
+        → breaks limit past (entries.Request request) rules.CfgBeforePrm ≡ chk_cfg_asked request }
+    ensures given { (limit : ℕ) (front back : List Entry) (before request : Request)
+        → before.address ≡ request.address
+        → gives_parameters (effect before) ≡ true
+        → have_no_effect may_lose_parameters request.address back ≡ true
+        → breaks limit (front ++ entries.Request before ∷ back) (entries.Request request) rules.CfgBeforePrm ≡ false }
+    ensures lost { (limit : ℕ) (front back : List Entry) (before request : Request)
+        → before.address ≡ request.address
+        → takes_parameters (effect before) ≡ true
+        → have_no_effect gives_parameters request.address back ≡ true
+        → breaks limit (front ++ entries.Request before ∷ back) (entries.Request request) rules.CfgBeforePrm ≡ chk_cfg_asked request }
+    ensures refused { (limit : ℕ) (front back : List Entry) (before request : Request)
+        → before.address ≡ request.address
+        → effect before ≡ refuses
+        → breaks limit front (entries.Request before) rules.ExchangeBeforeReady ≡ false
+        → have_no_effect gives_parameters request.address back ≡ true
+        → breaks limit (front ++ entries.Request before ∷ back) (entries.Request request) rules.CfgBeforePrm ≡ chk_cfg_asked request }
+    ensures early { (limit : ℕ) (front back : List Entry) (before request : Request)
+        → before.address ≡ request.address
+        → effect before ≡ refuses
+        → breaks limit front (entries.Request before) rules.ExchangeBeforeReady ≡ true
+        → have_no_effect changes_parameters request.address back ≡ true
+        → breaks limit (front ++ entries.Request before ∷ back) (entries.Request request) rules.CfgBeforePrm
+        ≡ breaks limit front (entries.Request request) rules.CfgBeforePrm }
+{}
+
+/// `exchange-after-rs`: a Data_Exchange is reported if an earlier one was refused by RS, and after that no Slave_Diag was
+/// answered, no Set_Prm acknowledged that locks or releases, and no Data_Exchange answered with data. RS to a
+/// Data_Exchange that itself was too early (`exchange-before-ready`), or with another master's slave (`exchange-of-other`),
+/// does not count. Without RS since the last such reply, nothing is reported.
+pub fn an_exchange_after_rs_needs_a_new_bring_up()
+    ensures none { (limit : ℕ) (past : List Entry) (request : Request)
+        → have_no_effect is_refused request.address past ≡ true
+        → breaks limit past (entries.Request request) rules.ExchangeAfterRs ≡ false }
+    ensures refused { (limit : ℕ) (front back : List Entry) (before request : Request)
+        → before.address ≡ request.address
+        → effect before ≡ refuses
+        → (breaks limit front (entries.Request before) rules.ExchangeBeforeReady || breaks limit front (entries.Request before) rules.ExchangeOfOther) ≡ false
+        → have_no_effect shows_state request.address back ≡ true
+        → breaks limit (front ++ entries.Request before ∷ back) (entries.Request request) rules.ExchangeAfterRs ≡ exchange_asked request }
+    ensures early { (limit : ℕ) (front back : List Entry) (before request : Request)
+        → before.address ≡ request.address
+        → effect before ≡ refuses
+        → (breaks limit front (entries.Request before) rules.ExchangeBeforeReady || breaks limit front (entries.Request before) rules.ExchangeOfOther) ≡ true
+        → have_no_effect is_refused request.address back ≡ true
+        → breaks limit (front ++ entries.Request before ∷ back) (entries.Request request) rules.ExchangeAfterRs ≡ false }
+    ensures answered { (limit : ℕ) (front back : List Entry) (before request : Request)
+        → before.address ≡ request.address
+        → shows_state (effect before) ≡ true
+        → have_no_effect is_refused request.address back ≡ true
+        → breaks limit (front ++ entries.Request before ∷ back) (entries.Request request) rules.ExchangeAfterRs ≡ false }
+{}
+
+/// `exchange-without-diag`: a Data_Exchange is reported if a Chk_Cfg was acknowledged that was not itself reported, and
+/// after it no Slave_Diag was answered, no Set_Prm acknowledged that locks or releases, and no Data_Exchange answered with
+/// data or refused by RS. It is not reported if there was no Chk_Cfg since, or the Chk_Cfg came before the parameters.
+pub fn an_exchange_after_chk_cfg_needs_a_diagnosis()
+    ensures none { (limit : ℕ) (past : List Entry) (request : Request)
+        → have_no_effect is_configured_by request.address past ≡ true
+        → breaks limit past (entries.Request request) rules.ExchangeWithoutDiag ≡ false }
+    ensures configured { (limit : ℕ) (front back : List Entry) (before request : Request)
+        → before.address ≡ request.address
+        → effect before ≡ configures
+        → breaks limit front (entries.Request before) rules.CfgBeforePrm ≡ false
+        → have_no_effect shows_or_refuses request.address back ≡ true
+        → breaks limit (front ++ entries.Request before ∷ back) (entries.Request request) rules.ExchangeWithoutDiag ≡ exchange_asked request }
+    ensures early { (limit : ℕ) (front back : List Entry) (before request : Request)
+        → before.address ≡ request.address
+        → effect before ≡ configures
+        → breaks limit front (entries.Request before) rules.CfgBeforePrm ≡ true
+        → have_no_effect gives_parameters request.address back ≡ true
+        → breaks limit (front ++ entries.Request before ∷ back) (entries.Request request) rules.ExchangeWithoutDiag ≡ false }
+    ensures answered { (limit : ℕ) (front back : List Entry) (before request : Request)
+        → before.address ≡ request.address
+        → shows_or_refuses (effect before) ≡ true
+        → have_no_effect is_configured_by request.address back ≡ true
+        → breaks limit (front ++ entries.Request before ∷ back) (entries.Request request) rules.ExchangeWithoutDiag ≡ false }
+{}
+
+/// `exchange-before-ready`: a Data_Exchange is reported if the bring-up never went on (no Chk_Cfg was acknowledged, no
+/// Data_Exchange answered with data, and no other master shown), or has not since it started; if a Slave_Diag showed that
+/// the station is not ready, and the bring-up has not gone on since; and if the last reply of the station that shows
+/// anything was RS to a Data_Exchange that was reported itself.
+pub fn an_exchange_before_the_station_is_ready_is_reported()
+    ensures none { (limit : ℕ) (past : List Entry) (request : Request)
+        → have_no_effect goes_on request.address past ≡ true
+        → breaks limit past (entries.Request request) rules.ExchangeBeforeReady ≡ exchange_asked request }
+    ensures started { (limit : ℕ) (front back : List Entry) (before request : Request)
+        → before.address ≡ request.address
+        → starts (effect before) ≡ true
+        → have_no_effect goes_on request.address back ≡ true
+        → breaks limit (front ++ entries.Request before ∷ back) (entries.Request request) rules.ExchangeBeforeReady ≡ exchange_asked request }
+    ensures unready { (limit : ℕ) (front back : List Entry) (before request : Request)
+        → before.address ≡ request.address
+        → shows_unready (effect before) ≡ true
+        → have_no_effect goes_on_or_is_ready request.address back ≡ true
+        → breaks limit (front ++ entries.Request before ∷ back) (entries.Request request) rules.ExchangeBeforeReady ≡ exchange_asked request }
+    ensures refused { (limit : ℕ) (front back : List Entry) (before request : Request)
+        → before.address ≡ request.address
+        → effect before ≡ refuses
+        → have_no_effect shows_any request.address back ≡ true
+        → breaks limit (front ++ entries.Request before ∷ back) (entries.Request request) rules.ExchangeBeforeReady
+        ≡ (exchange_asked request && breaks limit front (entries.Request before) rules.ExchangeBeforeReady) }
+{}
+
+/// `exchange-before-ready` is not reported once a Chk_Cfg that was not itself reported was acknowledged, then a Slave_Diag
+/// showed that the station is ready, and the bring-up has not started again. Nor is it reported right after such a
+/// Chk_Cfg, where `exchange-without-diag` is, nor once a Data_Exchange was answered with data.
+pub fn an_exchange_with_a_ready_station_is_right()
+    ensures ready { (limit : ℕ) (front middle back : List Entry) (configuration diagnosis request : Request)
+        → configuration.address ≡ request.address
+        → effect configuration ≡ configures
+        → breaks limit front (entries.Request configuration) rules.CfgBeforePrm ≡ false
+        → have_no_effect starts_again request.address middle ≡ true
+        → diagnosis.address ≡ request.address
+        → shows_ready (effect diagnosis) ≡ true
+        → have_no_effect ends_readiness request.address back ≡ true
+        → breaks limit (front ++ entries.Request configuration ∷ middle ++ entries.Request diagnosis ∷ back) (entries.Request request) rules.ExchangeBeforeReady ≡ false }
+    ensures configured { (limit : ℕ) (front back : List Entry) (before request : Request)
+        → before.address ≡ request.address
+        → effect before ≡ configures
+        → breaks limit front (entries.Request before) rules.CfgBeforePrm ≡ false
+        → have_no_effect ends_readiness request.address back ≡ true
+        → breaks limit (front ++ entries.Request before ∷ back) (entries.Request request) rules.ExchangeBeforeReady ≡ false }
+    ensures exchanged { (limit : ℕ) (front back : List Entry) (before request : Request)
+        → before.address ≡ request.address
+        → effect before ≡ exchanges
+        → have_no_effect ends_readiness request.address back ≡ true
+        → breaks limit (front ++ entries.Request before ∷ back) (entries.Request request) rules.ExchangeBeforeReady ≡ false }
+{}
+
+/// Of `exchange-before-ready`, `exchange-without-diag`, `exchange-after-rs` and `exchange-of-other`, a request breaks at most
+/// one.
+pub fn a_data_exchange_comes_too_early_in_one_way()
+    ensures before_ready { (limit : ℕ) (past : List Entry) (request : Request)
+        → breaks limit past (entries.Request request) rules.ExchangeBeforeReady ≡ true
+        → (breaks limit past (entries.Request request) rules.ExchangeWithoutDiag || breaks limit past (entries.Request request) rules.ExchangeAfterRs || breaks limit past (entries.Request request) rules.ExchangeOfOther) ≡ false }
+    ensures without_diag { (limit : ℕ) (past : List Entry) (request : Request)
+        → breaks limit past (entries.Request request) rules.ExchangeWithoutDiag ≡ true
+        → (breaks limit past (entries.Request request) rules.ExchangeAfterRs || breaks limit past (entries.Request request) rules.ExchangeOfOther) ≡ false }
+    ensures after_rs { (limit : ℕ) (past : List Entry) (request : Request)
+        → breaks limit past (entries.Request request) rules.ExchangeAfterRs ≡ true
+        → breaks limit past (entries.Request request) rules.ExchangeOfOther ≡ false }
+{}
