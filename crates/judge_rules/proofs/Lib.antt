@@ -1,5 +1,6 @@
 pub mod Walks
 pub mod LastRequests
+pub mod Announcements
 pub mod Bools
 pub mod EffectSteps
 pub mod StageSteps

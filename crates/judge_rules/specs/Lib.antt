@@ -15,5 +15,6 @@ pub mod Reading
 pub mod Laws
 pub mod LawWords
 pub mod Effects
+pub mod StationWords
 pub mod RuleExamples
 pub mod ReadingExamples

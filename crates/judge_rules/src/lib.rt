@@ -13,6 +13,7 @@ mod bring_up_rules;
 mod broken;
 mod bus;
 mod entry;
+pub mod exchange_laws;
 mod exchange_rules;
 mod fcb_rules;
 mod judge;
