@@ -5,4 +5,6 @@ pub mod Bools
 pub mod EffectSteps
 pub mod StageSteps
 pub mod StagesSince
+pub mod Windows
+pub mod Retries
 pub mod Since

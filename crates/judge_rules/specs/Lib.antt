@@ -16,5 +16,6 @@ pub mod Laws
 pub mod LawWords
 pub mod Effects
 pub mod StationWords
+pub mod BusWords
 pub mod RuleExamples
 pub mod ReadingExamples

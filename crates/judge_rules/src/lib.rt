@@ -12,6 +12,7 @@ pub mod bring_up_laws;
 mod bring_up_rules;
 mod broken;
 mod bus;
+pub mod bus_laws;
 mod entry;
 pub mod exchange_laws;
 mod exchange_rules;

@@ -1,0 +1,60 @@
+//! Laws of the rules that depend on all entries of a master, whatever the station: each is the contract of an empty function.
+
+ghost use Rattle.std.specs.Prelude.{◌≡◌, ◌++◌, ◌∷◌, ◌==◌, ◌*◌, ◌<◌, ◌&&◌, ℕ, true, false, map, length, List, []};
+ghost use Rattle.judge_rules.specs.declared.entry.Entry.{Entry};
+ghost use Rattle.judge_rules.specs.declared.entry.Entry.TheVariants as entries;
+ghost use Rattle.judge_rules.specs.declared.entry.Request.{Request};
+ghost use Rattle.judge_rules.specs.declared.rule.JudgeRule.TheVariants as rules;
+ghost use Rattle.judge_rules.specs.BusWords.{are_retries, entry_count, is_retry_of, last_request, stray_count};
+ghost use Rattle.judge_rules.specs.Entries.{is_srd};
+ghost use Rattle.judge_rules.specs.Rules.{breaks};
+
+/// `no-request`: the entries of a master are taken in windows of one hundred, one after another; a passed token is not
+/// counted. Octets that are no request are reported exactly if there are three such before them in their window, so
+/// once in a window.
+pub fn the_fourth_stray_of_a_hundred_entries_is_reported()
+    ensures { (limit windows : ℕ) (front back : List Entry)
+        → entry_count front ≡ windows * 100
+        → entry_count back < 100
+        → breaks limit (front ++ back) entries.Stray rules.NoRequest ≡ (stray_count back == 3) }
+{}
+
+/// `retry-limit`: if a request that is not a retry itself, and so is reported under no limit, is followed by retries alone,
+/// then the next request is reported exactly if it is one more retry and as many retries as the limit allows came before.
+/// So it is reported once. The limit is less than 255.
+pub fn one_retry_more_than_the_limit_is_reported()
+    ensures retries { (limit : ℕ) (front : List Entry) (first : Request) (retries : List Request) (request : Request)
+        → is_srd first ≡ true
+        → ((any : ℕ) → breaks any front (entries.Request first) rules.RetryLimit ≡ false)
+        → are_retries first retries ≡ true
+        → limit < 255
+        → breaks limit (front ++ entries.Request first ∷ map entries.Request retries) (entries.Request request) rules.RetryLimit
+        ≡ (is_retry_of (last_request first retries) request && (length retries == limit)) }
+    ensures new { (limit : ℕ) (front : List Entry) (before request : Request)
+        → is_srd before ≡ true
+        → is_retry_of before request ≡ false
+        → breaks limit (front ++ entries.Request before ∷ []) (entries.Request request) rules.RetryLimit ≡ false }
+    ensures no_srd { (limit : ℕ) (front : List Entry) (before request : Request)
+        → is_srd before ≡ false
+        → breaks limit (front ++ entries.Request before ∷ []) (entries.Request request) rules.RetryLimit ≡ false }
+    ensures after_stray { (limit : ℕ) (front : List Entry) (request : Request)
+        → breaks limit (front ++ entries.Stray ∷ []) (entries.Request request) rules.RetryLimit ≡ false }
+    ensures start { (limit : ℕ) (request : Request)
+        → breaks limit [] (entries.Request request) rules.RetryLimit ≡ false }
+{}
+
+/// A passed token after an SRD with FCV 1 changes nothing of `retry-limit`. After a passed token an SRD with FCV 0 is a new
+/// one, whatever was before.
+pub fn a_passed_token_ends_the_retries_of_an_srd_with_fcv_0()
+    ensures valid { (limit : ℕ) (front : List Entry) (before request : Request)
+        → is_srd before ≡ true
+        → before.fcv ≡ true
+        → breaks limit (front ++ entries.Request before ∷ entries.PassedToken ∷ []) (entries.Request request) rules.RetryLimit
+        ≡ breaks limit (front ++ entries.Request before ∷ []) (entries.Request request) rules.RetryLimit }
+    ensures invalid { (limit : ℕ) (front : List Entry) (before request : Request)
+        → before.fcv ≡ false
+        → breaks limit (front ++ entries.Request before ∷ entries.PassedToken ∷ []) (entries.Request request) rules.RetryLimit ≡ false }
+    ensures again { (limit : ℕ) (front : List Entry) (request : Request)
+        → breaks limit (front ++ entries.PassedToken ∷ entries.PassedToken ∷ []) (entries.Request request) rules.RetryLimit
+        ≡ breaks limit (front ++ entries.PassedToken ∷ []) (entries.Request request) rules.RetryLimit }
+{}
