@@ -105,5 +105,5 @@ strays_are bus (entries.PassedToken ∷ past) within few =
     let sum : entry_count (entries.PassedToken ∷ past) ≡ 0 + entry_count past = sum_by-cons (λ entry. cond (not (is_token entry)) 1 0) entries.PassedToken past in
     let strays : stray_count (entries.PassedToken ∷ past) ≡ 0 + stray_count past = sum_by-cons (λ entry. cond (is_stray entry) 1 0) entries.PassedToken past in
     let left : (fold bus_after bus (entries.PassedToken ∷ past)).window.strays ≡ bus.window.strays + stray_count past =
-        strays_are (bus_after bus entries.PassedToken) past (omega (arith, within, sum)) few in
+    strays_are (bus_after bus entries.PassedToken) past (omega (arith, within, sum)) few in
     omega (arith, left, strays)

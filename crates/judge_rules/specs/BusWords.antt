@@ -28,12 +28,16 @@ abbrev pub is_retry_of : Request → Request → Bool
 is_retry_of before request =
     is_srd request && not (is_answered before.answer) && (request.fcv || before.time == request.time) && same_octets before.octets.items request.octets.items
 
--- each of these requests is a retry of the one before it, and the first one of an earlier one
-abbrev pub are_retries : Request → List Request → Bool
+-- each of these entries is a retry of the request before it, or a passed token after a request with FCV 1
+abbrev pub are_retries : Request → List Entry → Bool
 are_retries before [] = true
-are_retries before (request ∷ rest) = is_retry_of before request && are_retries request rest
+are_retries before (entries.Request request ∷ rest) = is_retry_of before request && are_retries request rest
+are_retries before (entries.PassedToken ∷ rest) = before.fcv && are_retries before rest
+are_retries before (entries.Stray ∷ rest) = false
 
--- the last one of an earlier request and these
-abbrev pub last_request : Request → List Request → Request
+-- the last request of an earlier one and these entries
+abbrev pub last_request : Request → List Entry → Request
 last_request before [] = before
-last_request before (request ∷ rest) = last_request request rest
+last_request before (entries.Request request ∷ rest) = last_request request rest
+last_request before (entries.PassedToken ∷ rest) = last_request before rest
+last_request before (entries.Stray ∷ rest) = last_request before rest

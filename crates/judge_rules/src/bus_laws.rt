@@ -1,6 +1,6 @@
 //! Laws of the rules that depend on all entries of a master, whatever the station: each is the contract of an empty function.
 
-ghost use Rattle.std.specs.Prelude.{◌≡◌, ◌++◌, ◌∷◌, ◌==◌, ◌*◌, ◌<◌, ◌&&◌, ℕ, true, false, map, length, List, []};
+ghost use Rattle.std.specs.Prelude.{◌≡◌, ◌++◌, ◌∷◌, ◌==◌, ◌*◌, ◌<◌, ◌&&◌, ℕ, true, false, List, []};
 ghost use Rattle.judge_rules.specs.declared.entry.Entry.{Entry};
 ghost use Rattle.judge_rules.specs.declared.entry.Entry.TheVariants as entries;
 ghost use Rattle.judge_rules.specs.declared.entry.Request.{Request};
@@ -21,15 +21,15 @@ pub fn the_fourth_stray_of_a_hundred_entries_is_reported()
 
 /// `retry-limit`: if a request that is not a retry itself, and so is reported under no limit, is followed by retries alone,
 /// then the next request is reported exactly if it is one more retry and as many retries as the limit allows came before.
-/// So it is reported once. The limit is less than 255.
+/// So it is reported once. Between requests with FCV 1 tokens may be passed on. The limit is less than 255.
 pub fn one_retry_more_than_the_limit_is_reported()
-    ensures retries { (limit : ℕ) (front : List Entry) (first : Request) (retries : List Request) (request : Request)
+    ensures retries { (limit : ℕ) (front : List Entry) (first : Request) (retries : List Entry) (request : Request)
         → is_srd first ≡ true
         → ((any : ℕ) → breaks any front (entries.Request first) rules.RetryLimit ≡ false)
         → are_retries first retries ≡ true
         → limit < 255
-        → breaks limit (front ++ entries.Request first ∷ map entries.Request retries) (entries.Request request) rules.RetryLimit
-        ≡ (is_retry_of (last_request first retries) request && (length retries == limit)) }
+        → breaks limit (front ++ entries.Request first ∷ retries) (entries.Request request) rules.RetryLimit
+        ≡ (is_retry_of (last_request first retries) request && (entry_count retries == limit)) }
     ensures new { (limit : ℕ) (front : List Entry) (before request : Request)
         → is_srd before ≡ true
         → is_retry_of before request ≡ false

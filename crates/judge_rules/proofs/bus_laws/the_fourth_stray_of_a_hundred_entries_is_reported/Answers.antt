@@ -14,7 +14,7 @@ returns c limit windows front back full within =
     let none : (bus_of front).window.strays ≡ 0 = ap (λ (w : Window). w.strays) start in
     let first : (bus_of front).window.entries ≡ 0 = ap (λ (w : Window). w.entries) start in
     let counted : (bus_of (front ++ back)).window.strays ≡ (bus_of front).window.strays + stray_count back =
-        ap (λ (b : Bus). b.window.strays) (fold-append bus_after new_bus front back)
-        ∙ strays_are (bus_of front) back (omega (arith, first, within)) (omega (arith, none, first)) in
+    ap (λ (b : Bus). b.window.strays) (fold-append bus_after new_bus front back)
+    ∙ strays_are (bus_of front) back (omega (arith, first, within)) (omega (arith, none, first)) in
     let strays : (bus_of (front ++ back)).window.strays ≡ stray_count back = omega (arith, none, counted) in
     ap (λ (k : ℕ). k == 3) strays
