@@ -4,7 +4,7 @@ use Rattle.std.specs.Prelude.{◌&&◌, ◌||◌, if◌then◌else◌}
 use Rattle.judge_rules.specs.declared.stage.Stage.{Stage}
 use Rattle.judge_rules.specs.declared.stage.Stage.TheVariants as stages
 use Rattle.judge_rules.specs.BringUpRules.{is_before_ready, is_configured, is_lost, is_taken, is_unseen}
-use Rattle.judge_rules.specs.Effects.{Effect, locks, releases, shows, configures, exchanges, refuses, nothing, changes_parameters, gives_parameters, is_configured_by, is_refused, may_lose_parameters, ends_readiness, goes_on, goes_on_or_is_ready, shows_any, shows_or_refuses, shows_other, shows_ready, shows_state, shows_unready, starts, starts_again, takes_parameters}
+use Rattle.judge_rules.specs.Effects.{Effect, locks, releases, shows, configures, exchanges, refuses, nothing, changes_parameters, gives_parameters, is_configured_by, is_refused, may_lose_parameters, ends_readiness, goes_on, goes_on_or_is_ready, shows_any, shows_or_refuses, shows_other, shows_own, shows_ready, shows_state, shows_unready, starts, starts_again, takes_parameters}
 use Rattle.judge_rules.specs.Stages.{is_parametrized, refused, shown_ready, shown_unready}
 use Rattle.judge_rules.proofs.EffectSteps.{after_effect}
 
@@ -467,3 +467,31 @@ configured_is_usable stage is = absurd cc
 pub configured_is_set_up : (stage : Stage) → is_configured stage ≡ true → is_set_up stage ≡ true
 configured_is_set_up stages.Configured is = refl
 configured_is_set_up stage is = absurd cc
+
+-- after another master, and after RS
+own_by : (stage : Stage) (other needs ready : Bool) → (is_taken stage || is_lost stage) ≡ true → not other ≡ true
+    → is_at_start (if other then stages.Taken else if needs then stages.Idle else if ready then shown_ready stage else shown_unready stage) ≡ true
+own_by stage true needs ready now own = absurd cc
+own_by stage false true ready now own = refl
+own_by stages.Taken false false true now own = refl
+own_by stages.Lost false false true now own = refl
+own_by stage false false true now own = absurd cc
+own_by stages.Taken false false false now own = refl
+own_by stages.Lost false false false now own = refl
+own_by stage false false false now own = absurd cc
+
+pub own_now : (stage : Stage) (e : Effect) → (is_taken stage || is_lost stage) ≡ true → shows_own e ≡ true → is_at_start (after_effect stage e) ≡ true
+own_now stage (shows diagnosis) now is = own_by stage diagnosis.is_of_other diagnosis.needs_parameters diagnosis.is_ready now is
+own_now stage e now is = absurd cc
+
+pub taken_or_lost : (stage : Stage) → is_taken stage ≡ true → (is_taken stage || is_lost stage) ≡ true
+taken_or_lost stages.Taken is = refl
+taken_or_lost stage is = absurd cc
+
+pub lost_or_taken : (stage : Stage) → is_lost stage ≡ true → (is_taken stage || is_lost stage) ≡ true
+lost_or_taken stages.Lost is = refl
+lost_or_taken stage is = absurd cc
+
+pub other_is_state : (e : Effect) → shows_other e ≡ true → shows_state e ≡ true
+other_is_state (shows diagnosis) is = refl
+other_is_state e is = absurd cc

@@ -86,6 +86,11 @@ abbrev pub shows_other : Effect → Bool
 shows_other (shows diagnosis) = diagnosis.is_of_other
 shows_other other = false
 
+-- a diagnosis shows no other master
+abbrev pub shows_own : Effect → Bool
+shows_own (shows diagnosis) = not diagnosis.is_of_other
+shows_own other = false
+
 -- the station has parameters of the master; it has none
 abbrev pub gives_parameters : Effect → Bool
 gives_parameters locks = true

@@ -1,4 +1,5 @@
--- Words for the laws of the other rules: which rules judge a telegram on its own.
+-- Words for the laws of all rules: which rules judge a telegram on its own, which by the services that a station was asked for, and which by the
+-- requests to the station.
 use Rattle.std.specs.Prelude.{Bool, true, false}
 use Rattle.judge_rules.specs.declared.rule.JudgeRule.{JudgeRule}
 use Rattle.judge_rules.specs.declared.rule.JudgeRule.TheVariants as rules
@@ -14,3 +15,23 @@ is_of_the_telegram rules.SdnNeedsReply = true
 is_of_the_telegram rules.BroadcastNeedsReply = true
 is_of_the_telegram rules.UnknownPoint = true
 is_of_the_telegram other = false
+
+-- a rule of the bring-up, of Data_Exchange or of Set_Prm
+abbrev pub is_of_a_service : JudgeRule → Bool
+is_of_a_service rules.PrmBeforeDiag = true
+is_of_a_service rules.CfgBeforePrm = true
+is_of_a_service rules.ExchangeBeforeReady = true
+is_of_a_service rules.ExchangeWithoutDiag = true
+is_of_a_service rules.ExchangeAfterRs = true
+is_of_a_service rules.ExchangeOfOther = true
+is_of_a_service rules.LengthRepeated = true
+is_of_a_service rules.DiagNotRead = true
+is_of_a_service rules.PrmOfOther = true
+is_of_a_service rules.MinTsdr = true
+is_of_a_service other = false
+
+-- a rule that looks at no entries but the requests to the station
+abbrev pub is_of_a_station : JudgeRule → Bool
+is_of_a_station rules.RetryLimit = false
+is_of_a_station rules.NoRequest = false
+is_of_a_station other = true

@@ -4,8 +4,11 @@ ghost use Rattle.std.specs.Prelude.{◌≡◌, ◌++◌, ◌∷◌, ◌&&◌, �
 ghost use Rattle.judge_rules.specs.declared.entry.Entry.{Entry};
 ghost use Rattle.judge_rules.specs.declared.entry.Entry.TheVariants as entries;
 ghost use Rattle.judge_rules.specs.declared.entry.Request.{Request};
+ghost use Rattle.judge_rules.specs.declared.entry.Answer.TheVariants as answers;
+ghost use Rattle.judge_rules.specs.declared.rule.JudgeRule.{JudgeRule};
 ghost use Rattle.judge_rules.specs.declared.rule.JudgeRule.TheVariants as rules;
-ghost use Rattle.judge_rules.specs.Effects.{asks_prm, changes_parameters, configures, effect, ends_readiness, exchanges, gives_parameters, goes_on, goes_on_or_is_ready, have_no_effect, is_configured_by, is_refused, may_lose_parameters, refuses, shows_any, shows_or_refuses, shows_other, shows_ready, shows_state, shows_unready, starts, starts_again, takes_parameters};
+ghost use Rattle.judge_rules.specs.LawWords.{is_of_a_service, is_of_a_station};
+ghost use Rattle.judge_rules.specs.Effects.{asks_prm, changes_parameters, configures, effect, ends_readiness, exchanges, gives_parameters, goes_on, goes_on_or_is_ready, have_no_effect, is_configured_by, is_request_to, is_refused, may_lose_parameters, refuses, shows_any, shows_or_refuses, shows_other, shows_own, shows_ready, shows_state, shows_unready, starts, starts_again, takes_parameters};
 ghost use Rattle.judge_rules.specs.Entries.{chk_cfg_asked, exchange_asked};
 ghost use Rattle.judge_rules.specs.Rules.{breaks};
 
@@ -195,4 +198,50 @@ pub fn a_data_exchange_comes_too_early_in_one_way()
     ensures after_rs { (limit : ℕ) (past : List Entry) (request : Request)
         → breaks limit past (entries.Request request) rules.ExchangeAfterRs ≡ true
         → breaks limit past (entries.Request request) rules.ExchangeOfOther ≡ false }
+{}
+
+/// After a diagnosis that shows another master, and after RS to a Data_Exchange that was neither too early nor with another
+/// master's slave, the next Slave_Diag that shows no other master starts the bring-up again, whatever else it shows: a
+/// Data_Exchange is reported as `exchange-before-ready` until the bring-up has gone on.
+pub fn a_diagnosis_after_rs_or_another_master_starts_the_bring_up()
+    ensures other { (limit : ℕ) (front middle back : List Entry) (before diagnosis request : Request)
+        → before.address ≡ request.address
+        → shows_other (effect before) ≡ true
+        → have_no_effect shows_state request.address middle ≡ true
+        → diagnosis.address ≡ request.address
+        → shows_own (effect diagnosis) ≡ true
+        → have_no_effect goes_on request.address back ≡ true
+        → breaks limit (front ++ entries.Request before ∷ middle ++ entries.Request diagnosis ∷ back) (entries.Request request) rules.ExchangeBeforeReady ≡ exchange_asked request }
+    ensures refused { (limit : ℕ) (front middle back : List Entry) (before diagnosis request : Request)
+        → before.address ≡ request.address
+        → effect before ≡ refuses
+        → (breaks limit front (entries.Request before) rules.ExchangeBeforeReady || breaks limit front (entries.Request before) rules.ExchangeOfOther) ≡ false
+        → have_no_effect shows_state request.address middle ≡ true
+        → diagnosis.address ≡ request.address
+        → shows_own (effect diagnosis) ≡ true
+        → have_no_effect goes_on request.address back ≡ true
+        → breaks limit (front ++ entries.Request before ∷ middle ++ entries.Request diagnosis ∷ back) (entries.Request request) rules.ExchangeBeforeReady ≡ exchange_asked request }
+{}
+
+/// A request that is answered by the reply to the one before it asks for no service: it breaks no rule of the bring-up, of
+/// Data_Exchange or of Set_Prm, and changes nothing for the requests after it that are judged by these rules.
+pub fn a_repeat_asks_for_no_service()
+    ensures judged { (limit : ℕ) (past : List Entry) (request : Request) (rule : JudgeRule)
+        → request.answer ≡ answers.Repeat
+        → is_of_a_service rule ≡ true
+        → breaks limit past (entries.Request request) rule ≡ false }
+    ensures after { (limit : ℕ) (front back : List Entry) (repeat request : Request) (rule : JudgeRule)
+        → repeat.answer ≡ answers.Repeat
+        → is_of_a_service rule ≡ true
+        → breaks limit (front ++ entries.Request repeat ∷ back) (entries.Request request) rule ≡ breaks limit (front ++ back) (entries.Request request) rule }
+{}
+
+/// What a master sends to another station, a token that it passes on and octets that are no request change nothing for
+/// the rules of a station: those of the frame count bit, of the bring-up, of Data_Exchange, of Set_Prm and of the
+/// watchdog.
+pub fn a_station_is_judged_by_the_requests_to_it()
+    ensures { (limit : ℕ) (front back : List Entry) (entry : Entry) (request : Request) (rule : JudgeRule)
+        → is_request_to (λ any. true) request.address entry ≡ false
+        → is_of_a_station rule ≡ true
+        → breaks limit (front ++ entry ∷ back) (entries.Request request) rule ≡ breaks limit (front ++ back) (entries.Request request) rule }
 {}
