@@ -1,4 +1,5 @@
-//! Laws of the rules that depend on all entries of a master, whatever the station: each is the contract of an empty function.
+//! Laws of the rules that depend on all entries of a master, whatever the station: each is the contract of an empty
+//! function.
 
 ghost use Rattle.std.specs.Prelude.{◌≡◌, ◌++◌, ◌∷◌, ◌==◌, ◌*◌, ◌<◌, ◌&&◌, ℕ, true, false, List, []};
 ghost use Rattle.judge_rules.specs.declared.entry.Entry.{Entry};
@@ -19,9 +20,10 @@ pub fn the_fourth_stray_of_a_hundred_entries_is_reported()
         → breaks limit (front ++ back) entries.Stray rules.NoRequest ≡ (stray_count back == 3) }
 {}
 
-/// `retry-limit`: if a request that is not a retry itself, and so is reported under no limit, is followed by retries alone,
-/// then the next request is reported exactly if it is one more retry and as many retries as the limit allows came before.
-/// So it is reported once. Between requests with FCV 1 tokens may be passed on. The limit is less than 255.
+/// `retry-limit`: if a request that is not a retry itself, and so is reported under no limit, is followed by retries
+/// alone, then the next request is reported exactly if it is one more retry and as many retries as the limit allows
+/// came before. So it is reported once. Between requests with FCV 1 tokens may be passed on. The limit is less than
+/// 255.
 pub fn one_retry_more_than_the_limit_is_reported()
     ensures retries { (limit : ℕ) (front : List Entry) (first : Request) (retries : List Entry) (request : Request)
         → is_srd first ≡ true
@@ -43,8 +45,8 @@ pub fn one_retry_more_than_the_limit_is_reported()
         → breaks limit [] (entries.Request request) rules.RetryLimit ≡ false }
 {}
 
-/// A passed token after an SRD with FCV 1 changes nothing of `retry-limit`. After a passed token an SRD with FCV 0 is a new
-/// one, whatever was before.
+/// A passed token after an SRD with FCV 1 changes nothing of `retry-limit`. After a passed token an SRD with FCV 0 is a
+/// new one, whatever was before.
 pub fn a_passed_token_ends_the_retries_of_an_srd_with_fcv_0()
     ensures valid { (limit : ℕ) (front : List Entry) (before request : Request)
         → is_srd before ≡ true
@@ -53,7 +55,8 @@ pub fn a_passed_token_ends_the_retries_of_an_srd_with_fcv_0()
         ≡ breaks limit (front ++ entries.Request before ∷ []) (entries.Request request) rules.RetryLimit }
     ensures invalid { (limit : ℕ) (front : List Entry) (before request : Request)
         → before.fcv ≡ false
-        → breaks limit (front ++ entries.Request before ∷ entries.PassedToken ∷ []) (entries.Request request) rules.RetryLimit ≡ false }
+        → breaks limit (front ++ entries.Request before ∷ entries.PassedToken ∷ []) (entries.Request request) rules.RetryLimit
+        ≡ false }
     ensures again { (limit : ℕ) (front : List Entry) (request : Request)
         → breaks limit (front ++ entries.PassedToken ∷ entries.PassedToken ∷ []) (entries.Request request) rules.RetryLimit
         ≡ breaks limit (front ++ entries.PassedToken ∷ []) (entries.Request request) rules.RetryLimit }

@@ -13,8 +13,8 @@ ghost use Rattle.judge_rules.specs.Stations.{is_acknowledged_prm};
 ghost use Rattle.judge_rules.specs.StationWords.{announces_diagnosis, ends_announcement, exchanges_to, is_wrong_length, sets_watchdog};
 ghost use Rattle.judge_rules.specs.Rules.{breaks};
 
-/// `length-repeated`: a Data_Exchange that UE refuses is reported exactly if UE refused an earlier one to the station, with no
-/// acknowledged Set_Prm to it between them. No other request is reported.
+/// `length-repeated`: a Data_Exchange that UE refuses is reported exactly if UE refused an earlier one to the station,
+/// with no acknowledged Set_Prm to it between them. No other request is reported.
 pub fn a_wrong_length_is_reported_from_the_second_on()
     ensures none { (limit : ℕ) (past : List Entry) (request : Request)
         → have_none is_wrong_length request.address past ≡ true
@@ -23,7 +23,8 @@ pub fn a_wrong_length_is_reported_from_the_second_on()
         → before.address ≡ request.address
         → is_wrong_length before ≡ true
         → have_none is_acknowledged_prm request.address back ≡ true
-        → breaks limit (front ++ entries.Request before ∷ back) (entries.Request request) rules.LengthRepeated ≡ is_wrong_length request }
+        → breaks limit (front ++ entries.Request before ∷ back) (entries.Request request) rules.LengthRepeated
+        ≡ is_wrong_length request }
     ensures acknowledged { (limit : ℕ) (front back : List Entry) (before request : Request)
         → before.address ≡ request.address
         → is_acknowledged_prm before ≡ true
@@ -31,8 +32,8 @@ pub fn a_wrong_length_is_reported_from_the_second_on()
         → breaks limit (front ++ entries.Request before ∷ back) (entries.Request request) rules.LengthRepeated ≡ false }
 {}
 
-/// `diag-not-read`: after the first DH that no answered Slave_Diag and no acknowledged Set_Prm has followed, a Data_Exchange
-/// is reported exactly if it is the fourth since. Without such a DH none is reported.
+/// `diag-not-read`: after the first DH that no answered Slave_Diag and no acknowledged Set_Prm has followed, a
+/// Data_Exchange is reported exactly if it is the fourth since. Without such a DH none is reported.
 pub fn the_fourth_exchange_after_dh_needs_a_diagnosis()
     ensures none { (limit : ℕ) (past : List Entry) (request : Request)
         → have_none announces_diagnosis request.address past ≡ true
@@ -61,10 +62,12 @@ pub fn the_fourth_exchange_after_dh_needs_a_diagnosis()
 {}
 
 /// `watchdog-short`: an SRD to a station that has parameters, so that a Chk_Cfg in its place would not be reported as
-/// `cfg-before-prm`, is reported exactly if the last acknowledged Set_Prm that locked or released the station set a watchdog
-/// time, and at least that time has passed since the last SRD to the station. What was answered does not matter.
+/// `cfg-before-prm`, is reported exactly if the last acknowledged Set_Prm that locked or released the station set a
+/// watchdog time, and at least that time has passed since the last SRD to the station. What was answered does not
+/// matter.
 pub fn a_gap_of_the_watchdog_time_is_reported()
-    ensures gap { (limit watchdog : ℕ) (past front back earlier later : List Entry) (setting before configuration request : Request) (parameters : Parameters)
+    ensures gap { (limit watchdog : ℕ) (past front back earlier later : List Entry) (setting before configuration request : Request)
+        (parameters : Parameters)
         → past ≡ front ++ entries.Request setting ∷ back
         → setting.address ≡ request.address
         → effect setting ≡ locks
@@ -77,7 +80,8 @@ pub fn a_gap_of_the_watchdog_time_is_reported()
         → configuration.address ≡ request.address
         → chk_cfg_asked configuration ≡ true
         → breaks limit past (entries.Request configuration) rules.CfgBeforePrm ≡ false
-        → breaks limit past (entries.Request request) rules.WatchdogShort ≡ (is_srd request && nat_le watchdog (request.time - before.time)) }
+        → breaks limit past (entries.Request request) rules.WatchdogShort
+        ≡ (is_srd request && nat_le watchdog (request.time - before.time)) }
     ensures no_watchdog { (limit : ℕ) (front back : List Entry) (setting request : Request) (parameters : Parameters)
         → setting.address ≡ request.address
         → effect setting ≡ locks

@@ -26,10 +26,11 @@ pub fn what_lies_before_a_telegram_does_not_matter()
         → breaks limit past (entries.Request request) rule ≡ breaks other before (entries.Request request) rule }
 {}
 
-/// A token that is passed on breaks no rule. Octets that are no request break no rule but `no-request`, which no request
-/// breaks.
+/// A token that is passed on breaks no rule. Octets that are no request break no rule but `no-request`, which no
+/// request breaks.
 pub fn only_requests_break_the_other_rules()
-    ensures token { (limit : ℕ) (past : List Entry) (rule : JudgeRule) → breaks limit past entries.PassedToken rule ≡ false }
+    ensures token { (limit : ℕ) (past : List Entry) (rule : JudgeRule)
+        → breaks limit past entries.PassedToken rule ≡ false }
     ensures stray { (limit : ℕ) (past : List Entry) (rule : JudgeRule)
         → breaks limit past entries.Stray rule ≡ true
         → rule ≡ rules.NoRequest }
@@ -37,8 +38,8 @@ pub fn only_requests_break_the_other_rules()
         → breaks limit past (entries.Request request) rules.NoRequest ≡ false }
 {}
 
-/// `fcb-not-allowed`: an SDN, and a request for the FDL status, the ident or the LSAP status, is reported exactly if FCB
-/// or FCV is set. An SRD is never reported.
+/// `fcb-not-allowed`: an SDN, and a request for the FDL status, the ident or the LSAP status, is reported exactly if
+/// FCB or FCV is set. An SRD is never reported.
 pub fn only_an_acknowledged_function_has_a_frame_count_bit()
     ensures sdn { (limit : ℕ) (past : List Entry) (request : Request)
         → asks_sdn request.function ≡ true
@@ -57,8 +58,8 @@ pub fn only_an_acknowledged_function_has_a_frame_count_bit()
         → breaks limit past (entries.Request request) rules.FcbNotAllowed ≡ false }
 {}
 
-/// `min-tsdr`: a Set_Prm to one station, which was not taken as a repeat, is reported exactly if its min TSDR is 1 to 10
-/// bit times. No other request is reported.
+/// `min-tsdr`: a Set_Prm to one station, which was not taken as a repeat, is reported exactly if its min TSDR is 1 to
+/// 10 bit times. No other request is reported.
 pub fn min_tsdr_is_0_or_at_least_11()
     ensures low { (limit : ℕ) (past : List Entry) (request : Request) (parameters : Parameters)
         → prm_asked request ≡ Some parameters
@@ -78,9 +79,10 @@ pub fn min_tsdr_is_0_or_at_least_11()
         → breaks limit past (entries.Request request) rules.MinTsdr ≡ false }
 {}
 
-/// A Global_Control, an SDN to point 58, is reported as `control-both` exactly if it has Freeze and Unfreeze, or Sync and
-/// Unsync; as `control-reserved` exactly if a reserved bit is set; and as `group-not-set` exactly if its sender holds a
-/// slave, and none that it holds is in one of the groups that are selected. No other request breaks these rules.
+/// A Global_Control, an SDN to point 58, is reported as `control-both` exactly if it has Freeze and Unfreeze, or Sync
+/// and Unsync; as `control-reserved` exactly if a reserved bit is set; and as `group-not-set` exactly if its sender
+/// holds a slave, and none that it holds is in one of the groups that are selected. No other request breaks these
+/// rules.
 pub fn a_global_control_is_judged_by_its_bits_and_groups()
     ensures both { (limit : ℕ) (past : List Entry) (request : Request) (control : Control)
         → control_asked request ≡ Some control
@@ -114,13 +116,15 @@ pub fn what_has_a_reply_is_asked_of_one_station_with_srd()
         → breaks limit past (entries.Request request) rules.SdnNeedsReply ≡ false }
     ensures all { (limit : ℕ) (past : List Entry) (request : Request)
         → (request.address == global_address) ≡ true
-        → breaks limit past (entries.Request request) rules.BroadcastNeedsReply ≡ is_answered_function request.function }
+        → breaks limit past (entries.Request request) rules.BroadcastNeedsReply
+        ≡ is_answered_function request.function }
     ensures one { (limit : ℕ) (past : List Entry) (request : Request)
         → (request.address == global_address) ≡ false
         → breaks limit past (entries.Request request) rules.BroadcastNeedsReply ≡ false }
 {}
 
-/// `unknown-point`: an SRD or an SDN is reported exactly if DP-V0 does not have its point. No other request is reported.
+/// `unknown-point`: an SRD or an SDN is reported exactly if DP-V0 does not have its point. No other request is
+/// reported.
 pub fn a_point_of_dp_v0_is_known()
     ensures unknown { (limit : ℕ) (past : List Entry) (request : Request)
         → (is_srd request || asks_sdn request.function) ≡ true
