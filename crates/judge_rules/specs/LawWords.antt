@@ -35,3 +35,14 @@ abbrev pub is_of_a_station : JudgeRule → Bool
 is_of_a_station rules.RetryLimit = false
 is_of_a_station rules.NoRequest = false
 is_of_a_station other = true
+
+-- a rule of the bring-up, with that of a Set_Prm to another master's slave
+abbrev pub is_of_the_bring_up : JudgeRule → Bool
+is_of_the_bring_up rules.PrmBeforeDiag = true
+is_of_the_bring_up rules.CfgBeforePrm = true
+is_of_the_bring_up rules.ExchangeBeforeReady = true
+is_of_the_bring_up rules.ExchangeWithoutDiag = true
+is_of_the_bring_up rules.ExchangeAfterRs = true
+is_of_the_bring_up rules.ExchangeOfOther = true
+is_of_the_bring_up rules.PrmOfOther = true
+is_of_the_bring_up other = false

@@ -7,7 +7,7 @@ ghost use Rattle.judge_rules.specs.declared.entry.Request.{Request};
 ghost use Rattle.judge_rules.specs.declared.entry.Answer.TheVariants as answers;
 ghost use Rattle.judge_rules.specs.declared.rule.JudgeRule.{JudgeRule};
 ghost use Rattle.judge_rules.specs.declared.rule.JudgeRule.TheVariants as rules;
-ghost use Rattle.judge_rules.specs.LawWords.{is_of_a_service, is_of_a_station};
+ghost use Rattle.judge_rules.specs.LawWords.{is_of_a_service, is_of_a_station, is_of_the_bring_up};
 ghost use Rattle.judge_rules.specs.Effects.{asks_prm, changes_parameters, configures, effect, ends_readiness, exchanges, gives_parameters, goes_on, goes_on_or_is_ready, have_no_effect, is_configured_by, is_request_to, is_refused, may_lose_parameters, refuses, shows_any, shows_or_refuses, shows_other, shows_own, shows_ready, shows_state, shows_unready, starts, starts_again, takes_parameters};
 ghost use Rattle.judge_rules.specs.Entries.{chk_cfg_asked, exchange_asked};
 ghost use Rattle.judge_rules.specs.Rules.{breaks};
@@ -269,5 +269,22 @@ pub fn a_station_is_judged_by_the_requests_to_it()
         → is_request_to (λ any. true) request.address entry ≡ false
         → is_of_a_station rule ≡ true
         → breaks limit (front ++ entry ∷ back) (entries.Request request) rule
+        ≡ breaks limit (front ++ back) (entries.Request request) rule }
+{}
+
+/// A Chk_Cfg that was reported as `cfg-before-prm`, and a Data_Exchange that was reported as `exchange-before-ready` and
+/// refused by RS, change nothing for the rules of the bring-up.
+pub fn what_came_too_early_changes_nothing()
+    ensures chk_cfg { (limit : ℕ) (front back : List Entry) (before request : Request) (rule : JudgeRule)
+        → effect before ≡ configures
+        → breaks limit front (entries.Request before) rules.CfgBeforePrm ≡ true
+        → is_of_the_bring_up rule ≡ true
+        → breaks limit (front ++ entries.Request before ∷ back) (entries.Request request) rule
+        ≡ breaks limit (front ++ back) (entries.Request request) rule }
+    ensures exchange { (limit : ℕ) (front back : List Entry) (before request : Request) (rule : JudgeRule)
+        → effect before ≡ refuses
+        → breaks limit front (entries.Request before) rules.ExchangeBeforeReady ≡ true
+        → is_of_the_bring_up rule ≡ true
+        → breaks limit (front ++ entries.Request before ∷ back) (entries.Request request) rule
         ≡ breaks limit (front ++ back) (entries.Request request) rule }
 {}
