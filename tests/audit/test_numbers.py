@@ -72,7 +72,8 @@ def test_texts_in_one_file_and_in_parts(serve, tmp_path):
 def test_above_a_part_whose_first_part_is_gone(serve, tmp_path, words, new):
     """Names that are none of an audit text don't count."""
     folder = tmp_path / "audit"
-    others = [part_name(2, number=3), "line-1-7.audit.old", "line-1-08.audit", "line-1-9.00001.audit", "line-2-12.audit"]
+    others = [part_name(2, number=3), "line-1-7.audit.old", "line-1-08.audit", "line-1-9.00001.audit", "line-1-9.0000001.audit",
+              "line-1-9.000000.audit", "line-257-9.audit", "line-2-12.audit"]
     write_files(folder, {name: b"mine\n" for name in others})
     with open(os.fsencode(folder) + b"/line-1-10\xff.audit", "wb"):
         pass
@@ -184,8 +185,9 @@ class HeldCreation(CallWatch):
 
 
 @pytest.mark.parametrize("own, others, until", [
-    ([], ["--endless"], 1), (["--endless"], [], None), (["--endless"], KEEPS_TWO, 4),
-], ids=["other-in-parts", "other-in-one-file", "first-part-deleted"])
+    ([], ["--endless"], 1), (["--endless"], [], None), (["--endless"], KEEPS_TWO, 4), ([], [], None),
+    (["--endless"], ["--endless"], None),
+], ids=["other-in-parts", "other-in-one-file", "first-part-deleted", "both-in-one-file", "both-in-parts"])
 def test_rack_that_is_held_up_at_its_file(serve, start_server, tmp_path, own, others, until):
     """A rack that is held up before it makes its first file finds that another one has taken its number meanwhile."""
     folder = tmp_path / "audit"
@@ -205,3 +207,6 @@ def test_rack_that_is_held_up_at_its_file(serve, start_server, tmp_path, own, ot
     assert text_numbers(folder) == [1, 2]
     second = [name for name in names(folder) if name.startswith("line-1-2.")]
     assert second == [part_name(1, number=2) if own else text_name(1, 2)]
+    # The file that was made with the number of the other text is gone, unless it is that of the other text.
+    first = folder / (part_name(1) if own else text_name(1))
+    assert first.exists() == (until is None and bool(own) == bool(others))

@@ -98,7 +98,8 @@ def test_no_later_part(follow, name):
     followed = follow(rack, files=[name])
     followed.write("".join(rows[:8]))
     followed.expect(first_blocks(entries, 7))
-    for other in (part(2), "line-1.000002.audit", "text-1-1.000002.audit", "line-x-1.000002.audit"):
+    for other in (part(2), part(3), "line-2-2.000003.audit", "line-1.000002.audit", "text-1-1.000002.audit",
+                  "line-x-1.000002.audit"):
         followed.write_part(other, "".join(rows[8:]))
     followed.expect_nothing_more(first_blocks(entries, 7))
     followed.write("".join(rows[8:]))

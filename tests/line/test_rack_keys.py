@@ -2,6 +2,7 @@
 import pytest
 
 from support.line_rows import LineOfRows, play
+from support.racks import line, rack, slave
 
 SYNC, FREEZE, BOTH = "a000000b80a101", "9000000b80a101", "b000000b80a101"
 NOT_SUPPORTED = "ask 2 5 4d 60 - => WaitPrm none | low 520500ff80a1\n"
@@ -153,3 +154,19 @@ REFUSED = {
 @pytest.mark.parametrize(("keys", "addresses", "cfg", "fault"), REFUSED.values(), ids=REFUSED)
 def test_line_that_is_refused(run, keys, addresses, cfg, fault):
     assert run(input=LineOfRows(slaves=addresses, cfg=cfg, **keys).rack) == (2, "", f"rackd: rack line 1 {fault}\n")
+
+
+# A line with one fault, whose other numbers are right but at their limits; and what is reported.
+AT_LIMITS = {
+    "places-masters-slaves": (
+        line(1, *range(1, 64), slave(64, user_max=238), masters=[0, 126], capacity=2),
+        "Limit\n  line 1, slave 64: user_max 238, at most 237"),
+    "places-and-an-address": (
+        line(1, 126, slave(5, user_max=238), capacity=65536), "Limit\n  line 1, slave 2: user_max 238, at most 237"),
+    "an-address-of-a-master": (line(1, 4, 3), "TwiceAddress\n  line 1, slave 2: address 3 is a master's"),
+}
+
+
+@pytest.mark.parametrize(("text", "fault"), AT_LIMITS.values(), ids=AT_LIMITS)
+def test_numbers_at_their_limits_are_no_faults(run, text, fault):
+    assert run(input=rack(text)) == (2, "", f"rackd: rack line 1 {fault}\n")
