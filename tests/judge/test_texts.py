@@ -56,12 +56,17 @@ def test_row_is_missing(text):
     assert (done.status, done.output.splitlines()[-1]) == (1, "not the policy 3")
 
 
-def test_junit_of_a_text_that_is_not_legal(text):
-    change(text, lambda rows: rows[:2] + rows[3:])
+@pytest.mark.parametrize("change_rows, message", [
+    (lambda rows: rows[:2] + rows[3:], "not the policy 3"), (lambda rows: [*rows[:2], "no row\n", *rows[2:]], "bad line 3"),
+], ids=["not-the-policy", "bad-line"])
+def test_junit_of_a_text_that_is_not_legal(text, change_rows, message):
+    """The text is the only test case that fails."""
+    change(text, change_rows)
     done = text.judge("--junit")
     suite = xml.fromstring(done.output.encode())
     assert done.status == 1
-    assert suite.find("testcase/failure").get("message") == "not the policy 3"
+    assert suite.get("failures") == "1"
+    assert suite.find("testcase/failure").get("message") == message
     assert suite.find("testcase[failure]").get("name") == "legal"
 
 
