@@ -3,8 +3,8 @@ import os
 
 import pytest
 
-from support.audit_texts import text_name
-from support.watching import DAY_RACK, AuditFolder, ask, count, day_rows, standing, wait_for_a_look
+from support.audit_texts import part_name, text_name
+from support.watching import DAY_RACK, ENDLESS_HEADER, AuditFolder, ask, count, day_rows, standing, wait_for_a_look
 
 ROWS = day_rows()
 
@@ -55,6 +55,27 @@ def test_newest_text(watch, two_line_rack, audit, number, entries):
     assert standing(watched.line()) == (text_name(1, number), "legal", 0, entries)
     audit.write(text_name(1, 4), ROWS[0])
     watched.wait_for_line(standing, (text_name(1, 4), "legal", 0, 0))
+
+
+def test_newest_text_in_parts(watch, two_line_rack, audit):
+    """A text is as new as that of its files which was changed last, and it is read from its first file on."""
+    files = [(part_name(1), 1000, [ENDLESS_HEADER, *ROWS[1:8]]), (part_name(2), 1001, ROWS[8:9]),
+             (part_name(3), 3000, ROWS[9:20]), (part_name(4), 1002, ROWS[20:]), (text_name(1, 2), 2000, ROWS[:3])]
+    for name, moment, rows in files:
+        audit.write(name, *rows)
+        os.utime(audit.path / name, (moment, moment))
+    watched = watch(two_line_rack, audit.path)
+    watched.wait_for_line(standing, (part_name(4), "legal", 0, 28))
+
+
+def test_texts_that_were_changed_at_one_moment(watch, two_line_rack, audit):
+    """Of several texts that were changed last the one with the highest number is followed."""
+    for number, rows in ((1, ROWS), (2, ROWS[:3]), (3, ROWS[:4]), (4, ROWS[:5])):
+        audit.write(text_name(1, number), *rows)
+        moment = 1000 if number == 4 else 2000
+        os.utime(audit.path / text_name(1, number), (moment, moment))
+    watched = watch(two_line_rack, audit.path)
+    watched.wait_for_line(standing, (text_name(1, 3), "legal", 0, 3))
 
 
 def test_names_of_files(watch, tmp_path):
