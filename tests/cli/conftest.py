@@ -45,6 +45,8 @@ CONTENTS = {
     "two-lines-1": RACK * 2,
     "same": with_ports(RACK, 47601, 47601),
     "port-of-two-lines": with_ports(LINE_2, 47601, 47602) + with_ports(RACK, 47603, 47601),
+    "masters-of-two-lines": with_ports(LINE_2, 47601, 47602) + with_ports(RACK, 47601, 47603),
+    "operators-of-two-lines": with_ports(LINE_2, 47602, 47601) + with_ports(RACK, 47603, 47601),
     "order-of-lines": with_ports(LINE_2, 47601, 47601) + with_ports(RACK, 47602, 47602),
 }
 

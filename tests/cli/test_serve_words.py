@@ -38,6 +38,8 @@ RACKS = {
         "two-lines-1", errors="rackd: rack TwiceLine\n  line 2: line 1 has the number 1 too\n"),
     "one-port-twice": Case("same", errors=twice(47601)),
     "the-port-of-two-lines": Case("port-of-two-lines", errors=twice(47601)),
+    "one-port-for-the-masters-of-two-lines": Case("masters-of-two-lines", errors=twice(47601)),
+    "one-port-for-the-operators-of-two-lines": Case("operators-of-two-lines", errors=twice(47601)),
     "ports-in-the-order-of-line-numbers": Case("order-of-lines", errors=twice(47602)),
 }
 
