@@ -170,3 +170,24 @@ AT_LIMITS = {
 @pytest.mark.parametrize(("text", "fault"), AT_LIMITS.values(), ids=AT_LIMITS)
 def test_numbers_at_their_limits_are_no_faults(run, text, fault):
     assert run(input=rack(text)) == (2, "", f"rackd: rack line 1 {fault}\n")
+
+
+# A line with several faults; and which of them is reported.
+SEVERAL_FAULTS = {
+    "places": (line(1, masters=[], slave=[], capacity=65537), "Limit\n  line 1: capacity 65537, of 2 to 65536"),
+    "no-master": (line(1, masters=[], slave=[]), "Limit\n  line 1: it has no master"),
+    "no-slave": (line(1, masters=[127], slave=[]), "Limit\n  line 1: it has no slave"),
+    "masters": (line(1, 127, masters=[1, 128, 127]), "Limit\n  line 1: master 128, of 0 to 126"),
+    "slaves": (line(1, slave(5, user_max=238), 127), "Limit\n  line 1, slave 1: user_max 238, at most 237"),
+    "readers": (
+        line(1, slave(5, lockers=[1], readers=[2, 9, 8]), slave(6, lockers=[7])),
+        "UnknownListed\n  line 1, slave 1: readers has 9, which is no master of the line"),
+    "lockers": (
+        line(1, 5, slave(6, lockers=[3, 8, 9], readers=[7])),
+        "UnknownListed\n  line 1, slave 2: lockers has 8, which is no master of the line"),
+}
+
+
+@pytest.mark.parametrize(("text", "fault"), SEVERAL_FAULTS.values(), ids=SEVERAL_FAULTS)
+def test_first_of_several_faults(run, text, fault):
+    assert run(input=rack(text)) == (2, "", f"rackd: rack line 1 {fault}\n")
