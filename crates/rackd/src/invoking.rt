@@ -6,17 +6,17 @@ use crate::commands::{Terminals, run_command};
 use crate::ending::Fault;
 use crate::reporting::{ended, report};
 use crate::scripts::run_input;
-use crate::serving::serve;
 use crate::watching::watch_folder;
 use operate_host::operate;
 use rack_script::RunFault;
 use rackd_cli::{CableWords, Invocation};
+use serve_options::ServeOptions;
 use serve_rack::Host;
 use std::fs::{File, Files};
 use std::io::{self, Read};
 use std::process::ExitCode;
 use std::rt::Runtime;
-use watch_host::{ServedPage, WatchHost};
+use watch_host::WatchHost;
 
 /// A file that has no bytes.
 const NOTHING: &str = "/dev/null";
@@ -25,21 +25,22 @@ const NOTHING: &str = "/dev/null";
 const HINT: &str =
     "rackd reads a rack, a line %% and a script from here; 'rackd --help' has its other forms";
 
-/// Carries out what the words of the command line name, and returns the exit status. `input` is standard input; `start_page` starts
-/// the thread that shows a page, and returns whether it was started.
+/// Carries out what the words of the command line name, and returns the exit status. `input` is standard input; `serve` serves
+/// the rack of a file.
 pub(crate) fn invoke<
+    'a,
     H: WatchHost + Host + Copy + Send + Sync + 'static,
     I: Read + Send + Drop + 'static,
-    S: FnOnce(ServedPage) -> bool,
+    S: FnOnce(&'a str, ServeOptions<'a>) -> ExitCode,
 >(
     rt: H,
     words: &[String],
-    invocation: Invocation<'_>,
+    invocation: Invocation<'a>,
     terminals: Terminals,
     input: I,
-    start_page: S,
+    serve: S,
 ) -> ExitCode
-    requires { S.IsAlwaysCallable start_page }
+    requires { S.IsAlwaysCallable serve }
 {
     match invocation {
         Invocation::Input => {
@@ -50,7 +51,7 @@ pub(crate) fn invoke<
         Invocation::Watch { rack, folder, port } => {
             ended(&rt, watch_folder(&rt, rack, folder, port))
         }
-        Invocation::Serve { rack, options } => serve(rt, rack, options, input, start_page),
+        Invocation::Serve { rack, options } => serve(rack, options),
         Invocation::Operate { port } => ended(&rt, operate_line(&rt, port, input)),
         Invocation::Cable { port, cable } => log_cable(rt, port, cable, input),
         Invocation::Answer(answer) => ended(&rt, answer_words(&rt, words, answer)),

@@ -28,8 +28,11 @@ mod watching;
 use commands::Terminals;
 use ending::Fault;
 use invoking::invoke;
+use log::{Level, Logged};
 use rackd_cli::{read_words, words_of};
 use reporting::report;
+use serve_options::ServeOptions;
+use serving::{Prepared, prepare, serve_rack};
 use std::fs::File;
 use std::io::IsTerminal;
 use std::net::{TcpListener, TcpStream};
@@ -49,13 +52,39 @@ fn main(rt: HostRuntime) -> ExitCode {
         output: rt.stdout().is_terminal(),
         errors: rt.stderr().is_terminal(),
     };
-    // The thread is started here, because the checker proves that a page may go to a thread only if the host's type is fixed.
+    // Both start threads: the checker proves that these may share the host only if its type is fixed.
     let start_page = move |page: ServedPage| -> bool {
         let showing = move || {
             let _named: (Option<TcpListener>, Option<TcpStream>, Option<File>) = (None, None, None);
             page.show(&rt)
         };
         thread::spawn(&rt, showing).is_ok()
+    };
+    let serve = move |rack: &str, options: ServeOptions<'_>| -> ExitCode {
+        let _named: (Option<TcpListener>, Option<TcpStream>, Option<File>) = (None, None, None);
+        let Prepared {
+            rack,
+            page,
+            input,
+            queue,
+            written,
+        } = match prepare(rt, rack, options, rt.stdin(), start_page) {
+            Ok(prepared) => prepared,
+            Err(fault) => return report(&rt, fault),
+        };
+        let host = Logged::new(rt, Level::Info, queue);
+        let code = serve_rack(
+            &host,
+            host.sink(),
+            rt.alloc(),
+            rack.as_str(),
+            options,
+            input,
+            page,
+        );
+        let (_, queue) = host.into_parts();
+        queue.end(written);
+        code
     };
     match read_words(rt.alloc(), words.as_slice()) {
         Ok(invocation) => invoke(
@@ -64,7 +93,7 @@ fn main(rt: HostRuntime) -> ExitCode {
             invocation,
             terminals,
             rt.stdin(),
-            start_page,
+            serve,
         ),
         Err(fault) => report(&rt, Fault::from(fault)),
     }

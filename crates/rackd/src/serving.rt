@@ -2,10 +2,10 @@
 
 use crate::ending::Fault;
 use crate::files::read_file;
-use crate::reporting::{ended, report, reported};
+use crate::reporting::{ended, reported};
 use crate::watching::fault_of;
 use audit_host::{buffered, flushed};
-use log::{Level, Log, Logged, info};
+use log::{Log, info};
 use rack_script::RunFault;
 use serve_log::{RowQueue, Written};
 use serve_options::ServeOptions;
@@ -19,55 +19,23 @@ use watch_host::{OpeningOutput, ServedPage, ShutPage, StartingPage, WatchHost, o
 
 /// What is made before a rack is served.
 #[derive(Drop)]
-struct Prepared<H: Wait> {
+pub(crate) struct Prepared<H: Wait> {
     /// The text of the rack file.
-    rack: String,
+    pub(crate) rack: String,
     /// The page, if there is one.
-    page: Option<ShutPage>,
+    pub(crate) page: Option<ShutPage>,
     /// The input with whose end serving stops, if there is one.
-    input: Option<InputEnd>,
+    pub(crate) input: Option<InputEnd>,
     /// The queue of rows for standard error.
-    queue: RowQueue<H>,
-    written: Written,
-}
-
-/// Serves a rack, reports how that ended, and returns the exit status. `input` is standard input; `start_page` starts the thread
-/// that shows the page, and returns whether it was started.
-pub(crate) fn serve<
-    H: WatchHost + Host + Copy + Send + Sync + 'static,
-    I: Read + Send + Drop + 'static,
-    S: FnOnce(ServedPage) -> bool,
->(rt: H, rack: &str, options: ServeOptions<'_>, input: I, start_page: S) -> ExitCode
-    requires { S.IsAlwaysCallable start_page }
-{
-    let Prepared {
-        rack,
-        page,
-        input,
-        queue,
-        written,
-    } = match prepare(rt, rack, options, input, start_page) {
-        Ok(prepared) => prepared,
-        Err(fault) => return report(&rt, fault),
-    };
-    let host = Logged::new(rt, Level::Info, queue);
-    let code = serve_rack(
-        &host,
-        host.sink(),
-        rt.alloc(),
-        rack.as_str(),
-        options,
-        input,
-        page,
-    );
-    let (_, queue) = host.into_parts();
-    queue.end(written);
-    code
+    pub(crate) queue: RowQueue<H>,
+    /// Shows whether the rows of the queue have been written.
+    pub(crate) written: Written,
 }
 
 /// Reads the rack file, opens the page if there is one, watches the input if serving ends with it, starts the queue of rows for
-/// standard error, and starts the page. With the queue, serving never waits until these rows are read.
-fn prepare<
+/// standard error, and starts the page: `start_page` starts the thread that shows it, and returns whether it was started. With
+/// the queue, serving never waits until these rows are read.
+pub(crate) fn prepare<
     'a,
     H: WatchHost + Copy + Send + Sync + 'static,
     I: Read + Send + Drop + 'static,
@@ -149,7 +117,7 @@ fn watch_input<
 }
 
 /// Serves a rack, and reports how that ended.
-fn serve_rack<H: Print + Host + Sync>(
+pub(crate) fn serve_rack<H: Print + Host + Sync>(
     rt: &H,
     errors: &impl Eprint,
     alloc: Global,
