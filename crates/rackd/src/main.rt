@@ -28,10 +28,11 @@ mod watching;
 use commands::Terminals;
 use ending::Fault;
 use invoking::invoke;
-use log::{Level, Logged};
+use log::{Level, Log, Logged, info};
 use rackd_cli::{read_words, words_of};
 use reporting::report;
 use serve_options::ServeOptions;
+use serve_rack::Served;
 use serving::{Prepared, prepare, serve_rack};
 use std::fs::File;
 use std::io::IsTerminal;
@@ -97,4 +98,12 @@ fn main(rt: HostRuntime) -> ExitCode {
         ),
         Err(fault) => report(&rt, Fault::from(fault)),
     }
+}
+
+/// Logs the number of sessions served. It stands here, because a row of the log names the module that it comes from, which is
+/// `rackd` for every row of the program.
+pub(crate) fn note_served(rt: &impl Log, served: Served) -> ExitCode {
+    let Served { masters, operators } = served;
+    info!(rt; "served {masters} sessions of masters and {operators} of operators");
+    ExitCode::SUCCESS
 }

@@ -2,14 +2,14 @@
 
 use crate::ending::Fault;
 use crate::files::read_file;
+use crate::note_served;
 use crate::reporting::{ended, reported};
 use crate::watching::fault_of;
 use audit_host::{buffered, flushed};
-use log::{Log, info};
 use rack_script::RunFault;
 use serve_log::{RowQueue, Written};
 use serve_options::ServeOptions;
-use serve_rack::{Host, InputEnd, ServeFault, Served, serve_text};
+use serve_rack::{Host, InputEnd, ServeFault, serve_text};
 use std::alloc::Global;
 use std::io::Read;
 use std::process::ExitCode;
@@ -154,11 +154,4 @@ fn serve_out<'a, H: Print + Host + Sync>(
         }
         Err(fault) => Err(Fault::from(fault)),
     }
-}
-
-/// Logs the number of sessions served.
-fn note_served(rt: &impl Log, served: Served) -> ExitCode {
-    let Served { masters, operators } = served;
-    info!(rt; "served {masters} sessions of masters and {operators} of operators");
-    ExitCode::SUCCESS
 }
