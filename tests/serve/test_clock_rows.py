@@ -66,7 +66,8 @@ def test_late_step_is_made_once(serve):
     stopped = time.monotonic() - stopped
     server.send_signal(signal.SIGCONT)
     behind = wait_for(lambda: (counter := Counter(operator)).steps > last.steps and counter)
-    assert behind.steps - last.steps <= (behind.after - last.before - stopped) / step + 2
+    # Before the stop and after it a step can be due once more than the time there has whole steps, and one step is late.
+    assert behind.steps - last.steps <= (behind.after - last.before - stopped) / step + 3
 
 
 def test_rows_come_without_a_session(serve, run, tmp_path):
