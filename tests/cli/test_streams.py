@@ -122,7 +122,7 @@ def read_first_row(program, words, files, text=""):
 
 
 def test_reader_of_answers_that_goes_away(program, files):
-    text = f"{RACK}%%\n{SLAVE_DIAG * 2000}"
+    text = f"{RACK}%%\n{SLAVE_DIAG * 20000}"
     assert read_first_row(program, "", files, text) == (REPLY, 4, CANNOT_WRITE)
 
 
