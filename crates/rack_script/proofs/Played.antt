@@ -2,12 +2,12 @@
 use Rattle.std.proofs.Common.{◌≡◌, ℕ, ◌+◌, List, [], ◌∷◌, ◌++◌, Option, Some, None, Result, Ok, Err, refl, sym, ap, subst, ◌∙◌, append_assoc}
 use Rattle.std.specs.Io.KnownBytes.{Appends}
 use Rattle.std.proofs.lemmas.List.{append-nil}
-use Rattle.rack_script.specs.declared.obey_fault.ObeyFault.TheVariants as stops
+use Rattle.embedded_rack.specs.declared.obey_fault.ObeyFault.TheVariants as stops
 use Rattle.rack_script.specs.declared.run_fault.RunFault.TheVariants as runs
 use Rattle.rack_script.specs.ScriptText.{ScriptRack, Obeyed, Played, after_line, play, line_obeyed, going_on, script_text}
 use Rattle.dp_text.specs.Writes.{WritesPrefix}
 use Rattle.rack_script.specs.Runs.{Obeys, Plays, RunsText}
-use Rattle.rack_script.proofs.Writing.{appends_none, appends_more, keeps_more, keeps_same, more_prefix}
+use Rattle.embedded_rack.proofs.Writing.{appends_none, appends_more, keeps_more, keeps_same, more_prefix}
 use Rattle.rack_file.specs.declared.fault.RackFault.{RackFault}
 use Rattle.rack_file.specs.Rack.{RackDescription}
 

@@ -1,9 +1,6 @@
 pub mod Codes
 pub mod Commands
 pub mod CommandView
-pub mod DeviceSteps
-pub mod ScriptLines
-pub mod ScriptLineExamples
 pub mod ScriptText
 pub mod Runs
 pub mod FaultTexts
@@ -13,4 +10,3 @@ pub mod CheckExamples
 pub mod Input
 pub mod InputExamples
 pub mod Explanations
-pub mod Asking

@@ -6,24 +6,14 @@ use Rattle.rack_file.specs.declared.fault.RackFault.{RackFault}
 use Rattle.rack_file.specs.Rack.{RackDescription}
 use Rattle.rack_script.specs.declared.run_fault.RunFault.{RunFault}
 use Rattle.rack_script.specs.declared.run_fault.RunFault.TheVariants as runs
-use Rattle.rack_script.specs.declared.obey_fault.ObeyFault.{ObeyFault}
-use Rattle.rack_script.specs.declared.obey_fault.ObeyFault.TheVariants as stops
-use Rattle.rack_script.specs.ScriptLines.{ScriptLine, Sent}
+use Rattle.embedded_rack.specs.declared.obey_fault.ObeyFault.{ObeyFault}
+use Rattle.embedded_rack.specs.declared.obey_fault.ObeyFault.TheVariants as stops
 use Rattle.rack_script.specs.ScriptText.{ScriptRack, Obeyed, Played, script_text}
 use Rattle.dp_audit.specs.declared.fault.AuditFault.{AuditFault}
 use Rattle.explain_texts.specs.Explained.{verdict_text, verdict_status}
 use Rattle.explain_texts.specs.ExplainedRows.{IsReadable}
 use Rattle.explain_texts.specs.TextRows.{TextRead, octets_read}
 use Rattle.rack_script.specs.Checks.{checked_on}
-
--- a command to a line: at the end the line is as the command leaves it, and the writer has its whole text, or a prefix if a write failed;
--- if it is no command, nothing is written
-abbrev pub Sends : Option Sent → ScriptLine → Option (List ℕ) → Option (List ℕ) → Result (Unit {0}) ObeyFault → Type 0
-Sends (Some sending) script_line old new (Ok done) = (script_line ≡ sending.script_line) × Appends old new sending.text
-Sends (Some sending) script_line old new (Err stops.WriteFault) = WritesPrefix old new sending.text
-Sends (Some sending) script_line old new (Err stops.NoCommand) = ⊥
-Sends None script_line old new (Err stops.NoCommand) = Keeps old new
-Sends None script_line old new other = ⊥
 
 -- a command to a rack: at the end the rack is as the command leaves it; the writer is as for a command to a line
 abbrev pub Obeys : Option Obeyed → ScriptRack → Option (List ℕ) → Option (List ℕ) → Result (Unit {0}) ObeyFault → Type 0

@@ -3,11 +3,11 @@ use Rattle.std.specs.Prelude.{ℕ, ◌+◌, ◌==◌, List, [], ◌∷◌, ◌++
 use Rattle.rack_file.specs.Rack.{RackDescription}
 use Rattle.dp_text.specs.Words.{lines_of}
 use Rattle.rack_script.specs.Commands.{Command, choose_line, send, write_journal, operate, command_of}
-use Rattle.rack_script.specs.ScriptLines.{ScriptLine, Sent, line_at_start, sent, operated, journal_text}
+use Rattle.embedded_rack.specs.EmbeddedLines.{EmbeddedLine, Sent, line_at_start, sent, operated, journal_text}
 
 -- a rack that a script runs on: its lines, and the index of the chosen one, which gets the commands
 pub record ScriptRack : Type 0 where
-  pub lines : List ScriptLine
+  pub lines : List EmbeddedLine
   pub chosen : ℕ
 
 -- at the start each line is at its start, and the first is chosen
@@ -22,10 +22,10 @@ pub record Obeyed : Type 0 where
 -- the result of a command to the chosen line
 abbrev pub obeyed_by_line : ScriptRack → Sent → Obeyed
 obeyed_by_line script_rack sending =
-    record { script_rack = record script_rack { lines = slice_set script_rack.lines script_rack.chosen sending.script_line }; text = sending.text }
+    record { script_rack = record script_rack { lines = slice_set script_rack.lines script_rack.chosen sending.line }; text = sending.text }
 
 -- the text of a query to the chosen line; it leaves the rack unchanged
-abbrev pub reported_by_line : ScriptRack → (ScriptLine → List ℕ) → Option Obeyed
+abbrev pub reported_by_line : ScriptRack → (EmbeddedLine → List ℕ) → Option Obeyed
 reported_by_line script_rack text =
     option_map (λ line. record { script_rack = script_rack; text = text line }) (slice_get script_rack.lines script_rack.chosen)
 

@@ -16,20 +16,15 @@
 
 mod check;
 mod command;
-mod device_steps;
 mod difference;
 mod expected;
 mod explain;
 mod input;
-mod obey_fault;
-mod output;
 mod parts;
 mod run;
 mod run_fault;
 mod script;
-mod script_line;
 mod script_rack;
-pub mod stream_laws;
 mod two_lines;
 
 pub use check::{line_named, run_check};

@@ -8,10 +8,10 @@ ghost use Rattle.rack_script.specs.ScriptText.{line_obeyed, play, script_text};
 ghost use Rattle.rack_script.specs.Runs.{Obeys, Plays};
 
 use crate::command::command_in;
-use crate::obey_fault::ObeyFault;
 use crate::run_fault::RunFault;
 use crate::script_rack::ScriptRack;
 use dp_text::{Lines, Text};
+use embedded_rack::ObeyFault;
 use rack_file::Rack;
 use std::alloc::Global;
 use std::io::Write;

@@ -5,15 +5,13 @@ ghost use Rattle.rack_script.specs.Commands.{choose_line, sending_of, write_jour
 ghost use Rattle.dp_line.specs.World.{description_of, opening_fault};
 ghost use Rattle.rack_file.specs.Rack.{rack_described};
 ghost use Rattle.rack_script.specs.CommandView.{command_view};
-ghost use Rattle.rack_script.specs.ScriptLines.{line_at_start};
+ghost use Rattle.embedded_rack.specs.EmbeddedLines.{line_at_start};
 ghost use Rattle.rack_script.specs.ScriptText.{rack_at_start, obeyed};
 ghost use Rattle.rack_script.specs.Runs.{Obeys};
 
 use crate::command::Command;
-use crate::obey_fault::ObeyFault;
-use crate::output::write_whole;
-use crate::script_line::ScriptLine;
 use dp_text::Text;
+use embedded_rack::{EmbeddedLine, ObeyFault, write_whole};
 use rack_file::{Rack, RackLine};
 use std::alloc::{AllocError, Global};
 use std::io::Write;
@@ -22,7 +20,7 @@ use std::marker::Model;
 /// The lines of a rack in the order of its file, and the index of the chosen one.
 #[derive(Drop)]
 pub(crate) struct ScriptRack {
-    lines: Vec<ScriptLine>,
+    lines: Vec<EmbeddedLine>,
     chosen: usize,
 }
 
@@ -118,7 +116,7 @@ impl ScriptRack {
 }
 
 /// Returns the index of the first line with this number; None if there is none.
-fn index_of(lines: &[ScriptLine], number: u8) -> Option<usize>
+fn index_of(lines: &[EmbeddedLine], number: u8) -> Option<usize>
     ensures index { result ≡ position (λ line. line.journal.number == number) lines.now }
     ensures bound { IfSome result (λ index. index < length lines.now) }
 {
@@ -126,13 +124,13 @@ fn index_of(lines: &[ScriptLine], number: u8) -> Option<usize>
 }
 
 /// Opens each of the lines at its start; `AllocError` if memory runs out.
-fn lines_of(alloc: Global, lines: &[RackLine]) -> Result<Vec<ScriptLine>, AllocError>
+fn lines_of(alloc: Global, lines: &[RackLine]) -> Result<Vec<EmbeddedLine>, AllocError>
     requires { All (λ line. opening_fault (description_of line.spec) ≡ None) lines.now }
-    ensures { IfOk result (λ script_lines. script_lines.items ≡ map (λ line. line_at_start (description_of line.spec)) lines.now) }
+    ensures { IfOk result (λ embedded_lines. embedded_lines.items ≡ map (λ line. line_at_start (description_of line.spec)) lines.now) }
 {
-    let mut script_lines = Vec::new(alloc);
+    let mut embedded_lines = Vec::new(alloc);
     for line in lines {
-        script_lines.push(ScriptLine::open(alloc, &line.spec)?)?;
+        embedded_lines.push(EmbeddedLine::open(alloc, &line.spec)?)?;
     }
-    Ok(script_lines)
+    Ok(embedded_lines)
 }

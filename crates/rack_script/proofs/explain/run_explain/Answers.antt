@@ -1,5 +1,5 @@
 use Rattle.rack_file.specs.Rack.{rack_described}
-use Rattle.rack_script.proofs.ScriptRacks.{lines_open}
+use Rattle.embedded_rack.proofs.RackLines.{lines_open}
 use Rattle.rack_script.proofs.explain.run_explain.Goals as goal
 
 pub explain_on-requires-clause-opens : goal.explain_on-requires-clause-opens

@@ -1,6 +1,7 @@
 use Rattle.rack_file.specs.RackFile.{rack_in}
 use Rattle.rack_file.specs.Rack.{rack_described}
-use Rattle.rack_script.proofs.ScriptRacks.{lines_open, some_lines}
+use Rattle.embedded_rack.proofs.RackLines.{lines_open}
+use Rattle.rack_script.proofs.ScriptRacks.{some_lines}
 use Rattle.rack_script.proofs.Played.{memory_reported}
 use Rattle.rack_script.proofs.run.run_text.Goals as goal
 

@@ -1,6 +1,6 @@
 use Rattle.std.proofs.Common.{refl, ◌∙◌, ap, map}
 use Rattle.dp_line.specs.World.{description_of}
-use Rattle.rack_script.specs.ScriptLines.{line_at_start}
+use Rattle.embedded_rack.specs.EmbeddedLines.{line_at_start}
 use Rattle.rack_script.proofs.ScriptRacks.{rack_opened}
 use Rattle.rack_script.proofs.script_rack.ScriptRack.open.Goals as goal
 

@@ -18,5 +18,5 @@ returns g c =
     (g.W.Write.contents c.args.writer.now) (g.W.Write.contents c.write_whole.new.writer) c.write_whole.result
     (slice_get_read lines (length lines) chosen c.index_mut.result.now refl c.self.invariant c.index_mut.ensures.value)
     (search rules)
-    (ap (λ text. option_map (λ (d : Unit {0}). record { script_line = c.operate.new.self; text = text }) c.operate.result) c.as_bytes.ensures ∙ c.operate.ensures)
+    (ap (λ text. option_map (λ (d : Unit {0}). record { line = c.operate.new.self; text = text }) c.operate.result) c.as_bytes.ensures ∙ c.operate.ensures.done)
     c.write_whole.ensures.ok c.write_whole.ensures.err c.write_whole.ensures.fault)

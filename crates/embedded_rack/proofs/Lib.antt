@@ -1,0 +1,5 @@
+pub mod Writing
+mod Passing
+pub mod Sending
+pub mod RackLines
+mod Calls
