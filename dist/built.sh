@@ -7,11 +7,15 @@
 carried=$top/dist/x86_64-linux/rackd
 program=$top/crates/rackd/out/rackd
 
-# linked: the lines of crates.txt of the crates that the program is linked from, in the order of their names
+# the libraries that the repository carries, and the archive that rt builds of their crate
+libraries=$top/dist/x86_64-linux
+archive=$top/crates/rackd_library/out/librackd_library.a
+
+# linked CRATE: the lines of crates.txt of the crates that a crate is linked from, in the order of their names
 linked() (
   declare -A line seen
-  while IFS=: read -r name below; do line[$name]=$below; done <"$top/crates.txt"
-  left=(rackd)
+  while IFS=: read -r name below; do line[${name% staticlib}]=$below; done <"$top/crates.txt"
+  left=("$1")
   while [ ${#left[@]} -gt 0 ]; do
     name=${left[-1]}
     unset 'left[-1]'
@@ -28,12 +32,12 @@ linked() (
   done
 )
 
-# sources: the sum of the names and the texts of all that the program is built from
+# sources [CRATE]: the sum of the names and the texts of all that the program, or a crate, is built from
 sources() (
   shopt -s globstar nullglob
   LC_ALL=C
   cd "$top" || exit
-  lines=$(linked)
+  lines=$(linked "${1:-rackd}")
   files=()
   while IFS=: read -r name _; do
     for file in crates/"$name"/{src,specs,proofs}/**/*.{rt,antt}; do files+=("$file"); done
@@ -71,6 +75,21 @@ toolchain_of() {
 # mark PROGRAM SOURCES: notes that the program was built from sources of this sum, by which toolchain
 mark() {
   printf 'program %s\nsources %s\ntoolchain %s\n' "$(sum "$1")" "$2" "$(rt version)" >"$1.built.$$" && mv -f "$1.built.$$" "$1.built"
+}
+
+# are_built SOURCES: whether the carried libraries are there, as they were when they were built from sources of this sum
+are_built() {
+  local file=$libraries/librackd.built one other from
+  [ -f "$libraries/librackd.a" ] && [ -f "$libraries/librackd.so" ] && [ -f "$file" ] || return 1
+  { read -r one && read -r other && read -r from; } <"$file"
+  [ "$from" = "sources $1" ] && [ "$one" = "archive $(sum "$libraries/librackd.a")" ] &&
+    [ "$other" = "shared $(sum "$libraries/librackd.so")" ]
+}
+
+# mark_libraries SOURCES: notes that the carried libraries were built from sources of this sum, by which toolchain
+mark_libraries() {
+  printf 'archive %s\nshared %s\nsources %s\ntoolchain %s\n' "$(sum "$libraries/librackd.a")" \
+    "$(sum "$libraries/librackd.so")" "$1" "$(rt version)" >"$libraries/librackd.built"
 }
 
 # have_program: sets program to one that is built from these sources, for tests; rt builds it where there is none

@@ -1,4 +1,4 @@
-"""Builds the wheel: the package, the program that the repository carries, and the scenarios of the suite.
+"""Builds the wheel: the package, the program and the library that the repository carries, and the scenarios of the suite.
 
 What the build makes lies in a folder for temporary files, so that nothing of it stays in the checkout.
 """
@@ -17,6 +17,7 @@ except ImportError:
 
 TOP = Path(__file__).resolve().parents[1]
 PROGRAM = TOP / "dist" / "x86_64-linux" / "rackd"
+LIBRARY = PROGRAM.with_name("librackd.so")
 SCENARIOS = TOP / "examples" / "suite"
 BUILT = tempfile.mkdtemp(prefix="rackd-build-")
 atexit.register(shutil.rmtree, BUILT, ignore_errors=True)
@@ -31,6 +32,8 @@ class BuildWithProgram(build_py):
             folder = Path(self.build_lib, "rackd", "program")
             folder.mkdir(exist_ok=True)
             shutil.copy(PROGRAM, folder / "rackd")
+            if LIBRARY.exists():
+                shutil.copy(LIBRARY, folder / "librackd.so")
             shutil.copytree(SCENARIOS, folder.with_name("scenarios"), dirs_exist_ok=True,
                             ignore=shutil.ignore_patterns("__pycache__"))
 

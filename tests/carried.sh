@@ -31,6 +31,13 @@ else
   hold 'the carried program runs the stored runs' \
     "${python:-python3}" -m pytest -q -p no:cacheprovider "--program=$carried" "$top/tests/cli/test_stored_runs.py"
 fi
+hold 'dist/ carries libraries of the sources as they are' are_built "$(sources rackd_library)"
+if [ -f "$archive" ] && [ "$(toolchain "$libraries/librackd")" = "$(rt version)" ]; then
+  made=$(mktemp -d)
+  trap 'rm -rf "$made"' EXIT
+  hold 'the libraries are made of the archive that is built here' "$top/dist/library.sh" "$archive" "$made"
+  hold 'the carried archive is the same, octet for octet' cmp "$made/librackd.a" "$libraries/librackd.a"
+fi
 if [ "$failed" != 0 ]; then echo 'dist/refresh has the repository carry the program of these sources'; fi
 echo "$passed passed, $failed failed"
 [ "$failed" = 0 ]

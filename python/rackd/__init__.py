@@ -47,6 +47,7 @@ or TooMany. RackFault is a rack or a cable that cannot start or ends early, NotL
 refuses. For pytest there are the fixtures rack, rack_factory and rack_toml.
 """
 from .cable import Cable, RunningCable
+from .embedded import EmbeddedLine, EmbeddedRack
 from .faults import (UE, RR, RS, BadEnd, BadFrame, BadHead, Halted, Long, NoProgram, NoReply, NoStart, NoStation,
                      NotACommand, NotAccepted, NotLegal, OperatorRefused, RackError, RackFault, Refused, SessionEnded,
                      Short, SlaveRefused, TooLong, TooMany, UnknownPoint, WrongLength)
@@ -58,7 +59,7 @@ from .port import Port
 from .rack import SAMPLE, Line, Rack
 
 __all__ = [
-    "UE", "RR", "RS", "BadEnd", "BadFrame", "BadHead", "Cable", "Change", "Diagnosis", "Entry", "Finding",
+    "UE", "RR", "RS", "BadEnd", "BadFrame", "BadHead", "Cable", "Change", "Diagnosis", "EmbeddedLine", "EmbeddedRack", "Entry", "Finding",
     "Frame", "Halted", "Journal", "Line", "Long", "Master", "NoProgram", "NoReply", "NoStart", "NoStation",
     "NotACommand", "NotAccepted", "NotLegal", "Operator", "OperatorRefused", "Part", "Port", "Rack",
     "RackError", "RackFault", "Refused", "RunningCable", "SAMPLE", "SessionEnded", "Short", "Show",

@@ -4,7 +4,7 @@ from __future__ import annotations
 import select
 import socket
 import time
-from typing import Callable, Optional
+from typing import Callable, Optional, Protocol
 
 from .faults import NotAccepted, RackError, RackFault, SessionEnded
 
@@ -13,6 +13,19 @@ Ended = Callable[[], Optional[RackFault]]
 # Seconds that a master waits for its E5, and for which it tries again if its address is held: the session of a client
 # that has just ended holds it a moment longer.
 ANSWER_TIME, HELD_TIME = 5.0, 1.0
+
+
+class Session(Protocol):
+    """What a master or an operator sends octets by, and receives them from."""
+
+    def send(self, octets: bytes) -> None:
+        """Sends all octets."""
+
+    def receive(self, timeout: Optional[float]) -> bytes:
+        """Returns the octets that have come, or none after `timeout` seconds."""
+
+    def close(self) -> None:
+        """Ends the connection."""
 
 
 def still_there() -> Optional[RackFault]:

@@ -7,7 +7,7 @@ from typing import Callable, Dict, Optional, Set
 
 from . import frames
 from .cable import RunningCable
-from .connection import Ended, open_session, still_there
+from .connection import Ended, Session, open_session, still_there
 from .faults import SLAVE_REFUSALS, BadFrame, NoReply, RackError, SlaveRefused
 from .frames import Frame
 
@@ -120,6 +120,17 @@ class Master:
     def __init__(self, port: int, address: int, ended: Ended = still_there,
                  cable: Optional[RunningCable] = None) -> None:
         """Connects to the port `listen` of a line or a cable. Raises NotAccepted if the line does not accept it."""
+        name = f"master {address} of port {port}"
+        self._begin(open_session(port, address, name, ended), address, name, cable)
+
+    @classmethod
+    def over(cls, connection: Session, address: int, name: str) -> Master:
+        """Returns a master over a connection that exists. `name` is what messages call it."""
+        master = cls.__new__(cls)
+        master._begin(connection, address, name, None)
+        return master
+
+    def _begin(self, connection: Session, address: int, name: str, cable: Optional[RunningCable]) -> None:
         self.address = address
         self.timeout = 0.5
         self.retries = 1
@@ -128,8 +139,8 @@ class Master:
         self._cable = cable
         self._fcb: Dict[int, bool] = {}
         self._buffer = b""
-        self._name = f"master {address} of port {port}"
-        self._connection = open_session(port, address, self._name, ended)
+        self._name = name
+        self._connection = connection
 
     def __enter__(self) -> Master:
         return self

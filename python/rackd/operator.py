@@ -7,7 +7,7 @@ from dataclasses import dataclass
 from enum import Enum
 from typing import List, Optional
 
-from .connection import Connection, Ended, still_there
+from .connection import Connection, Ended, Session, still_there
 from .faults import OPERATOR_REFUSALS, NoReply, OperatorRefused
 
 # Seconds that an answer may take. Operators of one line are served one after another.
@@ -60,11 +60,22 @@ class Operator:
 
     def __init__(self, port: int, ended: Ended = still_there) -> None:
         """Connects to the port `operator` of a line."""
-        self._name = f"operator of port {port}"
+        name = f"operator of port {port}"
+        self._begin(Connection(port, name, ended), name)
+
+    @classmethod
+    def over(cls, connection: Session, name: str) -> Operator:
+        """Returns an operator over a connection that exists. `name` is what messages call it."""
+        operator = cls.__new__(cls)
+        operator._begin(connection, name)
+        return operator
+
+    def _begin(self, connection: Session, name: str) -> None:
+        self._name = name
         self.is_open = True
         self._lock = threading.Lock()
         self._buffer = b""
-        self._connection = Connection(port, self._name, ended)
+        self._connection = connection
 
     def __enter__(self) -> Operator:
         return self

@@ -1,4 +1,4 @@
-"""Fixtures for pytest: `rack`, `rack_factory`, `rack_toml`. The report of a failed test has what went wrong."""
+"""Fixtures for pytest: `rack`, `rack_factory`, `rack_toml`, `embedded_rack`. The report of a failed test has what went wrong."""
 from __future__ import annotations
 
 import contextlib
@@ -7,6 +7,7 @@ from typing import Any, Callable, Iterator, List, Tuple, Union
 
 import pytest
 
+from .embedded import EmbeddedRack
 from .faults import RackError
 from .rack import SAMPLE, Rack, open_racks
 
@@ -36,6 +37,13 @@ def rack_factory() -> Iterator[Callable[..., Rack]]:
 def rack(rack_factory: Callable[..., Rack], rack_toml: Toml) -> Rack:
     """A rack of the rack file `rack_toml`, which is closed after the test."""
     return rack_factory(rack_toml)
+
+
+@pytest.fixture
+def embedded_rack(rack_toml: Toml) -> Iterator[EmbeddedRack]:
+    """A rack in this process of the rack file `rack_toml`, which is closed after the test."""
+    with EmbeddedRack(rack_toml) as embedded:
+        yield embedded
 
 
 @pytest.hookimpl(hookwrapper=True)

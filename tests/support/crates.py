@@ -31,7 +31,7 @@ def crates_of_list(text):
             group = line[1:].strip()
         elif line:
             name, below = line.split(":", 1)
-            crates.append((name, group, below.split()))
+            crates.append((name.removesuffix(" staticlib"), group, below.split()))
     return crates
 
 

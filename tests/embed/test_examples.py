@@ -1,0 +1,21 @@
+"""The examples in C, and those in other languages whose compiler is installed."""
+import subprocess
+
+from support.embedded import find
+from support.repository import TOP
+
+EXAMPLES = TOP / "examples" / "embed"
+
+
+def test_c(build):
+    done = subprocess.run([build(EXAMPLES / "diagnosis.c", "-std=c99", "-pedantic")], check=False, capture_output=True, text=True)
+    assert (done.returncode, done.stdout) == (0, (EXAMPLES / "diagnosis.out").read_text(encoding="utf-8"))
+
+
+def test_rust(library_folder, tmp_path):
+    program = tmp_path / "rack"
+    words = [find("rustc"), "--edition", "2021", "--test", "-L", library_folder, "-o", str(program), str(EXAMPLES / "rackd.rs")]
+    done = subprocess.run(words, check=False, capture_output=True, text=True)
+    assert done.returncode == 0, done.stderr
+    done = subprocess.run([program], check=False, capture_output=True, text=True)
+    assert done.returncode == 0, done.stdout
