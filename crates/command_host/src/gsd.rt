@@ -1,12 +1,11 @@
 //! Writes GSD files of slaves, and slaves of GSD files.
 
-use crate::ending::Fault;
 use crate::files::{read_fault, read_file};
-use crate::reporting::{report, reported};
 use audit_host::{buffered, flushed};
 use gsd_slaves::{GsdFault, SlaveFault, run_gsd, run_slave};
 use rack_script::RunFault;
 use rackd_cli::DescribedSlave;
+use rackd_faults::{Fault, report, reported};
 use serve_log::Escaped;
 use std::fmt::Display;
 use std::fs;

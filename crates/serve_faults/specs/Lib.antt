@@ -1,2 +1,2 @@
 pub mod MissingPorts
-pub mod Ending
+pub mod ServeFaults

@@ -1,9 +1,9 @@
 //! The place in a rack file that is wrong, and the reason.
 
-use crate::missing_port::first_missing;
 use rack_file::laws::accepted_racks_have_1_to_8_lines;
 use rack_file::{RackFault, cause_in, read_rack};
 use rack_file_faults::rack_file_fault_in;
+use serve_faults::first_missing;
 use std::alloc::{AllocError, Global};
 
 /// Returns the place and the reason for which a rack text is not accepted, to be reported after the fault. If the

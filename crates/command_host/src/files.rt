@@ -1,14 +1,14 @@
 //! Reads files.
 
-use crate::ending::Fault;
 use rack_script::RunFault;
+use rackd_faults::Fault;
 use std::fs;
 use std::io::{self, ErrorKind};
 use std::rt::Runtime;
 use system_errors::Cause;
 
 /// Returns the text of a file.
-pub(crate) fn read_file<'a>(
+pub fn read_file<'a>(
     rt: &(impl Runtime + AllocGlobal),
     path: &'a str,
 ) -> Result<String, Fault<'a>> {

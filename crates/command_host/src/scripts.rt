@@ -1,18 +1,17 @@
 //! Runs scripts.
 
-use crate::ending::Fault;
 use crate::files::{read_fault, read_file};
-use crate::reporting::{report, reported};
 use crate::script_form::form_in;
 use audit_host::{buffered, flushed};
 use rack_script::{RunFault, run_text, split_input};
+use rackd_faults::{Fault, report, reported};
 use std::alloc::Global;
 use std::io;
 use std::process::ExitCode;
 use std::rt::Runtime;
 
 /// Runs the script of standard input on the rack of standard input.
-pub(crate) fn run_input<'a>(rt: &(impl Runtime + AllocGlobal)) -> Result<ExitCode, Fault<'a>> {
+pub fn run_input<'a>(rt: &(impl Runtime + AllocGlobal)) -> Result<ExitCode, Fault<'a>> {
     let text = io::read_to_string(rt.alloc(), rt.reader()).map_err(|error| read_fault(error, "-"))?;
     let (rack, script) = split_input(text.as_str());
     let ran = run_out(rt, rack, script);

@@ -6,11 +6,11 @@ use Rattle.rack_file.specs.declared.fault.RackFault.TheVariants as racks
 use Rattle.rack_script.specs.declared.run_fault.RunFault.TheVariants as runs
 use Rattle.rack_script.specs.FaultTexts.{run_fault_text}
 use Rattle.system_errors.specs.declared.cause.Cause.{Cause}
-use Rattle.serve_rack.specs.ServeFaults.{serve_fault_text}
-use Rattle.serve_rack.specs.declared.serve_fault.ServeFault.{ServeFault}
-use Rattle.serve_rack.specs.declared.serve_fault.ServeFault.TheVariants as serves
-use Rattle.rackd.specs.declared.ending.Fault.{Fault}
-use Rattle.rackd.specs.declared.ending.Fault.TheVariants as faults
+use Rattle.serve_faults.specs.ServeFaults.{serve_fault_text}
+use Rattle.serve_faults.specs.declared.serve_fault.ServeFault.{ServeFault}
+use Rattle.serve_faults.specs.declared.serve_fault.ServeFault.TheVariants as serves
+use Rattle.rackd_faults.specs.declared.ending.Fault.{Fault}
+use Rattle.rackd_faults.specs.declared.ending.Fault.TheVariants as faults
 
 -- a rack that is not served, or no longer served: 3 if memory or a thread is refused, 4 if standard output cannot be written, 5 if an entry cannot be
 -- written to its file, otherwise 2

@@ -7,10 +7,10 @@ use Rattle.rack_file.specs.declared.fault.RackFault.TheVariants as racks
 use Rattle.audit_files.specs.AuditPaths.{audit_path_text}
 use Rattle.audit_files.specs.declared.file_fault.FileFault.{FileFault}
 use Rattle.audit_files.specs.declared.file_fault.FileFault.TheVariants as files
-use Rattle.serve_rack.specs.declared.serve_fault.OutputFault.{OutputFault}
-use Rattle.serve_rack.specs.declared.serve_fault.OutputFault.TheVariants as outputs
-use Rattle.serve_rack.specs.declared.serve_fault.ServeFault.{ServeFault}
-use Rattle.serve_rack.specs.declared.serve_fault.ServeFault.TheVariants as faults
+use Rattle.serve_faults.specs.declared.serve_fault.OutputFault.{OutputFault}
+use Rattle.serve_faults.specs.declared.serve_fault.OutputFault.TheVariants as outputs
+use Rattle.serve_faults.specs.declared.serve_fault.ServeFault.{ServeFault}
+use Rattle.serve_faults.specs.declared.serve_fault.ServeFault.TheVariants as faults
 
 -- the output, or the file that names the ports, is not written whole
 abbrev pub of_output_fault : OutputFault → ServeFault

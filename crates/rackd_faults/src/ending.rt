@@ -1,7 +1,7 @@
 //! How the program ends after a fault.
 
 ghost use Rattle.std.specs.Prelude.{◌≡◌, Some};
-ghost use Rattle.rackd.specs.Ending.{cause_of, fault_text, serve_cause, serve_status, status_of};
+ghost use Rattle.rackd_faults.specs.Ending.{cause_of, fault_text, serve_cause, serve_status, status_of};
 
 use audit_files::AuditName;
 use audit_host::TextFault;
@@ -9,7 +9,7 @@ use operate_host::ClientFault;
 use rack_file::RackFault;
 use rack_script::RunFault;
 use rackd_cli::WordsFault;
-use serve_rack::ServeFault;
+use serve_faults::ServeFault;
 use std::fmt;
 use system_errors::Cause;
 

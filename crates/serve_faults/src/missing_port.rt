@@ -3,15 +3,14 @@
 ghost use Rattle.std.specs.Prelude.{◌≡◌, ◌+◌, ◌<◌, Some, is_none, length, map};
 ghost use Rattle.std.specs.List.{list_all};
 ghost use Rattle.rack_file.specs.Rack.{line_described};
-ghost use Rattle.rackd.specs.MissingPorts.{key_text, lacked, missing_from, missing_port_text};
-ghost use Rattle.serve_rack.specs.ServeOutput.{has_ports};
+ghost use Rattle.serve_faults.specs.MissingPorts.{has_ports, key_text, lacked, missing_from, missing_port_text};
 
 use rack_file::RackLine;
 use std::fmt;
 
 /// Which port of a line is missing.
 #[derive(Clone, Copy, Debug, PartialEq, Eq)]
-pub(crate) enum PortKey {
+pub enum PortKey {
     /// The port for masters.
     Listen,
     /// The port for the operator.
@@ -32,11 +31,11 @@ impl PortKey {
 
 /// A port that a line of a rack lacks. Its `Display` names the line and the key.
 #[derive(Clone, Copy, Debug, PartialEq, Eq)]
-pub(crate) struct MissingPort {
+pub struct MissingPort {
     /// The position of the line in the file, from 1.
-    pub(crate) line: u8,
+    pub line: u8,
     /// The key that the line lacks.
-    pub(crate) key: PortKey,
+    pub key: PortKey,
 }
 
 impl fmt::Display for MissingPort {
@@ -50,7 +49,7 @@ impl fmt::Display for MissingPort {
 
 /// Returns the first line that lacks a port, and the key that it lacks. `position` is the position of the first of
 /// these lines.
-pub(crate) fn first_missing(position: u8, lines: &[RackLine]) -> Option<MissingPort>
+pub fn first_missing(position: u8, lines: &[RackLine]) -> Option<MissingPort>
     requires { position + length lines.now < 256 }
     ensures first { result ≡ missing_from position (map line_described lines.now) }
     // There is none exactly if each line has both ports.

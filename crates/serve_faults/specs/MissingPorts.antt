@@ -1,10 +1,14 @@
 -- The port that a line of a rack lacks, so that the line cannot be served (own).
-use Rattle.std.specs.Prelude.{codes, ℕ, ◌+◌, List, [], ◌∷◌, ◌++◌, Option, Some, None}
+use Rattle.std.specs.Prelude.{codes, ℕ, ◌+◌, Bool, ◌&&◌, List, [], ◌∷◌, ◌++◌, Option, Some, None, is_some}
 use Rattle.std.specs.Fmt.{decimal}
 use Rattle.rack_file.specs.Rack.{LineDescription}
-use Rattle.rackd.specs.declared.missing_port.MissingPort.{MissingPort}
-use Rattle.rackd.specs.declared.missing_port.PortKey.{PortKey}
-use Rattle.rackd.specs.declared.missing_port.PortKey.TheVariants as keys
+use Rattle.serve_faults.specs.declared.missing_port.MissingPort.{MissingPort}
+use Rattle.serve_faults.specs.declared.missing_port.PortKey.{PortKey}
+use Rattle.serve_faults.specs.declared.missing_port.PortKey.TheVariants as keys
+
+-- whether a line has both its ports
+abbrev pub has_ports : LineDescription → Bool
+has_ports line = is_some line.listen && is_some line.operator
 
 -- the key that a line lacks, `listen` before `operator`
 abbrev pub lacked : Option ℕ → Option ℕ → Option PortKey

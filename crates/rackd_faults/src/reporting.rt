@@ -3,13 +3,13 @@
 use crate::ending::{Fault, cause, status};
 use crate::rack_cause::rack_cause;
 use rack_script::RunFault;
+use serve_faults::ServeFault;
 use serve_log::Escaped;
-use serve_rack::ServeFault;
 use std::alloc::Global;
 use std::process::ExitCode;
 
 /// Returns the exit status of what was done, and reports a fault.
-pub(crate) fn ended(errors: &impl Eprint, done: Result<ExitCode, Fault<'_>>) -> ExitCode {
+pub fn ended(errors: &impl Eprint, done: Result<ExitCode, Fault<'_>>) -> ExitCode {
     match done {
         Ok(code) => code,
         Err(fault) => report(errors, fault),
@@ -17,7 +17,7 @@ pub(crate) fn ended(errors: &impl Eprint, done: Result<ExitCode, Fault<'_>>) -> 
 }
 
 /// Reports a fault on standard error, and its cause in a second row, and returns its exit status.
-pub(crate) fn report(errors: &impl Eprint, fault: Fault<'_>) -> ExitCode {
+pub fn report(errors: &impl Eprint, fault: Fault<'_>) -> ExitCode {
     // A closed or full standard error changes no status.
     let _ = errors.eprintln(Escaped(fault));
     if let Some(cause) = cause(fault) {
@@ -33,7 +33,7 @@ pub(crate) fn report(errors: &impl Eprint, fault: Fault<'_>) -> ExitCode {
 
 /// Returns the exit status of what was done with a rack. If the rack is not accepted, reports this here, with its place
 /// and reason in a second row.
-pub(crate) fn reported<'a>(
+pub fn reported<'a>(
     errors: &impl Eprint,
     alloc: Global,
     rack: &str,

@@ -1,7 +1,7 @@
 //! Why a rack is not served, or no longer served.
 
 ghost use Rattle.std.specs.Prelude.{◌≡◌, Some};
-ghost use Rattle.serve_rack.specs.ServeFaults.{of_file_fault, of_output_fault, of_rack_fault, serve_fault_text};
+ghost use Rattle.serve_faults.specs.ServeFaults.{of_file_fault, of_output_fault, of_rack_fault, serve_fault_text};
 
 use audit_files::{AuditPath, FileFault};
 use rack_file::{RackFault, RefusedRack};
@@ -51,7 +51,7 @@ impl<'a> Error for ServeFault<'a> {}
 
 /// Why output, or the file that names the ports, is not written whole.
 #[derive(Clone, Copy)]
-pub(crate) enum OutputFault {
+pub enum OutputFault {
     /// Memory or a thread was refused.
     OutOfMemory,
     /// A write failed.

@@ -1,7 +1,7 @@
 use Rattle.std.proofs.Common.{arith, length, ap}
 use Rattle.std.proofs.lemmas.List.{length-map}
 use Rattle.rack_file.specs.Rack.{line_described, rack_described}
-use Rattle.rackd.proofs.rack_cause.missing_port_in.Goals as goal
+use Rattle.rackd_faults.proofs.rack_cause.missing_port_in.Goals as goal
 
 pub first_missing-requires : goal.first_missing-requires
 first_missing-requires c =
