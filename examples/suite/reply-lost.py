@@ -5,16 +5,10 @@ SLAVES = [Slave(5, outputs="1234"), Slave(6, outputs="5678")]
 
 
 def run(bus: Bus) -> None:
+    for slave in (5, 6):
+        bus.order("lose", slave, every=12, times=3)
     bus.start()
     for slave in (5, 6):
-        bus.exchanges(slave)
-        first = bus.place()
-        bus.cable.lose(slave)
-        bus.met()
-        bus.exchanges(slave)
-        requests = bus.requests(slave, first)
-        if not any(again.octets == request.octets and again.rules.get(slave) == "Repeat"
-                   for request, again in zip(requests, requests[1:])):
-            bus.fail(f"the request to slave {slave} was not sent again with the same FCB after its reply was lost")
+        bus.retried(slave)
     bus.outputs(5, "1234")
     bus.outputs(6, "5678")

@@ -2,6 +2,8 @@
 from rackd.suite import Bus, Slave
 
 SLAVES = [Slave(5, group=1, sync=True, freeze=True, mirror=True), Slave(6, group=2, outputs="5678")]
+# a master that has these slaves has no reason for either
+COUNTED = ["group-not-set", "control-both"]
 
 
 def run(bus: Bus) -> None:

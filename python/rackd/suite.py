@@ -1,4 +1,4 @@
-"""What the scenarios of `python -m rackd suite` are written with (docs/FORMATS.md, "Scenarios").
+"""What the scenarios of `python -m rackd suite` are written with (examples/suite/README.md).
 
 A scenario is a Python file. Its first line says what it tries; SLAVES are the slaves that the master has; `run` starts
 the master, does what the operator, the cable and another master do, and waits for what must be seen:
@@ -19,9 +19,8 @@ from __future__ import annotations
 
 import dataclasses
 import itertools
-import time
 from dataclasses import dataclass
-from typing import Callable, List, Optional, Sequence
+from typing import Callable, Dict, List, Optional, Sequence
 
 from .cable import RunningCable
 from .faults import BadFrame, NoReply
@@ -30,7 +29,9 @@ from .master import CHK_CFG, GET_CFG, GLOBAL_CONTROL, RD_INP, RD_OUTP, SET_PRM, 
 from .operator import Operator, State
 from .rack import Line, Rack
 from .suite_master import MasterProcess
+from .suite_patience import Patience
 from .suite_plug import Plug
+from .suite_retries import reply_of, retries
 from .suite_rows import Request, Requests
 
 # The address of the master under test, and that of another master.
@@ -39,6 +40,8 @@ ADDRESS, OTHER = 1, 2
 LOOK_TIME = 0.01
 # How many exchanges show that data are exchanged.
 EXCHANGES = 10
+# What becomes of a reply by each order to a cable.
+FAULTS = {"lose": "lost", "spoil": "spoilt", "cut": "cut"}
 SERVICES = {None: "Data_Exchange", RD_INP: "RD_Inp", RD_OUTP: "RD_Outp", GLOBAL_CONTROL: "Global_Control",
             GET_CFG: "Get_Cfg", SLAVE_DIAG: "Slave_Diag", SET_PRM: "Set_Prm", CHK_CFG: "Chk_Cfg"}
 
@@ -85,15 +88,19 @@ class Failed(Exception):
 class Bus:
     """The bus of a scenario: a line of its rack, behind a cable to which the master under test connects.
 
-    `operator` is the operator of the line, `cable` the cable, and `address` is that of the master under test.
+    `operator` is the operator of the line, `cable` the cable, and `address` is that of the master under test. If the
+    scenario has SECOND, `second` is the same bus for the second process of the master under test: all its steps are
+    those of that one.
     """
 
     def __init__(self, rack: Rack, program: MasterProcess, cable: RunningCable, plug: Optional[Plug],
-                 until: float, seconds: float) -> None:
-        self.address = ADDRESS
+                 patience: Patience, second: "Optional[Bus]" = None) -> None:
+        self.address = program.address
         self.cable = cable
-        self._rack, self._program, self._plug = rack, program, plug
-        self._until, self._seconds = until, seconds
+        self._rack, self._program, self._plug, self._patience = rack, program, plug, patience
+        self._second = second
+        self._connected = False
+        self._ordered: Dict[int, "tuple[str, List[int]]"] = {}
         self._choose(rack.lines[0])
 
     def _choose(self, line: Line) -> None:
@@ -107,6 +114,13 @@ class Bus:
     def master(self, address: int = OTHER) -> Master:
         """Returns another master, at the line itself."""
         return self._line.master(address)
+
+    @property
+    def second(self) -> Bus:
+        """The same bus for the second process of the master under test."""
+        if self._second is None:
+            raise ValueError("the scenario has no SECOND")
+        return self._second
 
     def start(self) -> None:
         """Starts the master under test."""
@@ -149,10 +163,24 @@ class Bus:
             end = self._program.end()
             if end:
                 raise Failed(f"{end}, before this was seen: {what}")
-            if time.monotonic() > self._until:
+            self._look_for_connection()
+            if self._patience.is_over():
                 instead = found()
-                raise Failed(f"not seen in {self._seconds:g} s: {what}" + (f"; it is {instead}" if instead else ""))
-            time.sleep(LOOK_TIME)
+                raise Failed(f"not seen in {self._patience.seconds:g} s: {what}"
+                             + (f"; it is {instead}" if instead else ""))
+            self._patience.rest(LOOK_TIME)
+
+    def _look_for_connection(self) -> None:
+        """Fails if the master has had its time to connect, and the line has no session of it."""
+        if self._connected or self._program.started is None:
+            return
+        log = self._rack.log()
+        self._connected = any(row.endswith(f": master {self.address} connected") for row in log)
+        if not self._connected and self._patience.is_late(self._program.started):
+            refused = [row.partition(": ")[2] for row in log if " refused: " in row]
+            raise Failed(f"the master did not connect to RACKD_PORT as master {self.address} "
+                         f"within {self._patience.connect:g} s"
+                         + (f"; the line has: {refused[0]}" if refused else self._program.last_words()))
 
     def exchanges(self, slave: int, count: int = EXCHANGES) -> None:
         """Waits until the master has exchanged data with a slave so often from now on."""
@@ -203,6 +231,38 @@ class Bus:
             return any(is_first(bytes.fromhex(row.split(" ")[5])) for row in lost)
 
         self.wait(f"a request to slave {slave} with FCV 0 while it is off", has)
+
+    def order(self, fault: str, slave: int, every: int = 12, times: int = 3) -> None:
+        """Has the cable lose, spoil or cut ("lose", "spoil", "cut") some replies of a slave, before the master starts.
+
+        It is each reply of the number `every`, counted from the first one, `times` times.
+        """
+        if self._program.started is not None:
+            raise ValueError("order comes before start: replies are counted from the first one")
+        for _ in range(times):
+            # a delay of no time changes nothing, but counts
+            self.cable.late(slave, every - 1, 0)
+            getattr(self.cable, fault)(slave)
+        self._ordered[slave] = FAULTS[fault], [every * number for number in range(1, times + 1)]
+
+    def retried(self, slave: int) -> None:
+        """Waits until the replies of a slave have come that were ordered to be lost, spoilt or cut, and one more.
+
+        Fails if the master has not sent each request to which they belong again as it was, so with the same FCB.
+        """
+        fault, numbers = self._ordered[slave]
+        self.wait(f"{numbers[-1] + 1} replies of slave {slave}, of which some were {fault}",
+                  lambda: sum(request.is_answered for request in self.requests(slave)) > numbers[-1],
+                  lambda: self._shown(slave))
+        begin = f"master {self.address} reply {slave}: "
+        seen = [reply_of(row) for row in self.cable.log() if row.startswith(begin)]
+        decided = retries(self.requests(slave), seen, numbers)
+        if not decided:
+            self.fail(f"each request to slave {slave} whose reply was {fault} came when others had just been sent again")
+        for request, is_retried in decided:
+            if not is_retried:
+                self.fail(f"the request to slave {slave} at place {request.place} was not sent again with the same FCB "
+                          f"after its reply was {fault}")
 
     def met(self) -> None:
         """Waits until the replies have come that the cable was told to lose, spoil, cut or delay."""

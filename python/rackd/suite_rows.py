@@ -40,6 +40,21 @@ class Request:
         """The data behind the access points."""
         return self.frame.data
 
+    @property
+    def is_answered(self) -> bool:
+        """Whether the slave has replied."""
+        return self.outcome.startswith("reply ")
+
+    @property
+    def reply(self) -> str:
+        """The octets of the reply as they stand in the row, nothing if the slave has not replied."""
+        return self.outcome.split(" ")[1] if self.is_answered else ""
+
+    @property
+    def is_repeat(self) -> bool:
+        """Whether it has the FCB of the request before, so that the slave has replied as before."""
+        return self.is_answered and self.outcome.endswith(" Repeat")
+
     @functools.cached_property
     def rules(self) -> Dict[int, str]:
         """The rule of docs/POLICY.md that decided, by slave: of a Global_Control to all for each slave it reached."""

@@ -72,11 +72,9 @@ def test_part_that_cannot_be_deleted(serve, tmp_path):
     load.start()
     load.finish()
     wait_for_newest(folder, 2, others=1)
-    assert server.process.poll() is None
-    server.send_signal(signal.SIGTERM)
-    errors = server.wait().errors
+    wait_for(lambda: [row for row in server.errors().splitlines() if str(first) in row and "cannot delete" in row])
     assert first.is_dir()
-    assert [row for row in errors.splitlines() if str(first) in row and "cannot delete" in row]
+    assert server.process.poll() is None
 
 
 class HeldDeletions(CallWatch):

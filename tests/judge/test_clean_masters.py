@@ -41,8 +41,14 @@ CLEAN = {
     "retries with FCV 0 at several times": [*[ABSENT] * 4, "tick 1"] * 3,
     "after a lost slave": [*WATCHED, exchange(), "tick 5", get_cfg(), "tick 5", exchange(), *bring_up(), exchange()],
     "waits for another master": waits_for_another_master(),
-    "stray octets now and then": ["m 1 e5", "m 1 dc 01 01", *[status(9)] * 120] * 5,
+    "stray octets now and then": ["m 1 e5", "m 1 e5", *[status(9)] * 120] * 5,
     "passes the token on": passes_the_token_on(),
+    "is alone in the ring": ["m 1 dc 01 01"] * 200,
+    # A Global_Control restarts the watchdog of the slaves that it selects.
+    "keeps the watchdog running by Global_Control": [*WATCHED, exchange(), *["tick 9", control(0)] * 5, exchange()],
+    # Slave_Diag is answered RR, as long as its point is marked busy.
+    "tries to read the diagnosis": [
+        *bring_up(), "diag 5 e 0407", "busy 5 60 on", *[exchange(), diag()] * 6, "busy 5 60 off", diag(), exchange()],
     "uses each point of DP-V0": [
         *bring_up(), Request(5, 56), Request(5, 57), get_cfg(), Request(5, 54, b"\x01"), Request(5, 54, b"\x01", fc=0x44),
         Request(5, 55, b"\x07\x80\xa1\x00")],

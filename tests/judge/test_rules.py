@@ -16,8 +16,9 @@ LOST = [*WATCHED, exchange(), "tick 5", get_cfg(), "tick 5", exchange()]
 # A request to a slave that is not there. Each further one is a retry.
 ABSENT = diag(9, fc=FIRST)
 LATER = diag(9, fc=FCB_1)
-# Tokens of master 1: to itself, and to master 2.
+# Tokens of master 1: to itself, and to master 2. A short acknowledgement, and a response with the source of master 1.
 OWN_TOKEN, TOKEN = "m 1 dc 01 01", "m 1 dc 02 01"
+SHORT_ACK, RESPONSE = "m 1 e5", "m 1 10 05 01 08 0e 16"
 
 
 class Broken(NamedTuple):
@@ -53,8 +54,8 @@ BROKEN = [
     Broken("sdn-needs-reply", [prm(fc=0x44)], [1]),
     Broken("broadcast-needs-reply", [status(127)], [1]),
     Broken("unknown-point", [Request(5, 51, b"\x01")], [1]),
-    # Tokens of the master to itself, a response with its source, and a short acknowledgement.
-    Broken("no-request", [*[OWN_TOKEN] * 3, "m 1 10 05 01 08 0e 16", "m 1 e5"], [4]),
+    # Tokens to itself are right.
+    Broken("no-request", [*[OWN_TOKEN] * 5, *[SHORT_ACK] * 3, RESPONSE, SHORT_ACK], [9]),
 ]
 
 # What several rules need: other retries, other stages of a slave.
@@ -78,6 +79,9 @@ FURTHER = {
     "two gaps as long as the watchdog": (
         [*WATCHED, exchange(), "tick 10", get_cfg(), "tick 10", exchange(), exchange()],
         [("watchdog-short", 1, 7), ("watchdog-short", 1, 9), ("exchange-after-rs", 1, 10)]),
+    "a gap as long as the watchdog after a Global_Control": (
+        [*WATCHED, exchange(), "tick 9", control(0), "tick 10", exchange(), exchange()],
+        [("watchdog-short", 1, 9), ("exchange-after-rs", 1, 10)]),
     "a slave of another master": (
         [*by(2, *bring_up()), diag(), prm(status=0x88, watchdog=(2, 5), min_tsdr=10), exchange()],
         [("prm-of-other", 1, 6), ("min-tsdr", 1, 6), ("exchange-of-other", 1, 7)]),
@@ -95,7 +99,14 @@ FURTHER = {
          ("sdn-needs-reply", 1, 8)]),
     # A token that is passed on is no entry of the hundred, and the fourth of these is reported alone.
     "stray octets and tokens that are passed on": (
-        [OWN_TOKEN, TOKEN, "m 1 e5", "m 1 10 05 01 08 0e 16", TOKEN, OWN_TOKEN, OWN_TOKEN, TOKEN], [("no-request", 1, 6)]),
+        [SHORT_ACK, TOKEN, SHORT_ACK, RESPONSE, TOKEN, SHORT_ACK, SHORT_ACK, TOKEN], [("no-request", 1, 6)]),
+    # Slave 9 is not there, so it has not taken the FCB of the request before.
+    "the FCB of a request without an answer": (
+        [diag(9, fc=FIRST), get_cfg(9)._replace(fc=FCB_1), Request(9, 56, fc=FCB_1)], [("fcb-first", 1, 2)]),
+    # An SRD to all stations is reported as that, whatever its frame count bit.
+    "SRD to all stations": (
+        [diag(127, fc=FCB_1), diag(127, fc=FCB_1), exchange(slave=127, fc=FCB_1)],
+        [("broadcast-needs-reply", 1, place) for place in (1, 2, 3)]),
     # With FCV 0 the same request is a new one after a tick, and after a token is passed on.
     "retries with FCV 0": ([*[ABSENT] * 6, "tick 10", *[ABSENT] * 4, TOKEN, ABSENT], [("retry-limit", 1, 5)]),
     "retries with FCV 1 after ticks and a token": (

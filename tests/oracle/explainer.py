@@ -658,6 +658,18 @@ def parameter_faults(octets: bytes, spec: SlaveSpec) -> List[str]:
     return faults
 
 
+LOCK_BESIDE_UNLOCK = 'Lock_Req does nothing beside Unlock_Req.'
+WITHOUT_LOCK = 'Lock_Req is missing: nobody holds the slave.'
+LOW_TSDR = 'Min TSDR is below 11.'
+LEAST_TSDR = 11
+SURPRISES = (LOCK_BESIDE_UNLOCK, WITHOUT_LOCK, LOW_TSDR)       # of a Set_Prm that was done; `--faults` chooses them
+
+
+def low_tsdr(parameters: Parameters) -> str:
+    """Returns what is to be said of a min TSDR that is below the least one; 0 leaves it unchanged."""
+    return f' {LOW_TSDR}' if 0 < parameters.min_tsdr < LEAST_TSDR else ''
+
+
 def is_not_supported(octets: bytes, spec: SlaveSpec) -> bool:
     """Returns whether a locking Set_Prm asks for a mode that the slave lacks."""
     if len(octets) < LEAST_PARAMETERS or not Parameters(octets).lock:
@@ -893,15 +905,17 @@ class Slave:
         parameters = Parameters(octets)
         if parameters.unlock:
             held = self.release('unlocked')
-            return f'unlocked: slave {self.address} is released.' if held else \
-                f'unlocked: nobody held slave {self.address}.'
+            beside = f' {LOCK_BESIDE_UNLOCK}' if bit(octets[0], 7) else ''
+            return f'unlocked: slave {self.address} is released.{beside}' if held else \
+                f'unlocked: nobody held slave {self.address}.{beside}'
         if parameters.min_tsdr:
             self.min_tsdr = parameters.min_tsdr
         if parameters.lock:
             return self.lock(sender, place, parameters)
         if sender == self.holder:
             self.restart_watchdog()
-        return f'done: min TSDR {"is" if parameters.min_tsdr else "stays"} {self.min_tsdr}.'
+        missing = f' {WITHOUT_LOCK}' if self.holder is None else ''
+        return f'done: min TSDR {"is" if parameters.min_tsdr else "stays"} {self.min_tsdr}.{missing}{low_tsdr(parameters)}'
 
     def refuse_parameters(self, faults: List[str], octets: bytes) -> str:
         held = self.release('wrong parameters')
@@ -919,8 +933,8 @@ class Slave:
         self.left = parameters.watchdog if parameters.watchdog_on else None
         self.prm_fault = self.cfg_fault = self.not_supported = False
         if again:
-            return f'locked again: master {sender} holds slave {self.address} since entry {self.since}.'
-        return f'locked: master {sender} holds slave {self.address}.'
+            return f'locked again: master {sender} holds slave {self.address} since entry {self.since}.{low_tsdr(parameters)}'
+        return f'locked: master {sender} holds slave {self.address}.{low_tsdr(parameters)}'
 
     def chk_cfg(self, octets: bytes) -> str:
         if octets not in self.spec.configurations:
@@ -1288,7 +1302,8 @@ class Entry:
     @property
     def is_fault(self) -> bool:
         """Whether `--faults` chooses it."""
-        return self.ends or any(way in FAULTS for way in self.ways)
+        return (self.ends or any(way in FAULTS for way in self.ways) or self.ways == [TO_NO_SLAVE]
+                or any(surprise in text for label, text in self.rows if label == 'result' for surprise in SURPRISES))
 
     def silent(self, rule: str, reason: str, way: Optional[str] = None) -> None:
         """Answers a request with silence, by a row of the line."""
@@ -1396,9 +1411,10 @@ class Line:
         kind = f'{counted(event.units, "unit")} of time, {event.units * MS_PER_UNIT} ms'
         released = []
         for address, slave in sorted(self.slaves.items()):
-            full = slave.tick(event.units)
+            holder, full = slave.holder, slave.tick(event.units)
             if full is not None:
-                released.append((address, f'{address} (its watchdog of {full} ms ran out)'))
+                culprit = f'master {holder} sent nothing that restarts it'
+                released.append((address, f'{address} (its watchdog of {full} ms ran out: {culprit})'))
         addresses = [address for address, _ in released]
         result = f'released: {", ".join(words for _, words in released)}.' if released else 'no watchdog ran out.'
         return Entry(self.count, 'operator', 'line', kind, outcome=released_in_text(addresses),
@@ -1478,7 +1494,7 @@ class Line:
         parts, slaves = frame.parts(), self.held_by(master)
         if not slaves:
             entry.ways = [TO_NO_SLAVE]
-            entry.rows.append(('result', f'spread: master {master} holds no slave.'))
+            entry.rows.append(('result', f'spread: master {master} holds no slave, so the command reached none.'))
         entry.outcome, answers = 'spread', []
         for slave in slaves:
             rule, words = control(slave, master, frame, parts)

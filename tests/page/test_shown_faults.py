@@ -4,7 +4,7 @@ from page.stand_in import FREE, RUNNING, Line, Rack, change, request, slave, to_
 from support.clients import wait_for
 from support.watching import until_equal
 
-RELEASED = "released: 9 (its watchdog of 1000 ms ran out)."
+RELEASED = "released: 9 (its watchdog of 1000 ms ran out: master 1 sent nothing that restarts it)."
 
 
 def test_last_refusal(shown):

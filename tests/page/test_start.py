@@ -85,7 +85,8 @@ def test_three_faults_in_a_browser(browser, serve, watch, tmp_path):
             second.set_prm(5, 0x80A1, watchdog_ms=100)
         assert operator.tick(11) == [5]
     for sentence in ("refused: NotHolder. Master 1 holds slave 5 since entry 2.",
-                     "wrong parameters: ident 80A2, the slave has 80A1.", "released: 5 (its watchdog of 100 ms ran out)."):
+                     "wrong parameters: ident 80A2, the slave has 80A1.",
+                     "released: 5 (its watchdog of 100 ms ran out: master 1 sent nothing that restarts it)."):
         assert tab.wait(f"document.body.innerText.includes({sentence!r})", PATIENCE), sentence
     assert tab.errors() == []
     tab.close()

@@ -1,9 +1,9 @@
 #!/usr/bin/env python3
 """Masters for test_suite_masters.py: that of examples/suite-master.py, each changed in one way.
 
-usage: suite_masters.py NAME
+usage: suite_masters.py [NAME]
 
-The environment is that of a master under test.
+The environment is that of a master under test. Without NAME the names are printed.
 """
 import importlib.util
 import signal
@@ -187,6 +187,42 @@ class BelievesAnyIdent(clean.Controller):
         return True
 
 
+class IgnoresFaults(clean.Controller):
+    """Exchanges data though the diagnosis after Chk_Cfg shows a fault of one kind."""
+
+    def is_ready(self, diagnosis):
+        return super().is_ready(diagnosis) or self.fault(diagnosis)
+
+    def bring_up(self, slave):
+        diagnosis = self.session.slave_diag(slave.address)
+        if diagnosis.ident != slave.ident or diagnosis.holder not in (None, self.session.address):
+            return False
+        if diagnosis.station_not_ready:
+            self.set_prm(slave)
+            try:
+                self.session.chk_cfg(slave.address, slave.cfg)
+            except SlaveRefused:
+                pass
+            diagnosis = self.session.slave_diag(slave.address)
+        return self.is_ready(diagnosis)
+
+
+class IgnoresPrmFault(IgnoresFaults):
+    """Exchanges data though the diagnosis shows Prm_Fault."""
+
+    @staticmethod
+    def fault(diagnosis):
+        return diagnosis.prm_fault
+
+
+class IgnoresCfgFault(IgnoresFaults):
+    """Exchanges data though the diagnosis shows Cfg_Fault."""
+
+    @staticmethod
+    def fault(diagnosis):
+        return diagnosis.cfg_fault
+
+
 class GivesUpWrongIdent(clean.Controller):
     """Never asks a slave again whose ident number was wrong."""
 
@@ -268,23 +304,70 @@ class LongOutputs(clean.Controller):
 
 # ---- a bus that loses telegrams
 
+def with_other_fcb(telegram):
+    """Returns a request with the other FCB."""
+    # the function code is at 6 of an SD2 and at 3 of an SD1
+    place = 6 if telegram[0] == 0x68 else 3
+    changed = telegram[:place] + bytes([telegram[place] ^ FCB, *telegram[place + 1:]])
+    body = changed[4:-2] if telegram[0] == 0x68 else changed[1:-2]
+    return changed[:-2] + bytes([sum(body) % 256, 0x16])
+
+
 class ChangesFcbOfARetry(Master):
-    """Sends a request again with the other FCB."""
+    """Sends a request again with the other FCB if no reply came, and begins with FCV 0 behind that."""
+
+    spoilt = False
+
+    def _reply(self, answers):
+        self.spoilt = True
+        reply = super()._reply(answers)
+        self.spoilt = False
+        return reply
 
     def _ask(self, slave, telegram, answers):
-        self.retries, most = 0, 1
-        for retry in range(most + 1):
-            try:
+        self.retries, fcb = 0, self._fcb[slave]
+        try:
+            return super()._ask(slave, telegram, answers)
+        except NoReply:
+            if self.spoilt:
+                self._fcb[slave] = fcb
                 return super()._ask(slave, telegram, answers)
-            except NoReply:
-                if retry == most:
-                    raise
-                # at 6 of an SD2 and 3 of an SD1
-                place = 6 if telegram[0] == 0x68 else 3
-                changed = telegram[:place] + bytes([telegram[place] ^ FCB, *telegram[place + 1:]])
-                body = changed[4:-2] if telegram[0] == 0x68 else changed[1:-2]
-                telegram = changed[:-2] + bytes([sum(body) % 256, 0x16])
-        raise AssertionError
+            return self.send_again(slave, with_other_fcb(telegram), answers, fcb)
+
+    def send_again(self, slave, telegram, answers, _):
+        return super()._ask(slave, telegram, answers)
+
+
+class RepeatsTheFcbOfARetry(ChangesFcbOfARetry):
+    """Sends a request again with the other FCB, and the next one with this FCB too: it looks like a retry of this one."""
+
+    def send_again(self, slave, telegram, answers, fcb):
+        reply = super().send_again(slave, telegram, answers, fcb)
+        self._fcb[slave] = fcb
+        return reply
+
+
+class AcceptsAnyCheckSequence(Master):
+    """Does not look at the check sequence of a reply."""
+
+    def __init__(self, *words):
+        super().__init__(*words)
+        receive = self._connection.receive
+        self._connection.receive = lambda timeout: self.with_right_end(receive(timeout))
+
+    @staticmethod
+    def with_right_end(octets):
+        """Returns replies of variable length with the check sequence that is right."""
+        if octets[:1] != b"\x68" or len(octets) != octets[1] + 6:
+            return octets
+        return octets[:-2] + bytes([sum(octets[4:-2]) % 256, 0x16])
+
+
+class HasOneAddress(Master):
+    """Has the address 1, whatever its environment says."""
+
+    def __init__(self, port, _):
+        super().__init__(port, 1)
 
 
 class KeepsFcb(Master):
@@ -320,11 +403,15 @@ class TakesAnyReply(Master):
 MASTERS = {kind.__name__: kind for kind in (
     NoFirstDiagnosis, NoSecondDiagnosis, ShortTsdr, FcbStands, Deaf, Ends, Noise, Stays, ExchangesForEver,
     NeverReadsDiagnosis, TakesBusyForDone, GivesUpBusy, GivesUp, StopsForOne, TakesWhatIsHeld, BelievesAnyIdent,
-    GivesUpWrongIdent, NoSync, SyncOnce, OtherGroup, BothBits, OutputsInClear, NoClear, FirstConfiguration, LongOutputs,
-    ChangesFcbOfARetry, KeepsFcb, TakesAnyReply)}
+    IgnoresPrmFault, IgnoresCfgFault, GivesUpWrongIdent, NoSync, SyncOnce, OtherGroup, BothBits, OutputsInClear, NoClear,
+    FirstConfiguration, LongOutputs, ChangesFcbOfARetry, RepeatsTheFcbOfARetry, AcceptsAnyCheckSequence, HasOneAddress,
+    KeepsFcb, TakesAnyReply)}
 
 
 if __name__ == "__main__":
+    if len(sys.argv) == 1:
+        print(*MASTERS)
+        sys.exit()
     kind = MASTERS[sys.argv[1]]
     if issubclass(kind, Master):
         clean.main(session_of=kind)

@@ -19,8 +19,9 @@ ENOUGH = 200
 # too busy for what comes before, and it gets more.
 FEW, MORE = 12, 90
 # Scenarios and masters that take some seconds.
-SLOW = {"another-master", "late-reply", "reply-lost", "slave-lost-and-back", "slave-lost-for-300-ms", "wrong-ident-at-first",
-        "BelievesAnyIdent", "Stays", "TakesAnyReply", "TakesWhatIsHeld"}
+SLOW = {"another-master", "configuration-refused", "late-reply", "parameters-refused", "reply-lost", "slave-lost-and-back",
+        "slave-lost-for-300-ms", "spoilt-reply", "wrong-ident-at-first", "BelievesAnyIdent", "IgnoresCfgFault",
+        "IgnoresPrmFault", "Stays", "TakesAnyReply", "TakesWhatIsHeld"}
 
 
 def broken(slave, rule):
@@ -31,6 +32,11 @@ def broken(slave, rule):
 def unseen(what):
     """The reason if something was not seen."""
     return rf"not seen in \d+ s: {what}"
+
+
+def not_again(fault):
+    """The reason if a request was not sent again after its reply was lost or spoilt."""
+    return rf"the request to slave 5 at place \d+ was not sent again with the same FCB after its reply was {fault}"
 
 
 def no_exchanges(slave, state, holder, outputs):
@@ -51,16 +57,24 @@ QUICK = {
     "TakesBusyForDone": ("busy-slave", [broken(5, "cfg-before-prm")]),
     "TakesWhatIsHeld": ("another-master", [broken(5, "prm-of-other")]),
     "BelievesAnyIdent": ("wrong-ident-at-first", [broken(5, "exchange-before-ready")]),
+    "IgnoresPrmFault": ("parameters-refused", [broken(5, "exchange-before-ready")]),
+    "IgnoresCfgFault": ("configuration-refused", [broken(5, "exchange-before-ready")]),
     "OtherGroup": ("sync-and-freeze", [r"place \d+ all slaves group-not-set \(\d+ times\): .+"]),
     "BothBits": ("sync-and-freeze", [r"place \d+ all slaves control-both \(\d+ times\): .+"]),
     "OutputsInClear": ("fail-safe", [r"outputs 1234 to slave 5 in Clear, at place \d+"]),
     "NoClear": ("fail-safe", ["no Clear_Data to slave 5"]),
     "FirstConfiguration": ("several-configurations", ["slave 5 is configured as 2111, not as 2010"]),
-    "ChangesFcbOfARetry": ("reply-lost", ["the request to slave 5 was not sent again with the same FCB after its reply "
-                                          "was lost"]),
+    "ChangesFcbOfARetry": ("reply-lost", [not_again("lost")]),
+    "RepeatsTheFcbOfARetry": ("reply-lost", [not_again("lost")]),
+    "AcceptsAnyCheckSequence": ("spoilt-reply", [not_again("spoilt")]),
+    "HasOneAddress": ("two-masters", [r"the master ended with status 1 \(rackd.faults.NotAccepted: .+\), before this was seen: "
+                                      "slave 7 in data exchange with master 2, with outputs 5678"]),
     "TakesAnyReply": ("late-reply", [r"outputs (?:aa55 at place \d+, slave 6 has 0000 or 1234|"
                                      r"1234 at place \d+, slave 5 has 0000 or aa55)"]),
 }
+# Masters that fail no other scenario.
+ONLY_ONE = ["TakesBusyForDone", "TakesWhatIsHeld", "IgnoresPrmFault", "IgnoresCfgFault", "BothBits", "NoClear",
+            "ChangesFcbOfARetry", "AcceptsAnyCheckSequence", "HasOneAddress", "TakesAnyReply"]
 # Masters that never do what must be seen.
 LONG = {
     "FcbStands": ("bring-up", [no_exchanges(5, "DataExch", "master 1", "0000"), broken(5, "fcb-repeated")]),
@@ -81,7 +95,7 @@ LONG = {
 
 def suite(folder, scenario, seconds, *master):
     """Runs one scenario of examples/suite with a master."""
-    words = ["--only", scenario, "--timeout", seconds, sys.executable, *master]
+    words = ["--only", scenario, "--timeout", seconds, "--connect", ENOUGH, sys.executable, *master]
     return run_python(folder, "-m", "rackd", "suite", *words, within=600)
 
 
@@ -126,9 +140,18 @@ def test_master_that_never_does_what_it_must(tmp_path, name):
     assert is_as_expected(found, patterns), found
 
 
-def test_each_wrong_master_has_a_case():
-    names = re.findall(r"^class (\w+)\((?:clean\.Controller|Master)\):", WRONG.read_text(encoding="utf-8"), re.MULTILINE)
-    assert sorted(names) == sorted([*QUICK, *LONG])
+@pytest.mark.slow
+@pytest.mark.parametrize("name", ONLY_ONE)
+def test_wrong_master_that_passes_all_other_scenarios(tmp_path, name):
+    scenario, _ = QUICK[name]
+    words = ["--timeout", ENOUGH, "--connect", ENOUGH, sys.executable, WRONG, name]
+    done = run_python(tmp_path, "-m", "rackd", "suite", *words, within=900)
+    verdicts = dict(row.split()[1::-1] for row in done.output.splitlines() if row.startswith(("passed ", "failed ")))
+    assert verdicts == {each: "failed" if each == scenario else "passed" for each in SCENARIOS}, done
+
+
+def test_each_wrong_master_has_a_case(tmp_path):
+    assert sorted([*QUICK, *LONG]) == sorted(run_python(tmp_path, WRONG).output.split())
 
 
 def test_each_scenario_is_failed_by_a_master():

@@ -5,7 +5,9 @@ import time
 import pytest
 
 from support.package_runs import kill_all, names_in, wait_until_ended
-from support.suite_runs import EXCHANGES, GOES_ON, HEAD, MASTER, PASSED, assert_failed
+from support.racks import line as line_text
+from support.racks import rack as rack_text
+from support.suite_runs import EXCHANGES, GOES_ON, HEAD, MASTER, PASSED, assert_cannot_run, assert_failed
 
 # A master that writes its environment and its processes to a file once it has connected, and another file at SIGTERM.
 WRITES_ITS_ENVIRONMENT = """
@@ -44,7 +46,7 @@ def test_environment_and_end(suite):
     for name, cfg in (("one", "10"), ("two", "20")):
         suite.scenario(name, TWO_SLAVES.format(cfg=cfg, path=suite.folder / name))
     master = suite.master(WRITES_ITS_ENVIRONMENT.replace("FOLDER", str(suite.folder)))
-    done = suite.own(*master, "--only", "a word", RACKD_OTHER="7")
+    done = suite.own(*master, "--only", "a word", RACKD_OTHER="7", RACKD_SLAVE_9_CFG="11")
     assert done == (0, "passed  one\npassed  two\n2 passed, 0 failed\n", "")
     first, second = (json.loads((suite.folder / name).read_text(encoding="utf-8")) for name in ("one", "two"))
     assert [first[name] for name in ("RACKD_ADDRESS", "RACKD_CLEAR", "RACKD_OTHER", "answer", "words")] == [
@@ -54,6 +56,15 @@ def test_environment_and_end(suite):
          "failsafe": False, "outputs": "12", "mirror": False},
         {"address": 6, "ident": 7, "cfg": "10", "user": "", "watchdog_ms": 1000, "group": 3, "sync": True, "freeze": False,
          "failsafe": False, "outputs": "0000", "mirror": False}]
+    assert {name: value for name, value in first.items() if name.startswith("RACKD_SLAVE_")} == {
+        "RACKD_SLAVE_ADDRESSES": "5 6",
+        "RACKD_SLAVE_5_IDENT": "32929", "RACKD_SLAVE_5_CFG": "2111", "RACKD_SLAVE_5_USER": "",
+        "RACKD_SLAVE_5_WATCHDOG_MS": "0", "RACKD_SLAVE_5_GROUP": "0", "RACKD_SLAVE_5_SYNC": "0", "RACKD_SLAVE_5_FREEZE": "0",
+        "RACKD_SLAVE_5_FAILSAFE": "0", "RACKD_SLAVE_5_OUTPUTS": "12", "RACKD_SLAVE_5_MIRROR": "0",
+        "RACKD_SLAVE_6_IDENT": "7", "RACKD_SLAVE_6_CFG": "10", "RACKD_SLAVE_6_USER": "",
+        "RACKD_SLAVE_6_WATCHDOG_MS": "1000", "RACKD_SLAVE_6_GROUP": "3", "RACKD_SLAVE_6_SYNC": "1",
+        "RACKD_SLAVE_6_FREEZE": "0", "RACKD_SLAVE_6_FAILSAFE": "0", "RACKD_SLAVE_6_OUTPUTS": "0000",
+        "RACKD_SLAVE_6_MIRROR": "0"}
     assert json.loads(second["RACKD_SLAVES"])[1]["cfg"] == "20"
     assert first["pids"] != second["pids"]
     try:
@@ -114,6 +125,124 @@ def test_master_that_ends(suite, code, end):
     """The suite does not wait for 999 seconds."""
     suite.scenario("one", EXCHANGES)
     assert_failed(suite.own("--timeout", "999", *suite.master(code)), end)
+
+
+# Masters that do not connect as their address, and how the reason goes on.
+UNCONNECTED = {
+    "never": ("import time; print('hello', flush=True); time.sleep(600)", r" \(hello\)"),
+    "as-another": ("import socket, time, os\n"
+                   "with socket.create_connection(('127.0.0.1', int(os.environ['RACKD_PORT']))) as one:\n"
+                   "    one.sendall(bytes([9]))\n    one.recv(1)\n    time.sleep(600)\n",
+                   "; the line has: master 9 refused: UnknownMaster"),
+}
+
+
+@pytest.mark.parametrize(("name", "seconds"), [
+    ("never", 1), pytest.param("never", 5, marks=pytest.mark.slow), pytest.param("as-another", 20, marks=pytest.mark.slow)])
+def test_master_that_does_not_connect(suite, name, seconds):
+    """The suite does not wait for 999 seconds. It waits for five if nothing else is said."""
+    code, end = UNCONNECTED[name]
+    suite.scenario("one", EXCHANGES)
+    words = ["--folder", "scenarios", *(["--connect", seconds] if seconds != 5 else []), "--timeout", "999"]
+    begun = time.monotonic()
+    done = suite.run(*words, *suite.master(code))
+    assert_failed(done, f"the master did not connect to RACKD_PORT as master 1 within {seconds} s{end}")
+    assert time.monotonic() - begun >= seconds
+
+
+# Begins and ends by rows of a file. Between them it waits for the begins of three, or leaves some time for others to begin.
+TAKES_PART = HEAD + """
+import time
+def note(row):
+    with open("rows", "a") as file:
+        print(row, file=file)
+def run(bus):
+    note("begin " + __name__)
+    until = time.monotonic() + LONGEST
+    bus.wait("others", lambda: open("rows").read().count("begin") == 3 or time.monotonic() > until)
+    note("end " + __name__)
+"""
+
+
+@pytest.mark.parametrize("jobs", [1, 2, 3])
+def test_scenarios_side_by_side(suite, jobs):
+    """With three jobs each of three scenarios waits for the others. With fewer no more than these run at one time."""
+    for name in ("a", "b", "c"):
+        suite.scenario(name, TAKES_PART.replace("LONGEST", "600" if jobs == 3 else "2"))
+    assert suite.own("--jobs", jobs, "true") == (0, "passed  a\npassed  b\npassed  c\n3 passed, 0 failed\n", "")
+    running = most = 0
+    for row in (suite.folder / "rows").read_text(encoding="ascii").splitlines():
+        running += 1 if row.startswith("begin") else -1
+        most = max(most, running)
+    assert most <= jobs and (jobs != 3 or most == 3)
+
+
+def test_table_has_the_order_of_the_names(suite):
+    """The first scenario ends last."""
+    suite.scenario("a", HEAD + "import os\ndef run(bus):\n    bus.wait('the other', lambda: os.path.exists('b'))\n")
+    suite.scenario("b", HEAD + "def run(bus):\n    open('b', 'w').close()\n    bus.fail('why')\n")
+    assert suite.own("--jobs", "2", "true") == (1, "passed  a\nfailed  b  why\n1 passed, 1 failed\n", "")
+
+
+def test_suite_that_cannot_run_ends_all_scenarios(suite):
+    """The second scenario cannot run while the others wait for what never comes."""
+    for name in ("a", "c"):
+        suite.scenario(name, HEAD + "def run(bus):\n    bus.wait('nothing', lambda: False)\n")
+    suite.scenario("b", HEAD + "def run(bus):\n    bus.strat()\n")
+    assert_cannot_run(suite.own("--jobs", "3", "--timeout", "999", "true"), "b.py line 4: AttributeError: .*strat")
+    assert names_in(suite.folder) == []
+
+
+SECOND = HEAD + "SECOND = [Slave(6, ident=9, outputs='5678')]\ndef run(bus):\n"
+# A master of the slave that is named first, with its outputs.
+ONE_SLAVE = MASTER + """
+master.bring_up(slave["address"], slave["ident"], cfg)
+while True:
+    master.data_exchange(slave["address"], bytes.fromhex(slave["outputs"]))
+    time.sleep(0.005)
+"""
+
+
+def test_second_process(suite):
+    suite.scenario("one", SECOND + "    bus.start()\n    bus.second.start()\n    bus.outputs(5, '0000')\n"
+                   "    bus.second.outputs(6, '5678')\n    bus.second.exchanges(6)\n    bus.exchanges(5)\n"
+                   "    assert bus.operator.owned(1) == [5] and bus.operator.owned(2) == [6]\n"
+                   "    assert {one.master for one in bus.second.requests()} == {2}\n")
+    assert suite.own(*suite.master(ONE_SLAVE)) == (0, PASSED, "")
+
+
+def test_second_process_is_judged_too(suite):
+    suite.scenario("one", SECOND + "    bus.second.start()\n    bus.second.exchanges(6)\n")
+    breaks = ONE_SLAVE.replace("master.bring_up", "master.set_prm(slave['address'], slave['ident'])\nmaster.bring_up")
+    assert_failed(suite.own("--timeout", "200", *suite.master(breaks)), "place 1 slave 6 prm-before-diag: .+")
+
+
+def test_no_second_process(suite):
+    suite.scenario("one", HEAD + "def run(bus):\n    bus.second.start()\n")
+    assert_cannot_run(suite.own("true"), "one.py line 4: ValueError: the scenario has no SECOND")
+
+
+def test_second_process_at_several_lines(suite):
+    rack = rack_text(*(line_text(number, 5, capacity=16416, masters=[1, 2]) for number in (1, 2)))
+    suite.scenario("one", HEAD + f"SECOND = [Slave(6)]\nRACK = {rack!r}\ndef run(bus):\n    pass\n")
+    assert_cannot_run(suite.own("true"), "one.py has SECOND, and a rack of several lines")
+
+
+def test_order_behind_start(suite):
+    suite.scenario("one", HEAD + "def run(bus):\n    bus.start()\n    bus.order('lose', 5)\n")
+    assert_cannot_run(suite.own(*suite.master(MASTER)), "one.py line 5: ValueError: order comes before start")
+
+
+@pytest.mark.parametrize(("fault", "word"), [("lose", "lost"), ("spoil", "spoilt"), ("cut", "cut")])
+def test_replies_that_meet_a_fault(suite, fault, word):
+    """Replies 6 and 12 of slave 5 meet it, and the master has no retry."""
+    suite.scenario("one", HEAD + f"def run(bus):\n    bus.order('{fault}', 5, every=6, times=2)\n    bus.start()\n"
+                   "    bus.retried(5)\n")
+    never = MASTER.replace("master.timeout = 60", "master.timeout, master.retries = 1, 0") + GOES_ON.replace(
+        "    master.data_exchange(5, bytes(2))\n", "    try:\n        master.data_exchange(5, bytes(2))\n"
+        "    except (rackd.NoReply, rackd.BadFrame):\n        pass\n")
+    assert_failed(suite.own("--timeout", "200", *suite.master(never)),
+                  f"the request to slave 5 at place 6 was not sent again with the same FCB after its reply was {word}")
 
 
 @pytest.fixture

@@ -4,9 +4,9 @@ import pytest
 from support.package_runs import executable, run_python
 from support.suite_runs import HEAD, assert_cannot_run
 
-NAMES = ["another-master", "bring-up", "busy-slave", "diagnosis-during-exchange", "fail-safe", "late-reply", "reply-lost",
-         "several-configurations", "slave-lost-and-back", "slave-lost-for-300-ms", "sync-and-freeze", "watchdog-expiry",
-         "wrong-ident-at-first"]
+NAMES = ["another-master", "bring-up", "busy-slave", "configuration-refused", "diagnosis-during-exchange", "fail-safe",
+         "late-reply", "parameters-refused", "reply-lost", "several-configurations", "slave-lost-and-back",
+         "slave-lost-for-300-ms", "spoilt-reply", "sync-and-freeze", "two-masters", "watchdog-expiry", "wrong-ident-at-first"]
 NOTHING = HEAD + "def run(bus):\n    pass\n"
 
 
@@ -14,7 +14,10 @@ NOTHING = HEAD + "def run(bus):\n    pass\n"
     ([], "COMMAND is missing"), (["--list", "true"], "--list takes no COMMAND"),
     (["--timeout", "0", "true"], "--timeout: SECONDS is no number"), (["--timeout", "x", "true"], "--timeout: SECONDS"),
     (["--timeout", "nan", "true"], "--timeout: SECONDS"), (["--timeout", "3601", "true"], "--timeout: SECONDS"),
-    (["--seconds", "3", "true"], "--seconds"), (["--only", "bring-down", "true"], "no scenario bring-down in "),
+    (["--connect", "0.5", "true"], "--connect: SECONDS is no number from 1 to 3600"),
+    (["--jobs", "0", "true"], "--jobs: N is no number from 1 to 64"), (["--jobs", "1.5", "true"], "--jobs: N is no number"),
+    (["--jobs", "65", "true"], "--jobs: N is no number"), (["--seconds", "3", "true"], "--seconds"),
+    (["--only", "bring-down", "true"], "no scenario bring-down in "),
     (["--folder", "nowhere", "true"], "no scenarios in nowhere"), (["./no-master"], r"cannot start \./no-master: No such file"),
 ], ids=lambda part: " ".join(part) if isinstance(part, list) else "")
 def test_wrong_words(suite, words, cause):

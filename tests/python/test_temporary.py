@@ -145,7 +145,7 @@ def started_suite(folder, temporary, more="children = []", **variables):
     (scenarios / "one.py").write_text(HEAD + STEPS.format(more=more, note=str(note)), encoding="utf-8")
     # its end is that of its connection
     master.write_text(MASTER + GOES_ON, encoding="utf-8")
-    words = ["-m", "rackd", "suite", "--timeout", "600", "--folder", scenarios, sys.executable, master]
+    words = ["-m", "rackd", "suite", "--timeout", "600", "--connect", "600", "--folder", scenarios, sys.executable, master]
     pids = []
     with start_python(temporary, *words, **variables) as process:
         try:

@@ -109,6 +109,8 @@ def test_sixteen_masters_poll_at_once(serve, run, tmp_path):
         released = len(log.releases(poller.slave))
         in_time = longest < watchdog / 1000 - UNIT
         assert not in_time or (released, refused) == (0, 0), f"slave {poller.slave} was released while it was polled in time"
+        # a slave that nobody holds any more is not released again
+        suppose(not released, f"a poll came {longest * 1000:.0f} ms after the one before")
         return in_time, since(poller.sent, log.release(poller.slave, released + 1)) - watchdog / 1000
 
     with measured(server.pid) as machine:

@@ -68,19 +68,32 @@ def command_of(language, folder, change=None):
     return [compiled(path)] if language == "c" else [tool or sys.executable, path]
 
 
+def variables_of(port, address, slaves):
+    """Returns the variables of a master under test (examples/suite/README.md), with the slaves of these words."""
+    variables = {"RACKD_PORT": str(port), "RACKD_ADDRESS": str(address), "RACKD_CLEAR": "0",
+                 "RACKD_SLAVE_ADDRESSES": " ".join(word.split(":")[0] for word in slaves)}
+    for word in slaves:
+        slave, ident, cfg, outputs, watchdog, groups = word.split(":")
+        keys = {"IDENT": int(ident, 16), "CFG": cfg, "USER": "", "OUTPUTS": "5a" * int(outputs), "WATCHDOG_MS": watchdog,
+                "GROUP": int(groups, 16), **dict.fromkeys(("SYNC", "FREEZE", "FAILSAFE", "MIRROR"), 0)}
+        variables.update({f"RACKD_SLAVE_{slave}_{key}": str(value) for key, value in keys.items()})
+    return variables
+
+
 class RunningMaster:
     """A master that runs beside the test until `end`, or until it has done what its options say."""
 
     def __init__(self, command, port, slaves, *options, address=1, by_environment=False):
         given = {"--slot": str(NO_LOSS), "--seconds": "600"}
+        slaves = list(slaves)
         words = [str(port), str(address), *slaves, *options]
         for name, value in given.items():
             if name not in options:
                 words += [name, value]
         environment = None
         if by_environment:
-            environment = {**os.environ, "MASTER_PORT": str(port), "MASTER_ADDRESS": str(address),
-                           "MASTER_SLAVES": " ".join(slaves), "MASTER_OPTIONS": " ".join(words[2 + len(slaves):])}
+            environment = {**os.environ, **variables_of(port, address, slaves),
+                           "MASTER_OPTIONS": " ".join(words[2 + len(slaves):])}
             words = []
         self.process = subprocess.Popen([*map(str, command), *words], env=environment, stdout=subprocess.PIPE, text=True,
                                         preexec_fn=lambda: libc.prctl(PR_SET_PDEATHSIG, signal.SIGKILL))

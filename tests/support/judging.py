@@ -28,7 +28,7 @@ RULES = [
     "diag-not-read", "prm-of-other", "min-tsdr", "watchdog-short", "group-not-set", "control-both", "control-reserved",
     "sdn-needs-reply", "broadcast-needs-reply", "unknown-point", "no-request",
 ]
-WARNINGS = {"retry-limit", "watchdog-short", "unknown-point", "no-request"}
+WARNINGS = {"retry-limit", "watchdog-short", "group-not-set", "control-both", "unknown-point", "no-request"}
 IDENTS = {5: b"\x80\xa1", 6: b"\x0b\x3c"}
 CONFIGURATIONS = {5: b"\x21\x11", 6: b"\x20"}
 # Function codes of SRD with high priority: the first one to a slave, and those with FCV 1 and FCB 0 or 1.

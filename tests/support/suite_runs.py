@@ -50,9 +50,9 @@ class SuiteFolder:
         """Runs the suite with these words. The folder is that of its temporary files too."""
         return run_python(self.folder, "-m", "rackd", "suite", *words, within=LONG, **variables)
 
-    def own(self, *words, **variables):
-        """Runs the scenarios of the folder."""
-        return self.run("--folder", "scenarios", *words, **variables)
+    def own(self, *words, connect=LONG, **variables):
+        """Runs the scenarios of the folder. The master has this number of seconds to connect."""
+        return self.run("--folder", "scenarios", "--connect", connect, *words, **variables)
 
 
 def assert_cannot_run(done, cause):

@@ -150,7 +150,7 @@ pub(crate) fn entries_of<'a, 'p, H: Runtime + AllocGlobal + Files<File = R>, R: 
 ) -> Result<FileEntries<'a, 'p, H, R>, RunFault>
     ensures { IfOk result (λ rows. rows.text ≡ nothing_read) }
 {
-    match BufReader::new(alloc, EntryReader::new(check, first, reader)) {
+    match BufReader::new(alloc, EntryReader::new(alloc, check, first, reader)) {
         Ok(reader) => Ok(TextRows::new(alloc, reader)),
         Err(_) => Err(RunFault::OutOfMemory),
     }

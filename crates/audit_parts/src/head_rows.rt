@@ -62,7 +62,7 @@ impl HeadRows {
     /// buffer.
     ///
     /// Otherwise returns `NotThePolicy` if it is not the row of the head that is due, with the number of the next entry's
-    /// row; or `OutOfMemory`, at the header of a part only.
+    /// row; or `OutOfMemory`, at the header of a part only, and then nothing has changed.
     pub fn take_row(
         &mut self,
         number: u8,
@@ -77,6 +77,7 @@ impl HeadRows {
             → head_taken (check_of number (record { world = line.now.world; time = time }) self.old) row.now ≡ Some (Err fault)) }
         ensures memory { IfErr result (λ fault. fault ≡ AuditFault.OutOfMemory
             → begins_head (check_of number (record { world = line.now.world; time = time }) self.old) row.now ≡ true) }
+        ensures unchanged { result ≡ Err AuditFault.OutOfMemory → self.new ≡ self.old }
     {
         if self.is_between() {
             if place_in_row(number, row, buffer).is_none() {
@@ -97,13 +98,16 @@ impl HeadRows {
     ) -> Result<(), AuditFault>
         ensures ok { OnOk result (check_of number (record { world = line.now.world; time = time }) self.new
             ≡ with_head (check_of number (record { world = line.now.world; time = time }) self.old)) }
-        ensures err { IfErr result (λ fault. fault ≡ AuditFault.OutOfMemory) }
+        ensures err { IfErr result (λ fault. (fault ≡ AuditFault.OutOfMemory) × (self.new ≡ [])) }
     {
         self.head.clear();
         self.come = 0;
         match push_head(&mut self.head, number, line, time, buffer) {
             Ok(()) => Ok(()),
-            Err(_) => Err(AuditFault::OutOfMemory),
+            Err(_) => {
+                self.head.clear();
+                Err(AuditFault::OutOfMemory)
+            }
         }
     }
 

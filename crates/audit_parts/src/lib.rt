@@ -12,12 +12,14 @@
 #![tactic(auto)]
 
 mod beginning;
+mod entry_filter;
 mod entry_rows;
 mod head_rows;
 pub mod laws;
 mod parts_check;
 
 pub use beginning::{fault_of_head, is_part_header, read_beginning, rows_behind_header};
-pub use entry_rows::{EntryRows, NOT_THE_POLICY};
+pub use entry_filter::NOT_THE_POLICY;
+pub use entry_rows::EntryRows;
 pub use head_rows::HeadRows;
 pub use parts_check::{PartsCheck, check_parts};

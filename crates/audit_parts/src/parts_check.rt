@@ -80,7 +80,7 @@ impl PartsCheck {
     /// Otherwise returns the fault of the row: `BadLine` if it is badly formed, `NotThePolicy` if it is another than the
     /// policy gives, or not the row of the head that is due; or `OutOfMemory`, at the header of a part only. The number of
     /// a row does not count those of heads: the entry of place P has row P + 1, and a row of a head has the number of the
-    /// next entry's. The check is of no use then.
+    /// next entry's. After `OutOfMemory` the check is unchanged, and after another fault it is of no use.
     #[tactic(auto, using(crate::proofs::Taking::of_head, crate::proofs::Taking::of_entry, crate::proofs::Taking::entry_keeps))]
     pub fn take_row(
         &mut self,
@@ -91,6 +91,7 @@ impl PartsCheck {
         ensures ok { IfOk result (λ event. row_taken self.old row.now ≡ Ok (self.new, event)) }
         ensures err { IfErr result (λ fault. fault ≢ AuditFault.OutOfMemory → row_taken self.old row.now ≡ Err fault) }
         ensures memory { IfErr result (λ fault. fault ≡ AuditFault.OutOfMemory → begins_head self.old row.now ≡ true) }
+        ensures unchanged { result ≡ Err AuditFault.OutOfMemory → self.new ≡ self.old }
     {
         match self
             .heads

@@ -147,6 +147,14 @@ PartOutcome parts.NotYet number seen old new now after = (count : ℕ) × (count
 PartOutcome parts.Begun number seen old new now after = (head : Head) × LooksAtHead seen seen (Some head) old new × Appends now after (head_text number head)
 PartOutcome parts.Cut number seen old new now after = (head : Head) × LooksAtHead seen seen (Some head) old new × WritesPrefix now after (head_text number head)
 
+-- the heads that looks saw, in order: of each a part was begun, or its first octets were written
+abbrev pub head_by : Question → Answer → List Head
+head_by (asks.Head count) (answers.Head (Some head)) = head ∷ []
+head_by question answer = []
+
+unfoldable pub heads_seen : List Look → List Head
+heads_seen looks = flat_map (λ look. head_by look.question look.answer) looks
+
 -- how an unbroken tail that has seen `seen` entries begins a part, if one is `due`: a look at the head shows that there are other entries; or no part
 -- is due, or memory for the head is refused, or the head is written; or only the first octets of the head are written
 abbrev pub BeginsPart : Result Bool TrailBreak → Bool → ℕ → ℕ → PassView → PassView → Option (List ℕ) → Option (List ℕ) → Type 0
@@ -156,6 +164,16 @@ BeginsPart (Ok false) due number seen old new now after =
     ⊎ ((due ≡ true) × PartOutcome parts.Begun number seen old new now after)
 BeginsPart (Err breaks.WriteFault) due number seen old new now after = (due ≡ true) × PartOutcome parts.Cut number seen old new now after
 BeginsPart (Err breaks.Overtaken) due number seen old new now after = ⊥
+
+-- How a call ends that has written all entries. `before` is what the pass had seen when it had written the last one, and `writer` is the writer then; no
+-- head was written before. If no part is due then, none begins. If one is due, it begins with the head behind these entries, and nothing else is
+-- written; only if memory for the head is refused, nothing is written, and the part is still due.
+pub record EndsWithPart {W : Type 0} (due : W → Bool) (contents : W → Option (List ℕ)) (number seen : ℕ) (old new : PassView) (after : W) : Type 0 where
+  pub before : PassView
+  pub writer : W
+  pub no_head : heads_seen before.looks ≡ heads_seen old.looks
+  pub all : SawAll before.looks seen
+  pub begins : BeginsPart (Ok false) (due writer) number seen before new (contents writer) (contents after)
 
 -- the pass took looks, and nothing else of it changed
 abbrev pub OnlyLooks : PassView → PassView → Type 0

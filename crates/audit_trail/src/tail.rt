@@ -3,10 +3,10 @@
 //! A trail can't ask an endless line to keep or to forget entries: if that call came late, the line would
 //! have to wait or stop. The line forgets its oldest entries, and a trail that meets a forgotten one breaks.
 
-ghost use Rattle.std.specs.Prelude.{◌≡◌, ◌<◌, ◌≤◌, ◌+◌, ◌^◌, ◌&&◌, nat_le, [], length, false, None, Some, Ok, Err, IfErr, IfOk, IfSome, MatchResult, OnOk};
+ghost use Rattle.std.specs.Prelude.{◌≡◌, ◌<◌, ◌≤◌, ◌+◌, ◌^◌, ◌&&◌, nat_le, [], length, false, true, None, Some, Ok, Err, IfErr, IfOk, IfSome, MatchResult, OnOk};
 ghost use Rattle.dp_audit.specs.AuditText.{version_of as version_by};
 ghost use Rattle.dp_shared.specs.Passes.{line_of, new_pass, table_of};
-ghost use Rattle.audit_trail.specs.Trails.{AreFrom, BeginsPart, Breaks, HeadsFollow, IsBegun, IsWhole, OnlyLooks, SawAll, Steps, found, parts_text};
+ghost use Rattle.audit_trail.specs.Trails.{AreFrom, BeginsPart, Breaks, EndsWithPart, HeadsFollow, IsBegun, IsWhole, OnlyLooks, SawAll, Steps, found, heads_seen, parts_text};
 
 use crate::fault::{TrailBreak, TrailFault};
 use crate::row::{Next, NextPart, begin_next_part, look_aside, write_next};
@@ -129,18 +129,19 @@ impl<W: WriteParts + Drop> Tail<'_, W> {
     /// with `WriteFault` if the text line of the next entry or the head could not be written whole, and with `Overtaken` if
     /// the entry of the next place is forgotten.
     pub fn catch_up<T: Wait>(&mut self, rt: &T) -> Result<(), TrailBreak>
-        ensures line { self.new.line ≡ self.old.line }
-        ensures opened { self.new.opened ≡ self.old.opened }
-        ensures version { self.new.version ≡ self.old.version }
-        ensures table { self.new.pass.table ≡ self.old.pass.table }
-        ensures number { self.new.pass.line ≡ self.old.pass.line }
-        ensures looks { OnlyLooks self.old.pass.view self.new.pass.view }
-        ensures looked { OnOk result (length self.old.pass.view.looks < length self.new.pass.view.looks) }
-        ensures grows { self.old.seen ≤ self.new.seen }
         ensures ok { OnOk result ((self.new.broken ≡ None) × SawAll self.new.pass.view.looks self.new.seen) }
+        ensures part { OnOk result (EndsWithPart W.due W.contents self.old.pass.line self.new.seen self.old.pass.view self.new.pass.view self.new.writer) }
         ensures err { IfErr result (λ why. self.new.broken ≡ Some why) }
         ensures breaks { IfErr result (λ why. self.old.broken ≡ None → Breaks why self.old.seen self.new.seen self.new.pass.view.looks) }
         ensures broken { IfSome self.old.broken (λ why. (result ≡ Err why) × (self.new ≡ self.old)) }
+        ensures looked { OnOk result (length self.old.pass.view.looks < length self.new.pass.view.looks) }
+        ensures grows { self.old.seen ≤ self.new.seen }
+        ensures looks { OnlyLooks self.old.pass.view self.new.pass.view }
+        ensures table { self.new.pass.table ≡ self.old.pass.table }
+        ensures number { self.new.pass.line ≡ self.old.pass.line }
+        ensures line { self.new.line ≡ self.old.line }
+        ensures opened { self.new.opened ≡ self.old.opened }
+        ensures version { self.new.version ≡ self.old.version }
     {
         for _ in rt.forever() {
             if !self.advance(rt)? {
@@ -155,18 +156,20 @@ impl<W: WriteParts + Drop> Tail<'_, W> {
     ///
     /// Returns the reason why the tail is broken, if it was broken before or breaks now.
     fn advance<T: Wait>(&mut self, rt: &T) -> Result<bool, TrailBreak>
+        ensures all { result ≡ Ok false → SawAll self.new.pass.view.looks self.new.seen }
+        ensures part { result ≡ Ok false → EndsWithPart W.due W.contents self.old.pass.line self.new.seen self.old.pass.view self.new.pass.view self.new.writer }
+        ensures no_part { result ≡ Ok true → heads_seen self.new.pass.view.looks ≡ heads_seen self.old.pass.view.looks }
+        ensures breaks { MatchResult result (λ _. self.new.broken ≡ None) (λ why. self.new.broken ≡ Some why) }
+        ensures cut { self.old.broken ≡ None → IfErr result (λ why. Breaks why self.old.seen self.new.seen self.new.pass.view.looks) }
+        ensures broken { IfSome self.old.broken (λ why. (result ≡ Err why) × (self.new ≡ self.old)) }
+        ensures looked { IfOk result (λ _. length self.old.pass.view.looks < length self.new.pass.view.looks) }
+        ensures grows { self.old.seen ≤ self.new.seen }
+        ensures looks { OnlyLooks self.old.pass.view self.new.pass.view }
+        ensures table { self.new.pass.table ≡ self.old.pass.table }
+        ensures number { self.new.pass.line ≡ self.old.pass.line }
         ensures line { self.new.line ≡ self.old.line }
         ensures opened { self.new.opened ≡ self.old.opened }
         ensures version { self.new.version ≡ self.old.version }
-        ensures table { self.new.pass.table ≡ self.old.pass.table }
-        ensures number { self.new.pass.line ≡ self.old.pass.line }
-        ensures looks { OnlyLooks self.old.pass.view self.new.pass.view }
-        ensures looked { IfOk result (λ _. length self.old.pass.view.looks < length self.new.pass.view.looks) }
-        ensures grows { self.old.seen ≤ self.new.seen }
-        ensures breaks { MatchResult result (λ _. self.new.broken ≡ None) (λ why. self.new.broken ≡ Some why) }
-        ensures all { result ≡ Ok false → SawAll self.new.pass.view.looks self.new.seen }
-        ensures cut { self.old.broken ≡ None → IfErr result (λ why. Breaks why self.old.seen self.new.seen self.new.pass.view.looks) }
-        ensures broken { IfSome self.old.broken (λ why. (result ≡ Err why) × (self.new ≡ self.old)) }
     {
         if self.step(rt)? {
             return Ok(true);
@@ -181,19 +184,19 @@ impl<W: WriteParts + Drop> Tail<'_, W> {
     fn begin_part<T: Wait>(&mut self, rt: &T) -> Result<bool, TrailBreak>
         requires unbroken { self.old.broken ≡ None }
         requires all { SawAll self.old.pass.view.looks self.old.seen }
+        ensures part { BeginsPart result (W.due self.old.writer) self.old.pass.line self.old.seen self.old.pass.view self.new.pass.view
+            (W.contents self.old.writer) (W.contents self.new.writer) }
+        ensures all { result ≡ Ok false → SawAll self.new.pass.view.looks self.new.seen }
+        ensures breaks { MatchResult result (λ _. self.new.broken ≡ None) (λ why. self.new.broken ≡ Some why) }
+        ensures cut { IfErr result (λ why. Breaks why self.new.seen self.new.seen self.new.pass.view.looks) }
+        ensures same { self.new.seen ≡ self.old.seen }
+        ensures looked { length self.old.pass.view.looks ≤ length self.new.pass.view.looks }
+        ensures looks { OnlyLooks self.old.pass.view self.new.pass.view }
+        ensures table { self.new.pass.table ≡ self.old.pass.table }
+        ensures number { self.new.pass.line ≡ self.old.pass.line }
         ensures line { self.new.line ≡ self.old.line }
         ensures opened { self.new.opened ≡ self.old.opened }
         ensures version { self.new.version ≡ self.old.version }
-        ensures table { self.new.pass.table ≡ self.old.pass.table }
-        ensures number { self.new.pass.line ≡ self.old.pass.line }
-        ensures looks { OnlyLooks self.old.pass.view self.new.pass.view }
-        ensures looked { length self.old.pass.view.looks ≤ length self.new.pass.view.looks }
-        ensures same { self.new.seen ≡ self.old.seen }
-        ensures breaks { MatchResult result (λ _. self.new.broken ≡ None) (λ why. self.new.broken ≡ Some why) }
-        ensures all { result ≡ Ok false → SawAll self.new.pass.view.looks self.new.seen }
-        ensures cut { IfErr result (λ why. Breaks why self.new.seen self.new.seen self.new.pass.view.looks) }
-        ensures part { BeginsPart result (W.due self.old.writer) self.old.pass.line self.old.seen self.old.pass.view self.new.pass.view
-            (W.contents self.old.writer) (W.contents self.new.writer) }
     {
         match begin_next_part(
             rt,
@@ -220,17 +223,17 @@ impl<W: WriteParts + Drop> Tail<'_, W> {
     /// Returns the reason why the tail is broken, if it was broken before or breaks now: the text line could
     /// not be written whole, or its entry is forgotten.
     fn step<T: Wait>(&mut self, rt: &T) -> Result<bool, TrailBreak>
+        ensures steps { self.old.broken ≡ None → Steps result self.old.seen self.new.seen self.old.pass.view self.new.pass.view
+            (W.contents self.old.writer) (W.contents self.new.writer) }
+        ensures breaks { MatchResult result (λ _. self.new.broken ≡ None) (λ why. self.new.broken ≡ Some why) }
+        ensures broken { IfSome self.old.broken (λ why. (result ≡ Err why) × (self.new ≡ self.old)) }
+        ensures looked { IfOk result (λ _. length self.old.pass.view.looks < length self.new.pass.view.looks) }
+        ensures looks { OnlyLooks self.old.pass.view self.new.pass.view }
+        ensures table { self.new.pass.table ≡ self.old.pass.table }
+        ensures number { self.new.pass.line ≡ self.old.pass.line }
         ensures line { self.new.line ≡ self.old.line }
         ensures opened { self.new.opened ≡ self.old.opened }
         ensures version { self.new.version ≡ self.old.version }
-        ensures table { self.new.pass.table ≡ self.old.pass.table }
-        ensures number { self.new.pass.line ≡ self.old.pass.line }
-        ensures looks { OnlyLooks self.old.pass.view self.new.pass.view }
-        ensures looked { IfOk result (λ _. length self.old.pass.view.looks < length self.new.pass.view.looks) }
-        ensures breaks { MatchResult result (λ _. self.new.broken ≡ None) (λ why. self.new.broken ≡ Some why) }
-        ensures broken { IfSome self.old.broken (λ why. (result ≡ Err why) × (self.new ≡ self.old)) }
-        ensures steps { self.old.broken ≡ None → Steps result self.old.seen self.new.seen self.old.pass.view self.new.pass.view
-            (W.contents self.old.writer) (W.contents self.new.writer) }
     {
         if let Some(why) = self.broken {
             return Err(why);

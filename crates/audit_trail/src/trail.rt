@@ -107,6 +107,8 @@ impl<'l, W: WriteParts + Drop, J: Naming> Trail<'l, W, J> {
 impl<W: WriteParts + Drop, J: Naming> RecordEntries for Trail<'_, W, J> {
     ghost recorded = { λ trail line place. HasRow W.contents J.trails line place };
 
+    ghost caught_up = { λ trail. HasCaughtUp J.trails };
+
     /// Catches up. It also fails, with `Overtaken`, if the trail is not of this line or has not seen the place. That is not
     /// so after an event of its line got the place, but no clause says it.
     fn record<T: Wait>(&self, rt: &T, line: u8, place: Option<u32>) -> Result<(), TrailBreak> {

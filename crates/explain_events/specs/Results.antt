@@ -27,6 +27,7 @@ use Rattle.explain_events.specs.declared.releases.Release.{Release}
 use Rattle.explain_events.specs.declared.way.Answered.TheVariants as ways
 use Rattle.explain_events.specs.Words.{at_left, numbers_words, time_words}
 use Rattle.explain_events.specs.Notes.{note_of}
+use Rattle.explain_events.specs.OpResults.{expired_at}
 use Rattle.explain_events.specs.Releases.{release_of}
 use Rattle.explain_events.specs.EventContexts.{EventContextView, AskedView}
 use Rattle.explain_events.specs.Sentences.{line_text, slave_text}
@@ -103,7 +104,7 @@ fault_in_spread context octets pairs =
     if some_selected pairs then fault_at context octets (first_fault context octets pairs) else codes "; " ++ way_name ways.NoneSelected
 
 abbrev pub spread_text : EventContextView → ℕ → List ℕ → List (ℕ × Rule) → List ℕ
-spread_text context master octets [] = codes "spread: master " ++ decimal master ++ codes " holds no slave."
+spread_text context master octets [] = codes "spread: master " ++ decimal master ++ codes " holds no slave, so the command reached none."
 spread_text context master octets (pair ∷ pairs) =
     codes "spread over the slaves of master " ++ decimal master ++ fault_in_spread context octets (pair ∷ pairs) ++ codes ":"
 
@@ -120,18 +121,19 @@ request_rows context master octets frame (Refused fault) = []
 
 -- ---- an event of the operator
 
--- the full time of a watchdog that ran out, in units of 10 ms
-abbrev pub watchdog_words : Option ℕ → List ℕ
-watchdog_words None = []
-watchdog_words (Some units) = codes " (its watchdog of " ++ time_words units ++ codes " ran out)"
+-- the master that held a slave, by which its watchdog was not restarted
+abbrev pub not_restarted_words : Option ℕ → List ℕ
+not_restarted_words None = []
+not_restarted_words (Some master) = codes ": master " ++ decimal master ++ codes " sent nothing that restarts it"
 
--- the full time by the parameters of a slave
-abbrev pub full_time_of : Option SlaveView → Option ℕ
-full_time_of slave = option_and_then (λ s. option_and_then (λ prm. prm.watchdog) s.prm) slave
+-- the full time of a watchdog that ran out, in units of 10 ms
+abbrev pub watchdog_words : Option ℕ → Option ℕ → List ℕ
+watchdog_words holder None = []
+watchdog_words holder (Some units) = codes " (its watchdog of " ++ time_words units ++ codes " ran out" ++ not_restarted_words holder ++ codes ")"
 
 -- a slave that a tick released
 abbrev pub expired_words : World → ℕ → List ℕ
-expired_words world address = decimal address ++ watchdog_words (full_time_of (shown_at world address))
+expired_words world address = decimal address ++ watchdog_words (expired_at world address).holder (expired_at world address).watchdog
 
 abbrev pub expired_behind : World → ℕ → List ℕ
 expired_behind world address = codes ", " ++ expired_words world address

@@ -1,10 +1,10 @@
--- Examples of sentences.
+-- Examples of facts and of sentences.
 use Rattle.std.specs.Prelude.{◌≡◌, ⊤, ℕ, List, [], ◌∷◌, Option, true, false, codes, Some, None, refl}
 use Rattle.std.specs.Fmt.{digits}
 use Rattle.dp_telegram.specs.declared.frame.Frame.{Frame}
 use Rattle.dp_telegram.specs.declared.frame.Frame.TheVariants as frames
 use Rattle.dp_telegram.specs.Access.{request_of, request_parts}
-use Rattle.dp_sap.specs.AccessTable.{set_prm, data_exchange}
+use Rattle.dp_sap.specs.AccessTable.{data_exchange}
 use Rattle.dp_sap.specs.declared.state.State.TheVariants.{WaitPrm, WaitCfg, DataExch}
 use Rattle.dp_responder.specs.declared.rule.Rule.TheVariants as rules
 use Rattle.dp_slave.specs.declared.description.SlaveSpec.{SlaveSpec}
@@ -13,6 +13,14 @@ use Rattle.dp_slave.specs.View.{view_of}
 use Rattle.dp_slave.specs.declared.view.SlaveView.{SlaveView}
 use Rattle.dp_line.specs.LineExamples.{ask, slave_5}
 use Rattle.explain_events.specs.declared.ending.Ending.TheVariants as endings
+use Rattle.explain_events.specs.declared.done.CfgDone.TheVariants as cfg_dones
+use Rattle.explain_events.specs.declared.done.Done.TheVariants as dones
+use Rattle.explain_events.specs.declared.done.ModeAct.TheVariants as mode_acts
+use Rattle.explain_events.specs.declared.done.PrmDone.TheVariants as prm_dones
+use Rattle.explain_events.specs.declared.reason.Lengths.TheVariants as lengths
+use Rattle.explain_events.specs.declared.reason.Reason.TheVariants as reasons
+use Rattle.explain_events.specs.declared.reason.Repeat.TheVariants as again
+use Rattle.explain_events.specs.declared.reason.Listing.TheVariants.{Lockers}
 use Rattle.explain_events.specs.RequestsAtSlaves.{RequestAtSlaveView}
 use Rattle.explain_events.specs.Notes.{unnoted}
 use Rattle.dp_line.specs.declared.event.Event.TheVariants.{Operator}
@@ -20,8 +28,9 @@ use Rattle.dp_line.specs.declared.event.Op.TheVariants.{Busy, Tick}
 use Rattle.explain_octets.specs.Kinds.{asked_text, kind_text, telegram_text}
 use Rattle.explain_octets.specs.Words.{groups_text, is_one_group, listed}
 use Rattle.explain_events.specs.Heads.{head_text, op_kind_text}
-use Rattle.explain_events.specs.Refusals.{not_active_text, not_listed_text, length_text, not_selected_text}
-use Rattle.explain_events.specs.Services.{acts_words, control_text, user_parameters_text}
+use Rattle.explain_events.specs.Reasons.{lengths_at, reason_of}
+use Rattle.explain_events.specs.Refusals.{length_text, no_point_text, not_listed_text, not_selected_text, point_off_text}
+use Rattle.explain_events.specs.Services.{acts_words, user_parameters_text}
 use Rattle.explain_events.specs.Results.{halt_text}
 use Rattle.explain_events.specs.Sentences.{line_text, slave_text}
 
@@ -58,6 +67,59 @@ abbrev repeats : List ℕ → Option ℕ → List ℕ → RequestAtSlaveView
 repeats noted point octets =
     record (asks_at slave_5 held point octets) { noted = Some (record { slave = 5; master = 2; place = 7; octets = record { items = noted } }) }
 
+-- ---- facts
+
+pub the_holder : reason_of (asks slave_5 held 61 []) rules.NotHolder ≡ Some (reasons.NotHolder 5 (Some 1) 2)
+the_holder = refl
+
+pub the_last_release :
+    reason_of (record (asks_at slave_5 free data_exchange []) { release = Some (record { place = 6; ending = endings.Unlocked }) }) rules.NotActive
+    ≡ Some (reasons.PointOff 5 WaitPrm (Some (record { place = 6; ending = endings.Unlocked })) data_exchange)
+the_last_release = refl
+
+pub no_release_of_a_held_slave :
+    reason_of (record (asks slave_5 (record held { state = WaitCfg }) 61 []) { release = Some (record { place = 6; ending = endings.Unlocked }) }) rules.NotActive
+    ≡ Some (reasons.PointOff 5 WaitCfg None (Some 61))
+no_release_of_a_held_slave = refl
+
+pub the_unknown_point : reason_of (asks slave_5 free 12 []) rules.NotActive ≡ Some (reasons.NoPoint 5 (Some 12))
+the_unknown_point = refl
+
+pub the_taken_lengths : reason_of (asks_at slave_5 held data_exchange (1 ∷ 2 ∷ 3 ∷ [])) rules.Length ≡ Some (reasons.Length 3 (lengths.Exactly 2))
+the_taken_lengths = refl
+
+pub the_lengths_of_a_cleared_slave : lengths_at data_exchange 2 true ≡ lengths.OrNothing 2
+the_lengths_of_a_cleared_slave = refl
+
+pub the_groups : reason_of (asks slave_5 held 58 (0x20 ∷ 0x82 ∷ [])) rules.NotSelected ≡ Some (reasons.NotSelected 5 0x82 0)
+the_groups = refl
+
+pub the_retry : reason_of (repeats (1 ∷ 2 ∷ 3 ∷ []) (Some 60) []) rules.Repeat ≡ Some (reasons.Repeat (again.Retry 7))
+the_retry = refl
+
+pub the_other_telegram :
+    reason_of (repeats (1 ∷ 2 ∷ 4 ∷ []) data_exchange (3 ∷ 4 ∷ [])) rules.Repeat ≡ Some (reasons.Repeat (again.Other 7 data_exchange))
+the_other_telegram = refl
+
+pub the_lock :
+    reason_of (asks slave_5 free 61 (0x88 ∷ 2 ∷ 5 ∷ 11 ∷ 0x80 ∷ 0xA1 ∷ 0 ∷ [])) rules.Done
+    ≡ Some (reasons.Done (dones.Parameters (prm_dones.Locked 5 2 11)))
+the_lock = refl
+
+pub the_wrong_ident :
+    reason_of (asks slave_5 held 61 (0x88 ∷ 2 ∷ 5 ∷ 11 ∷ 0x80 ∷ 0xA2 ∷ 0 ∷ [])) rules.Done
+    ≡ Some (reasons.Done (dones.Parameters (prm_dones.Wrong (Some 1))))
+the_wrong_ident = refl
+
+pub the_configuration :
+    reason_of (asks slave_5 held 62 (0x21 ∷ 0x11 ∷ [])) rules.Done ≡ Some (reasons.Done (dones.Configuration (cfg_dones.Good 0 0)))
+the_configuration = refl
+
+pub the_modes :
+    reason_of (asks slave_5 held 58 (0x36 ∷ 0x00 ∷ [])) rules.Done
+    ≡ Some (reasons.Done (dones.Control (record { clears = true; unsyncs = true; sync = mode_acts.BesideItsEnd; unfreezes = true; freeze = mode_acts.NotSent })))
+the_modes = refl
+
 -- ---- refusals
 
 pub a_stranger : slave_text false (asks slave_5 held 61 []) rules.NotHolder ≡ codes "refused: NotHolder. Master 1 holds slave 5 since entry 2."
@@ -68,27 +130,27 @@ pub by_an_sdn : slave_text true (asks slave_5 held 61 []) rules.NotHolder ≡ co
 unfolding sentence_on_literals
 by_an_sdn = refl
 
-pub a_point_that_is_off : not_active_text 5 WaitPrm None data_exchange ≡ codes "Slave 5 is in Wait_Prm, where Data_Exchange is off."
+pub a_point_that_is_off : point_off_text 5 WaitPrm None data_exchange ≡ codes "Slave 5 is in Wait_Prm, where Data_Exchange is off."
 unfolding sentence_on_literals
 a_point_that_is_off = refl
 
 pub a_point_that_is_off_after_a_release :
-    not_active_text 5 WaitPrm (Some (record { place = 6; ending = endings.Unlocked })) data_exchange
+    point_off_text 5 WaitPrm (Some (record { place = 6; ending = endings.Unlocked })) data_exchange
     ≡ codes "Slave 5 is in Wait_Prm since entry 6 (unlocked), where Data_Exchange is off."
 unfolding sentence_on_literals
 a_point_that_is_off_after_a_release = refl
 
 pub a_point_that_is_off_under_a_holder :
-    not_active_text 5 WaitCfg (Some (record { place = 6; ending = endings.Unlocked })) data_exchange
+    point_off_text 5 WaitCfg None data_exchange
     ≡ codes "Slave 5 is in Wait_Cfg, where Data_Exchange is off."
 unfolding sentence_on_literals
 a_point_that_is_off_under_a_holder = refl
 
-pub a_point_outside_the_table : not_active_text 5 WaitPrm None (Some 12) ≡ codes "Slave 5 has no DSAP 12."
+pub a_point_outside_the_table : no_point_text 5 (Some 12) ≡ codes "Slave 5 has no DSAP 12."
 unfolding sentence_on_literals
 a_point_outside_the_table = refl
 
-pub a_point_of_dp_v1 : not_active_text 5 WaitPrm None (Some 51) ≡ codes "Slave 5 has no DSAP 51 (MSAC_C1, DP-V1: not simulated)."
+pub a_point_of_dp_v1 : no_point_text 5 (Some 51) ≡ codes "Slave 5 has no DSAP 51 (MSAC_C1, DP-V1: not simulated)."
 unfolding sentence_on_literals
 a_point_of_dp_v1 = refl
 
@@ -97,20 +159,20 @@ unfolding sentence_on_literals
 a_busy_point = refl
 
 pub no_locker :
-    not_listed_text 2 set_prm (record { lockers = Some (record { items = 1 ∷ 3 ∷ [] }); readers = None })
+    not_listed_text 2 Lockers (record { lockers = Some (record { items = 1 ∷ 3 ∷ [] }); readers = None })
     ≡ codes "Master 2 is none of its lockers (1, 3)."
 unfolding sentence_on_literals
 no_locker = refl
 
-pub a_wrong_length : length_text 3 data_exchange 2 false ≡ codes "3 octets, the slave takes 2."
+pub a_wrong_length : length_text 3 (lengths.Exactly 2) ≡ codes "3 octets, the slave takes 2."
 unfolding sentence_on_literals
 a_wrong_length = refl
 
-pub a_wrong_length_at_a_cleared_slave : length_text 1 data_exchange 2 true ≡ codes "1 octet, the slave takes 2 or none."
+pub a_wrong_length_at_a_cleared_slave : length_text 1 (lengths.OrNothing 2) ≡ codes "1 octet, the slave takes 2 or none."
 unfolding sentence_on_literals
 a_wrong_length_at_a_cleared_slave = refl
 
-pub no_data_at_a_cleared_slave_without_outputs : length_text 3 data_exchange 0 true ≡ codes "3 octets, the slave takes none."
+pub no_data_at_a_cleared_slave_without_outputs : length_text 3 lengths.Nothing ≡ codes "3 octets, the slave takes none."
 unfolding sentence_on_literals
 no_data_at_a_cleared_slave_without_outputs = refl
 
@@ -209,6 +271,24 @@ pub min_tsdr_alone : slave_text false (asks slave_5 held 61 (0 ∷ 0 ∷ 0 ∷ 2
 unfolding sentence_on_literals
 min_tsdr_alone = refl
 
+pub without_a_lock :
+    slave_text false (asks slave_5 free 61 (0 ∷ 0 ∷ 0 ∷ 20 ∷ 0 ∷ 0 ∷ 0 ∷ [])) rules.Done
+    ≡ codes "done: min TSDR is 20. Lock_Req is missing: nobody holds the slave."
+unfolding sentence_on_literals
+without_a_lock = refl
+
+pub a_lock_beside_an_unlock :
+    slave_text false (asks slave_5 held 61 (0xC0 ∷ 0 ∷ 0 ∷ 0 ∷ 0 ∷ 0 ∷ 0 ∷ [])) rules.Done
+    ≡ codes "unlocked: slave 5 is released. Lock_Req does nothing beside Unlock_Req."
+unfolding sentence_on_literals
+a_lock_beside_an_unlock = refl
+
+pub a_low_min_tsdr :
+    slave_text false (asks slave_5 free 61 (0x88 ∷ 2 ∷ 5 ∷ 5 ∷ 0x80 ∷ 0xA1 ∷ 0 ∷ [])) rules.Done
+    ≡ codes "locked: master 2 holds slave 5. Min TSDR is below 11."
+unfolding sentence_on_literals
+a_low_min_tsdr = refl
+
 -- ---- Chk_Cfg
 
 pub a_good_configuration : slave_text false (asks slave_5 held 62 (0x21 ∷ 0x11 ∷ [])) rules.Done ≡ codes "good configuration: number 0."
@@ -267,7 +347,7 @@ unfolding sentence_on_literals
 several_acts = refl
 
 pub nothing_is_done :
-    control_text held (0x28 ∷ 0x00 ∷ [])
+    slave_text true (asks slave_5 held 58 (0x28 ∷ 0x00 ∷ [])) rules.Done
     ≡ codes "done: no change. Sync does nothing without Sync_Req. Freeze does nothing without Freeze_Req."
 unfolding sentence_on_literals
 nothing_is_done = refl

@@ -193,8 +193,8 @@ one_of_all_slaves_is_a_fault = refl
 pub a_group_of_no_slave_is_a_fault : is_fault context (ask 1 stray) (spread ((5, rules.NotSelected) ∷ (7, rules.NotSelected) ∷ [])) ≡ true
 a_group_of_no_slave_is_a_fault = refl
 
-pub no_slave_is_no_fault : is_fault context (ask 1 stray) (spread []) ≡ false
-no_slave_is_no_fault = refl
+pub a_command_to_no_slave_is_a_fault : is_fault context (ask 1 stray) (spread []) ≡ true
+a_command_to_no_slave_is_a_fault = refl
 
 pub the_first_fault : first_fault context sync ((7, rules.NotSelected) ∷ (5, rules.Done) ∷ (9, rules.Busy) ∷ []) ≡ Some (5, rules.Done)
 the_first_fault = refl

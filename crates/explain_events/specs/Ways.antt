@@ -28,6 +28,7 @@ use Rattle.explain_events.specs.declared.way.Answered.TheVariants as ways
 use Rattle.explain_events.specs.Notes.{has_octets, note_of, place_of_note}
 use Rattle.explain_events.specs.EventContexts.{EventContextView}
 use Rattle.explain_events.specs.Shown.{shown_at}
+use Rattle.explain_events.specs.Surprises.{is_surprising_answer}
 use Rattle.explain_events.specs.Services.{freeze_is_asked, has_wrong_configuration, has_wrong_parameters, sync_is_asked}
 
 -- ---- the way
@@ -166,12 +167,14 @@ has_fault context octets pairs = list_any (shows_fault context octets pairs) pai
 abbrev pub first_fault : EventContextView → List ℕ → List (ℕ × Rule) → Option (ℕ × Rule)
 first_fault context octets pairs = find (shows_fault context octets pairs) pairs
 
--- a request: its way; to all slaves, at least one of the ways. If it reached the last place, the halt was recorded instead
+-- a request: its way, or what surprises in what a slave did; to all slaves, at least one of the ways, or that it reached no slave. If it
+-- reached the last place, the halt was recorded instead
 abbrev pub is_fault_of_request : EventContextView → ℕ → List ℕ → Outcome → Bool
-is_fault_of_request context master octets (Reply reply rule) = is_fault_way (answered_as context master octets rule)
+is_fault_of_request context master octets (Reply reply rule) =
+    is_fault_way (answered_as context master octets rule) || is_surprising_answer context master octets rule
 is_fault_of_request context master octets (Silence rule) = is_fault_way (answered_as context master octets rule)
 is_fault_of_request context master octets Done = is_fault_way (answered_as context master octets rules.Done)
-is_fault_of_request context master octets (Spread pairs) = has_fault context octets pairs.items
+is_fault_of_request context master octets (Spread pairs) = length pairs.items == 0 || has_fault context octets pairs.items
 is_fault_of_request context master octets (Released addresses) = true
 is_fault_of_request context master octets (Refused fault) = false
 

@@ -29,7 +29,7 @@ impl<'a> fmt::Display for StateAndHolderWords<'a> {
     }
 }
 
-fn same_state(before: State, after: State) -> bool
+pub(crate) fn same_state(before: State, after: State) -> bool
     ensures { result ≡ same_state before after }
 {
     match (before, after) {

@@ -1,12 +1,14 @@
-//! The result of a Chk_Cfg.
+//! The result of a Chk_Cfg in words.
 
 ghost use Rattle.std.specs.Prelude.{◌≡◌, ◌<◌, length, map, option_map, IfSome, Some, true};
 ghost use Rattle.std.specs.List.{flat_map};
 ghost use Rattle.dp_cfg.specs.Choosing.{chosen};
-ghost use Rattle.explain_events.specs.Services.{configuration_behind, configurations_words, comparable_cfg, cfg_difference_words, good_cfg_text, chk_cfg_text, has_wrong_configuration};
+ghost use Rattle.explain_events.specs.DoneWords.{cfg_done_text, good_cfg_text};
+ghost use Rattle.explain_events.specs.Services.{configuration_behind, configurations_words, comparable_cfg, cfg_difference_words, has_wrong_configuration};
 ghost use Rattle.explain_events.specs.Slots.{is_whole};
 
 use crate::at_slave::RequestAtSlave;
+use crate::done::CfgDone;
 use crate::set_prm::released_name;
 use crate::slots::{is_whole, write_compared};
 use crate::words::{OctetsWords, same_octets};
@@ -49,7 +51,7 @@ impl<'a> fmt::Display for Configurations<'a> {
 }
 
 /// Returns the number of the first configuration that has these octets, from 0; None if no configuration has them.
-fn number_of(own: &[Configuration], octets: &[u8]) -> Option<usize>
+pub(crate) fn number_of(own: &[Configuration], octets: &[u8]) -> Option<usize>
     ensures number { result ≡ chosen (map (λ configuration. configuration.items) own.now) octets.now }
     ensures bound { IfSome result (λ number. number < length own.now) }
 {
@@ -67,31 +69,28 @@ fn number_of(own: &[Configuration], octets: &[u8]) -> Option<usize>
 
 /// The result of a Chk_Cfg.
 #[derive(Clone, Copy)]
-pub(crate) struct ChkCfg<'a> {
+pub(crate) struct CfgWords<'a> {
+    pub(crate) done: CfgDone,
+    /// The request, which lends its data and the description of the slave.
     pub(crate) at_slave: &'a RequestAtSlave<'a>,
-    pub(crate) octets: &'a [u8],
 }
 
-impl<'a> fmt::Display for ChkCfg<'a> {
-    ghost output = { λ s. Some (chk_cfg_text s.at_slave.now s.octets.now) };
+impl<'a> fmt::Display for CfgWords<'a> {
+    ghost output = { λ s. Some (cfg_done_text s.at_slave.now s.done) };
 
     fn fmt<W: fmt::Write>(&self, f: &mut fmt::Formatter<W>) -> fmt::Result {
-        let at_slave = self.at_slave;
-        let own = at_slave.description.cfgs.as_slice();
-        match number_of(own, self.octets) {
-            Some(number) => {
-                let good = GoodCfg {
-                    number,
-                    shape: at_slave.slave.shape(),
-                };
+        match self.done {
+            CfgDone::Good { number, before } => {
+                let good = GoodCfg { number, before };
                 write!(f, "{good}")
             }
-            None => {
+            CfgDone::Wrong { released } => {
+                let at_slave = self.at_slave;
                 let difference = CfgDifference {
-                    octets: self.octets,
-                    own,
+                    octets: at_slave.parts.payload(),
+                    own: at_slave.description.cfgs.as_slice(),
                 };
-                let released = released_name(at_slave.slave.holder());
+                let released = released_name(released);
                 write!(f, "wrong configuration: {difference}{released}")
             }
         }
@@ -151,21 +150,21 @@ fn comparable<'a>(octets: &[u8], own: &'a [Configuration]) -> Option<&'a [u8]>
 #[derive(Clone, Copy)]
 struct GoodCfg {
     number: usize,
-    shape: u8,
+    before: u8,
 }
 
 impl fmt::Display for GoodCfg {
-    ghost output = { λ s. Some (good_cfg_text s.number s.shape) };
+    ghost output = { λ s. Some (good_cfg_text s.number s.before) };
 
     fn fmt<W: fmt::Write>(&self, f: &mut fmt::Formatter<W>) -> fmt::Result {
         let number = self.number;
-        let shape = self.shape;
-        if number == usize::from(shape) {
+        let before = self.before;
+        if number == usize::from(before) {
             write!(f, "good configuration: number {number}.")
         } else {
             write!(
                 f,
-                "good configuration: number {number} in place of {shape}."
+                "good configuration: number {number} in place of {before}."
             )
         }
     }

@@ -1,16 +1,10 @@
-//! The reason why nobody replies to a request, by a rule that concerns the line.
+//! The reason why nobody replies to a request, in words.
 
-ghost use Rattle.std.specs.Prelude.{◌≡◌, ◌==◌, Some, option_map};
-ghost use Rattle.std.specs.List.{list_any};
-ghost use Rattle.std.specs.Option.{option_and_then};
-ghost use Rattle.dp_telegram.specs.Lent.{frame_lent};
-ghost use Rattle.dp_line.specs.Hearing.{telegram_of_frame};
-ghost use Rattle.explain_events.specs.Sentences.{station_words, foreign_sender_text, no_master_text, no_station_text, line_text};
+ghost use Rattle.std.specs.Prelude.{Some};
+ghost use Rattle.explain_events.specs.Sentences.{line_reason_text, line_reason_text_if_any, no_master_text, station_words};
 
-use crate::frames::is_fdl_status;
+use crate::line_reasons::LineReason;
 use crate::words::NumbersWords;
-use dp_responder::Rule;
-use dp_telegram::{FrameLent, TelegramLent};
 use std::fmt;
 
 /// The station that sent a frame.
@@ -24,24 +18,6 @@ impl fmt::Display for StationWords {
         match self.0 {
             None => f.write_str("no station"),
             Some(address) => write!(f, "station {address}"),
-        }
-    }
-}
-
-/// The reason that a frame names another station than its sender.
-#[derive(Clone, Copy)]
-struct ForeignSender<'a>(&'a Option<FrameLent<'a>>);
-
-impl<'a> fmt::Display for ForeignSender<'a> {
-    ghost output = { λ s. Some (foreign_sender_text (option_map frame_lent s.0.now)) };
-
-    fn fmt<W: fmt::Write>(&self, f: &mut fmt::Formatter<W>) -> fmt::Result {
-        match self.0 {
-            None => f.write_str("The frame is from no station."),
-            Some(frame) => {
-                let station = StationWords(frame.source());
-                write!(f, "The frame is from {station}.")
-            }
         }
     }
 }
@@ -63,130 +39,76 @@ impl<'a> fmt::Display for NoMaster<'a> {
     }
 }
 
-/// The reason that no slave has the address of a request.
+/// The reason why nobody replies to a request.
 #[derive(Clone, Copy)]
-struct NoStation<'a> {
-    masters: &'a [u8],
-    frame: &'a Option<FrameLent<'a>>,
+pub(crate) struct LineReasonWords<'a> {
+    /// The masters of the line.
+    pub(crate) masters: &'a [u8],
+    pub(crate) reason: LineReason,
 }
 
-impl<'a> fmt::Display for NoStation<'a> {
-    ghost output = { λ s. Some (no_station_text s.masters.now (option_and_then telegram_of_frame (option_map frame_lent s.frame.now))) };
+impl<'a> fmt::Display for LineReasonWords<'a> {
+    ghost output = { λ s. Some (line_reason_text s.masters.now s.reason) };
 
     fn fmt<W: fmt::Write>(&self, f: &mut fmt::Formatter<W>) -> fmt::Result {
-        match self.frame {
-            Some(FrameLent::Telegram(telegram)) => {
-                let words = AbsentStation {
+        match self.reason {
+            LineReason::NoMaster(master) => {
+                let words = NoMaster {
+                    master,
                     masters: self.masters,
-                    telegram,
                 };
-                write!(f, "{words}")
+                write!(f, "silence: NoMaster. {words}")
             }
-            Some(FrameLent::Token { .. }) => f.write_str("No slave has this address."),
-            Some(FrameLent::Ack) => f.write_str("No slave has this address."),
-            None => f.write_str("No slave has this address."),
+            LineReason::ForeignSender(station) => {
+                let station = StationWords(station);
+                write!(f, "silence: ForeignSender. The frame is from {station}.")
+            }
+            LineReason::MasterStation(address) => write!(
+                f,
+                "silence: NoStation. Station {address} is a master of the line."
+            ),
+            LineReason::Halted => f.write_str("silence: Halted. The line takes no more."),
+            LineReason::NoFrame => f.write_str("silence: NoFrame. The octets are no single frame."),
+            LineReason::Token => f.write_str("silence: Token. A token asks for nothing."),
+            LineReason::NotRequest => f.write_str(
+                "silence: NotRequest. A response asks for nothing.",
+            ),
+            LineReason::BadFunction => f.write_str(
+                "silence: BadFunction. The function is reserved.",
+            ),
+            LineReason::BadExtension => f.write_str(
+                "silence: BadExtension. An extension octet is missing or not plain.",
+            ),
+            LineReason::BadBroadcast => f.write_str(
+                "silence: BadBroadcast. Only a Global_Control goes to all slaves.",
+            ),
+            LineReason::NoStation => f.write_str("silence: NoStation. No slave has this address."),
+            LineReason::LiveListPoll => f.write_str("silence: NoStation. No such station."),
         }
     }
 }
 
-/// The reason that no slave has the address of a telegram.
-#[derive(Clone, Copy)]
-struct AbsentStation<'a> {
-    masters: &'a [u8],
-    telegram: &'a TelegramLent<'a>,
-}
-
-impl<'a> fmt::Display for AbsentStation<'a> {
-    ghost output = { λ s. Some (no_station_text s.masters.now (Some s.telegram.now)) };
-
-    fn fmt<W: fmt::Write>(&self, f: &mut fmt::Formatter<W>) -> fmt::Result {
-        let address = self.telegram.destination();
-        if has_address(self.masters, address) {
-            write!(f, "Station {address} is a master of the line.")
-        } else if is_fdl_status(self.telegram) {
-            f.write_str("No such station.")
-        } else {
-            f.write_str("No slave has this address.")
-        }
-    }
-}
-
-/// Returns whether one of the masters has this address.
-fn has_address(masters: &[u8], address: u8) -> bool
-    ensures { result ≡ list_any (λ master. master == address) masters.now }
-{
-    masters.iter().any(|master| *master == address)
-}
-
-/// The result of a request to which nobody replies, by a rule that concerns the line.
+/// The reason why nobody replies to a request; writes nothing if there is none.
 #[derive(Clone, Copy)]
 pub(crate) struct LineWords<'a> {
     /// The masters of the line.
     pub(crate) masters: &'a [u8],
-    /// The address of the sender.
-    pub(crate) master: u8,
-    pub(crate) frame: &'a Option<FrameLent<'a>>,
-    pub(crate) rule: Rule,
+    pub(crate) reason: Option<LineReason>,
 }
 
 impl<'a> fmt::Display for LineWords<'a> {
-    ghost output = { λ s. Some (line_text s.masters.now s.master (option_map frame_lent s.frame.now) s.rule) };
+    ghost output = { λ s. Some (line_reason_text_if_any s.masters.now s.reason) };
 
     fn fmt<W: fmt::Write>(&self, f: &mut fmt::Formatter<W>) -> fmt::Result {
-        match self.rule {
-            Rule::Halted => f.write_str("silence: Halted. The line takes no more."),
-            Rule::NoFrame => f.write_str("silence: NoFrame. The octets are no single frame."),
-            Rule::NoMaster => {
-                let words = self.no_master();
-                write!(f, "silence: NoMaster. {words}")
+        match self.reason {
+            Some(reason) => {
+                let words = LineReasonWords {
+                    masters: self.masters,
+                    reason,
+                };
+                write!(f, "{words}")
             }
-            Rule::ForeignSender => {
-                let foreign = ForeignSender(self.frame);
-                write!(f, "silence: ForeignSender. {foreign}")
-            }
-            Rule::Token => f.write_str("silence: Token. A token asks for nothing."),
-            Rule::NotRequest => f.write_str("silence: NotRequest. A response asks for nothing."),
-            Rule::BadFunction => f.write_str("silence: BadFunction. The function is reserved."),
-            Rule::BadExtension => f.write_str(
-                "silence: BadExtension. An extension octet is missing or not plain.",
-            ),
-            Rule::BadBroadcast => f.write_str(
-                "silence: BadBroadcast. Only a Global_Control goes to all slaves.",
-            ),
-            Rule::NoStation => {
-                let words = self.no_station();
-                write!(f, "silence: NoStation. {words}")
-            }
-            Rule::Status
-            | Rule::NoService
-            | Rule::Repeat
-            | Rule::NotActive
-            | Rule::NotHolder
-            | Rule::NotListed
-            | Rule::Busy
-            | Rule::Length
-            | Rule::NotSelected
-            | Rule::Done => Ok(()),
-        }
-    }
-}
-
-impl<'a> LineWords<'a> {
-    fn no_master(&self) -> NoMaster<'a>
-        ensures { result ≡ record { master = self.now.master; masters = self.now.masters } }
-    {
-        NoMaster {
-            master: self.master,
-            masters: self.masters,
-        }
-    }
-
-    fn no_station(&self) -> NoStation<'a>
-        ensures { result ≡ record { masters = self.now.masters; frame = self.now.frame } }
-    {
-        NoStation {
-            masters: self.masters,
-            frame: self.frame,
+            None => Ok(()),
         }
     }
 }

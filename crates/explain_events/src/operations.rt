@@ -2,64 +2,70 @@
 
 ghost use Rattle.std.specs.Prelude.{◌≡◌, Some};
 ghost use Rattle.std.specs.List.{flat_map};
-ghost use Rattle.std.specs.Option.{option_copied};
 ghost use Rattle.dp_line.specs.declared.event.Event.TheVariants.{Operator};
 ghost use Rattle.dp_line.specs.Events.{is_halt};
-ghost use Rattle.explain_events.specs.Results.{watchdog_words, full_time_of, expired_words, expired_behind, tick_text, halted_words, halt_text, released_text, op_text};
-ghost use Rattle.explain_events.specs.Shown.{shown_at, shown_if_any};
+ghost use Rattle.explain_events.specs.Results.{not_restarted_words, watchdog_words, expired_words, expired_behind, tick_text, halted_words, halt_text, released_text, op_text};
 
-use crate::shown::slave_at;
+use crate::op_results::expired_at;
 use crate::ways::is_at_last_place;
 use crate::words::{NumbersWords, TimeWords};
 use dp_line::{LineState, Op, Outcome};
-use dp_slave::Slave;
 use std::fmt;
 
-/// The full time of a watchdog that ran out, in units of 10 ms; writes nothing if there is none.
+/// The master that held a slave, by which its watchdog was not restarted; writes nothing if there is none.
 #[derive(Clone, Copy)]
-struct WatchdogWords(Option<u32>);
+struct NotRestarted(Option<u8>);
 
-impl fmt::Display for WatchdogWords {
-    ghost output = { λ s. Some (watchdog_words s.0) };
+impl fmt::Display for NotRestarted {
+    ghost output = { λ s. Some (not_restarted_words s.0) };
 
     fn fmt<W: fmt::Write>(&self, f: &mut fmt::Formatter<W>) -> fmt::Result {
         match self.0 {
             None => Ok(()),
+            Some(master) => write!(f, ": master {master} sent nothing that restarts it"),
+        }
+    }
+}
+
+/// The full time of a watchdog that ran out, in units of 10 ms; writes nothing if there is none.
+#[derive(Clone, Copy)]
+struct WatchdogWords {
+    holder: Option<u8>,
+    watchdog: Option<u32>,
+}
+
+impl fmt::Display for WatchdogWords {
+    ghost output = { λ s. Some (watchdog_words s.holder s.watchdog) };
+
+    fn fmt<W: fmt::Write>(&self, f: &mut fmt::Formatter<W>) -> fmt::Result {
+        match self.watchdog {
+            None => Ok(()),
             Some(units) => {
                 let time = TimeWords(u64::from(units));
-                write!(f, " (its watchdog of {time} ran out)")
+                let holder = NotRestarted(self.holder);
+                write!(f, " (its watchdog of {time} ran out{holder})")
             }
         }
     }
 }
 
-/// Returns the full time of a slave's watchdog in units of 10 ms, by the parameters of its holder; None if it is off,
-/// or if there are no parameters.
-fn full_time_of(slave: Option<&Slave>) -> Option<u32>
-    ensures { result ≡ full_time_of (shown_if_any (option_copied slave.entry)) }
-{
-    match slave {
-        Some(slave) => match slave.parameters() {
-            Some(prm) => prm.watchdog,
-            None => None,
-        },
-        None => None,
-    }
-}
-
 /// A slave that a tick released.
 #[derive(Clone, Copy)]
-struct Expired<'a> {
+struct ExpiredWords<'a> {
     before: &'a LineState,
     address: u8,
 }
 
-impl<'a> fmt::Display for Expired<'a> {
+impl<'a> fmt::Display for ExpiredWords<'a> {
     ghost output = { λ s. Some (expired_words s.before.now.world s.address) };
 
     fn fmt<W: fmt::Write>(&self, f: &mut fmt::Formatter<W>) -> fmt::Result {
         let address = self.address;
-        let watchdog = WatchdogWords(full_time_of(slave_at(self.before, address)));
+        let expired = expired_at(self.before, address);
+        let watchdog = WatchdogWords {
+            holder: expired.holder,
+            watchdog: expired.watchdog,
+        };
         write!(f, "{address}{watchdog}")
     }
 }
@@ -76,7 +82,7 @@ impl<'a> fmt::Display for ExpiredBehind<'a> {
 
     fn fmt<W: fmt::Write>(&self, f: &mut fmt::Formatter<W>) -> fmt::Result {
         for address in self.addresses {
-            let expired = Expired {
+            let expired = ExpiredWords {
                 before: self.before,
                 address: *address,
             };
@@ -100,7 +106,7 @@ impl<'a> fmt::Display for TickWords<'a> {
         match self.addresses {
             [] => f.write_str("no watchdog ran out."),
             [first, others @ ..] => {
-                let first = Expired {
+                let first = ExpiredWords {
                     before: self.before,
                     address: *first,
                 };

@@ -8,6 +8,7 @@ ghost use Rattle.explain_events.specs.Results.{reported_of_slave, reported_of_te
 use crate::at_slave::RequestAtSlave;
 use crate::context::{EventContext, SlaveRequest};
 use crate::frames::telegram_in;
+use crate::line_reasons::line_reason;
 use crate::line_words::LineWords;
 use crate::releases::release_of;
 use crate::sentences::SlaveWords;
@@ -127,11 +128,10 @@ impl<'a> fmt::Display for OfOne<'a> {
             write!(f, "{words}")
         } else {
             let context = self.context;
+            let masters = context.line.masters.as_slice();
             let words = LineWords {
-                masters: context.line.masters.as_slice(),
-                master: self.master,
-                frame: &self.request.frame(),
-                rule: self.rule,
+                masters,
+                reason: line_reason(masters, self.master, self.request, self.rule),
             };
             write!(f, "{words}")
         }

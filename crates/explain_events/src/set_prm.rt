@@ -1,15 +1,13 @@
-//! The result of a Set_Prm.
+//! The result of a Set_Prm in words.
 
-ghost use Rattle.std.specs.Prelude.{◌≡◌, ◌==◌, Some, false};
-ghost use Rattle.std.specs.Option.{option_map_or};
-ghost use Rattle.explain_events.specs.Shown.{shown};
-ghost use Rattle.explain_events.specs.Services.{released_words, wrong_prm_text, held_words, locked_text, unlocked_text, min_tsdr_text, right_prm_text, judged_prm_text, set_prm_text};
+ghost use Rattle.std.specs.Prelude.{◌≡◌, Some};
+ghost use Rattle.explain_events.specs.DoneWords.{beside_unlock_words, held_words, locked_again_text, low_tsdr_words, prm_done_text, unlocked_text, without_lock_words};
+ghost use Rattle.explain_events.specs.Services.{released_words, wrong_prm_text};
 
 use crate::at_slave::RequestAtSlave;
-use crate::prm_fault::{PrmFault, PrmFaults, is_set, prm_faults};
-use crate::words::{SinceWords, octet_at};
-use dp_prm::{LOCK_REQ, UNLOCK_REQ};
-use dp_slave::Slave;
+use crate::done::{PrmDone, is_low_tsdr};
+use crate::prm_fault::{PrmFault, PrmFaults, prm_faults};
+use crate::words::SinceWords;
 use std::fmt;
 
 /// Returns the end of the sentence about wrong octets, which says that the slave is released if somebody held it.
@@ -39,16 +37,6 @@ impl<'a> fmt::Display for WrongPrm<'a> {
     }
 }
 
-/// Returns whether the master holds the slave.
-pub(crate) fn holds(holder: Option<u8>, master: u8) -> bool
-    ensures { result ≡ option_map_or (λ other. other == master) holder false }
-{
-    match holder {
-        Some(other) => other == master,
-        None => false,
-    }
-}
-
 /// The words that a master holds a slave.
 #[derive(Clone, Copy)]
 struct HeldWords {
@@ -66,27 +54,35 @@ impl fmt::Display for HeldWords {
     }
 }
 
-/// The result of a Set_Prm that locked the slave.
-#[derive(Clone, Copy)]
-struct Locked<'a> {
-    master: u8,
-    slave: &'a Slave,
+/// Returns what else is to be said of min TSDR, by the octet that was sent; an empty text if it is not below 11.
+fn low_tsdr(octet: u8) -> &'static str
+    ensures { result.now ≡ low_tsdr_words octet }
+{
+    if is_low_tsdr(octet) {
+        " Min TSDR is below 11."
+    } else {
+        ""
+    }
 }
 
-impl<'a> fmt::Display for Locked<'a> {
-    ghost output = { λ s. Some (locked_text s.master (shown s.slave.now)) };
+/// Returns what else is to be said of an unlock; an empty text if Lock_Req was not sent too.
+fn beside_unlock(locks: bool) -> &'static str
+    ensures { result.now ≡ beside_unlock_words locks }
+{
+    if locks {
+        " Lock_Req does nothing beside Unlock_Req."
+    } else {
+        ""
+    }
+}
 
-    fn fmt<W: fmt::Write>(&self, f: &mut fmt::Formatter<W>) -> fmt::Result {
-        let held = HeldWords {
-            master: self.master,
-            address: self.slave.address(),
-        };
-        if holds(self.slave.holder(), self.master) {
-            let since = SinceWords(self.slave.since());
-            write!(f, "locked again: {held}{since}")
-        } else {
-            write!(f, "locked: {held}.")
-        }
+/// Returns what else is to be said of a Set_Prm without Lock_Req; an empty text if somebody holds the slave.
+fn without_lock(holder: Option<u8>) -> &'static str
+    ensures { result.now ≡ without_lock_words holder }
+{
+    match holder {
+        None => " Lock_Req is missing: nobody holds the slave.",
+        Some(_) => "",
     }
 }
 
@@ -109,112 +105,97 @@ impl fmt::Display for Unlocked {
     }
 }
 
-/// The result of a Set_Prm that sets only min TSDR, in bit times.
+/// The result of a Set_Prm of the master that holds the slave since an entry.
 #[derive(Clone, Copy)]
-struct MinTsdr {
-    octet: u8,
-    own: u8,
+struct LockedAgain {
+    address: u8,
+    master: u8,
+    since: u32,
 }
 
-impl fmt::Display for MinTsdr {
-    ghost output = { λ s. Some (min_tsdr_text s.octet s.own) };
+impl fmt::Display for LockedAgain {
+    ghost output = { λ s. Some (locked_again_text s.address s.master s.since) };
 
     fn fmt<W: fmt::Write>(&self, f: &mut fmt::Formatter<W>) -> fmt::Result {
-        let octet = self.octet;
-        let own = self.own;
-        if octet == 0 {
-            write!(f, "done: min TSDR stays {own}.")
-        } else {
-            write!(f, "done: min TSDR is {octet}.")
-        }
-    }
-}
-
-/// The result of a Set_Prm with right octets.
-#[derive(Clone, Copy)]
-struct RightPrm<'a> {
-    at_slave: &'a RequestAtSlave<'a>,
-    octets: &'a [u8],
-}
-
-impl<'a> fmt::Display for RightPrm<'a> {
-    ghost output = { λ s. Some (right_prm_text s.at_slave.now s.octets.now) };
-
-    fn fmt<W: fmt::Write>(&self, f: &mut fmt::Formatter<W>) -> fmt::Result {
-        let at_slave = self.at_slave;
-        let slave = at_slave.slave;
-        let status = octet_at(self.octets, 0);
-        if is_set(UNLOCK_REQ, status) {
-            let unlocked = Unlocked {
-                address: slave.address(),
-                holder: slave.holder(),
-            };
-            write!(f, "{unlocked}")
-        } else if is_set(LOCK_REQ, status) {
-            let locked = Locked {
-                master: at_slave.master,
-                slave,
-            };
-            write!(f, "{locked}")
-        } else {
-            let set = MinTsdr {
-                octet: octet_at(self.octets, 3),
-                own: slave.min_tsdr(),
-            };
-            write!(f, "{set}")
-        }
+        let held = HeldWords {
+            master: self.master,
+            address: self.address,
+        };
+        let since = SinceWords(self.since);
+        write!(f, "locked again: {held}{since}")
     }
 }
 
 /// The result of a Set_Prm.
 #[derive(Clone, Copy)]
-pub(crate) struct SetPrm<'a> {
+pub(crate) struct PrmWords<'a> {
+    pub(crate) done: PrmDone,
+    /// The request, which lends its data and the description of the slave.
     pub(crate) at_slave: &'a RequestAtSlave<'a>,
-    pub(crate) octets: &'a [u8],
 }
 
-impl<'a> fmt::Display for SetPrm<'a> {
-    ghost output = { λ s. Some (set_prm_text s.at_slave.now s.octets.now) };
+impl<'a> fmt::Display for PrmWords<'a> {
+    ghost output = { λ s. Some (prm_done_text s.at_slave.now s.done) };
 
     fn fmt<W: fmt::Write>(&self, f: &mut fmt::Formatter<W>) -> fmt::Result {
-        let at_slave = self.at_slave;
-        let faults = prm_faults(self.octets, at_slave.description);
-        let judged = JudgedPrm {
-            at_slave,
-            octets: self.octets,
-            faults: faults.as_slice(),
-        };
-        write!(f, "{judged}")
-    }
-}
-
-/// The result of a Set_Prm, by the reasons why its octets are wrong.
-#[derive(Clone, Copy)]
-struct JudgedPrm<'a> {
-    at_slave: &'a RequestAtSlave<'a>,
-    octets: &'a [u8],
-    faults: &'a [PrmFault],
-}
-
-impl<'a> fmt::Display for JudgedPrm<'a> {
-    ghost output = { λ s. Some (judged_prm_text s.at_slave.now s.octets.now s.faults.now) };
-
-    fn fmt<W: fmt::Write>(&self, f: &mut fmt::Formatter<W>) -> fmt::Result {
-        match self.faults {
-            [] => {
-                let right = RightPrm {
-                    at_slave: self.at_slave,
-                    octets: self.octets,
-                };
-                write!(f, "{right}")
-            }
-            [_, ..] => {
+        match self.done {
+            PrmDone::Wrong { released } => {
                 let at_slave = self.at_slave;
+                let faults = prm_faults(at_slave.parts.payload(), at_slave.description);
                 let wrong = WrongPrm {
-                    holder: at_slave.slave.holder(),
-                    faults: self.faults,
+                    holder: released,
+                    faults: faults.as_slice(),
                 };
                 write!(f, "{wrong}")
+            }
+            PrmDone::Unlocked {
+                address,
+                holder,
+                locks,
+            } => {
+                let unlocked = Unlocked { address, holder };
+                let beside = beside_unlock(locks);
+                write!(f, "{unlocked}{beside}")
+            }
+            PrmDone::Locked {
+                address,
+                master,
+                min_tsdr,
+            } => {
+                let held = HeldWords { master, address };
+                let low = low_tsdr(min_tsdr);
+                write!(f, "locked: {held}.{low}")
+            }
+            PrmDone::LockedAgain {
+                address,
+                master,
+                since,
+                min_tsdr,
+            } => {
+                let again = LockedAgain {
+                    address,
+                    master,
+                    since,
+                };
+                let low = low_tsdr(min_tsdr);
+                write!(f, "{again}{low}")
+            }
+            PrmDone::MinTsdrSet {
+                holder,
+                min_tsdr,
+                ..
+            } => {
+                let lock = without_lock(holder);
+                let low = low_tsdr(min_tsdr);
+                write!(f, "done: min TSDR is {min_tsdr}.{lock}{low}")
+            }
+            PrmDone::MinTsdrStays {
+                holder,
+                min_tsdr,
+                ..
+            } => {
+                let lock = without_lock(holder);
+                write!(f, "done: min TSDR stays {min_tsdr}.{lock}")
             }
         }
     }

@@ -169,7 +169,10 @@ impl<'a> fmt::Display for SpreadWords<'a> {
     fn fmt<W: fmt::Write>(&self, f: &mut fmt::Formatter<W>) -> fmt::Result {
         let master = self.master;
         match self.pairs {
-            [] => write!(f, "spread: master {master} holds no slave."),
+            [] => write!(
+                f,
+                "spread: master {master} holds no slave, so the command reached none."
+            ),
             [_, ..] => {
                 let fault = FaultInSpread {
                     context: self.context,

@@ -15,6 +15,7 @@ use crate::frames::{is_fdl_status, telegram_in};
 use crate::notes::{Noted, note_of};
 use crate::prm_fault::has_wrong_parameters;
 use crate::shown::slave_at;
+use crate::surprises::is_surprising_answer;
 use crate::way::Answered;
 use dp_line::{Event, LineState, Op, Outcome, described};
 use dp_responder::Rule;
@@ -242,7 +243,8 @@ fn way_of_service(slave: &SlaveSpec, point: Option<u8>, octets: &[u8]) -> Answer
 }
 
 /// Returns whether an event shows a fault of the bus: a request that was answered in such a way, by one slave at least if
-/// it was sent to all; a refused event of the operator; a tick that releases a slave; the halt, also one that
+/// it was sent to all, or that was sent to all and reached no slave; a Set_Prm that surprises, as [`crate::Done::is_surprising`]
+/// says; a refused event of the operator; a tick that releases a slave; the halt, also one that
 /// was recorded instead of the event. The context is that before the event (own).
 pub fn is_fault(context: &EventContext<'_>, event: &Event, outcome: &Outcome) -> bool
     ensures { result ≡ is_fault context.now event.now outcome.now }
@@ -266,10 +268,15 @@ fn is_fault_of_request(
     ensures { result ≡ is_fault_of_request context.now master request.now outcome.now }
 {
     match outcome {
-        Outcome::Reply { rule, .. } => answered(context, master, request, *rule).is_fault(),
+        Outcome::Reply { rule, .. } => {
+            answered(context, master, request, *rule).is_fault()
+                || is_surprising_answer(context, master, request, *rule)
+        }
         Outcome::Silence(rule) => answered(context, master, request, *rule).is_fault(),
         Outcome::Done => answered(context, master, request, Rule::Done).is_fault(),
-        Outcome::Spread(pairs) => has_fault(context, request, pairs.as_slice()),
+        Outcome::Spread(pairs) => {
+            pairs.is_empty() || has_fault(context, request, pairs.as_slice())
+        }
         Outcome::Released(_) => true,
         Outcome::Refused(_) => false,
     }

@@ -13,7 +13,7 @@ use Rattle.judge_findings.specs.Findings.{finding_fields, finding_lines_of, find
 -- Slave_Diag to slave 5 with FCV 1 and this FCB; the octet stands for the telegram
 abbrev pub diag : Bool → ℕ → Entry
 diag fcb octet =
-    entries.Request (record { address = 5; function = SrdHigh; fcb = fcb; fcv = true; service = services.SlaveDiag; octets = record { items = octet ∷ [] }; time = 0; answer = answers.Silence })
+    entries.Request (record { address = 5; function = SrdHigh; fcb = fcb; fcv = true; service = services.SlaveDiag; octets = record { items = octet ∷ [] }; time = 0; answer = answers.Rs })
 
 abbrev pub after_one : JudgeView
 after_one = record { retries = 3; past = diag true 16 ∷ [] }

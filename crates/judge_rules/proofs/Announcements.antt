@@ -11,7 +11,7 @@ use Rattle.judge_rules.specs.declared.entry.Entry.TheVariants as entries
 use Rattle.judge_rules.specs.declared.entry.Request.{Request}
 use Rattle.judge_rules.specs.declared.station.Station.{Station}
 use Rattle.judge_rules.specs.Effects.{have_none, is_request_to}
-use Rattle.judge_rules.specs.Entries.{diagnosis_in, diag_asked, exchange_asked, is_dh, is_done, prm_asked}
+use Rattle.judge_rules.specs.Entries.{diagnosis_in, diag_asked, diag_read, exchange_asked, is_dh, is_done, is_rr, prm_asked}
 use Rattle.judge_rules.specs.Stations.{is_acknowledged_prm, new_station, one_more, station_after, station_of, station_with, unread_after}
 use Rattle.judge_rules.specs.StationWords.{announces_diagnosis, ends_announcement, exchanges_to}
 use Rattle.judge_rules.proofs.Bools.{and_false}
@@ -31,7 +31,7 @@ stays_none false false exchange answer other = no_dh answer exchange other
 pub none_stays : (unread : Option ℕ) (r : Request) → unread ≡ None → not (announces_diagnosis r) ≡ true → unread_after unread r ≡ None
 none_stays unread r now other =
     ap (λ (u : Option ℕ). unread_after u r) now
-    ∙ stays_none (diag_asked r && is_some (diagnosis_in r.answer)) (is_acknowledged_prm r) (exchange_asked r) r.answer other
+    ∙ stays_none (diag_read r) (is_acknowledged_prm r) (exchange_asked r) r.answer other
 
 ended : (read acknowledged : Bool) (rest : Option ℕ) → (read || acknowledged) ≡ true → (if read then None else if acknowledged then None else rest) ≡ None
 ended true acknowledged rest is = refl
@@ -40,10 +40,10 @@ ended false false rest is = absurd cc
 
 pub none_now : (unread : Option ℕ) (r : Request) → ends_announcement r ≡ true → unread_after unread r ≡ None
 none_now unread r is =
-    ended (diag_asked r && is_some (diagnosis_in r.answer)) (is_acknowledged_prm r) (if exchange_asked r then one_more unread r.answer else unread) is
+    ended (diag_read r) (is_acknowledged_prm r) (if exchange_asked r then one_more unread r.answer else unread) is
 
 -- the DH itself
-dh_is_no_diagnosis : (answer : Answer) → is_dh answer ≡ true → is_some (diagnosis_in answer) ≡ false
+dh_is_no_diagnosis : (answer : Answer) → is_dh answer ≡ true → (is_some (diagnosis_in answer) || is_rr answer) ≡ false
 dh_is_no_diagnosis answers.Dh is = refl
 dh_is_no_diagnosis answer is = absurd cc
 
@@ -63,7 +63,7 @@ pub announced : (unread : Option ℕ) (r : Request) → unread ≡ None → anno
 announced unread r now is =
     let dh : is_dh r.answer ≡ true = (and_parts (exchange_asked r) (is_dh r.answer) is).1 in
     ap (λ (u : Option ℕ). unread_after u r) now
-    ∙ begun (diag_asked r && is_some (diagnosis_in r.answer)) (is_acknowledged_prm r) (exchange_asked r) r.answer
+    ∙ begun (diag_read r) (is_acknowledged_prm r) (exchange_asked r) r.answer
     (ap (λ (b : Bool). diag_asked r && b) (dh_is_no_diagnosis r.answer dh) ∙ and_false (diag_asked r))
     (ap (λ (b : Bool). is_some (prm_asked r) && b) (dh_is_not_done r.answer dh) ∙ and_false (is_some (prm_asked r)))
     is
@@ -96,7 +96,7 @@ goes_on false false false n answer other = same_count n (n + 0) (omega arith)
 more : (unread : Option ℕ) (r : Request) (n : ℕ) → unread ≡ Some (four n) → not (ends_announcement r) ≡ true → unread_after unread r ≡ Some (four (n + cond (exchange_asked r) 1 0))
 more unread r n now other =
     ap (λ (u : Option ℕ). unread_after u r) now
-    ∙ goes_on (diag_asked r && is_some (diagnosis_in r.answer)) (is_acknowledged_prm r) (exchange_asked r) n r.answer other
+    ∙ goes_on (diag_read r) (is_acknowledged_prm r) (exchange_asked r) n r.answer other
 
 here : (at ends exchange : Bool) (s after : Station) (n : ℕ) → s.unread ≡ Some (four n) → (not ends ≡ true → after.unread ≡ Some (four (n + cond exchange 1 0))) → not (at && ends) ≡ true
     → (if at then after else s).unread ≡ Some (four (n + cond (at && exchange) 1 0))

@@ -8,3 +8,4 @@ pub mod StagesSince
 pub mod Windows
 pub mod Retries
 pub mod Since
+pub mod Controls

@@ -1,8 +1,8 @@
 -- What a request left of a station stays as long as none follows that changes it.
-use Rattle.std.proofs.Common.{◌≡◌, ℕ, Bool, true, false, not, List, [], ◌∷◌, ◌++◌, ap, ◌∙◌}
+use Rattle.std.proofs.Common.{◌≡◌, ℕ, Bool, true, false, not, List, [], ◌∷◌, ◌++◌, ap, refl, sym, ◌∙◌}
 use Rattle.std.specs.Prelude.{◌==◌, ◌&&◌, if◌then◌else◌}
 use Rattle.std.specs.List.{fold}
-use Rattle.std.proofs.lemmas.Bool.{and_parts, cond-true, eq-eqb}
+use Rattle.std.proofs.lemmas.Bool.{and_parts, cond-false, cond-true, eq-eqb}
 use Rattle.std.proofs.lemmas.List.Sums.{fold-append}
 use Rattle.judge_rules.specs.declared.entry.Entry.{Entry}
 use Rattle.judge_rules.specs.declared.entry.Entry.TheVariants as entries
@@ -10,6 +10,7 @@ use Rattle.judge_rules.specs.declared.entry.Request.{Request}
 use Rattle.judge_rules.specs.declared.station.Station.{Station}
 use Rattle.judge_rules.specs.Effects.{have_none, is_request_to}
 use Rattle.judge_rules.specs.Stations.{new_station, station_after, station_of, station_with}
+use Rattle.judge_rules.proofs.Bools.{and_true}
 
 -- at another station nothing changes
 one : {X : Type 0} (P : Station → X) (x : X) (at is : Bool) (s after : Station) → P s ≡ x → (not is ≡ true → P after ≡ x) → not (at && is) ≡ true
@@ -57,3 +58,17 @@ ever_since P x step address front back before at now =
     ap (λ (s : Station). P s) (fold-append (station_with address) new_station front (entries.Request before ∷ back))
     ∙ always P x step address (station_with address (station_of address front) (entries.Request before)) back
     (ap (λ (s : Station). P s) (cond-true (before.address == address) (station_after (station_of address front) before) (station_of address front) (eq-eqb before.address address at)) ∙ now)
+
+-- what is not sent to a station leaves it
+left : (address : ℕ) (station : Station) (entry : Entry) → is_request_to (λ any. true) address entry ≡ false → station_with address station entry ≡ station
+left address station (entries.Request request) other =
+    cond-false (request.address == address) (station_after station request) station (sym (and_true (request.address == address)) ∙ other)
+left address station entries.PassedToken other = refl
+left address station entries.Stray other = refl
+
+pub same_station : (address : ℕ) (front back : List Entry) (entry : Entry) → is_request_to (λ any. true) address entry ≡ false
+    → station_of address (front ++ entry ∷ back) ≡ station_of address (front ++ back)
+same_station address front back entry other =
+    fold-append (station_with address) new_station front (entry ∷ back)
+    ∙ ap (λ (s : Station). fold (station_with address) s back) (left address (station_of address front) entry other)
+    ∙ sym (fold-append (station_with address) new_station front back)

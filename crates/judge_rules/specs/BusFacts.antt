@@ -1,21 +1,22 @@
--- What the entries of a master left, whatever the station (own): how often the last telegram was sent again, and how many of the last entries were
--- stray octets.
-use Rattle.std.specs.Prelude.{◌+◌, ◌==◌, ◌&&◌, ◌||◌, not, min, nat_le, if◌then◌else◌, Bool, true, false, List, fold, Option, Some, None}
+-- What the entries of a master left, whatever the station (own): how often the last telegram was sent again, how many of the last entries were stray
+-- octets, and when a Global_Control last went to all stations.
+use Rattle.std.specs.Prelude.{◌+◌, ◌==◌, ◌&&◌, ◌||◌, not, min, nat_le, is_some, if◌then◌else◌, Bool, true, false, List, fold, Option, Some, None}
 use Rattle.dp_cfg.specs.Choosing.{same_octets}
+use Rattle.dp_telegram.specs.Access.{global_address}
 use Rattle.judge_rules.specs.declared.bus.Bus.{Bus}
 use Rattle.judge_rules.specs.declared.bus.Window.{Window}
 use Rattle.judge_rules.specs.declared.entry.Entry.{Entry}
 use Rattle.judge_rules.specs.declared.entry.Entry.TheVariants as entries
 use Rattle.judge_rules.specs.declared.entry.Request.{Request}
 use Rattle.judge_rules.specs.declared.station.Last.{Last}
-use Rattle.judge_rules.specs.Entries.{is_srd}
+use Rattle.judge_rules.specs.Entries.{control_asked, is_srd}
 use Rattle.judge_rules.specs.Stations.{last_of}
 
 abbrev pub new_window : Window
 new_window = record { entries = 0; strays = 0 }
 
 abbrev pub new_bus : Bus
-new_bus = record { last = None; retries = 0; window = new_window }
+new_bus = record { last = None; retries = 0; window = new_window; controlled = 0 }
 
 -- one more entry; with the hundredth a new window begins
 abbrev pub window_after : Window → Bool → Window
@@ -29,11 +30,16 @@ is_retry None request = false
 is_retry (Some last) request =
     is_srd request && not last.answered && (request.fcv || last.time == request.time) && same_octets last.octets.items request.octets.items
 
+-- a Global_Control to all stations, which is an SDN; it restarts watchdogs
+abbrev pub controls_all : Request → Bool
+controls_all request = request.address == global_address && is_some (control_asked request)
+
 abbrev pub bus_after_request : Bus → Request → Bus
 bus_after_request bus request = record {
   last = if is_srd request then Some (last_of request) else None;
   retries = if is_retry bus.last request then min (bus.retries + 1) 255 else 0;
   window = window_after bus.window false;
+  controlled = if controls_all request then request.time else bus.controlled;
 }
 
 -- when the master has the token again, an SRD with FCV 0 is a new one
@@ -47,7 +53,7 @@ bus_after_token bus = record bus { last = if has_fcv bus.last then bus.last else
 abbrev pub bus_after : Bus → Entry → Bus
 bus_after bus (entries.Request request) = bus_after_request bus request
 bus_after bus entries.PassedToken = bus_after_token bus
-bus_after bus entries.Stray = record { last = None; retries = 0; window = window_after bus.window true }
+bus_after bus entries.Stray = record bus { last = None; retries = 0; window = window_after bus.window true }
 
 -- what these entries, one after another, left
 abbrev pub bus_of : List Entry → Bus

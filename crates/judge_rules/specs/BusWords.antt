@@ -1,11 +1,12 @@
 -- Words for the laws of what depends on all entries of a master, whatever the station: a window of a hundred entries, and retries in a row (IEC
 -- 61158-4-3, function code of a request, and retry).
 use Rattle.std.specs.Prelude.{◌==◌, ◌&&◌, ◌||◌, not, Bool, true, false, List, [], ◌∷◌, ℕ}
-use Rattle.std.specs.List.{count_by}
+use Rattle.std.specs.List.{count_by, list_all}
 use Rattle.dp_cfg.specs.Choosing.{same_octets}
 use Rattle.judge_rules.specs.declared.entry.Entry.{Entry}
 use Rattle.judge_rules.specs.declared.entry.Entry.TheVariants as entries
 use Rattle.judge_rules.specs.declared.entry.Request.{Request}
+use Rattle.judge_rules.specs.BusFacts.{controls_all}
 use Rattle.judge_rules.specs.Entries.{is_answered, is_srd}
 
 abbrev pub is_token : Entry → Bool
@@ -41,3 +42,11 @@ last_request before [] = before
 last_request before (entries.Request request ∷ rest) = last_request request rest
 last_request before (entries.PassedToken ∷ rest) = last_request before rest
 last_request before (entries.Stray ∷ rest) = last_request before rest
+
+-- none of these entries is a Global_Control to all stations
+abbrev pub is_control_to_all : Entry → Bool
+is_control_to_all (entries.Request request) = controls_all request
+is_control_to_all other = false
+
+abbrev pub have_no_control_to_all : List Entry → Bool
+have_no_control_to_all past = list_all (λ entry. not (is_control_to_all entry)) past

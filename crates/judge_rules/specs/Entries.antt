@@ -1,9 +1,10 @@
 -- What the rules read of an entry: which service a request asks one station for, and whether there was a reply.
-use Rattle.std.specs.Prelude.{◌==◌, ◌&&◌, not, if◌then◌else◌, Bool, true, false, Option, Some, None}
+use Rattle.std.specs.Prelude.{◌==◌, ◌&&◌, ◌||◌, not, is_some, if◌then◌else◌, Bool, true, false, Option, Some, None}
 use Rattle.dp_telegram.specs.Access.{global_address}
-use Rattle.dp_telegram.specs.FunctionCode.{asks_srd}
+use Rattle.dp_telegram.specs.FunctionCode.{asks_sdn, asks_srd}
 use Rattle.judge_rules.specs.declared.entry.Answer.{Answer}
 use Rattle.judge_rules.specs.declared.entry.Answer.TheVariants as answers
+use Rattle.judge_rules.specs.declared.entry.Control.{Control}
 use Rattle.judge_rules.specs.declared.entry.Diagnosis.{Diagnosis}
 use Rattle.judge_rules.specs.declared.entry.Parameters.{Parameters}
 use Rattle.judge_rules.specs.declared.entry.Request.{Request}
@@ -28,6 +29,10 @@ is_done other = false
 abbrev pub is_ue : Answer → Bool
 is_ue answers.Ue = true
 is_ue other = false
+
+abbrev pub is_rr : Answer → Bool
+is_rr answers.Rr = true
+is_rr other = false
 
 abbrev pub is_dh : Answer → Bool
 is_dh answers.Dh = true
@@ -71,9 +76,21 @@ exchange_asked request = is_served request && is_data_exchange request.service
 abbrev pub diag_asked : Request → Bool
 diag_asked request = is_served request && is_slave_diag request.service
 
+-- a Slave_Diag that was answered with a diagnosis, or with RR: the slave asks to wait
+abbrev pub diag_read : Request → Bool
+diag_read request = diag_asked request && (is_some (diagnosis_in request.answer) || is_rr request.answer)
+
 abbrev pub chk_cfg_asked : Request → Bool
 chk_cfg_asked request = is_served request && is_chk_cfg request.service
 
 -- the parameters of a Set_Prm
 abbrev pub prm_asked : Request → Option Parameters
 prm_asked request = if is_served request then parameters_of request.service else None
+
+-- the bits of a Global_Control, which is an SDN
+abbrev pub control_in : Service → Option Control
+control_in (services.GlobalControl control) = Some control
+control_in other = None
+
+abbrev pub control_asked : Request → Option Control
+control_asked request = if asks_sdn request.function then control_in request.service else None

@@ -1,5 +1,5 @@
 -- The rules of Data_Exchange and of retries (IEC 61158-6-3, Data_Exchange; IEC 61158-4-3, retry), and of what is no request.
-use Rattle.std.specs.Prelude.{ℕ, ◌-◌, ◌==◌, ◌&&◌, nat_le, Bool, false, Option, Some, None}
+use Rattle.std.specs.Prelude.{ℕ, ◌-◌, ◌==◌, ◌&&◌, max, nat_le, Bool, false, Option, Some, None}
 use Rattle.judge_rules.specs.declared.bus.Bus.{Bus}
 use Rattle.judge_rules.specs.declared.entry.Request.{Request}
 use Rattle.judge_rules.specs.declared.station.Last.{Last}
@@ -12,7 +12,7 @@ use Rattle.judge_rules.specs.BusFacts.{is_retry}
 abbrev pub length_repeated : Station → Request → Bool
 length_repeated station request = exchange_asked request && is_ue request.answer && station.wrong_length
 
--- diag-not-read: the fourth Data_Exchange after a DH, with no Slave_Diag since; of one DH it is reported once
+-- diag-not-read: the fourth Data_Exchange after a DH, with no Slave_Diag since that was answered with a diagnosis or RR; of one DH it is reported once
 abbrev pub is_third : Option ℕ → Bool
 is_third None = false
 is_third (Some exchanges) = exchanges == 3
@@ -20,17 +20,19 @@ is_third (Some exchanges) = exchanges == 3
 abbrev pub diag_not_read : Station → Request → Bool
 diag_not_read station request = exchange_asked request && is_third station.unread
 
--- watchdog-short: an SRD to a station that has parameters, and since the last SRD to it at least its watchdog time has passed
-abbrev pub is_gap : ℕ → Option Last → ℕ → Bool
-is_gap watchdog None time = false
-is_gap watchdog (Some last) time = nat_le watchdog (time - last.time)
+-- watchdog-short: an SRD to a station that has parameters, and at least its watchdog time has passed since the later of two: the last SRD to it, and the
+-- last Global_Control to all stations
+abbrev pub is_gap : ℕ → ℕ → Option Last → ℕ → Bool
+is_gap watchdog controlled None time = false
+is_gap watchdog controlled (Some last) time = nat_le watchdog (time - max last.time controlled)
 
-abbrev pub is_past : Option ℕ → Option Last → ℕ → Bool
-is_past None last time = false
-is_past (Some watchdog) last time = is_gap watchdog last time
+abbrev pub is_past : Option ℕ → ℕ → Option Last → ℕ → Bool
+is_past None controlled last time = false
+is_past (Some watchdog) controlled last time = is_gap watchdog controlled last time
 
-abbrev pub watchdog_short : Station → Request → Bool
-watchdog_short station request = is_srd request && is_parametrized station.stage && is_past station.watchdog station.last request.time
+abbrev pub watchdog_short : Bus → Station → Request → Bool
+watchdog_short bus station request =
+    is_srd request && is_parametrized station.stage && is_past station.watchdog bus.controlled station.last request.time
 
 -- retry-limit: one retry more than are allowed; of one telegram it is reported once
 abbrev pub retry_limit : ℕ → Bus → Request → Bool

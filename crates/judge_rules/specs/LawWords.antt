@@ -30,10 +30,11 @@ is_of_a_service rules.PrmOfOther = true
 is_of_a_service rules.MinTsdr = true
 is_of_a_service other = false
 
--- a rule that looks at no entries but the requests to the station
+-- a rule that looks at no entries but the requests to the station; a Global_Control to all stations matters to the watchdog
 abbrev pub is_of_a_station : JudgeRule → Bool
 is_of_a_station rules.RetryLimit = false
 is_of_a_station rules.NoRequest = false
+is_of_a_station rules.WatchdogShort = false
 is_of_a_station other = true
 
 -- a rule of the bring-up, with that of a Set_Prm to another master's slave

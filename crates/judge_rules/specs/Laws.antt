@@ -2,6 +2,7 @@
 -- bit).
 use Rattle.std.specs.Prelude.{ℕ, ◌==◌, ◌&&◌, ◌||◌, not, Bool, false, List}
 use Rattle.std.specs.List.{list_all}
+use Rattle.dp_telegram.specs.Access.{global_address}
 use Rattle.dp_cfg.specs.Choosing.{same_octets}
 use Rattle.judge_rules.specs.declared.entry.Entry.{Entry}
 use Rattle.judge_rules.specs.declared.entry.Entry.TheVariants as entries
@@ -20,11 +21,11 @@ have_no_srd_to address past = list_all (λ entry. not (is_srd_to address entry))
 
 -- the FCB of the new SRD is that of the earlier one, and is valid; the earlier one began the counting or went on with it
 abbrev pub has_fcb_of : Request → Request → Bool
-has_fcb_of before request = is_srd request && request.fcv && (before.fcv || before.fcb) && same_bit before.fcb request.fcb
+has_fcb_of before request = is_srd request && not (request.address == global_address) && request.fcv && (before.fcv || before.fcb) && same_bit before.fcb request.fcb
 
 abbrev pub has_octets_of : Request → Request → Bool
 has_octets_of before request = same_octets before.octets.items request.octets.items
 
 -- the new SRD is counted, though the earlier one was neither counted nor answered
 abbrev pub is_counted_too_early : Request → Request → Bool
-is_counted_too_early before request = is_srd request && request.fcv && not (before.fcv || is_answered before.answer)
+is_counted_too_early before request = is_srd request && not (request.address == global_address) && request.fcv && not (before.fcv || is_answered before.answer)

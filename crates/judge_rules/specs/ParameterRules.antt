@@ -1,13 +1,10 @@
 -- The rules of Set_Prm and of Global_Control (IEC 61158-6-3, Set_Prm request and Global_Control request).
-use Rattle.std.specs.Prelude.{◌==◌, ◌&&◌, ◌||◌, not, nat_lt, is_some, if◌then◌else◌, Bool, false, Option, Some, None}
-use Rattle.dp_telegram.specs.FunctionCode.{asks_sdn}
+use Rattle.std.specs.Prelude.{◌==◌, ◌&&◌, ◌||◌, not, nat_lt, is_some, Bool, false, Option, Some, None}
 use Rattle.judge_rules.specs.declared.entry.Control.{Control}
 use Rattle.judge_rules.specs.declared.entry.Parameters.{Parameters}
 use Rattle.judge_rules.specs.declared.entry.Request.{Request}
-use Rattle.judge_rules.specs.declared.entry.Service.{Service}
-use Rattle.judge_rules.specs.declared.entry.Service.TheVariants as services
 use Rattle.judge_rules.specs.declared.station.Station.{Station}
-use Rattle.judge_rules.specs.Entries.{is_none_selected, prm_asked}
+use Rattle.judge_rules.specs.Entries.{control_asked, is_none_selected, prm_asked}
 use Rattle.judge_rules.specs.BringUpRules.{is_taken}
 
 -- prm-of-other: Set_Prm to a slave that the last diagnosis showed as another master's
@@ -21,14 +18,6 @@ has_low_min_tsdr (Some parameters) = not (parameters.min_tsdr == 0) && nat_lt pa
 
 abbrev pub min_tsdr_low : Request → Bool
 min_tsdr_low request = has_low_min_tsdr (prm_asked request)
-
--- the bits of a Global_Control, which is an SDN
-abbrev pub control_in : Service → Option Control
-control_in (services.GlobalControl control) = Some control
-control_in other = None
-
-abbrev pub control_asked : Request → Option Control
-control_asked request = if asks_sdn request.function then control_in request.service else None
 
 -- group-not-set: the sender holds a slave, and each slave that it holds has none of the groups of Group_Select in its parameters
 abbrev pub group_not_set : Request → Bool

@@ -164,10 +164,9 @@ entry_of_telegram master octets outcome time telegram =
     if not (is_request telegram.fc) || not (address_of telegram.sa == master) then entries.Stray
     else entry_of_parts master octets outcome time telegram (parts_of telegram)
 
--- a token is passed on if its source is the master and its destination another station (IEC 61158-4-3, token passing); in a ring of one the
--- destination is the master
+-- a token is passed on if its source is the master and its destination a station (IEC 61158-4-3, token passing): in a ring of one, the master itself
 abbrev pub is_passed_on : ℕ → ℕ → ℕ → Bool
-is_passed_on master da sa = address_of sa == master && is_station (address_of da) && not (address_of da == master)
+is_passed_on master da sa = address_of sa == master && is_station (address_of da)
 
 abbrev pub entry_of_token : ℕ → ℕ → ℕ → Entry
 entry_of_token master da sa = if is_passed_on master da sa then entries.PassedToken else entries.Stray

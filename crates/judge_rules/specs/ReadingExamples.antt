@@ -16,7 +16,7 @@ entry_of octets = entry_of_frame 1 (record { items = octets }) (outcomes.Silence
 pub token_to_2 : entry_of (0xDC ∷ 2 ∷ 1 ∷ []) ≡ entries.PassedToken
 token_to_2 = refl
 
-pub token_to_itself : entry_of (0xDC ∷ 1 ∷ 1 ∷ []) ≡ entries.Stray
+pub token_to_itself : entry_of (0xDC ∷ 1 ∷ 1 ∷ []) ≡ entries.PassedToken
 token_to_itself = refl
 
 pub token_of_2 : entry_of (0xDC ∷ 1 ∷ 2 ∷ []) ≡ entries.Stray

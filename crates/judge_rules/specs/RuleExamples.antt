@@ -1,6 +1,6 @@
 -- Examples of masters, and the rules that their last entry breaks. Each holds by computation.
 use Rattle.std.specs.Prelude.{◌≡◌, ℕ, Bool, true, false, List, [], ◌∷◌, ◌++◌, None, Some, refl}
-use Rattle.dp_telegram.specs.declared.function_code.Function.TheVariants.{SrdHigh}
+use Rattle.dp_telegram.specs.declared.function_code.Function.TheVariants.{SdnHigh, SrdHigh}
 use Rattle.judge_rules.specs.declared.entry.Answer.{Answer}
 use Rattle.judge_rules.specs.declared.entry.Answer.TheVariants as answers
 use Rattle.judge_rules.specs.declared.entry.Asked.TheVariants as asks
@@ -186,3 +186,28 @@ set_slave_add = refl
 
 pub point_of_dp_v1 : broken_rules 3 diagnosed (srd false 6 services.Unknown answers.Rs) ≡ rules.UnknownPoint ∷ []
 point_of_dp_v1 = refl
+
+-- another telegram with the FCB of one that was not answered is right: the slave has not taken it
+pub fcb_of_a_lost_telegram :
+    broken_rules 3 (brought_up ++ srd true 4 services.DataExchange answers.Silence ∷ []) (srd true 1 services.SlaveDiag (answers.Diagnosis ready)) ≡ []
+fcb_of_a_lost_telegram = refl
+
+-- a diagnosis that the slave asks to wait for, after DH, is read as soon as it can be
+pub diagnosis_is_busy :
+    broken_rules 3
+    (brought_up ++ srd true 4 services.DataExchange answers.Dh ∷ srd false 4 services.DataExchange answers.Dh ∷ srd true 1 services.SlaveDiag answers.Rr
+    ∷ srd false 4 services.DataExchange answers.Dh ∷ srd true 4 services.DataExchange answers.Dh ∷ [])
+    (srd false 4 services.DataExchange answers.Dh)
+    ≡ []
+diagnosis_is_busy = refl
+
+-- a Global_Control to all stations restarts the watchdog
+abbrev pub control_at : ℕ → Entry
+control_at time =
+    entries.Request (record { address = 127; function = SdnHigh; fcb = false; fcv = false; service = services.GlobalControl (record { unfreeze = false; freeze = false; unsync = false; sync = false; reserved = false }); octets = record { items = 9 ∷ [] }; time = time; answer = answers.Silence })
+
+pub control_ends_a_gap : broken_rules 3 (watched ++ control_at 5 ∷ []) (srd_at 14 true 4 services.DataExchange answers.Done) ≡ []
+control_ends_a_gap = refl
+
+pub gap_after_a_control : broken_rules 3 (watched ++ control_at 5 ∷ []) (srd_at 15 true 4 services.DataExchange answers.Done) ≡ rules.WatchdogShort ∷ []
+gap_after_a_control = refl

@@ -1,11 +1,11 @@
 -- Words for the laws of Data_Exchange and of the watchdog: what an earlier request to a station was (IEC 61158-6-3, Data_Exchange and Set_Prm
 -- request).
-use Rattle.std.specs.Prelude.{ℕ, ◌&&◌, ◌||◌, is_some, Bool, true, false, List}
+use Rattle.std.specs.Prelude.{ℕ, ◌&&◌, ◌||◌, Bool, true, false, List}
 use Rattle.std.specs.List.{count_by}
 use Rattle.judge_rules.specs.declared.entry.Entry.{Entry}
 use Rattle.judge_rules.specs.declared.entry.Request.{Request}
 use Rattle.judge_rules.specs.Effects.{Effect, locks, releases, is_request_to}
-use Rattle.judge_rules.specs.Entries.{diagnosis_in, diag_asked, exchange_asked, is_dh, is_ue}
+use Rattle.judge_rules.specs.Entries.{diag_read, exchange_asked, is_dh, is_ue}
 use Rattle.judge_rules.specs.Stations.{is_acknowledged_prm}
 
 -- a Data_Exchange that was refused by UE
@@ -16,9 +16,9 @@ is_wrong_length request = exchange_asked request && is_ue request.answer
 abbrev pub announces_diagnosis : Request → Bool
 announces_diagnosis request = exchange_asked request && is_dh request.answer
 
--- a Slave_Diag that was answered, or a Set_Prm that was acknowledged
+-- a Slave_Diag that was answered with a diagnosis or RR, or a Set_Prm that was acknowledged
 abbrev pub ends_announcement : Request → Bool
-ends_announcement request = diag_asked request && is_some (diagnosis_in request.answer) || is_acknowledged_prm request
+ends_announcement request = diag_read request || is_acknowledged_prm request
 
 -- the number of Data_Exchange to the station among these entries
 abbrev pub exchanges_to : ℕ → List Entry → ℕ

@@ -11,7 +11,7 @@ use Rattle.judge_rules.specs.declared.entry.Request.{Request}
 use Rattle.judge_rules.specs.declared.stage.Stage.TheVariants as stages
 use Rattle.judge_rules.specs.declared.station.Last.{Last}
 use Rattle.judge_rules.specs.declared.station.Station.{Station}
-use Rattle.judge_rules.specs.Entries.{is_answered, is_dh, is_done, is_srd, is_ue, diagnosis_in, diag_asked, exchange_asked, prm_asked}
+use Rattle.judge_rules.specs.Entries.{is_answered, is_dh, is_done, is_srd, is_ue, diag_read, exchange_asked, prm_asked}
 use Rattle.judge_rules.specs.Stages.{stage_after}
 
 abbrev pub last_of : Request → Last
@@ -41,7 +41,7 @@ one_more None answer = if is_dh answer then Some 0 else None
 
 abbrev pub unread_after : Option ℕ → Request → Option ℕ
 unread_after unread request =
-    if diag_asked request && is_some (diagnosis_in request.answer) then None
+    if diag_read request then None
     else if is_acknowledged_prm request then None
     else if exchange_asked request then one_more unread request.answer
     else unread

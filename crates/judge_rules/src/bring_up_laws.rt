@@ -262,8 +262,7 @@ pub fn a_repeat_asks_for_no_service()
 {}
 
 /// What a master sends to another station, a token that it passes on and octets that are no request change nothing for
-/// the rules of a station: those of the frame count bit, of the bring-up, of Data_Exchange, of Set_Prm and of the
-/// watchdog.
+/// the rules of a station: those of the frame count bit, of the bring-up, of Data_Exchange and of Set_Prm.
 pub fn a_station_is_judged_by_the_requests_to_it()
     ensures { (limit : ℕ) (front back : List Entry) (entry : Entry) (request : Request) (rule : JudgeRule)
         → is_request_to (λ any. true) request.address entry ≡ false

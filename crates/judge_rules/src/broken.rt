@@ -46,7 +46,7 @@ pub(crate) fn broken_by(
         JudgeRule::DiagNotRead => diag_not_read(station, request),
         JudgeRule::PrmOfOther => prm_of_other(station, request),
         JudgeRule::MinTsdr => min_tsdr_low(request),
-        JudgeRule::WatchdogShort => watchdog_short(station, request),
+        JudgeRule::WatchdogShort => watchdog_short(bus, station, request),
         JudgeRule::GroupNotSet => group_not_set(request),
         JudgeRule::ControlBoth => control_both(request),
         JudgeRule::ControlReserved => control_reserved(request),
@@ -61,29 +61,5 @@ pub(crate) fn broken_by(
 pub(crate) fn broken_by_stray(bus: &Bus, rule: JudgeRule) -> bool
     ensures { result ≡ broken_by_stray bus.now rule }
 {
-    match rule {
-        JudgeRule::NoRequest => is_stray_often(bus),
-        JudgeRule::FcbRepeated
-        | JudgeRule::FcbNotAlternated
-        | JudgeRule::FcbFirst
-        | JudgeRule::FcbNotAllowed
-        | JudgeRule::RetryLimit
-        | JudgeRule::PrmBeforeDiag
-        | JudgeRule::CfgBeforePrm
-        | JudgeRule::ExchangeBeforeReady
-        | JudgeRule::ExchangeWithoutDiag
-        | JudgeRule::ExchangeAfterRs
-        | JudgeRule::ExchangeOfOther
-        | JudgeRule::LengthRepeated
-        | JudgeRule::DiagNotRead
-        | JudgeRule::PrmOfOther
-        | JudgeRule::MinTsdr
-        | JudgeRule::WatchdogShort
-        | JudgeRule::GroupNotSet
-        | JudgeRule::ControlBoth
-        | JudgeRule::ControlReserved
-        | JudgeRule::SdnNeedsReply
-        | JudgeRule::BroadcastNeedsReply
-        | JudgeRule::UnknownPoint => false,
-    }
+    matches!(rule, JudgeRule::NoRequest) && is_stray_often(bus)
 }

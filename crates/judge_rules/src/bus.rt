@@ -2,10 +2,12 @@
 
 ghost use Rattle.std.specs.Prelude.{◌≡◌};
 ghost use Rattle.dp_cfg.specs.Choosing.{same_octets};
-ghost use Rattle.judge_rules.specs.BusFacts.{bus_after, bus_after_request, bus_after_token, has_fcv, is_retry, new_bus, window_after};
+ghost use Rattle.judge_rules.specs.BusFacts.{bus_after, bus_after_request, bus_after_token, controls_all, has_fcv, is_retry, new_bus, window_after};
 
 use crate::entry::{Entry, Request};
+use crate::parameter_rules::control_asked;
 use crate::station::Last;
+use dp_telegram::GLOBAL_ADDRESS;
 
 /// The number of entries after which the hundredth ends a window.
 const LAST_ENTRIES: u8 = 99;
@@ -27,6 +29,8 @@ pub(crate) struct Bus {
     /// How many times in a row the last telegram was sent again without an answer, at most 255.
     pub(crate) retries: u8,
     pub(crate) window: Window,
+    /// The sum of the ticks before the last Global_Control to all stations, in units of 10 ms; 0 without one.
+    pub(crate) controlled: u64,
 }
 
 impl Window {
@@ -63,6 +67,7 @@ impl Bus {
                 entries: 0,
                 strays: 0,
             },
+            controlled: 0,
         }
     }
 
@@ -121,7 +126,17 @@ impl Bus {
             None
         };
         self.window = self.window.after(false);
+        if controls_all(request) {
+            self.controlled = request.time;
+        }
     }
+}
+
+/// Returns whether a request is a Global_Control to all stations.
+fn controls_all(request: &Request) -> bool
+    ensures { result ≡ controls_all request.now }
+{
+    request.address == GLOBAL_ADDRESS && control_asked(request).is_some()
 }
 
 /// Returns whether this is an SRD with FCV 1.

@@ -1,7 +1,7 @@
 //! What the rules read of an entry of a journal.
 
 ghost use Rattle.std.specs.Prelude.{◌≡◌};
-ghost use Rattle.judge_rules.specs.Entries.{chk_cfg_asked, diag_asked, exchange_asked, is_answered, is_served, is_srd, prm_asked, is_repeat_answer, is_done, is_ue, is_dh, is_none_selected, diagnosis_in};
+ghost use Rattle.judge_rules.specs.Entries.{chk_cfg_asked, diag_asked, exchange_asked, is_answered, is_served, is_srd, prm_asked, is_repeat_answer, is_done, is_rr, is_ue, is_dh, is_none_selected, diagnosis_in, diag_read};
 
 use dp_telegram::{Function, GLOBAL_ADDRESS, Octets};
 
@@ -10,8 +10,8 @@ use dp_telegram::{Function, GLOBAL_ADDRESS, Octets};
 pub enum Entry {
     /// A telegram that is a request of the master.
     Request(Request),
-    /// A token that the master passes on to another station (IEC 61158-4-3, token passing). It breaks no rule, and no rule
-    /// counts it.
+    /// A token that the master passes on (IEC 61158-4-3, token passing), also one to itself, as a master that is alone in
+    /// the ring passes it. It breaks no rule, and no rule counts it.
     PassedToken,
     /// Octets that are no request of the master: no frame, a short acknowledgement, a token that is not passed on, a
     /// response, a telegram with the source address of another station, or one without an extension octet that it
@@ -184,6 +184,13 @@ impl Answer {
         matches!(self, Answer::Done)
     }
 
+    /// Returns whether it is RR.
+    fn is_rr(self) -> bool
+        ensures { result ≡ is_rr self }
+    {
+        matches!(self, Answer::Rr)
+    }
+
     /// Returns whether it is UE.
     pub(crate) fn is_ue(self) -> bool
         ensures { result ≡ is_ue self }
@@ -250,6 +257,13 @@ impl Request {
         ensures { result ≡ diag_asked self.now }
     {
         self.is_served() && matches!(self.service, Service::SlaveDiag)
+    }
+
+    /// Returns whether it is a Slave_Diag that was answered with a diagnosis, or with RR: the slave asks to wait.
+    pub(crate) fn reads_diag(&self) -> bool
+        ensures { result ≡ diag_read self.now }
+    {
+        self.asks_diag() && (self.answer.diagnosis().is_some() || self.answer.is_rr())
     }
 
     /// Returns whether it asks one station for Chk_Cfg.

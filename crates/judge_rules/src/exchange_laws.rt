@@ -1,13 +1,14 @@
 //! Laws of the rules of Data_Exchange and of the watchdog: each is the contract of an empty function.
 
-ghost use Rattle.std.specs.Prelude.{◌≡◌, ◌++◌, ◌∷◌, ◌==◌, ◌-◌, ◌&&◌, nat_le, ℕ, true, false, List, None, Some};
+ghost use Rattle.std.specs.Prelude.{◌≡◌, ◌++◌, ◌∷◌, ◌==◌, ◌-◌, ◌&&◌, max, nat_le, ℕ, true, false, List, None, Some};
 ghost use Rattle.judge_rules.specs.declared.entry.Entry.{Entry};
 ghost use Rattle.judge_rules.specs.declared.entry.Entry.TheVariants as entries;
 ghost use Rattle.judge_rules.specs.declared.entry.Parameters.{Parameters};
 ghost use Rattle.judge_rules.specs.declared.entry.Request.{Request};
 ghost use Rattle.judge_rules.specs.declared.rule.JudgeRule.TheVariants as rules;
-ghost use Rattle.judge_rules.specs.Effects.{effect, have_no_effect, have_none, locks, releases};
+ghost use Rattle.judge_rules.specs.Effects.{effect, have_no_effect, have_none, is_request_to, locks, releases};
 ghost use Rattle.judge_rules.specs.Entries.{chk_cfg_asked, exchange_asked, is_srd, prm_asked};
+ghost use Rattle.judge_rules.specs.BusWords.{have_no_control_to_all, is_control_to_all};
 ghost use Rattle.judge_rules.specs.Laws.{have_no_srd_to, is_srd_to};
 ghost use Rattle.judge_rules.specs.Stations.{is_acknowledged_prm};
 ghost use Rattle.judge_rules.specs.StationWords.{announces_diagnosis, ends_announcement, exchanges_to, is_wrong_length, sets_watchdog};
@@ -32,8 +33,9 @@ pub fn a_wrong_length_is_reported_from_the_second_on()
         → breaks limit (front ++ entries.Request before ∷ back) (entries.Request request) rules.LengthRepeated ≡ false }
 {}
 
-/// `diag-not-read`: after the first DH that no answered Slave_Diag and no acknowledged Set_Prm has followed, a
-/// Data_Exchange is reported exactly if it is the fourth since. Without such a DH none is reported.
+/// `diag-not-read`: after the first DH that no Slave_Diag that was answered with a diagnosis or RR has followed, and no
+/// acknowledged Set_Prm, a Data_Exchange is reported exactly if it is the fourth since. Without such a DH none is
+/// reported.
 pub fn the_fourth_exchange_after_dh_needs_a_diagnosis()
     ensures none { (limit : ℕ) (past : List Entry) (request : Request)
         → have_none announces_diagnosis request.address past ≡ true
@@ -63,8 +65,8 @@ pub fn the_fourth_exchange_after_dh_needs_a_diagnosis()
 
 /// `watchdog-short`: an SRD to a station that has parameters, so that a Chk_Cfg in its place would not be reported as
 /// `cfg-before-prm`, is reported exactly if the last acknowledged Set_Prm that locked or released the station set a
-/// watchdog time, and at least that time has passed since the last SRD to the station. What was answered does not
-/// matter.
+/// watchdog time, and at least that time has passed since the later of two: the last SRD to the station, and the last
+/// Global_Control to all stations. What was answered does not matter.
 pub fn a_gap_of_the_watchdog_time_is_reported()
     ensures gap { (limit watchdog : ℕ) (past front back earlier later : List Entry) (setting before configuration request : Request)
         (parameters : Parameters)
@@ -77,11 +79,31 @@ pub fn a_gap_of_the_watchdog_time_is_reported()
         → past ≡ earlier ++ entries.Request before ∷ later
         → is_srd_to request.address (entries.Request before) ≡ true
         → have_no_srd_to request.address later ≡ true
+        → have_no_control_to_all past ≡ true
         → configuration.address ≡ request.address
         → chk_cfg_asked configuration ≡ true
         → breaks limit past (entries.Request configuration) rules.CfgBeforePrm ≡ false
         → breaks limit past (entries.Request request) rules.WatchdogShort
         ≡ (is_srd request && nat_le watchdog (request.time - before.time)) }
+    ensures controlled { (limit watchdog : ℕ) (past front back earlier later others behind : List Entry)
+        (setting before control configuration request : Request) (parameters : Parameters)
+        → past ≡ front ++ entries.Request setting ∷ back
+        → setting.address ≡ request.address
+        → effect setting ≡ locks
+        → prm_asked setting ≡ Some parameters
+        → parameters.watchdog ≡ Some watchdog
+        → have_no_effect sets_watchdog request.address back ≡ true
+        → past ≡ earlier ++ entries.Request before ∷ later
+        → is_srd_to request.address (entries.Request before) ≡ true
+        → have_no_srd_to request.address later ≡ true
+        → past ≡ others ++ entries.Request control ∷ behind
+        → is_control_to_all (entries.Request control) ≡ true
+        → have_no_control_to_all behind ≡ true
+        → configuration.address ≡ request.address
+        → chk_cfg_asked configuration ≡ true
+        → breaks limit past (entries.Request configuration) rules.CfgBeforePrm ≡ false
+        → breaks limit past (entries.Request request) rules.WatchdogShort
+        ≡ (is_srd request && nat_le watchdog (request.time - max before.time control.time)) }
     ensures no_watchdog { (limit : ℕ) (front back : List Entry) (setting request : Request) (parameters : Parameters)
         → setting.address ≡ request.address
         → effect setting ≡ locks
@@ -101,4 +123,13 @@ pub fn a_gap_of_the_watchdog_time_is_reported()
         → configuration.address ≡ request.address
         → breaks limit past (entries.Request configuration) rules.CfgBeforePrm ≡ true
         → breaks limit past (entries.Request request) rules.WatchdogShort ≡ false }
+{}
+
+/// What a master sends to another station changes nothing for `watchdog-short`, but for a Global_Control to all stations.
+pub fn only_a_global_control_to_all_matters_to_a_gap()
+    ensures { (limit : ℕ) (front back : List Entry) (entry : Entry) (request : Request)
+        → is_request_to (λ any. true) request.address entry ≡ false
+        → is_control_to_all entry ≡ false
+        → breaks limit (front ++ entry ∷ back) (entries.Request request) rules.WatchdogShort
+        ≡ breaks limit (front ++ back) (entries.Request request) rules.WatchdogShort }
 {}

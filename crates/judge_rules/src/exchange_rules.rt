@@ -30,31 +30,37 @@ pub(crate) fn diag_not_read(station: &Station, request: &Request) -> bool
     }
 }
 
-/// Returns whether an SRD comes after a gap as long as the watchdog of a station that has parameters, or longer.
-pub(crate) fn watchdog_short(station: &Station, request: &Request) -> bool
-    ensures { result ≡ watchdog_short station.now request.now }
+/// Returns whether an SRD comes after a gap as long as the watchdog of a station that has parameters, or longer. A
+/// Global_Control to all stations ends a gap.
+pub(crate) fn watchdog_short(bus: &Bus, station: &Station, request: &Request) -> bool
+    ensures { result ≡ watchdog_short bus.now station.now request.now }
 {
     request.is_srd()
         && station.stage.is_parametrized()
-        && is_past(station.watchdog, &station.last, request.time)
+        && is_past(
+            station.watchdog,
+            bus.controlled,
+            &station.last,
+            request.time,
+        )
 }
 
-/// Returns whether the watchdog time has passed since the last SRD.
-fn is_past(watchdog: Option<u32>, last: &Option<Last>, time: u64) -> bool
-    ensures { result ≡ is_past watchdog last.now time }
+/// Returns whether the watchdog time has passed since the last SRD, and since this time of a Global_Control.
+fn is_past(watchdog: Option<u32>, controlled: u64, last: &Option<Last>, time: u64) -> bool
+    ensures { result ≡ is_past watchdog controlled last.now time }
 {
     match watchdog {
-        Some(watchdog) => is_gap(watchdog, last, time),
+        Some(watchdog) => is_gap(watchdog, controlled, last, time),
         None => false,
     }
 }
 
-/// Returns whether this time has passed since the last SRD.
-fn is_gap(watchdog: u32, last: &Option<Last>, time: u64) -> bool
-    ensures { result ≡ is_gap watchdog last.now time }
+/// Returns whether this time has passed since the last SRD, and since this time of a Global_Control.
+fn is_gap(watchdog: u32, controlled: u64, last: &Option<Last>, time: u64) -> bool
+    ensures { result ≡ is_gap watchdog controlled last.now time }
 {
     match last {
-        Some(last) => u64::from(watchdog) <= time.saturating_sub(last.time),
+        Some(last) => { u64::from(watchdog) <= time.saturating_sub(last.time.max(controlled)) }
         None => false,
     }
 }

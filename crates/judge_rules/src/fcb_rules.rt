@@ -1,21 +1,28 @@
 //! The rules of the frame count bit (IEC 61158-4-3, frame count bit).
 
 ghost use Rattle.std.specs.Prelude.{◌≡◌};
-ghost use Rattle.judge_rules.specs.FcbRules.{counts_alike, fcb_first, fcb_not_allowed, fcb_not_alternated, fcb_repeated, has_no_count};
+ghost use Rattle.judge_rules.specs.FcbRules.{counts_alike, is_counted, fcb_first, fcb_not_allowed, fcb_not_alternated, fcb_repeated, has_no_count};
 
 use crate::bus::same_octets;
 use crate::entry::Request;
 use crate::station::{Last, Station};
-use dp_telegram::Function;
+use dp_telegram::{Function, GLOBAL_ADDRESS};
+
+/// Returns whether the frame count bit of a request is judged: of an SRD to one station.
+fn is_counted(request: &Request) -> bool
+    ensures { result ≡ is_counted request.now }
+{
+    request.is_srd() && request.address != GLOBAL_ADDRESS
+}
 
 /// Returns whether a slave takes the request, an SRD with FCV 1, as a repeat of the last SRD: it remembers its FCB.
 fn counts_alike(last: &Last, request: &Request) -> bool
     ensures { result ≡ counts_alike last.now request.now }
 {
-    request.is_srd() && request.fcv && (last.fcv || last.fcb) && last.fcb == request.fcb
+    is_counted(request) && request.fcv && (last.fcv || last.fcb) && last.fcb == request.fcb
 }
 
-/// Returns whether the FCB is that of the last SRD to the station, which was another telegram.
+/// Returns whether the FCB is that of the last SRD to the station, which was answered, and another telegram.
 pub(crate) fn fcb_repeated(station: &Station, request: &Request) -> bool
     ensures { result ≡ fcb_repeated station.now request.now }
 {
@@ -23,6 +30,7 @@ pub(crate) fn fcb_repeated(station: &Station, request: &Request) -> bool
         Some(last) => {
             counts_alike(last, request)
                 && !same_octets(last.octets.as_slice(), request.octets.as_slice())
+                && last.answered
         }
         None => false,
     }
@@ -47,8 +55,8 @@ pub(crate) fn fcb_first(station: &Station, request: &Request) -> bool
     ensures { result ≡ fcb_first station.now request.now }
 {
     match &station.last {
-        Some(last) => request.is_srd() && request.fcv && !(last.fcv || last.answered),
-        None => request.is_srd() && request.fcv,
+        Some(last) => is_counted(request) && request.fcv && !(last.fcv || last.answered),
+        None => is_counted(request) && request.fcv,
     }
 }
 

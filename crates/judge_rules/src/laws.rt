@@ -1,25 +1,26 @@
 //! Laws of the rules: each is the contract of an empty function.
 
-ghost use Rattle.std.specs.Prelude.{◌≡◌, ◌++◌, ◌∷◌, ◌&&◌, not, ℕ, true, false, List, Some};
+ghost use Rattle.std.specs.Prelude.{◌≡◌, ◌==◌, ◌++◌, ◌∷◌, ◌&&◌, not, ℕ, true, false, List, Some};
 ghost use Rattle.judge_rules.specs.declared.entry.Entry.{Entry};
 ghost use Rattle.judge_rules.specs.declared.entry.Entry.TheVariants as entries;
 ghost use Rattle.judge_rules.specs.declared.entry.Request.{Request};
 ghost use Rattle.judge_rules.specs.declared.rule.JudgeRule.TheVariants as rules;
+ghost use Rattle.dp_telegram.specs.Access.{global_address};
 ghost use Rattle.judge_rules.specs.Before.{srd_before};
 ghost use Rattle.judge_rules.specs.Entries.{is_answered, is_srd};
 ghost use Rattle.judge_rules.specs.Laws.{has_fcb_of, has_octets_of, have_no_srd_to, is_counted_too_early, is_srd_to};
 ghost use Rattle.judge_rules.specs.Rules.{breaks};
 
-/// An SRD is compared with the last SRD of the master to the same station, whatever lies between: `fcb-repeated` is
-/// reported exactly if both have the same valid FCB and are other telegrams, `fcb-not-alternated` exactly if they are the
-/// same telegram and the first was answered, and `fcb-first` exactly if the new one is counted though the first was
+/// An SRD is compared with the last SRD of the master to the same station, whatever lies between; one to all stations is
+/// not judged. `fcb-repeated` is reported exactly if both have the same valid FCB and are other telegrams, and the first
+/// was answered, `fcb-not-alternated` exactly if they are the same telegram and the first was answered, and `fcb-first` exactly if the new one is counted though the first was
 /// neither counted nor answered. The telegram that is shown with a finding is that last SRD.
 pub fn an_srd_is_compared_with_the_last_one()
     ensures repeated { (limit : ℕ) (front back : List Entry) (before request : Request)
         → is_srd_to request.address (entries.Request before) ≡ true
         → have_no_srd_to request.address back ≡ true
         → breaks limit (front ++ entries.Request before ∷ back) (entries.Request request) rules.FcbRepeated
-        ≡ (has_fcb_of before request && not (has_octets_of before request)) }
+        ≡ (has_fcb_of before request && not (has_octets_of before request) && is_answered before.answer) }
     ensures alternated { (limit : ℕ) (front back : List Entry) (before request : Request)
         → is_srd_to request.address (entries.Request before) ≡ true
         → have_no_srd_to request.address back ≡ true
@@ -36,11 +37,13 @@ pub fn an_srd_is_compared_with_the_last_one()
         → srd_before (front ++ entries.Request before ∷ back) (entries.Request request) ≡ Some before.octets.items }
 {}
 
-/// The first SRD of a master to a station repeats nothing, and breaks `fcb-first` exactly if it has FCV 1.
+/// The first SRD of a master to a station repeats nothing, and breaks `fcb-first` exactly if it has FCV 1 and is not sent
+/// to all stations.
 pub fn the_first_srd_has_fcv_0()
     ensures first { (limit : ℕ) (past : List Entry) (request : Request)
         → have_no_srd_to request.address past ≡ true
-        → breaks limit past (entries.Request request) rules.FcbFirst ≡ (is_srd request && request.fcv) }
+        → breaks limit past (entries.Request request) rules.FcbFirst
+        ≡ (is_srd request && not (request.address == global_address) && request.fcv) }
     ensures repeated { (limit : ℕ) (past : List Entry) (request : Request)
         → have_no_srd_to request.address past ≡ true
         → breaks limit past (entries.Request request) rules.FcbRepeated ≡ false }

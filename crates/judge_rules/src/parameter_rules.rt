@@ -1,7 +1,8 @@
 //! The rules of Set_Prm and of Global_Control (IEC 61158-6-3, Set_Prm request and Global_Control request).
 
 ghost use Rattle.std.specs.Prelude.{◌≡◌};
-ghost use Rattle.judge_rules.specs.ParameterRules.{control_both, control_in, control_reserved, control_asked, group_not_set, has_low_min_tsdr, min_tsdr_low, prm_of_other};
+ghost use Rattle.judge_rules.specs.Entries.{control_asked, control_in};
+ghost use Rattle.judge_rules.specs.ParameterRules.{control_both, control_reserved, group_not_set, has_low_min_tsdr, min_tsdr_low, prm_of_other};
 
 use crate::entry::{Control, Parameters, Request, Service};
 use crate::stage::Stage;
@@ -62,7 +63,7 @@ pub(crate) fn control_reserved(request: &Request) -> bool
 }
 
 /// Returns the bits of a Global_Control; None if the request is no SDN to its point.
-fn control_asked(request: &Request) -> Option<Control>
+pub(crate) fn control_asked(request: &Request) -> Option<Control>
     ensures { result ≡ control_asked request.now }
 {
     if request.function.is_sdn() {

@@ -53,12 +53,11 @@ fn entry_of_token(master: u8, da: u8, sa: u8) -> Entry
     }
 }
 
-/// Returns whether the source of a token is the master, and its destination another station.
+/// Returns whether the source of a token is the master, and its destination a station, also the master itself.
 fn is_passed_on(master: u8, da: u8, sa: u8) -> bool
     ensures { result ≡ is_passed_on master da sa }
 {
-    let destination = da & ADDRESS_BITS;
-    sa & ADDRESS_BITS == master && destination < GLOBAL_ADDRESS && destination != master
+    sa & ADDRESS_BITS == master && da & ADDRESS_BITS < GLOBAL_ADDRESS
 }
 
 /// Returns the entry of a telegram of a master.

@@ -112,7 +112,7 @@ fn is_acknowledged_prm(request: &Request) -> bool
 fn unread_after(unread: Option<u8>, request: &Request) -> Option<u8>
     ensures { result ≡ unread_after unread request.now }
 {
-    if request.asks_diag() && request.answer.diagnosis().is_some() {
+    if request.reads_diag() {
         return None;
     }
     if is_acknowledged_prm(request) {

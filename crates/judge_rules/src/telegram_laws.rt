@@ -12,9 +12,8 @@ ghost use Rattle.judge_rules.specs.declared.entry.Request.{Request};
 ghost use Rattle.judge_rules.specs.declared.entry.Service.TheVariants as services;
 ghost use Rattle.judge_rules.specs.declared.rule.JudgeRule.{JudgeRule};
 ghost use Rattle.judge_rules.specs.declared.rule.JudgeRule.TheVariants as rules;
-ghost use Rattle.judge_rules.specs.Entries.{is_none_selected, is_srd, prm_asked};
+ghost use Rattle.judge_rules.specs.Entries.{control_asked, is_none_selected, is_srd, prm_asked};
 ghost use Rattle.judge_rules.specs.LawWords.{is_of_the_telegram};
-ghost use Rattle.judge_rules.specs.ParameterRules.{control_asked};
 ghost use Rattle.judge_rules.specs.TelegramRules.{has_reply, is_answered_function};
 ghost use Rattle.judge_rules.specs.Rules.{breaks};
 

@@ -1,9 +1,9 @@
 //! Prints what `clap` answers to words.
 
-use crate::ending::Fault;
 use clap::error::ErrorKind as Answer;
 use rack_script::RunFault;
 use rackd_cli::{Invocation, read_words};
+use rackd_faults::Fault;
 use serve_log::{Escaped, is_escaped};
 use std::alloc::Global;
 use std::process::ExitCode;

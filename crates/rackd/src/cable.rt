@@ -1,12 +1,13 @@
 //! Serves a cable.
 
-use crate::ending::Fault;
 use crate::invoking::stand_ins;
 use cable_faults::{Chance, Covered, Options};
 use cable_host::{CableFault, CableSettings, listen_at, serve_cable};
 use rack_script::RunFault;
 use rackd_cli::{CableWords, FaultyTelegrams};
-use serve_rack::{Host, ServeFault};
+use rackd_faults::Fault;
+use serve_faults::ServeFault;
+use serve_rack::Host;
 use serve_sockets::replace_file;
 use std::fs::{File, Files};
 use std::io::{self, Read};

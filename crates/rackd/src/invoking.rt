@@ -2,14 +2,12 @@
 
 use crate::answers::answer_words;
 use crate::cable::run_cable;
-use crate::commands::{Terminals, run_command};
-use crate::ending::Fault;
-use crate::reporting::{ended, report};
-use crate::scripts::run_input;
 use crate::watching::watch_folder;
+use command_host::{Terminals, run_command, run_input};
 use operate_host::operate;
 use rack_script::RunFault;
 use rackd_cli::{CableWords, Invocation};
+use rackd_faults::{Fault, ended, report};
 use serve_options::ServeOptions;
 use serve_rack::Host;
 use std::fs::{File, Files};

@@ -12,25 +12,15 @@
 
 mod answers;
 mod cable;
-mod commands;
-mod ending;
-mod files;
-mod gsd;
 mod invoking;
-mod missing_port;
-mod rack_cause;
-mod reporting;
-mod script_form;
-mod scripts;
 mod serving;
 mod watching;
 
-use commands::Terminals;
-use ending::Fault;
+use command_host::Terminals;
 use invoking::invoke;
 use log::{Level, Log, Logged, info};
 use rackd_cli::{read_words, words_of};
-use reporting::report;
+use rackd_faults::{Fault, report};
 use serve_options::ServeOptions;
 use serve_rack::Served;
 use serving::{Prepared, prepare, serve_rack};

@@ -1,15 +1,15 @@
 //! Serves a rack, and shows it in a browser if a page is asked for.
 
-use crate::ending::Fault;
-use crate::files::read_file;
 use crate::note_served;
-use crate::reporting::{ended, reported};
 use crate::watching::fault_of;
 use audit_host::{buffered, flushed};
+use command_host::read_file;
 use rack_script::RunFault;
+use rackd_faults::{Fault, ended, reported};
+use serve_faults::ServeFault;
 use serve_log::{RowQueue, Written};
 use serve_options::ServeOptions;
-use serve_rack::{Host, InputEnd, ServeFault, serve_text};
+use serve_rack::{Host, InputEnd, serve_text};
 use std::alloc::Global;
 use std::io::Read;
 use std::process::ExitCode;

@@ -1,10 +1,9 @@
 //! Shows a rack in a browser.
 
-use crate::ending::Fault;
-use crate::files::read_file;
-use crate::reporting::reported;
+use command_host::read_file;
 use rack_script::RunFault;
-use serve_rack::ServeFault;
+use rackd_faults::{Fault, reported};
+use serve_faults::ServeFault;
 use std::process::ExitCode;
 use watch_host::{WatchFault, WatchHost, watch_text};
 

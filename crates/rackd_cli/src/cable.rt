@@ -309,43 +309,29 @@ fn read_chance<'a>(value: &'a str, shown: &'static str) -> Result<u32, BadValue<
 /// Returns the millionths of a percentage with at most four decimals, if it is one and below 1,000,000.
 fn millionths_in(value: &str) -> Option<u32> {
     let (whole, decimals) = value.split_once('.').unwrap_or((value, "0"));
-    let more = decimals_in(decimals.as_bytes())?;
+    let more = decimals_in(decimals)?;
     number_in(whole)?.checked_mul(PERCENT)?.checked_add(more)
 }
 
 /// Returns the number that 1 to 6 digits are, of which the first is 0 only if it is alone.
 fn number_in(digits: &str) -> Option<u32> {
-    if is_plain(digits) {
-        digits_in(digits.as_bytes())
+    if digits == "0" || !digits.starts_with('0') {
+        digits_in(digits)
     } else {
         None
     }
 }
 
-/// Returns whether a number has no leading zero. The number 0 itself is allowed.
-fn is_plain(number: &str) -> bool {
-    number == "0" || !number.starts_with('0')
-}
-
 /// Returns the number that 1 to 6 digits are.
-fn digits_in(digits: &[u8]) -> Option<u32> {
-    if digits.is_empty() || digits.len() > 6 {
+fn digits_in(digits: &str) -> Option<u32> {
+    if digits.len() > 6 || digits.starts_with('+') {
         return None;
     }
-    let mut number = 0u32;
-    for digit in digits {
-        if !digit.is_ascii_digit() {
-            return None;
-        }
-        number = number
-            .checked_mul(10)?
-            .checked_add(u32::from(*digit - b'0'))?;
-    }
-    Some(number)
+    digits.parse().ok()
 }
 
 /// Returns the millionths of one percent that 1 to 4 decimals are.
-fn decimals_in(decimals: &[u8]) -> Option<u32> {
+fn decimals_in(decimals: &str) -> Option<u32> {
     let number = digits_in(decimals)?;
     match decimals.len() {
         1 => number.checked_mul(1_000),

@@ -36,6 +36,21 @@ pub struct DescribedSlave<'a> {
     pub model: Option<&'a str>,
 }
 
+/// What is done with the audit text of one or more files, on the rack of another.
+#[derive(Clone, Copy)]
+pub enum AuditCommand<'a> {
+    /// `check RACK AUDIT..`: check the text.
+    Check,
+    /// `explain RACK AUDIT..`: explain these entries.
+    Explain(Entries),
+    /// `explain --follow RACK AUDIT..`: explain these entries as they come, while a rack writes the last file.
+    Follow(Entries),
+    /// `judge RACK AUDIT..`: judge the masters.
+    Judge(Judging<'a>),
+    /// `capture RACK AUDIT..`: write the telegrams as a capture for Wireshark.
+    Capture,
+}
+
 /// A command that reads files, and writes to standard output.
 #[derive(Drop)]
 pub enum FileCommand<'a> {
@@ -46,39 +61,14 @@ pub enum FileCommand<'a> {
         /// The path of the script.
         script: &'a str,
     },
-    /// `check RACK AUDIT..`: check the audit text of one or more files on the rack of another.
-    Check {
+    /// A command that reads an audit text: `check`, `explain`, `judge` or `capture`.
+    Audit {
         /// The path of the rack.
         rack: &'a str,
         /// The paths of the files that contain the audit text, in their order.
         audit: Vec<&'a str>,
-    },
-    /// `explain RACK AUDIT..`: explain the audit text of one or more files on the rack of another.
-    Explain {
-        /// The path of the rack.
-        rack: &'a str,
-        /// The paths of the files that contain the audit text, in their order.
-        audit: Vec<&'a str>,
-        /// The entries that are shown.
-        entries: Entries,
-        /// Whether the last file is still being written, so that its rows are explained as they come.
-        follows: bool,
-    },
-    /// `judge RACK AUDIT..`: judge the masters of the audit text of one or more files, on the rack of another.
-    Judge {
-        /// The path of the rack.
-        rack: &'a str,
-        /// The paths of the files that contain the audit text, in their order.
-        audit: Vec<&'a str>,
-        /// What is judged.
-        judging: Judging<'a>,
-    },
-    /// `capture RACK AUDIT..`: write the telegrams of an audit text as a capture for Wireshark.
-    Capture {
-        /// The path of the rack.
-        rack: &'a str,
-        /// The paths of the files that contain the audit text, in their order.
-        audit: Vec<&'a str>,
+        /// What is done with the text.
+        command: AuditCommand<'a>,
     },
     /// `gsd RACK LINE ADDRESS`: write a GSD file for a slave of a rack.
     Gsd {

@@ -17,7 +17,7 @@ mod refusals;
 mod serve;
 
 pub use cable::{CableWords, FaultyTelegrams};
-pub use file_command::{DescribedSlave, Entries, FileCommand};
+pub use file_command::{AuditCommand, DescribedSlave, Entries, FileCommand};
 pub use invocation::{Invocation, WordsFault};
 pub use judge::{Findings, Judging};
 pub use reading::{read_words, words_of};

@@ -6,7 +6,7 @@ use crate::commands::{
     FAULTS, FOLLOW, FROM, JSON, MASTER, PAGE_PORT, PORT, REFUSED, SCRIPT, SLAVE_ADDRESS, SUMMARY,
     TO, WATCHED, known,
 };
-use crate::file_command::{Entries, FileCommand};
+use crate::file_command::{AuditCommand, Entries, FileCommand};
 use crate::gsd::{ADDRESS, GSD_FILE, LINE, MODULE, described_slave_of};
 use crate::invocation::{Invocation, WordsFault};
 use crate::judge::{RETRIES, judging_of, unknown_rule};
@@ -217,33 +217,33 @@ fn file_command_of<'a>(
             Err(fault) => Err(fault),
         },
         _ => match texts_in(alloc, words, AUDIT) {
-            Ok(audit) => Ok(audit_command_of(command, words, audit)),
+            Ok(audit) => Ok(FileCommand::Audit {
+                rack: path_in(words, RACK),
+                audit,
+                command: audit_command_of(command, words),
+            }),
             Err(fault) => Err(fault),
         },
     }
 }
 
-/// Returns the command of a word that names an audit text: `explain`, `judge`, `capture` or `check`.
-fn audit_command_of<'a>(
-    command: &str,
-    words: &ArgMatches<'a>,
-    audit: Vec<&'a str>,
-) -> FileCommand<'a> {
-    let rack = path_in(words, RACK);
+/// Returns what a word does with an audit text: `explain`, `judge`, `capture` or `check`.
+fn audit_command_of<'a>(command: &str, words: &ArgMatches<'a>) -> AuditCommand<'a> {
     match command {
-        "explain" => FileCommand::Explain {
-            rack,
-            audit,
-            entries: entries_of(words),
-            follows: words.get_flag(FOLLOW),
-        },
-        "judge" => FileCommand::Judge {
-            rack,
-            audit,
-            judging: judging_of(words),
-        },
-        "capture" => FileCommand::Capture { rack, audit },
-        _ => FileCommand::Check { rack, audit },
+        "explain" => explain_command_of(words),
+        "judge" => AuditCommand::Judge(judging_of(words)),
+        "capture" => AuditCommand::Capture,
+        _ => AuditCommand::Check,
+    }
+}
+
+/// Returns what `explain` does: it explains the entries that are there, or goes on as they come.
+fn explain_command_of<'a>(words: &ArgMatches<'a>) -> AuditCommand<'a> {
+    let entries = entries_of(words);
+    if words.get_flag(FOLLOW) {
+        AuditCommand::Follow(entries)
+    } else {
+        AuditCommand::Explain(entries)
     }
 }
 

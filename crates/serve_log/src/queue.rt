@@ -25,7 +25,7 @@ use std::{io, thread};
 const WAITING: usize = 1_024;
 
 /// The most milliseconds for which the end waits for standard error.
-const PATIENCE: u64 = 1_000;
+const PATIENCE: u64 = 5_000;
 
 /// Why a queue was not started (own).
 #[derive(Clone, Copy, Debug, PartialEq, Eq)]
@@ -129,7 +129,7 @@ fn lost_row(lost: u32) -> Row {
 }
 
 impl<R: Wait + Clock + Drop> RowQueue<R> {
-    /// Ends the queue, and waits for at most one second until all rows are written.
+    /// Ends the queue, and waits for at most five seconds until all rows are written.
     pub fn end(self, written: Written) {
         let RowQueue {
             rt,

@@ -16,17 +16,17 @@ use Rattle.audit_files.specs.FileFaults.{IsRecordingFault, cause_of_break}
 use Rattle.audit_files.specs.declared.audit_writer.CreateFault.{CreateFault}
 use Rattle.audit_files.specs.declared.file_fault.FileFault.{FileFault}
 use Rattle.audit_files.specs.declared.file_fault.FileFault.TheVariants as files
-use Rattle.serve_rack.specs.declared.serve_fault.OutputFault.{OutputFault}
-use Rattle.serve_rack.specs.declared.serve_fault.OutputFault.TheVariants as outputs
-use Rattle.serve_rack.specs.declared.serve_fault.ServeFault.{ServeFault}
-use Rattle.serve_rack.specs.declared.serve_fault.ServeFault.TheVariants as faults
+use Rattle.serve_faults.specs.declared.serve_fault.OutputFault.{OutputFault}
+use Rattle.serve_faults.specs.declared.serve_fault.OutputFault.TheVariants as outputs
+use Rattle.serve_faults.specs.declared.serve_fault.ServeFault.{ServeFault}
+use Rattle.serve_faults.specs.declared.serve_fault.ServeFault.TheVariants as faults
 use Rattle.serve_rack.specs.declared.served_line.ServedLine.{ServedLine}
 use Rattle.dp_text.specs.Writes.{WritesPrefix}
 use Rattle.serve_rack.specs.declared.serve.Served.{Served}
 use Rattle.serve_rack.specs.ServedLines.{all_served, as_opened, line_numbers, served_line}
 use Rattle.audit_trail.specs.declared.fault.TrailBreak.{TrailBreak}
 use Rattle.audit_trail.specs.declared.fault.TrailBreak.TheVariants as breaks
-use Rattle.serve_rack.specs.ServeFaults.{of_file_fault, of_output_fault}
+use Rattle.serve_faults.specs.ServeFaults.{of_file_fault, of_output_fault}
 use Rattle.serve_rack.specs.ServeOutput.{AreBrokenOff, AreServed, AreServedInPart, AreWritten, IsCauseOfBreak, IsIncomplete, IsJournalOf, ServesConnections, ServesLines, WritesAudit, WritesAudits, ports_of, ready, specs_of, text_of}
 use Rattle.serve_rack.proofs.Opening.{opened_as_they_are, opened_numbers}
 use Rattle.serve_rack.proofs.Writing.{appends_more, appends_none, keeps_more, keeps_nothing, keeps_same}

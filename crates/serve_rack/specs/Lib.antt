@@ -1,5 +1,4 @@
 pub mod Recordings
-pub mod ServeFaults
 pub mod ServedLines
 pub mod ServeOutput
 pub mod Serving

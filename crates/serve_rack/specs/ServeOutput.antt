@@ -1,5 +1,5 @@
 -- A rack that is served (own).
-use Rattle.std.specs.Prelude.{◌≡◌, ◌⊎◌, codes, ℕ, ℤ, Bool, ◌&&◌, true, false, List, [], ◌∷◌, ◌++◌, map, Option, Some, None, is_some, Result, Ok, Err, Contains, IsPermutation}
+use Rattle.std.specs.Prelude.{◌≡◌, ◌⊎◌, codes, ℕ, ℤ, Bool, true, false, List, [], ◌∷◌, ◌++◌, map, Option, Some, None, Result, Ok, Err, Contains, IsPermutation}
 use Rattle.std.specs.Borrow.{Bor}
 use Rattle.std.specs.List.{AllZip, flat_map, list_all}
 use Rattle.std.specs.List.Sorted.{IsNonDecreasingBy}
@@ -24,10 +24,11 @@ use Rattle.system_errors.specs.SystemErrors.{cause_of_error}
 use Rattle.audit_files.specs.FileFaults.{cause_of_break}
 use Rattle.audit_files.specs.declared.audit_file.IncompleteFile.{IncompleteFile}
 use Rattle.audit_files.specs.declared.audit_path.AuditPath.{AuditPath}
-use Rattle.serve_rack.specs.declared.serve_fault.OutputFault.{OutputFault}
-use Rattle.serve_rack.specs.declared.serve_fault.OutputFault.TheVariants as outputs
-use Rattle.serve_rack.specs.declared.serve_fault.ServeFault.{ServeFault}
-use Rattle.serve_rack.specs.declared.serve_fault.ServeFault.TheVariants as faults
+use Rattle.serve_faults.specs.MissingPorts.{has_ports}
+use Rattle.serve_faults.specs.declared.serve_fault.OutputFault.{OutputFault}
+use Rattle.serve_faults.specs.declared.serve_fault.OutputFault.TheVariants as outputs
+use Rattle.serve_faults.specs.declared.serve_fault.ServeFault.{ServeFault}
+use Rattle.serve_faults.specs.declared.serve_fault.ServeFault.TheVariants as faults
 use Rattle.serve_rack.specs.declared.serve.Served.{Served}
 use Rattle.serve_rack.specs.declared.served_line.ServedLine.{ServedLine}
 use Rattle.serve_rack.specs.ServedLines.{line_numbers, number_of}
@@ -162,10 +163,6 @@ ServesLines folder endless lines old new (Err other) = ⊥
 
 abbrev pub rack_numbers : RackDescription → List ℕ
 rack_numbers rack = map (λ line. line.line.number) rack.lines
-
--- whether a line has both its ports
-abbrev pub has_ports : LineDescription → Bool
-has_ports line = is_some line.listen && is_some line.operator
 
 abbrev pub described : ServedLine → LineDescription
 described line = record { line = description_of line.spec; listen = Some line.listen; operator = Some line.operator }

@@ -7,9 +7,9 @@ ghost use Rattle.std.specs.Prelude.{map};
 ghost use Rattle.dp_shared.specs.Passes.{line_of};
 ghost use Rattle.serve_rack.specs.ServeOutput.{WritesAudit, WritesAudits, line_at};
 
-use crate::serve_fault::OutputFault;
 use dp_sessions::{LineAndClaims, Port};
 use dp_shared::Line;
+use serve_faults::OutputFault;
 use std::alloc::Global;
 use std::io::Write;
 

@@ -4,8 +4,8 @@ ghost use Rattle.std.specs.Prelude.{◌≡◌, ◌≤◌, IfErr, IfOk, length, m
 ghost use Rattle.serve_rack.specs.ServedLines.{line_numbers};
 ghost use Rattle.serve_rack.specs.ServeOutput.{IsListeningFault};
 
-use crate::serve_fault::ServeFault;
 use crate::served_line::ServedLine;
+use serve_faults::ServeFault;
 use serve_log::MOST_OPERATORS;
 use serve_sockets::{LinePorts, RackPorts};
 use std::alloc::Global;

@@ -6,9 +6,9 @@ ghost use Rattle.dp_text.specs.Writes.{WritesPrefix};
 ghost use Rattle.serve_rack.specs.ServeOutput.{IsPortsFault, ready};
 
 use crate::host::Host;
-use crate::serve_fault::OutputFault;
 use crate::server_context::ServerContext;
 use dp_text::write_whole;
+use serve_faults::OutputFault;
 use serve_sockets::{SocketContext, report_ports};
 use std::io::{ErrorKind, Write};
 use system_errors::Cause;

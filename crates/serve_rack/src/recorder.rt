@@ -42,6 +42,8 @@ pub(crate) type UnnamedRecorder<'a, 's, H> = Recorder<'a, 's, H, FileTail<'a, 's
 impl<N: Net, T: RecordEntries> RecordEntries for Recorder<'_, '_, N, T> {
     ghost recorded = { λ recorder line place. T.recorded recorder.file.trail line place };
 
+    ghost caught_up = { λ recorder. T.caught_up recorder.file.trail };
+
     fn record<H: Wait>(&self, rt: &H, line: u8, place: Option<u32>) -> Result<(), TrailBreak> {
         match self.file.trail.record(rt, line, place) {
             Ok(()) => Ok(()),

@@ -11,7 +11,6 @@ use crate::audits::write_audits;
 use crate::host::Host;
 use crate::listening::{Listeners, check_descriptors, listen_at_lines, ports_of};
 use crate::opened_lines::{OpenedLines, SeatedWorkers, ServedLines, open_lines};
-use crate::serve_fault::ServeFault;
 use crate::served_line::{ServedLine, lines_to_serve};
 use crate::serving::{ListeningLines, numbers_of, serve_connections};
 use rack_file::laws::{
@@ -19,6 +18,7 @@ use rack_file::laws::{
     accepted_racks_have_1_to_32_workers,
 };
 use rack_file::{Rack, read_rack};
+use serve_faults::ServeFault;
 use serve_log::Notes;
 use serve_options::ServeOptions;
 use serve_sockets::{InputEnd, ServePhase};

@@ -5,6 +5,7 @@ ghost use Rattle.std.specs.Prelude.{◌≡◌, All, IfOk, length};
 use dp_line::Device;
 use dp_shared::{ClaimFault, Claims, WorkerSeat};
 use std::alloc::{AllocError, Global};
+use std::process::Abort;
 use std::test::Fail;
 use test_fixtures::line_specs::line_spec;
 
@@ -67,6 +68,45 @@ fn listed(
     Ok(seats)
 }
 
+/// The first seat holds 1, which the second cannot claim.
+fn first_holds_1(
+    rt: &(impl Eprint + Abort),
+    claims: &Claims,
+    first: &mut WorkerSeat,
+    second: &mut WorkerSeat,
+) -> Result<(), Fail>
+    requires { (first.old.table ≡ claims.now.table) × (second.old.table ≡ claims.now.table) }
+    ensures { (first.new.table ≡ first.old.table) × (second.new.table ≡ second.old.table) }
+{
+    assert!(rt; claim(claims, first, 1)?.is_none());
+    assert!(rt; claim(claims, second, 1)? == Some(ClaimFault::Held));
+    assert!(rt; claim(claims, second, 9)? == Some(ClaimFault::UnknownMaster));
+    assert!(rt; claims.is_held(second, 1) == Ok(true));
+    assert!(rt; claims.is_held(second, 2) == Ok(false));
+    assert!(rt; claims.is_held(second, 9) == Err(ClaimFault::UnknownMaster));
+    assert!(rt; claim(claims, second, 2)?.is_none());
+    Ok(())
+}
+
+/// Each seat releases its address, and claims the one that the other released.
+fn seats_exchange(
+    rt: &(impl Eprint + Abort),
+    claims: &Claims,
+    first: &mut WorkerSeat,
+    second: &mut WorkerSeat,
+) -> Result<(), Fail>
+    requires { (first.old.table ≡ claims.now.table) × (second.old.table ≡ claims.now.table) }
+    ensures { (first.new.table ≡ first.old.table) × (second.new.table ≡ second.old.table) }
+{
+    release(claims, first)?;
+    release(claims, second)?;
+    assert!(rt; claim(claims, second, 1)?.is_none());
+    assert!(rt; claim(claims, first, 1)? == Some(ClaimFault::Held));
+    assert!(rt; claim(claims, first, 2)?.is_none());
+    assert!(rt; first.held() == Some(2) && second.held() == Some(1));
+    Ok(())
+}
+
 /// Each seat claims the address that the other released.
 #[test]
 fn an_address_is_claimed_once(rt: HostRuntime) -> Result<(), Fail> {
@@ -76,19 +116,8 @@ fn an_address_is_claimed_once(rt: HostRuntime) -> Result<(), Fail> {
         mut first,
         mut second,
     } = fresh_desk(alloc)?;
-    assert!(rt; claim(&claims, &mut first, 1)?.is_none());
-    assert!(rt; claim(&claims, &mut second, 1)? == Some(ClaimFault::Held));
-    assert!(rt; claim(&claims, &mut second, 9)? == Some(ClaimFault::UnknownMaster));
-    assert!(rt; claims.is_held(&mut second, 1) == Ok(true));
-    assert!(rt; claims.is_held(&mut second, 2) == Ok(false));
-    assert!(rt; claims.is_held(&mut second, 9) == Err(ClaimFault::UnknownMaster));
-    assert!(rt; claim(&claims, &mut second, 2)?.is_none());
-    release(&claims, &mut first)?;
-    release(&claims, &mut second)?;
-    assert!(rt; claim(&claims, &mut second, 1)?.is_none());
-    assert!(rt; claim(&claims, &mut first, 1)? == Some(ClaimFault::Held));
-    assert!(rt; claim(&claims, &mut first, 2)?.is_none());
-    assert!(rt; first.held() == Some(2) && second.held() == Some(1));
+    first_holds_1(&rt, &claims, &mut first, &mut second)?;
+    seats_exchange(&rt, &claims, &mut first, &mut second)?;
     assert!(rt; claims.close(listed(alloc, first, second)?) == 2);
     Ok(())
 }

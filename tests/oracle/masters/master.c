@@ -29,7 +29,9 @@ enum {
     PACE_MS = 20,            /* between two requests to a slave that does not exchange data */
     CONTROL_CYCLES = 10,     /* a Global_Control follows once in this number of cycles */
     GAP_CYCLES = 40,         /* one address is polled by FDL status once in this number of cycles */
-    GAP_SLOT_MS = 10
+    GAP_SLOT_MS = 10,
+    FOR_EVER = 1000000000,   /* seconds until the end of a master that only SIGTERM ends */
+    SHORTEST_PRM = 7         /* octets of Set_Prm without user parameters */
 };
 
 /* IEC 61158-4-3: delimiters, bits and functions of the frame control octet. */
@@ -50,9 +52,12 @@ struct slave {
     /* as configured */
     uint8_t address, groups;
     uint16_t ident;
-    uint8_t cfg[244];
-    size_t cfg_length, output_length;
+    uint8_t cfg[244], user[237], outputs[244];
+    size_t cfg_length, user_length, output_length;
     unsigned watchdog_ms;
+    bool given;              /* the outputs are those of the environment, and do not count */
+    bool mirror;             /* the next outputs are the inputs */
+    bool failsafe;           /* in Clear the outputs have no octets */
     /* on this connection */
     enum state state;
     bool known;              /* the slave answered a request, and FCV is 1 */
@@ -68,6 +73,8 @@ struct master {
     bool unlock;
     int64_t deadline, slot, cycle;
     unsigned long exchanges; /* 0: until the deadline */
+    unsigned long clear;     /* how many exchanges with each slave are in Clear */
+    bool in_clear;
     struct slave slaves[MAX_SLAVES];
     size_t count;
     int socket;
@@ -351,7 +358,22 @@ static size_t parameters(const struct master *m, const struct slave *s, uint8_t 
     octets[4] = (uint8_t)(s->ident >> 8);
     octets[5] = (uint8_t)(s->ident & 0xFF);
     octets[6] = s->groups;
-    return 7;
+    memcpy(octets + SHORTEST_PRM, s->user, s->user_length);
+    return SHORTEST_PRM + s->user_length;
+}
+
+/* The outputs of the next Data_Exchange: those of the environment, or octets that count. In Clear they are zeros. */
+static size_t outputs(const struct master *m, const struct slave *s, uint8_t *octets)
+{
+    if (m->in_clear && s->failsafe)
+        return 0;
+    if (m->in_clear)
+        memset(octets, 0, s->output_length);
+    else if (s->given)
+        memcpy(octets, s->outputs, s->output_length);
+    else
+        memset(octets, (int)(s->exchanges & 0xFF), s->output_length);
+    return s->output_length;
 }
 
 /* What follows a diagnosis; it depends on who holds the slave, and on whether it exchanges data. */
@@ -394,8 +416,7 @@ static bool turn(struct master *m, struct slave *s)
         result = request(m, s, SAP_CFG, s->cfg, s->cfg_length, &reply);
         break;
     case EXCHANGE:
-        memset(octets, (int)(s->exchanges & 0xFF), sizeof octets);
-        result = request(m, s, SAP_DEFAULT, octets, s->output_length, &reply);
+        result = request(m, s, SAP_DEFAULT, octets, outputs(m, s, octets), &reply);
         break;
     case ASK:
     case CONFIRM:
@@ -430,6 +451,8 @@ static bool turn(struct master *m, struct slave *s)
             go(s, WRONG_SLAVE, PACE_MS);
         } else {
             s->exchanges++;
+            if (s->mirror && reply.length == s->output_length)
+                memcpy(s->outputs, reply.data, reply.length);
             if (result == REPLY_DH) {
                 go(s, REPORTED, 0);
                 return turn(m, s);
@@ -478,6 +501,20 @@ static bool control(struct master *m, uint8_t sync, uint8_t freeze)
     return (!synced || global_control(m, sync, m->sync)) && (!frozen || global_control(m, freeze, m->freeze));
 }
 
+/* Sends the mode while the master is in Clear: it is Operate once each slave has had its exchanges in Clear. */
+static bool send_mode(struct master *m)
+{
+    bool any_active = false, all_cleared = true;
+    for (size_t i = 0; i < m->count; i++) {
+        any_active = any_active || active(&m->slaves[i]);
+        all_cleared = all_cleared && m->slaves[i].exchanges >= m->clear;
+    }
+    if (!m->in_clear || !any_active)
+        return true;
+    m->in_clear = !all_cleared;
+    return global_control(m, m->in_clear ? 0x02 : 0x00, 0);
+}
+
 /* Looks whether a station answers at the next address that is no slave of this master. */
 static bool poll_gap(struct master *m)
 {
@@ -502,6 +539,8 @@ static bool serve(struct master *m)
         go(&m->slaves[i], ASK, 0);
     }
     for (unsigned long cycle = 1; !finished(m); cycle++) {
+        if (!send_mode(m))
+            return false;
         for (size_t i = 0; i < m->count; i++)
             if (now() >= m->slaves[i].not_before && !turn(m, &m->slaves[i]))
                 return false;
@@ -521,13 +560,13 @@ static void leave(struct master *m)
     for (size_t i = 0; i < m->count; i++) {
         struct slave *s = &m->slaves[i];
         struct reply reply;
-        uint8_t octets[7];
+        uint8_t octets[244];
         if (!active(s))
             continue;
         parameters(m, s, octets);
         octets[0] = 0x40;
         octets[1] = octets[2] = 0;
-        if (request(m, s, SAP_PRM, octets, sizeof octets, &reply) == LINE_ENDED)
+        if (request(m, s, SAP_PRM, octets, SHORTEST_PRM, &reply) == LINE_ENDED)
             return;
     }
 }
@@ -644,26 +683,64 @@ static void add_option(struct master *m, const char *name, const char *value, do
         usage(name);
 }
 
-static size_t split(char *text, char **words, size_t count)
+static size_t split(char *text, char **words, size_t most)
 {
-    for (char *word = strtok(text, " \t\n"); word != NULL && count < MAX_WORDS; word = strtok(NULL, " \t\n"))
+    size_t count = 0;
+    for (char *word = strtok(text, " \t\n"); word != NULL && count < most; word = strtok(NULL, " \t\n"))
         words[count++] = word;
     return count;
 }
 
-/* The words of the environment, as if they were those of the command line. */
-static size_t environment(char **words)
+/* The environment: that of a master under test of the suite, and MASTER_OPTIONS. */
+
+static const char *variable(const char *name)
 {
-    static const char *const names[] = { "MASTER_PORT", "MASTER_ADDRESS", "MASTER_SLAVES", "MASTER_OPTIONS" };
-    size_t count = 0;
-    for (size_t i = 0; i < sizeof names / sizeof *names; i++) {
-        char *text = getenv(names[i]);
-        if (text != NULL)
-            count = split(text, words, count);
-        else if (i < 3)
-            usage(names[i]);
-    }
-    return count;
+    const char *text = getenv(name);
+    if (text == NULL)
+        usage(name);
+    return text;
+}
+
+static const char *key(unsigned long address, const char *name)
+{
+    char full[64];
+    snprintf(full, sizeof full, "RACKD_SLAVE_%lu_%s", address, name);
+    return variable(full);
+}
+
+/* Adds a slave. Its modes are those of its groups. */
+static void slave_of_environment(struct master *m, unsigned long address)
+{
+    struct slave *s = &m->slaves[m->count++];
+    s->address = (uint8_t)address;
+    s->ident = (uint16_t)number(key(address, "IDENT"), 10, 0xFFFF);
+    s->groups = (uint8_t)number(key(address, "GROUP"), 10, 255);
+    s->watchdog_ms = (unsigned)number(key(address, "WATCHDOG_MS"), 10, 650250);
+    s->cfg_length = hex_octets(key(address, "CFG"), s->cfg, sizeof s->cfg);
+    s->user_length = hex_octets(key(address, "USER"), s->user, sizeof s->user);
+    s->output_length = hex_octets(key(address, "OUTPUTS"), s->outputs, sizeof s->outputs);
+    s->given = true;
+    s->mirror = number(key(address, "MIRROR"), 10, 1);
+    s->failsafe = number(key(address, "FAILSAFE"), 10, 1);
+    if (number(key(address, "SYNC"), 10, 1))
+        m->sync |= s->groups;
+    if (number(key(address, "FREEZE"), 10, 1))
+        m->freeze |= s->groups;
+}
+
+/* Reads all that is not an option, and returns how many words the options have. */
+static size_t environment(struct master *m, char **words)
+{
+    char *addresses[MAX_SLAVES], text[1024], *options = getenv("MASTER_OPTIONS");
+    m->port = (uint16_t)number(variable("RACKD_PORT"), 10, 65535);
+    m->address = (uint8_t)number(variable("RACKD_ADDRESS"), 10, 126);
+    m->clear = number(variable("RACKD_CLEAR"), 10, 1000000000);
+    m->in_clear = m->clear > 0;
+    snprintf(text, sizeof text, "%s", variable("RACKD_SLAVE_ADDRESSES"));
+    size_t count = split(text, addresses, MAX_SLAVES);
+    for (size_t i = 0; i < count; i++)
+        slave_of_environment(m, number(addresses[i], 10, 126));
+    return options == NULL ? 0 : split(options, words, MAX_WORDS);
 }
 
 int main(int argc, char **argv)
@@ -674,9 +751,10 @@ int main(int argc, char **argv)
     size_t count = (size_t)argc - 1;
     size_t plain = 0;
     double seconds = -1;
-    if (argc < 2) {
+    bool by_environment = argc < 2;
+    if (by_environment) {
         words = from_environment;
-        count = environment(words);
+        count = environment(&m, words);
     }
     for (size_t i = 0; i < count; i++) {
         if (strcmp(words[i], "--unlock") == 0) {
@@ -697,7 +775,7 @@ int main(int argc, char **argv)
     if (m.count == 0)
         usage("a port, an address and slaves are needed");
     if (seconds < 0)
-        seconds = m.exchanges ? 30 : 2;
+        seconds = m.exchanges ? 30 : by_environment ? FOR_EVER : 2;
     m.deadline = now() + (int64_t)(seconds * 1000);
     struct sigaction action = { .sa_handler = stop };
     sigaction(SIGTERM, &action, NULL);

@@ -58,11 +58,8 @@ exit report();
 sub words {
     my @words = @ARGV;
     if (!@words) {
-        for my $name (qw(MASTER_PORT MASTER_ADDRESS MASTER_SLAVES)) {
-            usage("there are no words, and the variable $name is missing") unless defined $ENV{$name};
-        }
-        @words = ($ENV{MASTER_PORT}, $ENV{MASTER_ADDRESS}, split(' ', $ENV{MASTER_SLAVES}),
-            shellwords($ENV{MASTER_OPTIONS} // ''));
+        my @slaves = map { slave_word($_) } split(' ', variable('RACKD_SLAVE_ADDRESSES'));
+        @words = (variable('RACKD_PORT'), variable('RACKD_ADDRESS'), @slaves, shellwords($ENV{MASTER_OPTIONS} // ''));
     }
     GetOptionsFromArray(\@words, \%option, 'seconds=f', 'exchanges=i', 'sync=s', 'freeze=s', 'unlock', 'min-tsdr=i', 'slot=i',
         'cycle=i') or usage('an option is wrong');
@@ -70,6 +67,19 @@ sub words {
     my ($a_port, $address, @rest) = @words;
     $option{seconds} //= defined $option{exchanges} ? 30 : 2;
     return ($a_port, $address, map { new_slave($_) } @rest);
+}
+
+sub variable {
+    my ($name) = @_;
+    return $ENV{$name} // usage("there are no words, and the variable $name is missing");
+}
+
+# The word for a slave of the environment.
+sub slave_word {
+    my ($address) = @_;
+    my ($ident, $cfg, $outputs, $watchdog, $group) =
+        map { variable("RACKD_SLAVE_${address}_$_") } qw(IDENT CFG OUTPUTS WATCHDOG_MS GROUP);
+    return sprintf('%d:%x:%s:%d:%d:%x', $address, $ident, $cfg eq '' ? '-' : $cfg, length($outputs) / 2, $watchdog, $group);
 }
 
 sub usage {

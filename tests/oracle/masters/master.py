@@ -416,12 +416,20 @@ class Master:
         return 0 if all(slave.exchanges >= least for slave in self.slaves) else 1
 
 
+def slave_word(address):
+    """The word for a slave of the environment."""
+    ident, cfg, outputs, watchdog, group = (
+        os.environ[f"RACKD_SLAVE_{address}_{key}"] for key in ("IDENT", "CFG", "OUTPUTS", "WATCHDOG_MS", "GROUP"))
+    return f"{address}:{int(ident):x}:{cfg or '-'}:{len(outputs) // 2}:{watchdog}:{int(group):x}"
+
+
 def words():
     """The words of the command line; those of the environment if there are none."""
     if len(sys.argv) > 1:
         return sys.argv[1:]
     try:
-        return [os.environ["MASTER_PORT"], os.environ["MASTER_ADDRESS"], *os.environ["MASTER_SLAVES"].split(),
+        slaves = map(slave_word, os.environ["RACKD_SLAVE_ADDRESSES"].split())
+        return [os.environ["RACKD_PORT"], os.environ["RACKD_ADDRESS"], *slaves,
                 *shlex.split(os.environ.get("MASTER_OPTIONS", ""))]
     except KeyError as missing:
         print(f"master.py: there are no words, and the variable {missing} is missing", file=sys.stderr)

@@ -15,7 +15,7 @@ use Rattle.judge_rules.specs.declared.stage.Stage.{Stage}
 use Rattle.judge_rules.specs.declared.station.Station.{Station}
 use Rattle.judge_rules.specs.BringUpRules.{is_before_ready, is_configured, is_lost, is_taken, is_unseen}
 use Rattle.judge_rules.specs.BusFacts.{bus_of}
-use Rattle.judge_rules.specs.Entries.{chk_cfg_asked, diagnosis_in, exchange_asked, is_chk_cfg, is_data_exchange, is_done, is_repeat_answer, is_served, is_slave_diag, is_srd, is_ue, parameters_of, prm_asked}
+use Rattle.judge_rules.specs.Entries.{chk_cfg_asked, diagnosis_in, exchange_asked, is_chk_cfg, is_data_exchange, is_done, is_repeat_answer, is_rr, is_served, is_slave_diag, is_srd, is_ue, parameters_of, prm_asked}
 use Rattle.judge_rules.specs.ExchangeRules.{is_third}
 use Rattle.judge_rules.specs.LawWords.{is_of_a_service}
 use Rattle.judge_rules.specs.ParameterRules.{has_low_min_tsdr}
@@ -69,7 +69,7 @@ wrong_left wrong r is =
 
 unread_left : (unread : Option ℕ) (r : Request) → is_served r ≡ false → unread_after unread r ≡ unread
 unread_left unread r is =
-    ap (λ (b : Bool). if b && is_slave_diag r.service && is_some (diagnosis_in r.answer) then None else if is_some (if b then parameters_of r.service else None) && is_done r.answer then None else if b && is_data_exchange r.service then one_more unread r.answer else unread) is
+    ap (λ (b : Bool). if b && is_slave_diag r.service && (is_some (diagnosis_in r.answer) || is_rr r.answer) then None else if is_some (if b then parameters_of r.service else None) && is_done r.answer then None else if b && is_data_exchange r.service then one_more unread r.answer else unread) is
 
 either : (at : Bool) (s t u v : Station) → Agrees s t → Agrees u v → Agrees (if at then s else u) (if at then t else v)
 either true s t u v yes_agree no_agree = yes_agree

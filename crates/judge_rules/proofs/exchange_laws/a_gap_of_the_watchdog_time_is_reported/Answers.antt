@@ -1,5 +1,5 @@
-use Rattle.std.proofs.Common.{◌≡◌, ℕ, Bool, true, false, not, List, ◌∷◌, ◌++◌, Option, Some, None, ap, refl, sym, ◌∙◌}
-use Rattle.std.specs.Prelude.{◌&&◌, if◌then◌else◌}
+use Rattle.std.proofs.Common.{◌≡◌, ℕ, Bool, true, false, not, List, ◌∷◌, ◌++◌, Option, Some, None, ap, refl, sym, arith, ◌∙◌}
+use Rattle.std.specs.Prelude.{◌&&◌, ◌-◌, max, nat_le, if◌then◌else◌}
 use Rattle.judge_rules.specs.declared.entry.Answer.{Answer}
 use Rattle.judge_rules.specs.declared.entry.Answer.TheVariants as answers
 use Rattle.judge_rules.specs.declared.entry.Asked.{Asked}
@@ -9,13 +9,18 @@ use Rattle.judge_rules.specs.declared.entry.Entry.TheVariants as entries
 use Rattle.judge_rules.specs.declared.entry.Parameters.{Parameters}
 use Rattle.judge_rules.specs.declared.entry.Request.{Request}
 use Rattle.judge_rules.specs.declared.station.Last.{Last}
-use Rattle.judge_rules.specs.Effects.{effect, effect_by, effect_of_diag, effect_of_exchange, effect_of_prm, configures, nothing, locks, releases}
+use Rattle.judge_rules.specs.declared.rule.JudgeRule.TheVariants as rules
+use Rattle.judge_rules.specs.BusFacts.{bus_of}
+use Rattle.judge_rules.specs.Laws.{have_no_srd_to, is_srd_to}
+use Rattle.judge_rules.specs.Rules.{breaks}
+use Rattle.judge_rules.specs.Effects.{have_no_effect, effect, effect_by, effect_of_diag, effect_of_exchange, effect_of_prm, configures, nothing, locks, releases}
 use Rattle.judge_rules.specs.Entries.{chk_cfg_asked, diag_asked, exchange_asked, is_done, is_srd, prm_asked}
 use Rattle.judge_rules.specs.ExchangeRules.{is_past}
 use Rattle.judge_rules.specs.Stages.{is_parametrized}
 use Rattle.judge_rules.specs.Stations.{new_station, station_of, watchdog_after, watchdog_by, watchdog_given}
 use Rattle.judge_rules.specs.StationWords.{sets_watchdog}
 use Rattle.judge_rules.proofs.Bools.{and_false, second}
+use Rattle.judge_rules.proofs.Controls.{controlled_at, never_controlled}
 use Rattle.judge_rules.proofs.LastRequests.{last_is}
 use Rattle.judge_rules.proofs.Since.{kept, since}
 use Rattle.std.proofs.lemmas.Bool.{and_parts}
@@ -79,8 +84,9 @@ released_for : (watchdog : Option ℕ) (r : Request) (asked : Option Parameters)
 released_for watchdog r (Some parameters) is = released_by watchdog parameters.watchdog parameters.asked r.answer is
 released_for watchdog r None is = absurd (other_releases r.answer (diag_asked r) (chk_cfg_asked r) (exchange_asked r) is)
 
-no_past : (srd has : Bool) (last : Option Last) (time : ℕ) (watchdog : Option ℕ) → watchdog ≡ None → (srd && has && is_past watchdog last time) ≡ false
-no_past srd has last time watchdog is = ap (λ (w : Option ℕ). srd && has && is_past w last time) is ∙ and_false (srd && has)
+no_past : (srd has : Bool) (controlled : ℕ) (last : Option Last) (time : ℕ) (watchdog : Option ℕ) → watchdog ≡ None
+    → (srd && has && is_past watchdog controlled last time) ≡ false
+no_past srd has controlled last time watchdog is = ap (λ (w : Option ℕ). srd && has && is_past w controlled last time) is ∙ and_false (srd && has)
 
 not_not : (b : Bool) → not b ≡ false → b ≡ true
 not_not true is = refl
@@ -100,43 +106,65 @@ without true false gap is = refl
 without false false gap is = refl
 without srd true gap is = absurd cc
 
-pub returns-clause-gap : goal.returns-clause-gap
-returns-clause-gap c limit watchdog past front back earlier later setting before configuration request parameters split at is asked time none cut here no_srd there chk right =
+-- a gap since the last SRD and this time of a Global_Control
+gap_since : (past front back earlier later : List Entry) (setting before configuration request : Request) (parameters : Parameters) (limit watchdog controlled : ℕ)
+    → past ≡ front ++ entries.Request setting ∷ back → setting.address ≡ request.address → effect setting ≡ locks → prm_asked setting ≡ Some parameters
+    → parameters.watchdog ≡ Some watchdog → have_no_effect sets_watchdog request.address back ≡ true
+    → past ≡ earlier ++ entries.Request before ∷ later → is_srd_to request.address (entries.Request before) ≡ true → have_no_srd_to request.address later ≡ true
+    → (bus_of past).controlled ≡ controlled
+    → configuration.address ≡ request.address → chk_cfg_asked configuration ≡ true → breaks limit past (entries.Request configuration) rules.CfgBeforePrm ≡ false
+    → breaks limit past (entries.Request request) rules.WatchdogShort ≡ (is_srd request && nat_le watchdog (request.time - max before.time controlled))
+gap_since past front back earlier later setting before configuration request parameters limit watchdog controlled split at is asked time none cut here no_srd controlled_is there chk right =
     past_by (is_srd request) (is_parametrized (station_of request.address past).stage)
-    (is_past (station_of request.address past).watchdog (station_of request.address past).last request.time)
+    (is_past (station_of request.address past).watchdog (bus_of past).controlled (station_of request.address past).last request.time)
     (ap (λ (a : ℕ). is_parametrized (station_of a past).stage) (sym there)
     ∙ not_not (is_parametrized (station_of configuration.address past).stage)
     (second (chk_cfg_asked configuration) (not (is_parametrized (station_of configuration.address past).stage)) false chk right))
-    ∙ ap (λ (w : Option ℕ). is_srd request && is_past w (station_of request.address past).last request.time)
+    ∙ ap (λ (w : Option ℕ). is_srd request && is_past w (bus_of past).controlled (station_of request.address past).last request.time)
     (ap (λ (all : List Entry). (station_of request.address all).watchdog) split
     ∙ since (λ s. s.watchdog) (Some watchdog) (λ r. sets_watchdog (effect r)) (λ s r now other. stays (Some watchdog) s.watchdog r now other) request.address front back setting at
     (set_now (station_of request.address front).watchdog setting parameters is asked ∙ time) none)
-    ∙ ap (λ (last : Option Last). is_srd request && is_past (Some watchdog) last request.time)
+    ∙ ap (λ (last : Option Last). is_srd request && is_past (Some watchdog) (bus_of past).controlled last request.time)
     (ap (λ (all : List Entry). (station_of request.address all).last) cut ∙ last_is request.address earlier later before here no_srd)
+    ∙ ap (λ (t : ℕ). is_srd request && nat_le watchdog (request.time - max before.time t)) controlled_is
+
+max_zero : (n : ℕ) → max n 0 ≡ n
+max_zero n = omega arith
+
+pub returns-clause-gap : goal.returns-clause-gap
+returns-clause-gap c limit watchdog past front back earlier later setting before configuration request parameters split at is asked time none cut here no_srd uncontrolled there chk right =
+    gap_since past front back earlier later setting before configuration request parameters limit watchdog 0 split at is asked time none cut here no_srd
+    (never_controlled past uncontrolled) there chk right
+    ∙ ap (λ (t : ℕ). is_srd request && nat_le watchdog (request.time - t)) (max_zero before.time)
+
+pub returns-clause-controlled : goal.returns-clause-controlled
+returns-clause-controlled c limit watchdog past front back earlier later others behind setting before control configuration request parameters split at is asked time none cut here no_srd found controls none_behind there chk right =
+    gap_since past front back earlier later setting before configuration request parameters limit watchdog control.time split at is asked time none cut here no_srd
+    (ap (λ (all : List Entry). (bus_of all).controlled) found ∙ controlled_at others behind control controls none_behind) there chk right
 
 pub returns-clause-no_watchdog : goal.returns-clause-no_watchdog
 returns-clause-no_watchdog c limit front back setting request parameters at is asked time none =
     let all : List Entry = front ++ entries.Request setting ∷ back in
-    no_past (is_srd request) (is_parametrized (station_of request.address all).stage) (station_of request.address all).last request.time (station_of request.address all).watchdog
+    no_past (is_srd request) (is_parametrized (station_of request.address all).stage) (bus_of all).controlled (station_of request.address all).last request.time (station_of request.address all).watchdog
     (since (λ s. s.watchdog) None (λ r. sets_watchdog (effect r)) (λ s r now other. stays None s.watchdog r now other) request.address front back setting at
     (set_now (station_of request.address front).watchdog setting parameters is asked ∙ time) none)
 
 pub returns-clause-released : goal.returns-clause-released
 returns-clause-released c limit front back setting request at is none =
     let all : List Entry = front ++ entries.Request setting ∷ back in
-    no_past (is_srd request) (is_parametrized (station_of request.address all).stage) (station_of request.address all).last request.time (station_of request.address all).watchdog
+    no_past (is_srd request) (is_parametrized (station_of request.address all).stage) (bus_of all).controlled (station_of request.address all).last request.time (station_of request.address all).watchdog
     (since (λ s. s.watchdog) None (λ r. sets_watchdog (effect r)) (λ s r now other. stays None s.watchdog r now other) request.address front back setting at
     (released_for (station_of request.address front).watchdog setting (prm_asked setting) is) none)
 
 pub returns-clause-never_set : goal.returns-clause-never_set
 returns-clause-never_set c limit past request none =
-    no_past (is_srd request) (is_parametrized (station_of request.address past).stage) (station_of request.address past).last request.time (station_of request.address past).watchdog
+    no_past (is_srd request) (is_parametrized (station_of request.address past).stage) (bus_of past).controlled (station_of request.address past).last request.time (station_of request.address past).watchdog
     (kept (λ s. s.watchdog) None (λ r. sets_watchdog (effect r)) (λ s r now other. stays None s.watchdog r now other) request.address new_station past refl none)
 
 pub returns-clause-no_parameters : goal.returns-clause-no_parameters
 returns-clause-no_parameters c limit past configuration request there reported =
     without (is_srd request) (is_parametrized (station_of request.address past).stage)
-    (is_past (station_of request.address past).watchdog (station_of request.address past).last request.time)
+    (is_past (station_of request.address past).watchdog (bus_of past).controlled (station_of request.address past).last request.time)
     (ap (λ (a : ℕ). is_parametrized (station_of a past).stage) (sym there)
     ∙ not_true (is_parametrized (station_of configuration.address past).stage)
     (and_parts (chk_cfg_asked configuration) (not (is_parametrized (station_of configuration.address past).stage)) reported).1)

@@ -1,6 +1,6 @@
 use Rattle.std.proofs.Common.{◌≡◌, Err, IfSome, false, is_some, map, sym, true, subst, ◌∙◌, arith}
 use Rattle.audit_files.specs.AuditPaths.{IsFileIn}
-use Rattle.serve_rack.specs.ServeFaults.{of_output_fault}
+use Rattle.serve_faults.specs.ServeFaults.{of_output_fault}
 use Rattle.serve_rack.specs.ServedLines.{line_numbers}
 use Rattle.serve_rack.specs.ServeOutput.{ServesLines, line_at}
 use Rattle.serve_rack.proofs.Opening.{opened_specs}

@@ -1,0 +1,99 @@
+//! Writes GSD files of slaves, and slaves of GSD files.
+
+use crate::files::{read_fault, read_file};
+use audit_host::{buffered, flushed};
+use gsd_slaves::{GsdFault, SlaveFault, run_gsd, run_slave};
+use rack_script::RunFault;
+use rackd_cli::DescribedSlave;
+use rackd_faults::{Fault, report, reported};
+use serve_log::Escaped;
+use std::fmt::Display;
+use std::fs;
+use std::process::ExitCode;
+use std::rt::Runtime;
+
+/// Writes the GSD file of a slave of the rack of this file to standard output.
+pub(crate) fn write_gsd<'a>(
+    rt: &(impl Runtime + AllocGlobal),
+    rack: &'a str,
+    slave: DescribedSlave<'_>,
+) -> Result<ExitCode, Fault<'a>> {
+    let rack = read_file(rt, rack)?;
+    let mut output = buffered(rt, rt.alloc())?;
+    let written = run_gsd(
+        rt.alloc(),
+        rack.as_str(),
+        slave.line,
+        slave.address,
+        slave.vendor,
+        slave.model,
+        &mut output,
+    );
+    flushed(output)?;
+    let done = match written {
+        Ok(()) => Ok(ExitCode::SUCCESS),
+        Err(fault) => gsd_refused(rt, fault),
+    };
+    reported(rt, rt.alloc(), rack.as_str(), done)
+}
+
+/// Returns the fault of a GSD file that is not written. If a name is not accepted, reports this here, with the reason in a
+/// second row, and returns the exit status.
+fn gsd_refused<'a>(errors: &impl Eprint, fault: GsdFault) -> Result<ExitCode, Fault<'a>> {
+    match fault {
+        GsdFault::OutOfMemory => Err(Fault::Run(RunFault::OutOfMemory)),
+        GsdFault::WriteFault => Err(Fault::Run(RunFault::WriteFault)),
+        GsdFault::Rack(fault) => Err(Fault::Run(RunFault::Rack(fault))),
+        GsdFault::NoLine(number) => Err(Fault::NoLine(number)),
+        GsdFault::NoSlave(_, address) => Err(Fault::NoSlave(address)),
+        GsdFault::Vendor(_) | GsdFault::Model(_) => Ok(report_reason(
+            errors,
+            Fault::BadName,
+            fault,
+        )),
+    }
+}
+
+/// Writes the slave of this GSD file, with these modules plugged, to standard output.
+pub(crate) fn write_slave<'a>(
+    rt: &(impl Runtime + AllocGlobal),
+    path: &'a str,
+    modules: &[&str],
+) -> Result<ExitCode, Fault<'a>> {
+    let gsd = match fs::read(rt, path) {
+        Ok(gsd) => gsd,
+        Err(error) => return Err(read_fault(error, path)),
+    };
+    let mut output = buffered(rt, rt.alloc())?;
+    let written = run_slave(rt.alloc(), gsd.as_slice(), modules, &mut output);
+    flushed(output)?;
+    match written {
+        Ok(()) => Ok(ExitCode::SUCCESS),
+        Err(fault) => slave_refused(rt, path, fault),
+    }
+}
+
+/// Returns the fault of a slave that is not written. If its GSD file or its modules are not accepted, reports this here, with
+/// the reason in a second row, and returns the exit status.
+fn slave_refused<'a>(
+    errors: &impl Eprint,
+    path: &'a str,
+    fault: SlaveFault,
+) -> Result<ExitCode, Fault<'a>> {
+    match fault {
+        SlaveFault::OutOfMemory => Err(Fault::Run(RunFault::OutOfMemory)),
+        SlaveFault::WriteFault => Err(Fault::Run(RunFault::WriteFault)),
+        SlaveFault::Row(reason) => Ok(report_reason(errors, Fault::BadGsd(path), reason)),
+        SlaveFault::Modules(reason) => Ok(report_reason(errors, Fault::BadGsd(path), reason)),
+        SlaveFault::UnknownModule(reason) => {
+            Ok(report_reason(errors, Fault::BadGsd(path), reason.as_str()))
+        }
+    }
+}
+
+/// Reports a fault, and its reason in a second row. Returns the exit status.
+fn report_reason<R: Display + Drop>(errors: &impl Eprint, fault: Fault<'_>, reason: R) -> ExitCode {
+    let code = report(errors, fault);
+    let _ = eprintln!(errors; "  {}", Escaped(reason));
+    code
+}

@@ -1,2 +1,0 @@
-pub mod MissingPorts
-pub mod Ending

@@ -1,0 +1,10 @@
+//! Why the program could not do its work, its exit status, and what it reports of that on standard error (own); it carries out no
+//! command.
+#![tactic(auto)]
+
+mod ending;
+mod rack_cause;
+mod reporting;
+
+pub use ending::{Fault, cause, status};
+pub use reporting::{ended, report, reported};

@@ -1,0 +1,2 @@
+pub mod MissingPorts
+pub mod ServeFaults
