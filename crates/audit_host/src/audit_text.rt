@@ -22,7 +22,9 @@ use std::rt::Runtime;
 pub(crate) const HEADER: &[u8] = b"rack-audit ";
 
 /// The rows of an audit text in files, without those of heads.
-pub(crate) type FileEntries<'a, 'p, H, R> = TextRows<BufReader<EntryReader<'a, 'p, H, R>>>;
+pub(crate) type FileEntries<'a, 'p, H, R> = TextRows<
+    BufReader<EntryReader<FileReader<'a, 'p, H, R>>>,
+>;
 
 /// How an audit text begins.
 #[derive(Drop)]
@@ -160,7 +162,7 @@ pub(crate) fn entries_of<'a, 'p, H: Runtime + AllocGlobal + Files<File = R>, R: 
 pub(crate) fn files_of<'r, 'a, 'p, H: Runtime + AllocGlobal + Files<File = R>, R: Read + Drop>(
     rows: &'r FileEntries<'a, 'p, H, R>,
 ) -> &'r AuditFiles<'a, 'p, H, R> {
-    rows.reader().get_ref().files()
+    rows.reader().get_ref().reader().get_ref()
 }
 
 /// Reads the first row of a text, and the other rows of a head with which it begins.

@@ -1,39 +1,35 @@
-//! A reader of the entries of an audit text in files.
+//! A reader of the entries of an audit text.
 
-use crate::text_files::{AuditFiles, FileReader};
 use audit_parts::{EntryRows, PartsCheck};
 use std::alloc::Global;
-use std::fs::Files;
-use std::io::{self, Read};
-use std::rt::Runtime;
+use std::io::{self, BufRead, Read};
 
-/// A reader of an audit text in files, without the rows of heads. It gives what [`EntryRows`] gives.
+/// A reader of an audit text without the rows of heads. It gives what [`EntryRows`] gives.
 #[derive(Drop)]
-pub(crate) struct EntryReader<'a, 'p, H: Runtime + AllocGlobal + Files<File = R>, R: Read + Drop> {
-    rows: EntryRows<FileReader<'a, 'p, H, R>>,
+pub(crate) struct EntryReader<B: BufRead + Drop> {
+    rows: EntryRows<B>,
 }
 
-impl<'a, 'p, H: Runtime + AllocGlobal + Files<File = R>, R: Read + Drop> EntryReader<'a, 'p, H, R> {
+impl<B: BufRead + Drop> EntryReader<B> {
     /// Returns the reader of a text, as [`EntryRows::new`] takes it.
     pub(crate) fn new(
         alloc: Global,
         check: Option<PartsCheck>,
         first: Vec<u8>,
-        reader: FileReader<'a, 'p, H, R>,
-    ) -> EntryReader<'a, 'p, H, R> {
+        reader: B,
+    ) -> EntryReader<B> {
         EntryReader {
             rows: EntryRows::new(alloc, check, first, reader),
         }
     }
 
-    /// Returns the files of the text.
-    pub(crate) fn files(&self) -> &AuditFiles<'a, 'p, H, R> {
-        self.rows.reader().get_ref()
+    /// Returns the reader of the text with the rows of heads.
+    pub(crate) fn reader(&self) -> &B {
+        self.rows.reader()
     }
 }
 
-impl<H: Runtime + AllocGlobal + Files<File = R>, R: Read + Drop> Read
-    for EntryReader<'_, '_, H, R> {
+impl<B: BufRead + Drop> Read for EntryReader<B> {
     fn read(&mut self, buf: &mut [u8]) -> io::Result<usize> {
         self.rows.read(buf)
     }
