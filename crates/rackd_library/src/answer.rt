@@ -1,4 +1,4 @@
-//! What C is told of a telegram.
+//! What C receives for a telegram.
 
 ghost use Rattle.std.specs.Prelude.{◌≡◌, ◌≤◌, length};
 ghost use Rattle.rackd_library.specs.Answers.{answer_of_step, refused_answer, reply_octets, rule_number, written_over};
@@ -11,7 +11,7 @@ pub(crate) const MOST_REPLY: usize = 255;
 /// The number of a call that did what it says.
 pub(crate) const DONE: u32 = 0;
 
-/// What C is told of a telegram, beside the octets of its reply.
+/// What C receives for a telegram, beside the octets of its reply.
 #[derive(Drop)]
 pub(crate) struct Answer {
     /// The number of the call: 0, or its fault.
@@ -36,7 +36,7 @@ pub(crate) fn refused(done: u32) -> Answer
     }
 }
 
-/// Sets what C is told beside the number of the call, which is returned.
+/// Sets what C receives beside the number of the call, which is returned.
 pub(crate) fn set_answer(answer: Answer, count: &mut usize, rule: &mut u8, place: &mut u32) -> u32
     ensures { record { done = result; count = count.new; rule = rule.new; place = place.new } ≡ answer }
 {
@@ -46,7 +46,7 @@ pub(crate) fn set_answer(answer: Answer, count: &mut usize, rule: &mut u8, place
     answer.done
 }
 
-/// Copies the reply to an event, and returns what else C is told of it.
+/// Copies the reply to an event, and returns what else C receives for it.
 pub(crate) fn answered(step: &Step, reply: &mut [u8]) -> Answer
     requires { MOST_REPLY ≤ length reply.old }
     ensures answer { result ≡ answer_of_step step.now }
