@@ -11,7 +11,7 @@ from support.watching import ENDLESS_HEADER, count, ticks
 # Entries of a third of a long text, answers after each third, and the octets by which memory may grow from the first third on.
 THIRD, ANSWERS, GROWTH = 66_666, 200, 1_000_000
 # Seconds in which a third is followed, also on a machine that is busy.
-PATIENCE = 300
+PATIENCE = 600
 
 
 def resident(pid):

@@ -78,7 +78,7 @@ def test_pause(shown):
     until_equal(page.live, "paused")
     shown.follow(refusal(16, 3, 9, NOT_LISTED, "NotListed"), *exchanges(17, 400))
     shown.follow(*exchanges(417, 30))
-    assert page.live() == "paused, 431 new"
+    until_equal(page.live, "paused, 431 new")
     shown.tab.click("[data-cell='5 1']")
     assert (page.sentence(), page.places()) == (NOT_HOLDER, NEWS)
     shown.tab.click("#pause")

@@ -11,7 +11,7 @@ import tempfile
 import time
 
 # Seconds that an answer of the browser is waited for, and by default something on a page.
-PATIENCE, SOON = 30, 5
+PATIENCE, SOON = 600, 120
 # The names and codes of keys that a test presses.
 KEYS = {"Tab": 9, "Enter": 13, "Escape": 27, "ArrowLeft": 37, "ArrowUp": 38, "ArrowRight": 39, "ArrowDown": 40, " ": 32}
 

@@ -175,17 +175,19 @@ class WatchedRack:
         """Returns the whole rows of the audit text so far, without the first one."""
         return self.audit.read_text(encoding="ascii").rpartition("\n")[0].split("\n")[1:]
 
-    def requests(self, **fields):
-        """Returns the requests of the audit text so far that have these fields."""
-        found = [request_of(row) for row in self.rows() if " req " in row.split(" | ")[0]]
+    def requests(self, behind=0, **fields):
+        """Returns the requests of the audit text so far, behind this number of rows, that have these fields."""
+        found = [request_of(row) for row in self.rows()[behind:] if " req " in row.split(" | ")[0]]
         return [request for request in found if all(getattr(request, name) == value for name, value in fields.items())]
 
     def wait_for_requests(self, more, after=None, **fields):
-        """Sends a row of the operator, if there is one, and waits until this number of requests with these fields has come."""
-        before = len(self.requests(**fields))
+        """Sends a row of the operator, if there is one, and waits until this number of requests with these fields stands behind it."""
+        behind = len(self.rows())
         if after is not None:
             self.operate(after)
-        wait_for(lambda: len(self.requests(**fields)) >= before + more, every=0.02)
+            events = [row.split(" | ")[0].partition(" ")[2] for row in self.rows()]
+            behind = events.index(after, behind) + 1
+        wait_for(lambda: len(self.requests(behind, **fields)) >= more, every=0.02)
 
     def longest_silence(self):
         """Returns the most units of 10 ms between two requests of the audit text."""

@@ -3,7 +3,7 @@ import subprocess
 from typing import NamedTuple
 
 # Seconds that anything is waited for which must come, also on a machine that is busy.
-PATIENCE = 60
+PATIENCE = 600
 
 
 class Done(NamedTuple):
