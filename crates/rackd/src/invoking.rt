@@ -1,23 +1,16 @@
 //! Carries out what the words of the command line name.
 
 use crate::answers::answer_words;
-use crate::cable::run_cable;
 use crate::watching::watch_folder;
+use client_host::{operate_line, run_cable};
 use command_host::{Terminals, run_command, run_input};
-use operate_host::operate;
-use rack_script::RunFault;
-use rackd_cli::{CableWords, Invocation};
-use rackd_faults::{Fault, ended, report};
+use rackd_cli::Invocation;
+use rackd_faults::ended;
 use serve_options::ServeOptions;
 use serve_rack::Host;
-use std::fs::{File, Files};
-use std::io::{self, Read};
+use std::io::Read;
 use std::process::ExitCode;
-use std::rt::Runtime;
 use watch_host::WatchHost;
-
-/// A file that has no bytes.
-const NOTHING: &str = "/dev/null";
 
 /// What is reported if standard input is read from a terminal.
 const HINT: &str =
@@ -51,7 +44,7 @@ pub(crate) fn invoke<
         }
         Invocation::Serve { rack, options } => serve(rack, options),
         Invocation::Operate { port } => ended(&rt, operate_line(&rt, port, input)),
-        Invocation::Cable { port, cable } => log_cable(rt, port, cable, input),
+        Invocation::Cable { port, cable } => run_cable(rt, port, cable, input),
         Invocation::Answer(answer) => ended(&rt, answer_words(&rt, words, answer)),
     }
 }
@@ -61,44 +54,4 @@ fn hint(errors: &impl Eprint, is_terminal: bool) {
     if is_terminal {
         let _ = errors.eprintln(HINT);
     }
-}
-
-/// Operates a line that is served, and writes the answers on standard output.
-fn operate_line<
-    'a,
-    H: Runtime + AllocGlobal + Host + Copy + Send + 'static,
-    I: Read + Send + Drop + 'static,
->(rt: &H, port: u16, input: I) -> Result<ExitCode, Fault<'a>> {
-    let _held = stand_ins(rt);
-    let mut output = io::writer(rt);
-    match operate(*rt, rt.alloc(), port, input, &mut output) {
-        Ok(()) => Ok(ExitCode::SUCCESS),
-        Err(fault) => Err(Fault::of_client(port, fault)),
-    }
-}
-
-/// Serves a cable. Its reports go through the queue of rows for standard error, so that it never waits until they are read.
-fn log_cable<
-    H: Runtime + AllocGlobal + Host + Copy + Send + 'static,
-    I: Read + Send + Drop + 'static,
->(rt: H, port: u16, cable: CableWords<'_>, input: I) -> ExitCode {
-    let Ok((queue, written)) = serve_log::start(rt, rt.alloc()) else {
-        return report(&rt, Fault::Run(RunFault::OutOfMemory));
-    };
-    let ended_with = run_cable(&rt, port, cable, input);
-    let code = ended(&queue, ended_with);
-    queue.end(written);
-    code
-}
-
-/// Opens files that are always empty, one for each standard stream. If a stream is closed, one of these files gets its
-/// descriptor, so no connection does.
-///
-/// `serve` doesn't need them: it listens first, and a write to a socket that listens fails.
-pub(crate) fn stand_ins<F: Files>(files: &F) -> [Option<F::File>; 3] {
-    [stand_in(files), stand_in(files), stand_in(files)]
-}
-
-fn stand_in<F: Files>(files: &F) -> Option<F::File> {
-    File::open(files, NOTHING).ok()
 }

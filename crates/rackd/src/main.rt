@@ -11,7 +11,6 @@
 #![tactic(auto)]
 
 mod answers;
-mod cable;
 mod invoking;
 mod serving;
 mod watching;

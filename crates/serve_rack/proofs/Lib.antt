@@ -1,7 +1,2 @@
-mod Writing
-mod Recording
-mod Opening
 mod LinesServed
-mod Sharing
 mod RacksServed
-mod Naming

@@ -17,14 +17,15 @@ use Rattle.audit_files.specs.declared.audit_path.AuditPath.{AuditPath}
 use Rattle.serve_rack.specs.declared.serve.Served.{Served}
 use Rattle.serve_faults.specs.declared.serve_fault.ServeFault.{ServeFault}
 use Rattle.serve_faults.specs.declared.serve_fault.ServeFault.TheVariants as faults
-use Rattle.serve_rack.specs.declared.served_line.ServedLine.{ServedLine}
+use Rattle.serve_lines.specs.declared.served_line.ServedLine.{ServedLine}
 use Rattle.serve_faults.specs.ServeFaults.{of_rack_fault}
-use Rattle.serve_rack.specs.ServedLines.{AreInOrder, ArePutInOrder, all_served, line_numbers, served_line, with_both}
-use Rattle.serve_rack.specs.ServeOutput.{AreLinesOf, IsListeningFault, Serves, ServesLines, ServesRack, described, rack_numbers}
+use Rattle.serve_lines.specs.ServedLines.{AreInOrder, ArePutInOrder, all_served, line_numbers, served_line, with_both}
+use Rattle.serve_rack.specs.ServeOutput.{AreLinesOf, Serves, ServesLines, ServesRack, described, rack_numbers}
+use Rattle.serve_lines.specs.Listening.{IsListeningFault}
 use Rattle.serve_faults.specs.MissingPorts.{has_ports}
-use Rattle.serve_rack.proofs.Recording.{file_grows, path_grows}
-use Rattle.serve_rack.proofs.LinesServed.{same_list, some_parts}
-use Rattle.serve_rack.proofs.Writing.{keeps_same}
+use Rattle.serve_sessions.proofs.Recording.{file_grows, path_grows}
+use Rattle.serve_lines.proofs.WithPorts.{same_list, some_parts}
+use Rattle.serve_lines.proofs.Writing.{keeps_same}
 
 -- ---- lines by their descriptions
 

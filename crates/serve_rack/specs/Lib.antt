@@ -1,4 +1,2 @@
-pub mod Recordings
-pub mod ServedLines
 pub mod ServeOutput
 pub mod Serving

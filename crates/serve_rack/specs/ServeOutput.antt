@@ -1,21 +1,14 @@
 -- A rack that is served (own).
-use Rattle.std.specs.Prelude.{◌≡◌, ◌⊎◌, codes, ℕ, ℤ, Bool, true, false, List, [], ◌∷◌, ◌++◌, map, Option, Some, None, Result, Ok, Err, Contains, IsPermutation}
+use Rattle.std.specs.Prelude.{◌≡◌, ◌⊎◌, ℕ, ℤ, Bool, true, false, List, map, Option, Some, None, Result, Ok, Err, Contains, IsPermutation}
 use Rattle.std.specs.Borrow.{Bor}
-use Rattle.std.specs.List.{AllZip, flat_map, list_all}
+use Rattle.std.specs.List.{list_all}
 use Rattle.std.specs.List.Sorted.{IsNonDecreasingBy}
 use Rattle.std.specs.Io.KnownBytes.{Appends, Keeps}
 use Rattle.std.specs.declared.io.ErrorKind.{ErrorKind}
 use Rattle.system_errors.specs.declared.cause.Cause.{Cause}
 use Rattle.system_errors.specs.declared.cause.Cause.TheVariants.{Forgotten, NotTaken}
 use Rattle.dp_text.specs.Writes.{WritesPrefix}
-use Rattle.dp_audit.specs.AuditText.{audit_text, version_of}
 use Rattle.dp_line.specs.World.{description_of}
-use Rattle.dp_line.specs.declared.description.LineSpec.{LineSpec}
-use Rattle.dp_sessions.specs.declared.port.LineAndClaims.{LineAndClaims}
-use Rattle.dp_shared.specs.Content.{Content, IsHistory}
-use Rattle.dp_shared.specs.LineLock.{IsOf}
-use Rattle.dp_shared.specs.Passes.{line_of}
-use Rattle.dp_shared.specs.declared.one_slot.OneSlot.{OneSlot}
 use Rattle.rack_file.specs.Rack.{LineDescription, RackDescription}
 use Rattle.rack_file.specs.declared.fault.RackFault.{RackFault}
 use Rattle.rack_file.specs.declared.fault.RackFault.TheVariants as racks
@@ -30,80 +23,13 @@ use Rattle.serve_faults.specs.declared.serve_fault.OutputFault.TheVariants as ou
 use Rattle.serve_faults.specs.declared.serve_fault.ServeFault.{ServeFault}
 use Rattle.serve_faults.specs.declared.serve_fault.ServeFault.TheVariants as faults
 use Rattle.serve_rack.specs.declared.serve.Served.{Served}
-use Rattle.serve_rack.specs.declared.served_line.ServedLine.{ServedLine}
-use Rattle.serve_rack.specs.ServedLines.{line_numbers, number_of}
-
--- ---- listening
-
--- the ports of lines in turn, that for masters first
-abbrev pub ports_of : List ServedLine → List ℕ
-ports_of lines = flat_map (λ line. line.listen ∷ line.operator ∷ []) lines
-
--- a port of these lines cannot be listened at, or memory is refused
-abbrev pub IsListeningFault : List ServedLine → ServeFault → Type 0
-IsListeningFault lines (faults.CannotListen port cause) = Contains (ports_of lines) port
-IsListeningFault lines faults.OutOfMemory = Unit {0}
-IsListeningFault lines other = ⊥
-
--- ---- opened lines
-
--- each port has the line that is described at the same place
-abbrev pub AreOpened : {S V P C : Type 0} → List ServedLine → List (LineAndClaims (OneSlot S V LineSpec P) C) → Type 0
-AreOpened lines ports = AllZip (λ line port. line_of port.line ≡ line.spec) lines ports
-
--- one more port, with this line
-abbrev pub IsOneMore : {S V P C : Type 0} → LineSpec → List (LineAndClaims (OneSlot S V LineSpec P) C) → List (LineAndClaims (OneSlot S V LineSpec P) C) → Type 0
-IsOneMore {S} {V} {P} {C} line before after = (port : LineAndClaims (OneSlot S V LineSpec P) C) × (after ≡ before ++ port ∷ []) × (line_of port.line ≡ line)
-
--- ---- the end
-
--- the journal of a line after serving; its entries are a legal history
-pub record IsJournalOf (line : LineSpec) (content : Content) : Type 0 where
-  pub of_line : IsOf line content.book
-  pub history : IsHistory content
-
-abbrev pub text_of : Content → List ℕ
-text_of content = audit_text (version_of content.book.opening.capacity) content.book.number content.book.entries
-
--- the audit text of a line is written, or a prefix of it
-abbrev pub WritesAudit : LineSpec → Option (List ℕ) → Option (List ℕ) → Result (Unit {0}) OutputFault → Type 0
-WritesAudit line old new (Ok done) = (content : Content) × IsJournalOf line content × Appends old new (text_of content)
-WritesAudit line old new (Err outputs.WriteFault) = (content : Content) × IsJournalOf line content × WritesPrefix old new (text_of content)
-WritesAudit line old new (Err outputs.OutOfMemory) = Keeps old new
-WritesAudit line old new (Err (outputs.CannotMakePorts cause)) = ⊥
-
--- the audit texts of these lines are written, in their order
-pub record AreWritten (lines : List LineSpec) (old new : Option (List ℕ)) : Type 0 where
-  pub journals : List Content
-  pub each : AllZip IsJournalOf lines journals
-  pub written : Appends old new (flat_map text_of journals)
-
--- a prefix of the audit texts of the first of these lines is written
-pub record AreBrokenOff (lines : List LineSpec) (old new : Option (List ℕ)) : Type 0 where
-  pub first : List LineSpec
-  pub later : List LineSpec
-  pub lines_are : lines ≡ first ++ later
-  pub journals : List Content
-  pub each : AllZip IsJournalOf first journals
-  pub written : WritesPrefix old new (flat_map text_of journals)
-
-abbrev pub line_at : {S V P C : Type 0} → LineAndClaims (OneSlot S V LineSpec P) C → LineSpec
-line_at port = line_of port.line
-
--- the audit texts of these lines are written, or a part of them
-abbrev pub WritesAudits : List LineSpec → Option (List ℕ) → Option (List ℕ) → Result (Unit {0}) OutputFault → Type 0
-WritesAudits lines old new (Ok done) = AreWritten lines old new
-WritesAudits lines old new (Err (outputs.CannotMakePorts cause)) = ⊥
-WritesAudits lines old new (Err fault) = AreBrokenOff lines old new
+use Rattle.serve_sessions.specs.Ready.{ready}
+use Rattle.serve_lines.specs.declared.served_line.ServedLine.{ServedLine}
+use Rattle.serve_lines.specs.AuditTexts.{AreBrokenOff, AreWritten}
+use Rattle.serve_lines.specs.Listening.{ports_of}
+use Rattle.serve_lines.specs.ServedLines.{line_numbers, number_of, specs_of}
 
 -- ---- serving
-
--- what is written once every port is listened at
-abbrev pub ready : List ℕ
-ready = codes "ready\n"
-
-abbrev pub specs_of : List ServedLine → List LineSpec
-specs_of lines = map (λ line. line.spec) lines
 
 -- `ready` is written, and then the audit texts of these lines; for endless lines only `ready`
 abbrev pub AreServed : Bool → List ServedLine → Option (List ℕ) → Option (List ℕ) → Type 0
@@ -122,12 +48,6 @@ ServesConnections old new (Ok served) = Appends old new ready
 ServesConnections old new (Err outputs.WriteFault) = WritesPrefix old new ready
 ServesConnections old new (Err outputs.OutOfMemory) = Keeps old new
 ServesConnections old new (Err (outputs.CannotMakePorts cause)) = Keeps old new
-
--- the file that names the ports cannot be made, or memory is refused
-abbrev pub IsPortsFault : OutputFault → Type 0
-IsPortsFault (outputs.CannotMakePorts cause) = Unit {0}
-IsPortsFault outputs.OutOfMemory = Unit {0}
-IsPortsFault outputs.WriteFault = ⊥
 
 -- the cause of an error of the system
 abbrev pub IsCauseOfError : Cause → Type 0

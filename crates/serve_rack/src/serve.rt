@@ -5,13 +5,9 @@ ghost use Rattle.dp_sessions.specs.Pools.{HasSeats};
 ghost use Rattle.dp_line.specs.World.{description_of, opening_fault};
 ghost use Rattle.rack_file.specs.Rack.{rack_described};
 ghost use Rattle.rack_file.specs.RackFile.{rack_in};
-ghost use Rattle.serve_rack.specs.ServeOutput.{AreOpened, Serves, ServesLines, ServesRack};
+ghost use Rattle.serve_lines.specs.OpenedLines.{AreOpened};
+ghost use Rattle.serve_rack.specs.ServeOutput.{Serves, ServesLines, ServesRack};
 
-use crate::audits::write_audits;
-use crate::host::Host;
-use crate::listening::{Listeners, check_descriptors, listen_at_lines, ports_of};
-use crate::opened_lines::{OpenedLines, SeatedWorkers, ServedLines, open_lines};
-use crate::served_line::{ServedLine, lines_to_serve};
 use crate::serving::{ListeningLines, numbers_of, serve_connections};
 use rack_file::laws::{
     accepted_lines_can_be_opened, accepted_racks_have_1_to_8_lines,
@@ -19,8 +15,13 @@ use rack_file::laws::{
 };
 use rack_file::{Rack, read_rack};
 use serve_faults::ServeFault;
+use serve_lines::{
+    Listeners, OpenedLines, SeatedWorkers, ServedLine, ServedLines, check_descriptors,
+    lines_to_serve, listen_at_lines, open_lines, ports_of, write_audits,
+};
 use serve_log::Notes;
 use serve_options::ServeOptions;
+use serve_sessions::Host;
 use serve_sockets::{InputEnd, ServePhase};
 use std::alloc::Global;
 use std::io::Write;
@@ -120,7 +121,7 @@ fn open_and_serve<'a, H: Host + Sync, W: Write>(
     let Ok(opened) = open_lines(alloc, lines, options.endless.is_some(), workers) else {
         return Err(ServeFault::OutOfMemory);
     };
-    serve_lines(rt, alloc, listening, opened, options, input, writer)
+    serve_opened(rt, alloc, listening, opened, options, input, writer)
 }
 
 /// Returns how many connections each port accepts. Without a limit it is a number that is never reached.
@@ -131,7 +132,7 @@ pub(crate) fn sessions_of(options: ServeOptions<'_>) -> u64
 }
 
 /// Serves lines that are listened at, records them, and writes their audit texts unless they are endless.
-fn serve_lines<'a, 's, H: Host + Sync, W: Write>(
+fn serve_opened<'a, 's, H: Host + Sync, W: Write>(
     rt: &'s H,
     alloc: Global,
     listening: Vec<Listeners<TcpListener>>,

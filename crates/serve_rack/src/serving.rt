@@ -5,32 +5,29 @@ ghost use Rattle.std.specs.Borrow.{Bor};
 ghost use Rattle.std.specs.Io.KnownBytes.{Appends};
 ghost use Rattle.audit_trail.specs.Named.{name_of};
 ghost use Rattle.audit_files.specs.AuditPaths.{IsFileIn};
-ghost use Rattle.serve_rack.specs.Recordings.{IsPartOfOne, paths_of};
-ghost use Rattle.serve_rack.specs.declared.served_line.ServedLine.{ServedLine};
-ghost use Rattle.serve_rack.specs.ServedLines.{line_numbers};
-ghost use Rattle.serve_rack.specs.Serving.{AreListening, AreSeated, AreServedLines};
-ghost use Rattle.serve_rack.specs.ServeOutput.{AreServed, ServesConnections, ServesLines, ready, serving_result};
+ghost use Rattle.serve_sessions.specs.Recordings.{IsPartOfOne, paths_of};
+ghost use Rattle.serve_lines.specs.declared.served_line.ServedLine.{ServedLine};
+ghost use Rattle.serve_lines.specs.ServedLines.{line_numbers};
+ghost use Rattle.serve_rack.specs.Serving.{AreListening};
+ghost use Rattle.serve_lines.specs.ServingLines.{AreSeated, AreServedLines};
+ghost use Rattle.serve_rack.specs.ServeOutput.{AreServed, ServesConnections, ServesLines, serving_result};
+ghost use Rattle.serve_sessions.specs.Ready.{ready};
 
-use crate::acceptors::Acceptors;
-use crate::clocks::{close_clocks, open_clocks, schedule_of};
-use crate::host::Host;
-use crate::listening::Listeners;
-use crate::opened_lines::{SeatedWorkers, ServedLines};
-use crate::operators::operator_workers;
-use crate::ready::{name_ports, write_ready};
-use crate::recorder::{UnnamedRecorder, first_incomplete, name_trails, record_lines};
 use crate::serve::{Served, sessions_of};
-use crate::served_line::ServedLine;
-use crate::server_context::ServerContext;
-use crate::session_gate::{KeepTime, SessionGate, TimedGate};
 use crate::threads::{Sessions, accept_and_serve, can_start};
 use audit_files::{IncompleteFile, OldParts};
 use audit_trail::{Naming, NoTrail, RecordEntries};
 use crossbeam_channel::bounded;
 use serve_clock::{LineClock, Schedule};
 use serve_faults::{OutputFault, ServeFault};
+use serve_lines::{Listeners, SeatedWorkers, ServedLine, ServedLines};
 use serve_log::{LineNumbers, MOST_OPERATORS, Notes};
 use serve_options::{PartOptions, ServeOptions};
+use serve_sessions::{
+    Acceptors, Host, KeepTime, ServerContext, SessionGate, TimedGate, UnnamedRecorder,
+    close_clocks, first_incomplete, name_ports, name_trails, open_clocks, operator_workers,
+    record_lines, schedule_of, write_ready,
+};
 use serve_sockets::{InputEnd, ServePhase, SocketContext};
 use std::alloc::{AllocError, Global};
 use std::io::Write;

@@ -1,19 +1,17 @@
 //! The threads that serve a rack.
 
-ghost use Rattle.serve_rack.specs.Serving.{AreSeated};
+ghost use Rattle.serve_lines.specs.ServingLines.{AreSeated};
 
-use crate::acceptors::Acceptors;
-use crate::host::Host;
-use crate::masters::MasterJob;
-use crate::opened_lines::SeatedWorkers;
-use crate::operators::{OperatedLine, OperatorWorker, ServeConnections};
-use crate::server_context::{MAX_READS, ServerContext};
-use crate::session_gate::TimedGate;
 use audit_files::{NewFiles, OldParts};
 use crossbeam_channel::{Receiver, RecvTimeoutError, bounded};
 use dp_sessions::{Gate, Job, PoolFault, run_pool};
 use log::Log;
 use serve_clock::Schedule;
+use serve_lines::SeatedWorkers;
+use serve_sessions::{
+    Acceptors, Host, MAX_READS, MasterJob, OperatedLine, OperatorWorker, ServeConnections,
+    ServerContext, TimedGate,
+};
 use serve_sockets::{Accept, Phase, ServePhase, stop_with_input};
 use std::alloc::Global;
 use std::io::{Read, Write};

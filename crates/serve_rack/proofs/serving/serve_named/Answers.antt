@@ -2,8 +2,8 @@ use denote.Param.Send.{sendable}
 use Rattle.std.proofs.Common.{IfSome, subst}
 use Rattle.std.proofs.Crossing.{crosses}
 use Rattle.audit_files.proofs.Crossings.{writer_send}
-use Rattle.serve_rack.specs.Recordings.{IsPartOfOne}
-use Rattle.serve_rack.proofs.Sharing.{recorder_sync}
+use Rattle.serve_sessions.specs.Recordings.{IsPartOfOne}
+use Rattle.serve_sessions.proofs.Sharing.{recorder_sync}
 use Rattle.serve_rack.proofs.serving.serve_named.Goals as goal
 
 pub serve_with_recorders-served-requires-sync-C : goal.serve_with_recorders-served-requires-sync-C

@@ -1,10 +1,10 @@
 use Rattle.std.proofs.Common.{Some}
 use Rattle.audit_trail.specs.Named.{name_of}
-use Rattle.serve_rack.specs.Recordings.{paths_of}
-use Rattle.serve_rack.specs.ServedLines.{line_numbers}
-use Rattle.serve_rack.proofs.Recording.{incomplete_in}
+use Rattle.serve_sessions.specs.Recordings.{paths_of}
+use Rattle.serve_lines.specs.ServedLines.{line_numbers}
+use Rattle.serve_sessions.proofs.Recording.{incomplete_in}
 use Rattle.serve_rack.proofs.LinesServed.{served_not_at_all, served_unopened}
-use Rattle.serve_rack.proofs.Naming.{each_gives}
+use Rattle.serve_sessions.proofs.Naming.{each_gives}
 use Rattle.serve_rack.proofs.serving.serve_recorded.Goals as goal
 
 pub serve_named-served-requires-clause-named : goal.serve_named-served-requires-clause-named

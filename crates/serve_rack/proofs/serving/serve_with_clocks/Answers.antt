@@ -1,6 +1,6 @@
 use denote.Param.Send.{sendable}
 use Rattle.std.proofs.Crossing.{crosses}
-use Rattle.serve_rack.proofs.session_gate.SessionGate.TheSendSync as gate
+use Rattle.serve_sessions.proofs.session_gate.SessionGate.TheSendSync as gate
 use Rattle.serve_rack.proofs.serving.serve_with_clocks.Goals as goal
 
 pub serve_at_gate-requires-sync-G : goal.serve_at_gate-requires-sync-G

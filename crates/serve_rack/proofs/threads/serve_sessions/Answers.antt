@@ -1,8 +1,8 @@
 use denote.Param.Send.{sendable}
 use Rattle.std.proofs.Crossing.{crosses}
-use Rattle.serve_rack.proofs.operators.OperatorAcceptor.TheSendSync as acceptor
-use Rattle.serve_rack.proofs.operators.OperatorWorker.TheSendSync as worker
-use Rattle.serve_rack.proofs.Sharing.{operated_send}
+use Rattle.serve_sessions.proofs.operators.OperatorAcceptor.TheSendSync as acceptor
+use Rattle.serve_sessions.proofs.operators.OperatorWorker.TheSendSync as worker
+use Rattle.serve_sessions.proofs.Sharing.{operated_send}
 use Rattle.serve_rack.proofs.threads.serve_sessions.Goals as goal
 
 pub serve_in_threads-requires-send-O : goal.serve_in_threads-requires-send-O

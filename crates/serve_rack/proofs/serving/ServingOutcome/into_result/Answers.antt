@@ -1,6 +1,6 @@
 use Rattle.std.proofs.Common.{IfSome, subst, sym}
 use Rattle.audit_files.specs.AuditPaths.{IsFileIn}
-use Rattle.serve_rack.specs.ServedLines.{line_numbers}
+use Rattle.serve_lines.specs.ServedLines.{line_numbers}
 use Rattle.serve_rack.specs.ServeOutput.{IsCauseOfBreak}
 use Rattle.serve_rack.proofs.LinesServed.{cause_cuts, whole_in_part}
 use Rattle.serve_rack.proofs.serving.ServingOutcome.into_result.Goals as goal

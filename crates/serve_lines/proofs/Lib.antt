@@ -1,0 +1,4 @@
+pub mod Writing
+pub mod Opening
+pub mod WithPorts
+mod AuditTexts

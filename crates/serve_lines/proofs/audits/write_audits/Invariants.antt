@@ -1,0 +1,9 @@
+use Rattle.std.proofs.Common.{◌≡◌, ◌++◌, map}
+use Rattle.serve_lines.specs.AuditTexts.{AreWritten, line_at}
+use Rattle.serve_lines.proofs.audits.write_audits.Given as goal
+
+abbrev pub invariant-loop-port : goal.invariant-loop-port
+invariant-loop-port g l =
+    (goal.iterator-loop-port g).can_next l.port-iterator × (goal.iterator-loop-port g).is_finite l.port-iterator
+    × (l.yielded ++ l.port-iterator.rest.items ≡ l.fn.ports.items)
+    × AreWritten (map line_at l.yielded) (g.W.Write.contents l.initial.writer) (g.W.Write.contents l.writer)

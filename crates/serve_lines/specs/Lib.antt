@@ -1,0 +1,5 @@
+pub mod ServedLines
+pub mod Listening
+pub mod OpenedLines
+pub mod AuditTexts
+pub mod ServingLines

@@ -1,0 +1,4 @@
+pub mod Recording
+pub mod Naming
+pub mod Sharing
+mod Pairs
