@@ -12,6 +12,8 @@
 --   frame.comment contains "NotHolder"    requests that were refused because another master holds the slave
 --   fdl.service == "Set_Prm"              requests and replies of a service
 --   fdl.da == 5 || fdl.sa == 5            all telegrams of one slave
+--   fdl.event contains "slave 5"          what an operator did to one slave
+--   fdl.diag.holder == 1                  replies in which a slave is held by master 1
 --
 -- The words are those of `rackd explain`.
 
@@ -51,6 +53,15 @@ local UNSIMULATED = {
 local DEFAULT_SERVICE = "Data_Exchange"
 
 local NO_MASTER = 255
+
+-- Returns what each value of Master_Add means: the address of the master that holds the slave, 0 to 126, or 255.
+local function holder_names()
+  local names = { [NO_MASTER] = "held by nobody" }
+  for address = 0, 126 do
+    names[address] = "held by master " .. address
+  end
+  return names
+end
 
 -- ---- the fields
 
@@ -127,7 +138,7 @@ local diag = {
   freeze_mode = ProtoField.uint8("fdl.diag.freeze_mode", "Freeze_Mode", base.DEC, BITS, 0x10),
   sync_mode = ProtoField.uint8("fdl.diag.sync_mode", "Sync_Mode", base.DEC, BITS, 0x20),
   overflow = ProtoField.uint8("fdl.diag.ext_diag_overflow", "Ext_Diag_Overflow", base.DEC, BITS, 0x80),
-  holder = ProtoField.uint8("fdl.diag.holder", "Master_Add", base.DEC, { [NO_MASTER] = "held by nobody" }),
+  holder = ProtoField.uint8("fdl.diag.holder", "Master_Add", base.DEC, holder_names()),
   ident = ProtoField.uint16("fdl.diag.ident", "Ident_Number", base.HEX),
   extended = ProtoField.bytes("fdl.diag.extended", "Extended diagnosis"),
   block = ProtoField.string("fdl.diag.block", "Block"),
@@ -727,11 +738,37 @@ local function add_frame(tree, pinfo, tvb)
   end
 end
 
+-- ---- events of the operator
+
+-- An event of the operator has no telegram, so its packet has no octets. What it is stands in the comment of the packet:
+-- "place 6 operator -> slave 5 inputs 01 02: done.".
+local packet_comment = Field.new("frame.comment")
+
+-- Returns the comment of the packet without the place in front.
+local function comment_text()
+  local comment = packet_comment()
+  return comment and tostring(comment.value):gsub("^place %d+ ", "") or "no octets, and no comment"
+end
+
+-- Shows an event of the operator: in Info what it is, and as destination the address of the slave, or `line`. Another packet
+-- without octets is a request that has none.
+local function add_event(root, pinfo)
+  local text = comment_text()
+  local kind, address = text:match("^operator %-> (%a+) (%d*)")
+  if kind == nil then
+    pinfo.cols.info = "no telegram: " .. text
+    return
+  end
+  root:add(fdl):add(f.event, text)
+  pinfo.cols.src = "operator"
+  pinfo.cols.dst = kind == "slave" and address or kind
+  pinfo.cols.info = text
+end
+
 function fdl.dissector(tvb, pinfo, root)
   pinfo.cols.protocol = "FDL"
   if tvb:len() == 0 then
-    root:add(f.event, "no octets; the packet comment has the event")
-    pinfo.cols.info = "no octets; see the packet comment"
+    add_event(root, pinfo)
     return
   end
   local tree = root:add(fdl, tvb())

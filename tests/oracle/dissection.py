@@ -19,7 +19,7 @@ FIELDS = ['fdl.da', 'fdl.sa', 'fdl.fc', 'fdl.fcb', 'fdl.fcv', 'fdl.function', 'f
           'fdl.service', 'fdl.fcs_good', 'fdl.prm.lock_req', 'fdl.prm.unlock_req', 'fdl.prm.watchdog', 'fdl.prm.min_tsdr',
           'fdl.prm.ident', 'fdl.prm.groups', 'fdl.control.sync', 'fdl.control.freeze', 'fdl.control.clear_data',
           'fdl.control.groups', 'fdl.diag.station_not_ready', 'fdl.diag.prm_fault', 'fdl.diag.ext_diag', 'fdl.diag.prm_req',
-          'fdl.diag.ext_diag_overflow', 'fdl.diag.holder', 'fdl.diag.ident', 'fdl.outputs', 'fdl.inputs']
+          'fdl.diag.ext_diag_overflow', 'fdl.diag.holder', 'fdl.diag.ident', 'fdl.outputs', 'fdl.inputs', 'fdl.event']
 
 
 class Difference(NamedTuple):
@@ -156,10 +156,30 @@ def differences(rows: List[Dict[str, str]], wanted: List[Dict[str, str]]) -> Lis
             for row, other in zip(rows, wanted) for field, value in other.items() if row.get(field) != value]
 
 
+def without_place(comment: str) -> str:
+    """Returns a comment without its place, `place 6 `: that is what Info has to show of a packet without octets."""
+    return comment.split(' ', 2)[2]
+
+
+def holder_rows(packets: List[Packet]) -> List[str]:
+    """Returns the rows that name the holder, of all diagnoses in the packets, as the tree of tshark shows them."""
+    addresses = [int(fields['fdl.diag.holder']) for fields in map(fields_of, (packet.octets for packet in packets))
+                 if 'fdl.diag.holder' in fields]
+    return [f"Master_Add: {'held by nobody' if address == 255 else f'held by master {address}'} ({address})"
+            for address in addresses]
+
+
 def dissected_row(number: int, packet: Packet, blocks: Dict[int, List[str]]) -> Dict[str, str]:
     """Returns what tshark has to read of a packet with the dissector."""
     fields = fields_of(packet.octets)
     row = {'frame.number': str(number), '_ws.col.Protocol': 'FDL'}
+    if not packet.octets and packet.direction == INBOUND:
+        row['_ws.col.Info'] = f'no telegram: {without_place(packet.comment)}'
+    elif not packet.octets:
+        fields['fdl.event'] = row['_ws.col.Info'] = without_place(packet.comment)
+        # the comment begins with `place 6 operator -> slave 5`, or with `place 6 operator -> line`
+        receiver = packet.comment.split()[4:6]
+        row['_ws.col.Source'], row['_ws.col.Destination'] = 'operator', receiver[receiver[0] == 'slave']
     row.update({field: fields.get(field, '') for field in FIELDS if field != 'fdl.service' or 'fdl.service' in fields})
     place = int(packet.comment.split()[1])
     kind = kind_of(blocks[place])

@@ -59,3 +59,10 @@ def read_by_tshark(tshark, capture, fields, *options):
         if "fdl.fcs_good" in row:
             row["fdl.fcs_good"] = TRUTHS.get(row["fdl.fcs_good"], row["fdl.fcs_good"])
     return rows, done.returncode
+
+
+def tree_of_tshark(tshark, capture, dissector):
+    """Returns the rows of the tree of `fdl` of all packets of a capture, without the blanks in front."""
+    words = [tshark, "-r", str(capture), "-X", f"lua_script:{dissector}", "-O", "fdl"]
+    done = subprocess.run(words, capture_output=True, text=True, timeout=PATIENCE, check=True)
+    return [row.strip() for row in done.stdout.split("\n")]
