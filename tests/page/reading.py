@@ -44,6 +44,17 @@ class WatchPage:
     def source(self):
         return self.text("#source")
 
+    def title(self):
+        return self.evaluate("document.title")
+
+    def dots(self):
+        """Returns the class of the dot of each line."""
+        return self.evaluate("[...document.querySelectorAll('#lines i')].map(node => node.className)")
+
+    def is_shown(self, selector):
+        """Returns whether an element has a place on the page."""
+        return self.evaluate(f"document.querySelector({json.dumps(selector)}).getClientRects().length > 0")
+
     def live(self):
         return self.text("#live")
 
@@ -52,6 +63,14 @@ class WatchPage:
         return self.evaluate(f"[...document.querySelectorAll('#banner p')].map(node => [node.className, {TEXT}(node)])")
 
     # The matrix
+
+    def columns(self):
+        """Returns the heads of the columns of the matrix."""
+        return self.texts("#matrix thead th")
+
+    def fold(self):
+        """Returns what is said about masters without a column, with the word of the button."""
+        return self.text("#fold")
 
     def cells(self):
         """Returns the words of the matrix, by slave and master."""

@@ -6,7 +6,7 @@ import sys
 import pytest
 
 # The most lines of the script, of one of its functions, and the longest line of a page file.
-MOST_LINES, MOST_OF_A_FUNCTION, LONGEST_LINE = 915, 40, 120
+MOST_LINES, MOST_OF_A_FUNCTION, LONGEST_LINE = 1040, 40, 120
 NAMES = ("page.html", "page.css", "page.js")
 # Words that would read text as HTML or as a script, or that the policy of the page refuses.
 FORBIDDEN = ("innerHTML", "outerHTML", "insertAdjacentHTML", "document.write", "eval(", "new Function", "DOMParser",

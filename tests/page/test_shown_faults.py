@@ -1,4 +1,6 @@
 """The page: the last refusal with its reason, and the tables of refusals and of other faults."""
+import re
+
 from page.shown_racks import NEWS, NOT_ACTIVE, NOT_HOLDER, NOT_LISTED, PARAMETERS, WRONG_IDENT, refusal
 from page.stand_in import FREE, RUNNING, Line, Rack, change, request, slave, to_all
 from support.clients import wait_for
@@ -68,6 +70,15 @@ def test_rows_of_refusals(shown):
     assert page.groups("refusals") == [["M2", "slave 5", "NotHolder", "3", "14"], ["M1", "slave 12", "NotActive", "1", "10"]]
     shown.follow(refusal(16), refusal(17, 1, 12, NOT_ACTIVE, "NotActive"))
     assert page.groups("refusals") == [["M1", "slave 12", "NotActive", "2", "17"], ["M2", "slave 5", "NotHolder", "4", "16"]]
+
+
+def test_when_a_refusal_came(shown):
+    """An entry that was there before the page was opened came earlier; of another one it is known when it came."""
+    page = shown.open()
+    assert [row[5] for row in page.rows("refusals")] == ["earlier", "earlier"]
+    shown.follow(refusal(16, 1, 12, NOT_ACTIVE, "NotActive"))
+    assert [row[5] == "earlier" for row in page.rows("refusals")] == [False, True]
+    assert re.fullmatch(r"now|\d+ s ago", page.rows("refusals")[0][5])
 
 
 def test_chosen_refusal(shown):

@@ -2,8 +2,8 @@
 import re
 import time
 
-from page.shown_racks import NEWS, NOT_HOLDER, NOT_LISTED, exchanges, refusal
-from page.stand_in import operation, sample
+from page.shown_racks import NEWS, NOT_HOLDER, NOT_LISTED, exchanges, large_line, large_rack, refusal
+from page.stand_in import Rack, operation, sample
 from support.clients import wait_for
 from support.premises import suppose, tried_again
 from support.processes import PATIENCE
@@ -43,11 +43,13 @@ def add_until(shown, is_seen):
 
 def test_rate_of_entries(shown):
     page = shown.open()
-    assert page.buttons() == ["Line 1 0/s", "Line 2 0/s"]
+    assert (page.buttons(), page.dots()) == (["Line 1 quiet", "Line 2 quiet"], ["none", "none"])
     assert page.live() == "no new entry"
     _, added = add_until(shown, lambda: re.fullmatch(BUSY, page.buttons()[0]) and page.live() == "last entry now")
     assert re.fullmatch(BUSY, page.buttons()[0])
-    until_equal(page.buttons, ["Line 1 0/s", "Line 2 0/s"])
+    wait_for(lambda: re.fullmatch(BUSY, page.buttons()[0]) and page.dots() == ["good", "none"] or page.dots()[0] == "none")
+    wait_for(lambda: re.fullmatch(r"Line 1 \d+ s ago", page.buttons()[0]))
+    assert (page.buttons()[1], page.dots()) == ("Line 2 quiet", ["none", "none"])
     wait_for(lambda: page.live() != "last entry now")
     seconds = int(re.fullmatch(r"last entry (\d+) s ago", page.live())[1])
     assert 1 <= seconds <= time.monotonic() - added
@@ -97,7 +99,8 @@ def test_wrong_row(shown):
         "bad", "Row 13 of line-1-1.audit is not what this line would have written. rackd check rack.toml audit/line-1-1.audit "
         "reports: not the policy 13. The page shows the line as it was before that row; nothing after it is read. Is the rack "
         "file the one that the rack was started with?"]])
-    assert page.buttons() == ["Line 1 wrong row", "Line 2 0/s"]
+    assert (page.buttons(), page.dots()) == (["Line 1 wrong row", "Line 2 quiet"], ["wrong", "none"])
+    assert page.title() == "wrong row · rackd watch"
     shown.rack.set(standing="bad line", row=14)
     wait_for(lambda: "reports: bad line 14." in page.notices()[0][1])
 
@@ -123,18 +126,37 @@ def test_halted_line(shown):
         "With --endless a line does not halt when all its places are used."]]
     assert {word.replace(" ⌀", "") for word in page.cells().values()} == {"halted"}
     assert page.answer() == "The line is halted, so no master may change any slave."
-    assert page.buttons() == ["Line 1 halted", "Line 2 0/s"]
+    assert (page.buttons(), page.dots()) == (["Line 1 halted", "Line 2 quiet"], ["halted", "none"])
+    assert page.title() == "rackd watch"
+    shown.rack.set(1, halted=True)
+    until_equal(page.title, "halted · rackd watch")
 
 
 def test_watch_that_does_not_answer(shown):
     page = shown.open()
     shown.rack.silent = True
-    until_equal(page.notices, [["bad", "The watch does not answer, so what is shown is old. Is rackd watch still running?"]])
+    until_equal(page.notices, [["bad", "This page gets no answer, so what is shown is old. Has rackd watch or the rack with --page "
+                               "stopped?"]])
     assert page.live() == "no answer"
+    assert (page.buttons(), page.dots()) == (["Line 1 no answer", "Line 2 no answer"], ["wrong", "wrong"])
+    assert page.title() == "no answer · rackd watch"
     shown.rack.add(refusal(16, 3, 9, NOT_LISTED, "NotListed"))
     shown.rack.silent = False
     until_equal(page.notices, [])
     until_equal(page.sentence, NOT_LISTED)
+    assert "no answer" not in " ".join([page.title(), *page.buttons()])
+
+
+def test_tabs_of_a_page_that_is_paused(shown):
+    """While the page is paused, the tabs show the lines as they are now, also when the rack has stopped."""
+    page = shown.open()
+    shown.tab.click("#pause")
+    until_equal(page.live, "paused")
+    shown.rack.set(1, halted=True)
+    until_equal(page.buttons, ["Line 1 quiet", "Line 2 halted"])
+    shown.rack.silent = True
+    until_equal(page.buttons, ["Line 1 no answer", "Line 2 no answer"])
+    assert page.live() == "no answer"
 
 
 def test_watch_that_was_started_again(shown):
@@ -146,3 +168,89 @@ def test_watch_that_was_started_again(shown):
     until_equal(lambda: page.groups("refusals"),
                 [["M3", "slave 9", "NotListed", "1", "11"], ["M1", "slave 12", "NotActive", "1", "10"]])
     assert page.places() == NEWS[2:]
+
+
+# ---- all lines, and going back
+
+HEADS = ["Line", "Condition", "Slaves held", "In Data_Exch", "Entries", "Refusals", "Last refusal"]
+
+
+def eight_lines():
+    """Returns a rack of eight lines: a large one, one that is halted, one with a wrong row, one without a file, and quiet ones."""
+    rack = large_rack(16)
+    rack.add(refusal(1), refusal(2, 3, 9, NOT_LISTED, "NotListed"))
+    rack.set(1, halted=True)
+    rack.set(2, standing="not the policy", row=13)
+    rack.set(3, file=None, standing="empty")
+    rack.set(4, count=32768)
+    rack.set(5, count=70000, capacity=4294967295)
+    return rack
+
+
+def test_table_of_all_lines(shown):
+    page = shown.open(eight_lines())
+    assert page.is_shown("#matrix") and not page.is_shown("#all-lines")
+    shown.tab.click("#all")
+    wait_for(lambda: page.is_shown("#all-lines"))
+    assert not page.is_shown("#matrix") and not page.is_shown("#stream")
+    assert (page.texts("#all-lines thead th"), page.source()) == (HEADS, "rack.toml · 8 lines · texts in audit")
+    small = ["1 of 3 by master 1", "1 of 3", "0/s", "0", "none"]
+    assert page.rows("all-lines") == [
+        ["Line 1", "quiet, 0 % full", "63 of 64 by masters 1 to 16", "63 of 64", "0/s", "2", "master 3 → slave 9: NotListed"],
+        ["Line 2", "halted", *small], ["Line 3", "wrong row", *small], ["Line 4", "no file", *small],
+        ["Line 5", "quiet, 50 % full", *small], ["Line 6", "quiet, endless", *small], ["Line 7", "quiet, 0 % full", *small],
+        ["Line 8", "quiet, 0 % full", *small]]
+    shown.rack.set(7, halted=True)
+    until_equal(lambda: page.rows("all-lines")[7][1], "halted")
+    shown.rack.silent = True
+    until_equal(lambda: {row[1] for row in page.rows("all-lines")}, {"no answer"})
+
+
+def test_line_of_the_table(shown):
+    """A row of the table leads to its line, whose button then has the focus."""
+    page = shown.open(eight_lines(), fragment="#lines")
+    assert page.is_shown("#all-lines")
+    page.evaluate("document.querySelector('#all-lines [data-line=\"2\"]').focus()")
+    shown.tab.press("Enter")
+    wait_for(lambda: page.is_shown("#matrix"))
+    assert (page.source(), page.focused()) == ("line-2-1.audit · 0 of 65,536 places used · legal so far", "2")
+    assert page.evaluate("document.activeElement.parentNode.id") == "lines"
+
+
+def test_rack_of_one_line_has_no_table(shown):
+    page = shown.open(Rack(large_line(3)), fragment="#lines")
+    assert page.is_shown("#matrix") and not page.is_shown("#all-lines") and not page.is_shown("#all")
+
+
+def test_table_ends_with_its_lines(shown):
+    """If another rack with one line answers, its line is shown in place of the table."""
+    page = shown.open(eight_lines(), fragment="#lines")
+    assert page.is_shown("#all-lines")
+    del shown.rack.lines[1:]
+    shown.rack.restart()
+    wait_for(lambda: page.is_shown("#matrix"))
+    assert not page.is_shown("#all") and not page.is_shown("#all-lines")
+
+
+def test_back(shown):
+    """Back and forward go through what was chosen, and what was chosen twice is there once."""
+    page = shown.open()
+    first, second = "line-1-1.audit · 15", "line-2-1.audit · 1 "
+    assert page.source().startswith(first)
+    for selector, source in (("#lines button:nth-child(2)", second), ("#lines button:nth-child(2)", second),
+                             ("#all", "rack.toml"), ("#lines button:nth-child(1)", first)):
+        shown.tab.click(selector)
+        wait_for(lambda: page.source().startswith(source))
+    for step, source in ((-1, "rack.toml"), (-1, second), (-1, first), (1, second), (2, first)):
+        page.evaluate(f"history.go({step})")
+        wait_for(lambda: page.source().startswith(source))
+        assert page.count("#matrix") == 1
+    assert page.evaluate("location.href").startswith(shown.server.url)
+
+
+def test_address_that_is_changed(shown):
+    page = shown.open()
+    page.evaluate("location.hash = '#line=2'")
+    until_equal(page.cells, SECOND_LINE)
+    page.evaluate("location.hash = '#line=77'")
+    wait_for(lambda: page.source().startswith("line-1-1.audit"))

@@ -1,5 +1,9 @@
 """The page: the matrix of slaves and masters, and the tables of slaves and of masters."""
-from page.shown_racks import OVERVIEW
+import pytest
+
+from page.shown_racks import OVERVIEW, large_line
+from page.stand_in import Line, Rack, held, slave
+from support.clients import wait_for
 from support.watching import until_equal
 
 # The words of the cells of the sample, by slave and master.
@@ -82,3 +86,117 @@ def test_rows_of_masters(shown):
         ["M3", "no slave", "0", "0"],
         ["others", "no slave ✕ NoMaster 1", "1", "1"],
     ]
+
+
+# ---- the column of holders, and masters without a column
+
+ALL_MASTERS = [f"M{master}" for master in range(1, 17)]
+
+
+def test_column_of_holders(shown):
+    page = shown.open()
+    assert page.columns() == ["Slave", "Held by", "State", "M1", "M2", "M3"]
+    assert [row[:3] for row in page.rows("matrix")] == [
+        ["5", "M1", "Data_Exch"], ["6", "M2", "Data_Exch"], ["9", "nobody", "Wait_Prm"], ["12", "nobody", "Wait_Prm"],
+        ["20", "nobody", "Wait_Prm"]]
+    shown.rack.set_slave(5, state="Wait_Prm", holder=None, since=0, left=None, full=None)
+    until_equal(lambda: page.rows("matrix")[0][:3], ["5", "nobody", "Wait_Prm"])
+
+
+@pytest.mark.parametrize("holding, shown_masters", [(16, ALL_MASTERS), (3, ALL_MASTERS[:3]), (0, [])])
+def test_masters_that_hold_nothing_are_folded(shown, holding, shown_masters):
+    page = shown.open(Rack(large_line(holding)))
+    assert page.columns()[3:] == shown_masters
+    assert page.fold() == ("" if holding == 16 else f"{16 - holding} of 16 masters hold no slave, and have no column here. "
+                           "Show all masters")
+    if holding < 16:
+        shown.tab.click("#fold button")
+        until_equal(page.columns, ["Slave", "Held by", "State", *ALL_MASTERS])
+        assert page.fold() == "Hide masters that hold no slave"
+        assert len(page.cells()) == 16 * 64
+        shown.tab.click("#fold button")
+        until_equal(lambda: page.columns()[3:], shown_masters)
+
+
+def test_four_masters_are_never_folded(shown):
+    page = shown.open(Rack(Line(1, [1, 2, 3, 4], [slave(5)])))
+    assert (page.columns()[3:], page.fold()) == (["M1", "M2", "M3", "M4"], "")
+
+
+def test_master_that_locks_gets_a_column(shown):
+    page = shown.open(Rack(large_line(3)))
+    shown.rack.set_slave(83, state="Data_Exch", holder=7, since=99, left=90, full=100)
+    until_equal(lambda: page.columns()[3:], ["M1", "M2", "M3", "M7"])
+    shown.rack.set_slave(83, state="Wait_Prm", holder=None, since=0, left=None, full=None)
+    until_equal(lambda: page.columns()[3:], ["M1", "M2", "M3"])
+
+
+def test_chosen_cell_keeps_its_column(shown):
+    """A column is not folded away while its cell is chosen, or has the focus."""
+    page = shown.open(Rack(large_line(3)))
+    shown.tab.click("#fold button")
+    wait_for(lambda: "M9" in page.columns())
+    shown.tab.click("[data-cell='20 9']")
+    until_equal(page.answer, "Master 9 may not change slave 20: master 1 holds it since entry 1. A Set_Prm of master 9 is refused by "
+                "NotHolder. It may read its inputs and outputs.")
+    page.evaluate("document.querySelector('[data-cell=\"21 12\"]').focus()")
+    page.evaluate("document.querySelector('#fold button').click()")
+    until_equal(lambda: page.columns()[3:], ["M1", "M2", "M3", "M9", "M12"])
+    assert page.focused() == "21 12"
+
+
+@pytest.mark.parametrize("slaves, sentence", [
+    pytest.param([held(5, 1, 3)], "1 of 1 slaves is held by master 1.", id="one"),
+    pytest.param([slave(5), slave(6), slave(7), slave(9)],
+                 "0 of 4 slaves are held; nobody holds slaves 5 to 7, 9, which every master may lock.", id="none"),
+    pytest.param([slave(5, lockers=[10, 9, 11]), slave(6, lockers=[11, 9])],
+                 "0 of 2 slaves are held; nobody holds slave 5, which masters 9 to 11 may lock; nobody holds slave 6, which "
+                 "masters 9, 11 may lock.", id="lists"),
+])
+def test_sentence_about_all_slaves(shown, slaves, sentence):
+    assert shown.open(Rack(Line(1, [1, 9, 10, 11], slaves))).answer() == sentence
+
+
+# ---- the grid of 16 masters and 64 slaves
+
+# How far the first two heads of the matrix, and all heads, are from the left of the table's view, and the width of the view.
+COLUMNS_IN_VIEW = """(() => {
+    const view = document.querySelector("#who .scroll").getBoundingClientRect();
+    const boxes = [...document.querySelectorAll("#matrix thead th")].map(node => node.getBoundingClientRect());
+    return [boxes.map(box => [Math.round(box.left - view.left), Math.round(box.right - view.left)]), Math.round(view.width)];
+})()"""
+
+
+def test_grid_of_16_masters_at_1280(shown):
+    """All 16 masters are in view without scrolling to the side."""
+    shown.tab.look(1280, 900, "light")
+    page = shown.open(Rack(large_line(16)))
+    boxes, width = page.evaluate(COLUMNS_IN_VIEW)
+    assert len(boxes) == 19
+    assert boxes[-1][1] <= width
+    assert page.overflows() == 0
+
+
+def test_grid_of_16_masters_at_390(shown):
+    """Slave and holder stay in view when the table is scrolled to the last master, and the page is not too wide."""
+    shown.tab.look(390, 844, "light")
+    page = shown.open(Rack(large_line(16)))
+    boxes, width = page.evaluate(COLUMNS_IN_VIEW)
+    assert boxes[3][1] <= width, "the first master is not in view"
+    page.evaluate("document.querySelector('#who .scroll').scrollLeft = 10000")
+    scrolled, _ = page.evaluate(COLUMNS_IN_VIEW)
+    assert [scrolled[0], scrolled[1][0] - scrolled[0][0]] == [boxes[0], 44]
+    assert scrolled[-1][1] <= width
+    page.evaluate("document.querySelector('#who .scroll').scrollTop = 10000")
+    last = page.evaluate("""(() => { const view = document.querySelector("#who .scroll").getBoundingClientRect();
+        return document.querySelector("#matrix tbody tr:last-child").getBoundingClientRect().bottom - view.bottom; })()""")
+    assert last <= 0
+    assert page.overflows() == 0
+
+
+def test_head_of_the_page_at_390_scrolls_away(shown):
+    """With eight lines the head of the page would take a third of the height."""
+    shown.tab.look(390, 844, "light")
+    page = shown.open()
+    page.evaluate("window.scrollTo(0, 1000)")
+    assert page.evaluate("document.querySelector('header').getBoundingClientRect().bottom") < 0

@@ -1,5 +1,6 @@
 "use strict";
-// The page of `rackd watch`: asks the watch for /state.json up to four times a second, and draws one line of the rack.
+// The page of `rackd watch`: asks the watch for /state.json up to four times a second, and draws one line of the rack,
+// or a table of all its lines.
 // Text of the watch is put into the page as text nodes and attributes only, so none of it is read as HTML.
 
 // ---- Constants
@@ -19,6 +20,8 @@ const KEPT_NEWEST = 400, KEPT_NOTABLE = 200;
 const MOST_ENTRIES = 100, MOST_GROUPS = 60, MOST_OCTETS = 48;
 // The capacity of an endless line, and the number of colours for masters.
 const ENDLESS = 4294967295, COLOURS = 16;
+// What is chosen in place of a line to see all lines, and the most masters of a line of which none is folded away.
+const ALL = "all", MOST_COLUMNS = 4;
 
 const POINTS = new Map([[null, "Data_Exchange"], [56, "RD_Inp"], [57, "RD_Outp"], [58, "Global_Control"],
   [59, "Get_Cfg"], [60, "Slave_Diag"], [61, "Set_Prm"], [62, "Chk_Cfg"]]);
@@ -54,7 +57,7 @@ const MEANINGS = {
 // What the page knows: the lines as they are followed, `frozen` lines while it is paused, and what the reader chose.
 const state = {
   run: "0", number: 0, rack: "", folder: "", lines: new Map(), frozen: null, lost: false,
-  line: null, cell: null, tabCell: null, matrix: "", group: null, orders: new Map(),
+  line: null, cell: null, tabCell: null, matrix: "", isUnfolded: false, group: null, orders: new Map(),
   drawnAt: 0, marked: false, newestShown: 0, announced: "", announcedAt: -Infinity,
 };
 // The entry of each node in the list of entries.
@@ -121,6 +124,9 @@ function updateNode(node, wanted) {
 
 // Makes the children of a node equal to the wanted ones. A node that stays is not replaced, so it keeps its focus.
 function updateChildren(parent, wantedNodes) {
+  const keys = new Set(wantedNodes.map(keyOf));
+  // What goes is removed first, so that what stays need not move: a node that is moved loses the focus.
+  for (const node of [...parent.childNodes]) if (keyOf(node) !== null && !keys.has(keyOf(node))) node.remove();
   const keyed = new Map([...parent.childNodes].map(node => [keyOf(node), node]));
   let cursor = parent.firstChild;
   for (const wanted of wantedNodes) {
@@ -144,6 +150,17 @@ const grouped = number => number.toLocaleString("en");
 const milliseconds = units => grouped(units * 10) + " ms";
 const plural = (noun, items) => noun + (items.length === 1 ? " " : "s ") + items.join(", ");
 const pairsOf = hex => hex.match(/../g) ?? [];
+
+// Returns a noun with addresses in ascending order, and three or more that follow one another as the first to the last.
+function span(noun, addresses) {
+  const runs = [];
+  for (const address of [...addresses].sort((one, other) => one - other)) {
+    if (runs.at(-1)?.at(-1) === address - 1) runs.at(-1).push(address);
+    else runs.push([address]);
+  }
+  const words = runs.flatMap(run => run.length > 2 ? [`${run[0]} to ${run.at(-1)}`] : run);
+  return noun + (addresses.length === 1 ? " " : "s ") + words.join(", ");
+}
 
 // Decodes a name whose characters are the octets of UTF-8; returns it unchanged if they are not UTF-8.
 function decodeName(name) {
@@ -255,9 +272,15 @@ function takeAnswer(answer) {
     if (!state.lines.has(line.line)) state.lines.set(line.line, newRecord());
     takeLine(state.lines.get(line.line), line, isFirst);
   }
-  const named = Number(/^#line=(\d+)$/.exec(location.hash)?.[1]);
-  if (!state.lines.has(state.line)) state.line = state.lines.has(named) ? named : answer.lines[0].line;
+  if (state.line === ALL ? state.lines.size < 2 : !state.lines.has(state.line)) state.line = namedLine();
   return true;
+}
+
+// Returns the line that the address of the page names, or ALL; the first line if it names none of the rack.
+function namedLine() {
+  if (location.hash === "#lines" && state.lines.size > 1) return ALL;
+  const named = Number(/^#line=(\d+)$/.exec(location.hash)?.[1]);
+  return state.lines.has(named) ? named : state.lines.keys().next().value;
 }
 
 function takeLine(record, line, isFirst) {
@@ -327,14 +350,16 @@ function rateOf(record) {
   return last.time > first.time ? (last.count - first.count) * 1000 / (last.time - first.time) : 0;
 }
 
-// Returns the class and the word for the condition of a line.
+// Returns the class and the word for the condition of a line. Only a line to which entries come now is green.
 function conditionOf(record) {
-  const line = record.now;
+  const line = record.now, rate = rateOf(record);
+  if (state.lost) return ["wrong", "no answer"];
   if (line.file === null) return ["none", "no file"];
   if (line.row > 0) return ["wrong", "wrong row"];
-  if (line.halted) return ["none", "halted"];
+  if (line.halted) return ["halted", "halted"];
   if (line.standing === "empty") return ["none", "no header"];
-  return ["good", `${Math.round(rateOf(record))}/s`];
+  if (rate > 0) return ["good", `${Math.round(rate)}/s`];
+  return ["none", record.at === null ? "quiet" : agoOf(record.at)];
 }
 
 const mastersOf = line => line.masters.map(master => master.address).filter(address => address !== null);
@@ -375,19 +400,24 @@ function readSentence(line, slave, master) {
     + (slave.readers.length === 0 ? "its list of readers is empty." : `only ${plural("master", slave.readers)} may.`);
 }
 
-// Returns the sentence about all slaves of a line.
+// Returns the words for how many slaves of a line are held, and by which masters.
+function heldOf(line) {
+  const holders = line.masters.filter(master => master.holds.length > 0).map(master => master.address);
+  const count = line.slaves.filter(slave => slave.holder !== null).length;
+  return `${count} of ${line.slaves.length}` + (count === 0 ? "" : ` by ${span("master", holders)}`);
+}
+
+// Returns the sentence about all slaves of a line: how many are held by whom, and who may lock the others.
 function overviewOf(line) {
   if (line.halted) return "The line is halted, so no master may change any slave.";
-  const held = line.masters.filter(master => master.holds.length > 0)
-    .map(({ address, holds }) => `master ${address} may change ${plural("slave", holds)}`);
-  const free = new Map();
+  const free = new Map(), isOne = line.slaves.filter(slave => slave.holder !== null).length === 1;
   for (const { holder, address, lockers } of line.slaves) {
-    const who = lockers === null ? "every master" : lockers.length === 0 ? "no master" : plural("master", lockers);
+    const who = lockers === null ? "every master" : lockers.length === 0 ? "no master" : span("master", lockers);
     if (holder === null) free.set(who, [...free.get(who) ?? [], address]);
   }
-  const open = [...free].map(([who, addresses]) => `nobody holds ${plural("slave", addresses)}, which ${who} may lock`);
-  const sentence = [...held, ...open].join("; ") + ".";
-  return sentence.charAt(0).toUpperCase() + sentence.slice(1);
+  const held = heldOf(line).replace(/^\d+ of \d+/, `$& slaves ${isOne ? "is" : "are"} held`);
+  const open = [...free].map(([who, addresses]) => `nobody holds ${span("slave", addresses)}, which ${who} may lock`);
+  return [held, ...open].join("; ") + ".";
 }
 
 // Returns the last entry of a text before this one that passes a test; null if the page has none.
@@ -413,12 +443,23 @@ function masterChip(line, master) {
   return make("span", { class: at < 0 ? "chip" : `chip m${at % COLOURS}` }, `M${master}`);
 }
 
+// Draws a button for each line with its condition as it is now, also while the page is paused.
 function drawLineButtons() {
-  show("lines", [...drawnLines()].map(([number, record]) => {
+  show("lines", [...state.lines].map(([number, record]) => {
     const [kind, word] = conditionOf(record);
     const attributes = { type: "button", "data-line": number, "aria-pressed": String(number === state.line) };
     return make("button", attributes, make("i", { class: kind }), `Line ${number} `, make("small", {}, word));
   }));
+  byId("all").hidden = state.lines.size < 2;
+  byId("all").setAttribute("aria-pressed", String(state.line === ALL));
+}
+
+// Returns the title of the page: it says if the watch does not answer, a row is wrong, or every line is halted.
+function titleOf() {
+  const kinds = [...state.lines.values()].map(record => conditionOf(record)[0]);
+  const isHalted = kinds.length > 0 && kinds.every(kind => kind === "halted");
+  const word = state.lost ? "no answer" : kinds.includes("wrong") ? "wrong row" : isHalted ? "halted" : null;
+  return (word === null ? "" : `${word} · `) + "rackd watch";
 }
 
 function drawSource(line) {
@@ -431,18 +472,26 @@ function drawSource(line) {
   else show("source", make("b", {}, nameNode(line.file)), ` · ${used} · ${standing}${begun}`);
 }
 
+// Returns the records of the line that is shown, or of all lines.
+const chosenOf = lines =>
+  [...lines].filter(([line]) => state.line === ALL || line === state.line).map(([, record]) => record);
+const arrivedIn = lines => chosenOf(lines).reduce((sum, record) => sum + record.arrived, 0);
+
 // Shows whether the page is up to date, also while it is paused or has no line yet.
 function drawStatus() {
-  const record = drawnLines().get(state.line), followed = state.lines.get(state.line);
-  const came = Math.max(0, (followed?.arrived ?? 0) - (record?.arrived ?? 0));
-  const at = record?.at ?? null, isLive = at !== null && Date.now() - at < 3000;
+  const came = Math.max(0, arrivedIn(state.lines) - arrivedIn(drawnLines()));
+  const times = chosenOf(drawnLines()).map(record => record.at).filter(time => time !== null);
+  const at = times.length === 0 ? null : Math.max(...times), isLive = at !== null && Date.now() - at < 3000;
   let text = at === null ? "no new entry" : `last entry ${agoOf(at)}`;
   if (state.frozen !== null) text = came === 0 ? "paused" : `paused, ${grouped(came)} new`;
   if (state.lost) text = "no answer";
   byId("live").className = state.lost ? "lost" : state.frozen !== null ? "paused" : isLive ? "" : "quiet";
   show("live", text);
   show("pause", state.frozen === null ? "Pause" : "Continue");
-  drawBanner(record?.now ?? null);
+  if (document.title !== titleOf()) document.title = titleOf();
+  drawLineButtons();
+  if (state.line === ALL) drawAllLines();
+  drawBanner(drawnLines().get(state.line)?.now ?? null);
 }
 
 // Returns the notice about a row that ended the following of a line.
@@ -468,9 +517,39 @@ function noticesOf(line) {
 }
 
 function drawBanner(line) {
-  const lost = make("p", { class: "bad" }, "The watch does not answer, so what is shown is old. Is ",
-    code("rackd watch"), " still running?");
+  const lost = make("p", { class: "bad" }, "This page gets no answer, so what is shown is old. Has ",
+    code("rackd watch"), " or the rack with ", code("--page"), " stopped?");
   show("banner", state.lost ? lost : null, line === null ? null : noticesOf(line));
+}
+
+// ---- All lines
+
+// Returns the words for the condition of a line in the table of all lines: also how much of its journal is used.
+function conditionWords(line, kind, word) {
+  const used = line.capacity === ENDLESS ? "endless" : `${Math.floor(line.count * 100 / line.capacity)} % full`;
+  if (kind === "good") return `legal so far, ${used}`;
+  return kind === "none" && line.standing === "legal" ? `${word}, ${used}` : word;
+}
+
+function lineRow(number, record) {
+  const line = record.now, [kind, word] = conditionOf(record), last = newestGroup(record, true);
+  const button = make("button", { type: "button", class: "text", "data-line": number }, `Line ${number}`);
+  const refusals = groupsOf(record, true).reduce((sum, { count }) => sum + count, 0);
+  const exchanging = line.slaves.filter(slave => slave.state === "Data_Exch").length;
+  return make("tr", {}, make("th", { scope: "row" }, button),
+    make("td", { class: "condition" }, make("i", { class: kind }), conditionWords(line, kind, word)),
+    make("td", {}, heldOf(line)), make("td", { class: "number" }, `${exchanging} of ${line.slaves.length}`),
+    make("td", { class: "number" }, kind === "good" ? word : "0/s"), make("td", { class: "number" }, grouped(refusals)),
+    make("td", {}, last === null ? soft("none") : `${last.last.who}: ${last.rule}`));
+}
+
+function drawAllLines() {
+  const lines = [...drawnLines()];
+  show("source", make("b", {}, nameNode(state.rack)), ` · ${lines.length} lines · texts in `, nameNode(state.folder));
+  show("all-lines",
+    tableHead("Line", "Condition", "Slaves held", "#In Data_Exch", "#Entries", "#Refusals", "Last refusal"),
+    make("tbody", {}, lines.map(([number, record]) => lineRow(number, record))));
+  show("foot");
 }
 
 // ---- The matrix
@@ -479,26 +558,47 @@ function matrixCell(line, slave, master) {
   const [kind, word, spoken] = rightOf(line, slave, master), name = `${slave.address} ${master}`;
   const isRead = mayRead(slave, master), isChosen = name === state.cell;
   const chip = kind === "holds" ? ` chip m${mastersOf(line).indexOf(master) % COLOURS}` : "";
-  return make("td", { class: "centred" }, make("button", {
+  return make("td", { class: "centred", "data-key": master }, make("button", {
     type: "button", class: kind + chip, "data-cell": name, tabindex: name === state.tabCell ? "0" : "-1",
     "aria-label": `master ${master}, slave ${slave.address}: ${spoken}${isRead ? "" : ", may not read it"}`,
     "aria-pressed": String(isChosen), "aria-describedby": isChosen ? "answer" : null,
   }, word + (isRead ? "" : " ⌀")));
 }
 
+// Returns the masters that have a column: those that hold a slave, and those of the cells that are chosen or in focus.
+function shownMasters(line) {
+  const masters = mastersOf(line);
+  if (state.isUnfolded || masters.length <= MOST_COLUMNS) return masters;
+  const used = [state.cell, document.activeElement?.dataset.cell ?? null].map(name => Number(name?.split(" ")[1]));
+  return masters.filter(master => used.includes(master) || line.slaves.some(slave => slave.holder === master));
+}
+
+// Shows how many masters are folded away, and the button that shows their columns.
+function drawFold(masters, shown) {
+  const folded = masters.length - shown.length;
+  const words = folded > 0 ? `${folded} of ${masters.length} masters hold no slave, and have no column here. ` : "";
+  const hasButton = folded > 0 || state.isUnfolded && masters.length > MOST_COLUMNS;
+  show("fold", words, !hasButton ? null : make("button", {
+    type: "button", "data-fold": "", "aria-expanded": String(state.isUnfolded), "aria-controls": "matrix",
+  }, state.isUnfolded ? "Hide masters that hold no slave" : "Show all masters"));
+}
+
 function drawMatrixTable(line, masters) {
-  show("matrix", tableHead("Slave", "State", ...masters.map(master => masterChip(line, master))),
+  show("matrix", tableHead("Slave", "Held by", "State", ...masters.map(master => masterChip(line, master))),
     make("tbody", {}, line.slaves.map(slave => make("tr", {}, make("th", { scope: "row" }, String(slave.address)),
-      make("td", {}, stateBadge(slave.state)), masters.map(master => matrixCell(line, slave, master))))));
+      make("td", {}, masterChip(line, slave.holder)), make("td", {}, stateBadge(slave.state)),
+      masters.map(master => matrixCell(line, slave, master))))));
+  byId("main").classList.toggle("wide", masters.length > MOST_COLUMNS);
+  drawFold(mastersOf(line), masters);
 }
 
 // Draws the matrix if it has changed, and its sentence. Tab reaches one cell of it, and the arrow keys the others.
 function drawMatrix(line) {
-  const masters = mastersOf(line);
+  const masters = shownMasters(line);
   const names = line.slaves.flatMap(slave => masters.map(master => `${slave.address} ${master}`));
   if (!names.includes(state.cell)) state.cell = null;
   if (!names.includes(state.tabCell)) state.tabCell = names[0] ?? null;
-  const matrix = JSON.stringify([state.line, state.cell, state.tabCell, masters, line.halted,
+  const matrix = JSON.stringify([state.line, state.cell, state.tabCell, masters, state.isUnfolded, line.halted,
     line.slaves.map(one => [one.address, one.state, one.holder, one.lockers, one.readers])]);
   if (matrix !== state.matrix) drawMatrixTable(line, masters);
   state.matrix = matrix;
@@ -577,7 +677,7 @@ function groupRow(line, group, isExplained) {
       type: "button", class: "text", "aria-pressed": String(isExplained),
     }, group.refused ? group.rule : group.sentence)),
     make("td", { class: "number" }, grouped(group.count)), make("td", { class: "number" }, String(group.last.place)),
-    make("td", { class: "soft" }, agoOf(group.last.at)));
+    make("td", { class: "soft" }, group.last.at === null ? "earlier" : agoOf(group.last.at)));
 }
 
 function drawGroups(record, id, refused, column) {
@@ -797,13 +897,13 @@ function drawFoot(record) {
 
 // ---- Drawing
 
-// Draws the chosen line. The list of entries is left alone while it is read, unless it is forced.
+// Draws the chosen line, or all lines. The list of entries is left alone while it is read, unless it is forced.
 function draw(isForced) {
   const record = drawnLines().get(state.line);
   drawStatus();
-  if (record === undefined) return;
+  byId("main").classList.toggle("all", state.line === ALL);
   Object.assign(state, { drawnAt: performance.now(), marked: false });
-  drawLineButtons();
+  if (record === undefined) return;
   drawSource(record.now);
   drawMatrix(record.now);
   drawReason(record);
@@ -818,16 +918,29 @@ function draw(isForced) {
 
 // ---- What the reader does
 
-function chooseLine(number) {
-  Object.assign(state, { line: number, cell: null, group: null });
-  history.replaceState(null, "", `#line=${number}`);
+function showLine(line) {
+  Object.assign(state, { line, cell: null, group: null });
   draw(true);
+}
+
+// Chooses a line, or all lines. The browser's Back goes back to what was chosen before.
+function chooseLine(line) {
+  const isInTable = byId("all-part").contains(document.activeElement);
+  if (line !== state.line) history.pushState(null, "", line === ALL ? "#lines" : `#line=${line}`);
+  showLine(line);
+  // The row that had the focus is not shown any more, so that the button of its line gets it.
+  if (isInTable) byId("lines").querySelector(`[data-line="${line}"]`).focus();
 }
 
 // Chooses a cell of the matrix, or no cell if it is chosen already.
 function chooseCell(name) {
   state.cell = name === state.cell ? null : name;
   state.tabCell = name ?? state.tabCell;
+  draw(false);
+}
+
+function foldOrUnfold() {
+  state.isUnfolded = !state.isUnfolded;
   draw(false);
 }
 
@@ -840,8 +953,9 @@ function pauseOrContinue() {
 function onClick(event) {
   const chosen = name => event.target.closest(`[data-${name}]`)?.getAttribute(`data-${name}`) ?? null;
   const line = chosen("line"), cell = chosen("cell"), group = chosen("group");
-  if (line !== null) chooseLine(Number(line));
+  if (line !== null) chooseLine(line === ALL ? ALL : Number(line));
   if (cell !== null) chooseCell(cell);
+  if (chosen("fold") !== null) foldOrUnfold();
   if (group === null) return;
   state.group = group === "" ? null : group;
   draw(false);
@@ -865,6 +979,7 @@ function onMatrixKey(event) {
 
 function listen() {
   document.addEventListener("click", onClick);
+  window.addEventListener("popstate", () => state.line === null || showLine(namedLine()));
   byId("matrix").addEventListener("keydown", onMatrixKey);
   byId("pause").addEventListener("click", pauseOrContinue);
   byId("newest").addEventListener("click", showNewest);

@@ -14,18 +14,26 @@ pub const PAGE: &str = r##"<!doctype html>
 <body>
 <header>
   <h1>rackd <span>watch</span></h1>
-  <nav id="lines" aria-label="Lines of the rack"></nav>
+  <nav aria-label="Lines of the rack">
+    <span id="lines"></span>
+    <button id="all" type="button" data-line="all" hidden>All lines</button>
+  </nav>
   <p id="source">waiting for the first answer of the watch</p>
   <p id="live" class="quiet"></p>
   <button id="pause" type="button">Pause</button>
 </header>
 <div id="banner" role="alert"></div>
 <p id="announce" class="unseen" aria-live="polite"></p>
-<main>
+<main id="main">
+  <section id="all-part" aria-labelledby="all-title">
+    <h2 id="all-title">All lines of the rack</h2>
+    <div class="scroll" tabindex="0" role="region" aria-labelledby="all-title"><table id="all-lines"></table></div>
+  </section>
   <div id="left">
     <section id="who" aria-labelledby="who-title">
       <h2 id="who-title">Who may change which slave now</h2>
       <div class="scroll" tabindex="0" role="region" aria-labelledby="who-title"><table id="matrix"></table></div>
+      <p id="fold"></p>
       <p id="answer"></p>
       <ul id="legend">
         <li><b>holds</b> only this master may change the slave</li>

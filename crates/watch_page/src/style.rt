@@ -7,6 +7,7 @@ pub const STYLE: &str = r##"/* Red is a refusal or a fault, amber a warning, gre
 :root {
   color-scheme: light dark;
   --back: #f6f7f9; --card: #ffffff; --ink: #1b2330; --soft: #566070; --edge: #d9dee5; --row: #f1f4f8;
+  --field: #7c8899;
   --good: #14733b; --good-back: #dcf3e4; --mild: #8a5300; --mild-back: #fdeccb; --idle: #4a5666; --idle-back: #e6eaef;
   --bad: #b3141f; --bad-back: #fde4e4; --link: #0b5cad; --fresh: #ffe27a;
   --mono: ui-monospace, "SF Mono", "Cascadia Mono", "DejaVu Sans Mono", "Liberation Mono", Consolas, monospace;
@@ -15,6 +16,7 @@ pub const STYLE: &str = r##"/* Red is a refusal or a fault, amber a warning, gre
 @media (prefers-color-scheme: dark) {
   :root {
     --back: #11151b; --card: #1a2029; --ink: #e4e9f0; --soft: #9fabba; --edge: #2d3642; --row: #212a35;
+    --field: #6f7d8e;
     --good: #63d391; --good-back: #14352a; --mild: #f0b95a; --mild-back: #3b2d10; --idle: #b3bfcc; --idle-back: #2a333f;
     --bad: #ff8f8b; --bad-back: #45191c; --link: #7ab8ff; --fresh: #6b5600;
     --chip: 80%; --chip-back: 20%;
@@ -41,7 +43,7 @@ mark { color: var(--ink); background: var(--fresh); border-radius: 3px; text-dec
 :focus-visible { outline: 2px solid var(--link); outline-offset: 1px; }
 
 button, select, input {
-  padding: 3px 10px; border: 1px solid var(--edge); border-radius: 6px;
+  padding: 3px 10px; border: 1px solid var(--field); border-radius: 6px;
   font: inherit; color: inherit; background: var(--card);
 }
 button { cursor: pointer; }
@@ -59,13 +61,16 @@ header p { margin: 0; color: var(--soft); }
 #source { flex: 1 1 260px; min-width: 0; overflow-wrap: anywhere; }
 #source b { color: var(--ink); font-weight: 600; }
 #live { display: flex; align-items: center; gap: 6px; min-width: 9.5em; font-variant-numeric: tabular-nums; }
-#live::before, nav i { content: ""; width: 9px; height: 9px; border-radius: 50%; background: var(--good); }
-#live.quiet::before, nav i.none { padding: 0; background: var(--idle); opacity: .6; }
-#live.paused::before { background: var(--mild); border-radius: 0; }
-#live.lost::before, nav i.wrong { background: var(--bad); border-radius: 0; }
+#live::before, i { content: ""; flex: none; width: 9px; height: 9px; border-radius: 50%; background: var(--good); }
+#live.quiet::before, i.none { padding: 0; background: var(--idle); opacity: .6; }
+#live.paused::before, i.halted { background: var(--mild); border-radius: 0; }
+#live.lost::before, i.wrong { background: var(--bad); border-radius: 0; }
 nav { display: flex; flex-wrap: wrap; gap: 4px; }
-nav button { display: flex; gap: 7px; align-items: center; }
+#lines { display: contents; }
+nav button { display: flex; gap: 7px; align-items: center; white-space: nowrap; }
 nav button[aria-pressed="true"] { background: var(--ink); color: var(--card); border-color: var(--ink); }
+nav [aria-pressed="true"] i { outline: 2px solid var(--card); }
+nav [aria-pressed="true"] i.none { background: var(--idle); opacity: 1; }
 nav small { min-width: 2.8em; font-variant-numeric: tabular-nums; }
 
 #banner p { margin: 12px 16px 0; padding: 9px 14px; border-radius: 8px; font-weight: 500; overflow-wrap: anywhere; }
@@ -78,6 +83,8 @@ section {
   background: var(--card); border: 1px solid var(--edge); border-radius: 10px;
 }
 #left { display: contents; }
+#all-part, main.all > :not(#all-part) { display: none; }
+main.all > #all-part { display: block; }
 #who { order: 1; }
 #why { order: 2; }
 #slaves-part { order: 3; }
@@ -87,6 +94,8 @@ section {
   #left { display: flex; order: 1; grid-column: span 5; flex-direction: column; gap: 12px; min-width: 0; }
   #masters-part { flex: 1; }
   #why { grid-column: span 7; }
+  .wide #left { display: contents; }
+  .wide #masters-part { order: 2; grid-column: span 5; }
 }
 h2 {
   margin: 0 0 8px; font-size: 12px; font-weight: 650; color: var(--soft);
@@ -122,10 +131,14 @@ td.number, #refusals td, #faults td { white-space: nowrap; }
 .flag.mild { color: var(--mild); border-color: var(--mild); }
 
 #matrix { width: auto; min-width: 100%; }
-#matrix .centred { padding: 2px 3px; }
+#matrix th, #matrix td { padding: 3px 6px; vertical-align: middle; }
+#matrix .centred { padding: 2px; }
+#matrix tr > :nth-child(-n+2) { position: sticky; left: 0; min-width: 44px; background: var(--card); }
+#matrix tr > :nth-child(2) { left: 44px; }
+#matrix thead tr > :nth-child(-n+2) { z-index: 2; }
 #matrix td button {
-  width: 100%; min-width: 64px; padding: 3px 4px; border: 1px solid transparent; background: none;
-  border-radius: 6px; font-size: 12px; white-space: nowrap; color: var(--soft);
+  width: 100%; min-width: 50px; min-height: 25px; padding: 3px; border: 1px solid transparent; background: none;
+  border-radius: 6px; font-size: 12px; line-height: 1.2; color: var(--soft);
 }
 #matrix td button:hover { border-color: var(--link); }
 #matrix td button.holds {
@@ -134,7 +147,14 @@ td.number, #refusals td, #faults td { white-space: nowrap; }
 #matrix td button.may { color: var(--good); border: 1px dashed var(--good); font-weight: 600; }
 #matrix td button.unlisted { color: var(--bad); }
 #matrix td button[aria-pressed="true"] { outline: 2px solid var(--link); outline-offset: -1px; }
+#fold { margin: 8px 0 0; color: var(--soft); }
+#fold:empty { display: none; }
+#fold button { padding: 1px 8px; color: var(--ink); }
 #answer { margin: 10px 0 6px; font-size: 16px; line-height: 1.4; min-height: 2.8em; }
+#all-part .scroll { max-height: none; }
+#all-lines tr > :first-child { position: sticky; left: 0; white-space: nowrap; background: var(--card); }
+#all-lines i { display: inline-block; margin-right: 7px; }
+#all-lines td { white-space: nowrap; }
 #legend {
   display: flex; flex-wrap: wrap; gap: 0 12px; margin: 0; padding: 0;
   list-style: none; font-size: 12px; color: var(--soft);
@@ -209,14 +229,17 @@ meter:-moz-meter-sub-optimum::-moz-meter-bar { background: var(--bad); }
 
 footer { padding: 0 16px 16px; color: var(--soft); font-size: 12px; overflow-wrap: anywhere; }
 @media (max-width: 640px) {
+  header { position: static; }
   main, header { padding-left: 10px; padding-right: 10px; }
   #banner p { margin-left: 10px; margin-right: 10px; }
   #stream summary { grid-template-columns: 3.6em minmax(0, 1fr); }
   #stream .service, #stream .result { grid-column: 2; }
   th, td { padding-left: 4px; padding-right: 4px; }
   thead th { white-space: normal; vertical-align: bottom; }
+  #matrix th, #matrix td { padding: 3px 4px; }
   #matrix .centred { padding: 2px 1px; }
-  #matrix td button { min-width: 0; padding: 3px 1px; white-space: normal; }
+  #matrix td button { min-width: 46px; padding: 3px 1px; }
+  #who { padding-left: 10px; padding-right: 10px; }
   #faults td.wide { min-width: 9em; }
   #slaves td:nth-child(9) { min-width: 16em; }
 }
