@@ -147,6 +147,10 @@ PartOutcome parts.NotYet number seen old new now after = (count : ℕ) × (count
 PartOutcome parts.Begun number seen old new now after = (head : Head) × LooksAtHead seen seen (Some head) old new × Appends now after (head_text number head)
 PartOutcome parts.Cut number seen old new now after = (head : Head) × LooksAtHead seen seen (Some head) old new × WritesPrefix now after (head_text number head)
 
+-- a part began from this writer before anything was written: so what is written after that belongs to the part
+abbrev pub BeginsFirst : {W : Type 0} → (W → W → Type 0) → (W → Option (List ℕ)) → W → Type 0
+BeginsFirst {W} begins contents writer = (begun : W) × begins writer begun × (contents begun ≡ contents writer)
+
 -- the heads that looks saw, in order: of each a part was begun, or its first octets were written
 abbrev pub head_by : Question → Answer → List Head
 head_by (asks.Head count) (answers.Head (Some head)) = head ∷ []

@@ -10,7 +10,7 @@ ghost use Rattle.std.specs.Prelude.{◌≡◌, OnErr, OnOk};
 ghost use Rattle.std.specs.Io.KnownBytes.{Appends};
 ghost use Rattle.dp_text.specs.Writes.{WritesPrefix};
 ghost use Rattle.dp_shared.specs.Passes.{table_of};
-ghost use Rattle.audit_trail.specs.Trails.{Looks, LooksAside, PartOutcome, was_due};
+ghost use Rattle.audit_trail.specs.Trails.{BeginsFirst, Looks, LooksAside, PartOutcome, was_due};
 
 use crate::write_parts::{WriteParts, begin_part_of};
 use dp_audit::{Record, WriteFault};
@@ -108,6 +108,7 @@ pub(crate) fn begin_next_part<T: Wait, W: WriteParts>(
     ensures line { pass.new.line ≡ pass.old.line }
     ensures due { was_due result ≡ W.due writer.old }
     ensures part { PartOutcome result pass.old.line seen pass.old.view pass.new.view (W.contents writer.old) (W.contents writer.new) }
+    ensures begun { result ≡ NextPart.Begun → BeginsFirst W.begins W.contents writer.old }
 {
     if !writer.part_is_due() {
         return NextPart::NotDue;
@@ -127,10 +128,11 @@ pub(crate) fn begin_next_part<T: Wait, W: WriteParts>(
     }
 }
 
-/// Begins the next part with this head.
+/// Begins the next part with this head: the part begins first, so the head belongs to it.
 fn write_part<W: WriteParts>(writer: &mut W, head: &[u8]) -> Result<(), WriteFault>
     ensures ok { OnOk result (Appends (W.contents writer.old) (W.contents writer.new) head.now) }
     ensures err { OnErr result (WritesPrefix (W.contents writer.old) (W.contents writer.new) head.now) }
+    ensures begun { OnOk result (BeginsFirst W.begins W.contents writer.old) }
 {
     let Ok(part) = begin_part_of(writer) else {
         return Err(WriteFault);

@@ -6,7 +6,7 @@
 ghost use Rattle.std.specs.Prelude.{◌≡◌, ◌<◌, ◌≤◌, ◌+◌, ◌^◌, ◌&&◌, nat_le, [], length, false, true, None, Some, Ok, Err, IfErr, IfOk, IfSome, MatchResult, OnOk};
 ghost use Rattle.dp_audit.specs.AuditText.{version_of as version_by};
 ghost use Rattle.dp_shared.specs.Passes.{line_of, new_pass, table_of};
-ghost use Rattle.audit_trail.specs.Trails.{AreFrom, BeginsPart, Breaks, EndsWithPart, HeadsFollow, IsBegun, IsWhole, OnlyLooks, SawAll, Steps, found, heads_seen, parts_text};
+ghost use Rattle.audit_trail.specs.Trails.{AreFrom, BeginsPart, Breaks, EndsWithPart, HeadsFollow, IsBegun, IsWhole, SawAll, Steps, found, heads_seen, parts_text};
 
 use crate::fault::{TrailBreak, TrailFault};
 use crate::row::{Next, NextPart, begin_next_part, look_aside, write_next};
@@ -120,6 +120,8 @@ impl<'l, W: Write + Drop> Tail<'l, W> {
 }
 
 impl<W: WriteParts + Drop> Tail<'_, W> {
+    ghost use Rattle.audit_trail.specs.Tails.{IsSameTail};
+
     /// Writes the text lines of all entries: at its last look the line had only entries that the tail has seen.
     /// It looks at the line once for each text line that it writes, and once if there is none, so at least
     /// once. If a part is due, it then begins the part with the head of the line; if memory for the head is refused, the
@@ -136,12 +138,7 @@ impl<W: WriteParts + Drop> Tail<'_, W> {
         ensures broken { IfSome self.old.broken (λ why. (result ≡ Err why) × (self.new ≡ self.old)) }
         ensures looked { OnOk result (length self.old.pass.view.looks < length self.new.pass.view.looks) }
         ensures grows { self.old.seen ≤ self.new.seen }
-        ensures looks { OnlyLooks self.old.pass.view self.new.pass.view }
-        ensures table { self.new.pass.table ≡ self.old.pass.table }
-        ensures number { self.new.pass.line ≡ self.old.pass.line }
-        ensures line { self.new.line ≡ self.old.line }
-        ensures opened { self.new.opened ≡ self.old.opened }
-        ensures version { self.new.version ≡ self.old.version }
+        ensures same { IsSameTail self.old self.new }
     {
         for _ in rt.forever() {
             if !self.advance(rt)? {
@@ -164,12 +161,7 @@ impl<W: WriteParts + Drop> Tail<'_, W> {
         ensures broken { IfSome self.old.broken (λ why. (result ≡ Err why) × (self.new ≡ self.old)) }
         ensures looked { IfOk result (λ _. length self.old.pass.view.looks < length self.new.pass.view.looks) }
         ensures grows { self.old.seen ≤ self.new.seen }
-        ensures looks { OnlyLooks self.old.pass.view self.new.pass.view }
-        ensures table { self.new.pass.table ≡ self.old.pass.table }
-        ensures number { self.new.pass.line ≡ self.old.pass.line }
-        ensures line { self.new.line ≡ self.old.line }
-        ensures opened { self.new.opened ≡ self.old.opened }
-        ensures version { self.new.version ≡ self.old.version }
+        ensures same { IsSameTail self.old self.new }
     {
         if self.step(rt)? {
             return Ok(true);
@@ -189,14 +181,9 @@ impl<W: WriteParts + Drop> Tail<'_, W> {
         ensures all { result ≡ Ok false → SawAll self.new.pass.view.looks self.new.seen }
         ensures breaks { MatchResult result (λ _. self.new.broken ≡ None) (λ why. self.new.broken ≡ Some why) }
         ensures cut { IfErr result (λ why. Breaks why self.new.seen self.new.seen self.new.pass.view.looks) }
-        ensures same { self.new.seen ≡ self.old.seen }
+        ensures seen { self.new.seen ≡ self.old.seen }
         ensures looked { length self.old.pass.view.looks ≤ length self.new.pass.view.looks }
-        ensures looks { OnlyLooks self.old.pass.view self.new.pass.view }
-        ensures table { self.new.pass.table ≡ self.old.pass.table }
-        ensures number { self.new.pass.line ≡ self.old.pass.line }
-        ensures line { self.new.line ≡ self.old.line }
-        ensures opened { self.new.opened ≡ self.old.opened }
-        ensures version { self.new.version ≡ self.old.version }
+        ensures same { IsSameTail self.old self.new }
     {
         match begin_next_part(
             rt,
@@ -228,12 +215,7 @@ impl<W: WriteParts + Drop> Tail<'_, W> {
         ensures breaks { MatchResult result (λ _. self.new.broken ≡ None) (λ why. self.new.broken ≡ Some why) }
         ensures broken { IfSome self.old.broken (λ why. (result ≡ Err why) × (self.new ≡ self.old)) }
         ensures looked { IfOk result (λ _. length self.old.pass.view.looks < length self.new.pass.view.looks) }
-        ensures looks { OnlyLooks self.old.pass.view self.new.pass.view }
-        ensures table { self.new.pass.table ≡ self.old.pass.table }
-        ensures number { self.new.pass.line ≡ self.old.pass.line }
-        ensures line { self.new.line ≡ self.old.line }
-        ensures opened { self.new.opened ≡ self.old.opened }
-        ensures version { self.new.version ≡ self.old.version }
+        ensures same { IsSameTail self.old self.new }
     {
         if let Some(why) = self.broken {
             return Err(why);

@@ -1,6 +1,6 @@
 //! Writers of audit texts that may lie in parts.
 
-ghost use Rattle.std.specs.Prelude.{◌≡◌, Bool, false};
+ghost use Rattle.std.specs.Prelude.{◌≡◌, Bool, false, OnOk};
 
 use std::fs::File;
 use std::io::{Result, Write};
@@ -14,7 +14,8 @@ pub struct BegunPart {
 
 /// Begins the next part of a text. Nothing is written.
 pub(crate) fn begin_part_of<W: WriteParts>(writer: &mut W) -> Result<BegunPart>
-    ensures { W.contents writer.new ≡ W.contents writer.old }
+    ensures bytes { W.contents writer.new ≡ W.contents writer.old }
+    ensures begins { OnOk result (W.begins writer.old writer.new) }
 {
     match writer.begin_part() {
         Ok(()) => Ok(BegunPart { begun: () }),
@@ -22,11 +23,14 @@ pub(crate) fn begin_part_of<W: WriteParts>(writer: &mut W) -> Result<BegunPart>
     }
 }
 
-/// Writes an audit text that may lie in parts. For a text in one part, `part_is_due` returns false, and the rest has
-/// defaults.
+/// Writes an audit text that may lie in parts. For a text in one part, `part_is_due` returns false, and `begin_part` does
+/// nothing.
 pub trait WriteParts: Write {
     /// Whether a part is due. Never, unless the writer defines it.
     ghost due: { Self → Bool } = { λ _. false };
+
+    /// What changes in the writer when a part begins, from before to after. Nothing is said of it, unless the writer defines it.
+    ghost begins: { Self → Self → Type 0 } = { λ _ _. Unit {0} };
 
     /// Returns whether a part is due: the next part is to begin as soon as the trail has seen all entries.
     fn part_is_due(&self) -> bool
@@ -34,10 +38,8 @@ pub trait WriteParts: Write {
 
     /// Begins the next part: what is written from now on belongs to it. Nothing is written.
     fn begin_part(&mut self) -> Result<()>
-        ensures { Self.contents self.new ≡ Self.contents self.old }
-    {
-        Ok(())
-    }
+        ensures bytes { Self.contents self.new ≡ Self.contents self.old }
+        ensures begins { OnOk result (begins self.old self.new) };
 
     /// Is called after the head of the part that began last is written whole. Nothing is written.
     fn end_head(&mut self, _part: BegunPart)
@@ -49,10 +51,18 @@ impl WriteParts for Vec<u8> {
     fn part_is_due(&self) -> bool {
         false
     }
+
+    fn begin_part(&mut self) -> Result<()> {
+        Ok(())
+    }
 }
 
 impl WriteParts for File {
     fn part_is_due(&self) -> bool {
         false
+    }
+
+    fn begin_part(&mut self) -> Result<()> {
+        Ok(())
     }
 }

@@ -34,6 +34,10 @@ impl WriteParts for OnePart {
     fn part_is_due(&self) -> bool {
         false
     }
+
+    fn begin_part(&mut self) -> IoResult<()> {
+        Ok(())
+    }
 }
 
 /// A line, its trail, and a pass of its operator.

@@ -46,6 +46,10 @@ impl<H: Wait> WriteParts for Rows<'_, H> {
     fn part_is_due(&self) -> bool {
         false
     }
+
+    fn begin_part(&mut self) -> IoResult<()> {
+        Ok(())
+    }
 }
 
 /// Opens a trail that has room for `room` octets while `out` passes are out. Returns what is written, why the trail is

@@ -21,8 +21,8 @@ returns-clause-part g c = λ is.
     let steps = c.step.ensures.steps (unbroken first.broken c.step.result c.in_ok-step.field-0 (middle ≡ first) c.step.ensures.broken c.in_ok-step.was) in
     let none = step_no_head c.step.result c.in_ok-step.field-0 first.seen middle.seen first.pass.view middle.pass.view (contents first.writer) (contents middle.writer) steps c.in_ok-step.was in
     let all = step_sees_all c.step.result first.seen middle.seen first.pass.view middle.pass.view (contents first.writer) (contents middle.writer) steps (rw c.if-branch.false at c.in_ok-step.was) in
-    subst (λ (seen : ℕ). EndsWithPart due contents first.pass.line seen first.pass.view last.pass.view last.writer) (sym c.begin_part.ensures.same)
-    (subst (λ (number : ℕ). EndsWithPart due contents number middle.seen first.pass.view last.pass.view last.writer) c.step.ensures.number
+    subst (λ (seen : ℕ). EndsWithPart due contents first.pass.line seen first.pass.view last.pass.view last.writer) (sym c.begin_part.ensures.seen)
+    (subst (λ (number : ℕ). EndsWithPart due contents number middle.seen first.pass.view last.pass.view last.writer) c.step.ensures.same.number
     (part_ends due contents c.begin_part.result middle.pass.line middle.seen first.pass.view middle.pass.view last.pass.view middle.writer last.writer none all c.begin_part.ensures.part is))
 
 pub returns-clause-no_part : goal.returns-clause-no_part

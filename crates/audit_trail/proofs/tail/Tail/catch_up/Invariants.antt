@@ -1,15 +1,11 @@
 use Rattle.std.proofs.Common.{◌≡◌, ◌≤◌, None, IfSome, length}
-use Rattle.audit_trail.specs.Trails.{OnlyLooks, heads_seen}
+use Rattle.audit_trail.specs.Tails.{IsSameTail}
+use Rattle.audit_trail.specs.Trails.{heads_seen}
 use Rattle.audit_trail.proofs.tail.Tail.catch_up.Given as goal
 
 abbrev pub invariant-loop : goal.invariant-loop
 invariant-loop g l = record {
-  line : l.self.line ≡ l.fn.self.line;
-  opened : l.self.opened ≡ l.fn.self.opened;
-  version : l.self.version ≡ l.fn.self.version;
-  table : l.self.pass.table ≡ l.fn.self.pass.table;
-  number : l.self.pass.line ≡ l.fn.self.pass.line;
-  looks : OnlyLooks l.fn.self.pass.view l.self.pass.view;
+  tail : IsSameTail l.fn.self l.self;
   going : l.fn.self.broken ≡ None → l.self.broken ≡ None;
   no_fewer : length l.fn.self.pass.view.looks ≤ length l.self.pass.view.looks;
   grows : l.fn.self.seen ≤ l.self.seen;
