@@ -3,3 +3,4 @@ pub mod AuditNames
 pub mod Parts
 pub mod FileFaults
 pub mod TextNumbers
+pub mod ReadNames

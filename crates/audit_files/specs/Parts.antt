@@ -1,5 +1,5 @@
 -- The part of an audit text that is being written (own).
-use Rattle.std.specs.Prelude.{ℕ, ◌+◌, ◌-◌, ◌*◌, ◌^◌, ◌==◌, ◌&&◌, Bool, false, if◌then◌else◌, nat_le, nat_lt, min, List, length, slice_get, Option, Some, None}
+use Rattle.std.specs.Prelude.{◌≡◌, [], ℕ, ◌+◌, ◌-◌, ◌*◌, ◌^◌, ◌==◌, ◌&&◌, Bool, false, if◌then◌else◌, nat_le, nat_lt, min, List, length, slice_get, Option, Some, None}
 use Rattle.serve_options.specs.declared.options.PartOptions.{PartOptions}
 use Rattle.audit_files.specs.declared.audit_writer.Part.{Part}
 
@@ -32,3 +32,16 @@ has_ended before (Some byte) = byte == 10
 -- the part once these bytes were written to it; its size stops at the largest number of 64 bits
 abbrev pub counted : Part → List ℕ → Part
 counted part bytes = record part { written = min (part.written + length bytes) (2 ^ 64 - 1); ends_row = has_ended part.ends_row (slice_get bytes (length bytes - 1)) }
+
+-- the bytes that a file accepted, and none if there is no file
+abbrev pub bytes_of : Option (List ℕ) → List ℕ
+bytes_of None = []
+bytes_of (Some bytes) = bytes
+
+-- the part after this one has begun, and its file has accepted nothing yet
+abbrev pub HasBegun : Part → Option Part → Option (List ℕ) → Type 0
+HasBegun before part bytes = (part ≡ after before) × (bytes ≡ Some [])
+
+-- nothing was written to a text yet: there are no earlier files, and its file has accepted nothing
+abbrev pub IsEmptyText : List ℕ → Option (List ℕ) → Type 0
+IsEmptyText earlier bytes = (earlier ≡ []) × (bytes ≡ Some [])

@@ -5,9 +5,10 @@
 //! is listed again: if another file of that number is there, the own file is removed and the next number is tried. Of two
 //! programs at least one sees the file of the other, since each lists the folder after its own file is there.
 
-ghost use Rattle.std.specs.Prelude.{◌≡◌, [], ◌∷◌, IfErr, IfOk, IfSome, ℕ, Option, Some};
+ghost use Rattle.std.specs.Prelude.{◌≡◌, [], ◌∷◌, IfErr, IfOk, IfSome, ℕ, Option, Some, option_map};
 ghost use Rattle.audit_files.specs.AuditPaths.{IsOfLine, in_part};
 ghost use Rattle.audit_files.specs.FileFaults.{IsFaultAt, IsNotBegun, IsRecordingFault, cause_of_break};
+ghost use Rattle.audit_files.specs.Parts.{IsEmptyText};
 
 use crate::audit_name::AuditName;
 use crate::audit_path::AuditPath;
@@ -88,7 +89,7 @@ pub fn make_folder<'a>(files: &impl Files, folder: &'a str) -> Result<(), FileFa
 }
 
 /// Begins the audit text of a line in a new file of the folder, and writes its header. The number of the text is above that of
-/// each text of the line in the folder. No existing file is changed.
+/// each text of the line in the folder. No existing file is changed. The header is the first that is written to the file.
 ///
 /// `number` is the number of the line. `parts` is `None` if the text has one file, and `old_parts` is `None` if no part is deleted.
 ///
@@ -105,6 +106,7 @@ pub fn begin_text<'a, 's, H: FileHost>(
     number: u8,
 ) -> Result<AuditFile<'a, FileTail<'a, 's, H>>, FileFault<'a>>
     ensures path { IfOk result (λ file. IsOfLine folder.now number file.path) }
+    ensures empty { IfOk result (λ file. IsEmptyText file.trail.opened.value.earlier.bytes (option_map (λ file. file.written.bytes) file.trail.opened.value.file)) }
     ensures fault { IfErr result (IsRecordingFault (Some folder.entry) (number ∷ [])) }
 {
     let lowest = match lowest_number(host, alloc, folder, number) {
@@ -238,6 +240,7 @@ fn begin_trail<'a, 's, H: FileHost>(
     path: AuditPath<'a>,
 ) -> Result<AuditFile<'a, FileTail<'a, 's, H>>, FileFault<'a>>
     ensures path { IfOk result (λ file. file.path ≡ text.entry) }
+    ensures opened { IfOk result (λ file. file.trail.opened.value ≡ writer.entry) }
     ensures fault { IfErr result (IsNotBegun path.entry) }
 {
     match Tail::open(host, alloc, line, writer) {

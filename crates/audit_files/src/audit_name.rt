@@ -1,16 +1,15 @@
 //! The names of the files of audit texts.
 
 ghost use Rattle.std.specs.Prelude.{◌≡◌, Some};
+ghost use Rattle.std.specs.Fmt.{decimal};
 ghost use Rattle.audit_files.specs.AuditNames.{audit_name_text, is_same_text, next_part, part_to_delete, path_in};
+ghost use Rattle.audit_files.specs.ReadNames.{IsFileName, IsFileNumber, IsLineNumber, IsReadFrom, IsTextNumber, numbers_text, part_digits, text_number_text};
 
 use crate::audit_path::{AuditPath, leading_zeros};
 use std::fmt;
 
 /// The end of the name of every audit text.
 const ENDING: &str = ".audit";
-
-/// The number of digits that the number of a part has at least.
-const PART_DIGITS: usize = 6;
 
 /// The name of a file of an audit text: `line-N-K.audit`, or `line-N-K.000001.audit` for a part. Its `Display` is the name.
 #[derive(Clone, Copy, Debug, PartialEq, Eq)]
@@ -42,24 +41,10 @@ impl fmt::Display for AuditName {
 impl AuditName {
     /// Reads a name. Returns None if no file of an audit text has it: its numbers are decimal without zeros in front, but that of
     /// a part has six digits at least.
-    pub fn from_name(name: &str) -> Option<AuditName> {
-        let (line, text) = name
-            .strip_prefix("line-")?
-            .strip_suffix(ENDING)?
-            .split_once('-')?;
-        let line = u8::try_from(number_in(line)?).ok()?;
-        match text.split_once('.') {
-            None => Some(AuditName {
-                line,
-                number: number_in(text)?,
-                part: None,
-            }),
-            Some((number, part)) => Some(AuditName {
-                line,
-                number: number_in(number)?,
-                part: Some(part_in(part)?),
-            }),
-        }
+    pub fn from_name(name: &str) -> Option<AuditName>
+        ensures { IsReadFrom audit_name_text IsFileName name.now result }
+    {
+        numbers_in(name.strip_prefix("line-")?.strip_suffix(ENDING)?)
     }
 
     /// Returns the name of the next part of the text; None if the text has one file, or this is the last part that may be.
@@ -122,26 +107,61 @@ impl AuditName {
     }
 }
 
-/// Reads a number from 1 on without zeros in front.
-fn number_in(digits: &str) -> Option<u32> {
-    if digits.starts_with('0') || !are_digits(digits) {
+/// Reads the numbers of a name: `N-K`, or `N-K.000001` for a part.
+fn numbers_in(words: &str) -> Option<AuditName>
+    ensures { IsReadFrom numbers_text IsFileName words.now result }
+{
+    let (line, rest) = words.split_once('-')?;
+    let line = line_in(line)?;
+    let (number, part) = text_number_in(rest)?;
+    Some(AuditName { line, number, part })
+}
+
+/// Reads the number of a text, and that of the part if the text has parts: `K` or `K.000001`.
+fn text_number_in(words: &str) -> Option<(u32, Option<u32>)>
+    ensures { IsReadFrom text_number_text IsTextNumber words.now result }
+{
+    match words.split_once('.') {
+        None => Some((number_in(words)?, None)),
+        Some((number, part)) => Some((number_in(number)?, Some(part_in(part)?))),
+    }
+}
+
+/// Reads the number of a line, from 1 to 255, without zeros in front.
+fn line_in(digits: &str) -> Option<u8>
+    ensures { IsReadFrom decimal IsLineNumber digits.now result }
+{
+    let number = number_in(digits)?;
+    if number > u32::from(u8::MAX) {
         return None;
     }
-    digits.parse::<u32>().ok()
+    Some(number as u8)
+}
+
+/// Reads a number from 1 on without zeros in front.
+fn number_in(digits: &str) -> Option<u32>
+    ensures { IsReadFrom decimal IsFileNumber digits.now result }
+{
+    match digits.as_bytes() {
+        [] => None,
+        [first, ..] => {
+            if *first <= b'0' {
+                return None;
+            }
+            digits.parse::<u32>().ok()
+        }
+    }
 }
 
 /// Reads the number of a part: six digits, or more if the first is no zero.
-fn part_in(digits: &str) -> Option<u32> {
-    if !are_digits(digits) || digits.len() < PART_DIGITS {
-        return None;
-    }
-    if digits.len() > PART_DIGITS && digits.starts_with('0') {
-        return None;
-    }
+fn part_in(digits: &str) -> Option<u32>
+    ensures { IsReadFrom part_digits IsFileNumber digits.now result }
+{
     let part = digits.parse::<u32>().ok()?;
-    if part == 0 { None } else { Some(part) }
-}
-
-fn are_digits(digits: &str) -> bool {
-    !digits.is_empty() && digits.bytes().all(|digit| digit.is_ascii_digit())
+    let rest = digits.strip_prefix(leading_zeros(part))?;
+    if number_in(rest)? == part {
+        Some(part)
+    } else {
+        None
+    }
 }

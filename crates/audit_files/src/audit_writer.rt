@@ -1,14 +1,16 @@
 //! Writing an audit text to its files.
 
-ghost use Rattle.std.specs.Prelude.{◌≡◌, ◌++◌, [], IfOk};
+ghost use Rattle.std.specs.Prelude.{◌≡◌, ◌++◌, None, Some, IfOk, MatchOption, option_map};
 ghost use Rattle.system_errors.specs.SystemErrors.{cause_of_error};
 ghost use Rattle.audit_files.specs.AuditPaths.{audit_path_text};
-ghost use Rattle.audit_files.specs.Parts.{after, counted, first_part, is_due, is_due_in, is_full};
+ghost use Rattle.audit_files.specs.Parts.{HasBegun, IsEmptyText, after, bytes_of, counted, first_part, is_due, is_due_in, is_full};
 
 use crate::audit_name::AuditName;
 use crate::audit_path::AuditPath;
 use crate::file_host::NewFiles;
 use crate::old_parts::OldParts;
+use crate::part_file::PartFile;
+use crate::written_bytes::WrittenBytes;
 use audit_trail::{BegunPart, WriteParts};
 use log::Log;
 use serve_log::Notes;
@@ -129,7 +131,10 @@ pub struct AuditWriter<'a, 's, H> {
     /// The name of the text as if it had one file.
     name: AuditName,
     part: Option<Part>,
-    file: Option<File>,
+    /// The file that is being written, or `None` if it could not be created.
+    file: Option<PartFile<File>>,
+    /// The bytes that the files of earlier parts accepted.
+    earlier: WrittenBytes,
     /// The error with which the file of the part could not be created.
     refused: Option<CreateFault>,
     /// The old parts, or `None` if no part is deleted.
@@ -148,7 +153,12 @@ impl<'a, 's, H: NewFiles + Wait + Log + Clock> AuditWriter<'a, 's, H> {
         name: AuditName,
         parts: Option<PartOptions>,
         file: File,
-    ) -> AuditWriter<'a, 's, H> {
+    ) -> AuditWriter<'a, 's, H>
+        ensures name { result.name ≡ name }
+        ensures part { result.part ≡ option_map first_part parts }
+        ensures empty { IsEmptyText result.earlier.bytes (option_map (λ file. file.written.bytes) result.file) }
+        ensures refused { result.refused ≡ None }
+    {
         AuditWriter {
             host,
             notes,
@@ -156,33 +166,57 @@ impl<'a, 's, H: NewFiles + Wait + Log + Clock> AuditWriter<'a, 's, H> {
             folder,
             name,
             part: parts.map(|parts| Part::first(parts)),
-            file: Some(file),
+            file: Some(PartFile::new(file)),
+            earlier: WrittenBytes::new(),
             refused: None,
             old_parts,
         }
     }
 
     /// Returns the number of the part that is being written or could not be created, or `None` if the text has one file.
-    pub(crate) fn part(&self) -> Option<u32> {
+    pub(crate) fn part(&self) -> Option<u32>
+        ensures { result ≡ option_map (λ part. part.number) self.now.part }
+    {
         self.part.map(|part| part.number)
     }
 
     /// Returns the error with which the file of the part could not be created, or `None` if it could, or memory was refused.
-    pub(crate) fn refused(&self) -> Option<CreateFault> {
+    pub(crate) fn refused(&self) -> Option<CreateFault>
+        ensures { result ≡ self.now.refused }
+    {
         self.refused
     }
 
     /// Returns the name of the file that is being written or could not be created.
-    fn name(&self) -> AuditName {
+    fn name(&self) -> AuditName
+        ensures { result ≡ record self.now.name { part = option_map (λ part. part.number) self.now.part } }
+    {
         AuditName {
             line: self.name.line,
             number: self.name.number,
             part: self.part(),
         }
     }
+
+    /// Closes the file that is being written. Its bytes are then those of an earlier file.
+    fn close_file(&mut self)
+        ensures bytes { self.new.earlier.bytes ≡ self.old.earlier.bytes ++ bytes_of (option_map (λ file. file.written.bytes) self.old.file) }
+        ensures file { self.new.file ≡ None }
+        ensures name { self.new.name ≡ self.old.name }
+        ensures part { self.new.part ≡ self.old.part }
+        ensures refused { self.new.refused ≡ self.old.refused }
+    {
+        if let Some(file) = &self.file {
+            self.earlier = self.earlier.followed_by(file.written());
+        }
+        self.file = None;
+    }
 }
 
 impl<H: NewFiles + Wait + Log + Clock> Write for AuditWriter<'_, '_, H> {
+    /// The bytes that the files of the text accepted, in the order of its parts.
+    ghost contents = { λ writer. Some (writer.earlier.bytes ++ bytes_of (option_map (λ file. file.written.bytes) writer.file)) };
+
     fn write(&mut self, buf: &[u8]) -> Result<usize> {
         let Some(file) = &mut self.file else {
             return Err(Error::from(ErrorKind::Other));
@@ -205,6 +239,8 @@ impl<H: NewFiles + Wait + Log + Clock> Write for AuditWriter<'_, '_, H> {
 impl<H: NewFiles + Wait + Log + Clock> WriteParts for AuditWriter<'_, '_, H> {
     ghost due = { λ writer. is_due_in writer.part };
 
+    ghost begins = { λ old new. MatchOption old.part (new ≡ old) (λ part. HasBegun part new.part (option_map (λ file. file.written.bytes) new.file)) };
+
     fn part_is_due(&self) -> bool {
         match &self.part {
             Some(part) => part.is_due(),
@@ -221,11 +257,11 @@ impl<H: NewFiles + Wait + Log + Clock> WriteParts for AuditWriter<'_, '_, H> {
             return Err(Error::from(ErrorKind::Other));
         };
         *part = next;
-        self.file = None;
+        self.close_file();
         let path = self.name().path_in(self.folder);
         match create_file(self.host, self.alloc, path) {
             Ok(file) => {
-                self.file = Some(file);
+                self.file = Some(PartFile::new(file));
                 self.notes.goes_on(self.host, self.name.line, path);
                 Ok(())
             }

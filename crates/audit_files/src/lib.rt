@@ -16,7 +16,9 @@ mod file_fault;
 mod file_host;
 mod found_parts;
 mod old_parts;
+mod part_file;
 mod text_number;
+mod written_bytes;
 
 pub use audit_file::{
     AuditFile, FileTail, FileTrail, IncompleteFile, begin_text, complete_text, make_folder,
