@@ -1,7 +1,7 @@
 """`rackd slave`: GSD files that cannot be read, with the first row that is not accepted and its cause."""
 import pytest
 
-# What stands in modular.gsd, what stands there instead, and what is reported. Its last row is 51, behind its last LF.
+# What stands in modular.gsd, what stands there instead, and what is reported. Its last row is 50.
 DAMAGED = [
     (b"#PROFIBUS_DP", b"#PROFIBUS", "row 4: #Profibus_DP is missing before this row"),
     (b"GSD_Revision=3", b'"GSD_Revision"=3', "row 5: no key"),
@@ -14,7 +14,7 @@ DAMAGED = [
     (b"0x0BAD", b"0x", "row 8: no number from 0 to 65535"),
     (b"0x0BAD", b"12 3", "row 8: no number from 0 to 65535"),
     (b"Ident_Number=0x0BAD", b"Ident_Number", "row 8: no value"),
-    (b"Ident_Number=0x0BAD", b"Ident_Nummer=0x0BAD", "row 51: Ident_Number is missing"),
+    (b"Ident_Number=0x0BAD", b"Ident_Nummer=0x0BAD", "row 50: Ident_Number is missing"),
     (b"Freeze_Mode_supp=1", b"Freeze_Mode_supp=2", "row 9: no number from 0 to 1"),
     (b"Max_User_Prm_Data_Len=20", b"Max_User_Prm_Data_Len=238", "row 12: no number from 0 to 237"),
     (b"Max_Module=8", b"Max_Module=256", "row 14: no number from 0 to 255"),
@@ -30,7 +30,7 @@ DAMAGED = [
     (b'Module="8DI" 0x10', b'Module="8DI" 0x10;' + b"-" * 2030, "row 38: more than 2048 octets in a row"),
     (b'Module="8DI" 0x10', b"8DI=1", "row 40: Module is missing before this row"),
     (b'EndModule\r\nModule="8DO"', b'\r\nModule="8DO"', "row 41: EndModule is missing before this row"),
-    (b"  0XBB\r\n3\r\nEndModule", b"  0XBB\r\n3\r\n", "row 51: EndModule is missing"),
+    (b"  0XBB\r\n3\r\nEndModule", b"  0XBB\r\n3\r\n", "row 50: EndModule is missing"),
     (b"  0x43, 170\\", b"  0x43, 1700\\", "row 47: no octet from 0 to 255"),
 ]
 # The largest values that are accepted in place of what stands in modular.gsd.
@@ -71,4 +71,4 @@ def test_empty_file(refused, file_of):
 
 def test_last_module_has_no_end(refused, by_hand, file_of):
     path = file_of("unended.gsd", changed(by_hand, b"3\r\nEndModule", b"3\r\n"))
-    refused(f"rackd: cannot use {path}\n  row 51: EndModule is missing\n", "slave", path, "--module", "8DO")
+    refused(f"rackd: cannot use {path}\n  row 50: EndModule is missing\n", "slave", path, "--module", "8DO")

@@ -4,6 +4,7 @@ import subprocess
 
 import pytest
 
+from support.command_lines import without_row_of_file
 from support.processes import PATIENCE
 
 NO_NAME = "rackd: a name for the GSD file is not accepted\n"
@@ -58,9 +59,10 @@ def test_no_such_slave(refused, rack):
     ("2111", "C1", "rackd: rack line 1 BadCfg\n"
                    "  line 1, slave 1: configuration 1 ends within its identifier at octet 1\n"),
 ], ids=["key", "configuration"])
-def test_refused_rack(refused, file_of, rack_text, old, new, report):
+def test_refused_rack(run, file_of, rack_text, old, new, report):
     assert rack_text.count(old) == 1
-    refused(report, "gsd", file_of("bad.toml", rack_text.replace(old, new).encode()), "7", "9")
+    path = file_of("bad.toml", rack_text.replace(old, new).encode())
+    assert without_row_of_file(run("gsd", path, "7", "9")) == (2, "", report)
 
 
 @pytest.mark.parametrize("word", ["gsd", "slave"])
@@ -70,3 +72,12 @@ def test_output_that_takes_nothing(program, rack, by_hand, word):
         done = subprocess.run([program, *map(str, words)], stdin=nothing, stdout=full, stderr=subprocess.PIPE, timeout=PATIENCE,
                               check=False)
     assert (done.returncode, done.stderr) == (4, b"rackd: cannot write\n")
+
+
+def test_slave_with_one_configuration(written, file_of, rack_text):
+    """The file of a compact slave has no number of modules and no lengths."""
+    one = file_of("one.toml", rack_text.replace('["2111", "4F00C101030010"]', '"2111"').encode())
+    rows = written("gsd", one, "7", "9").decode("latin-1").split("\r\n")
+    assert "Modular_Station = 0" in rows
+    assert [row for row in rows if row.startswith("Max_")] == ["Max_Diag_Data_Len = 244", "Max_User_Prm_Data_Len = 12"]
+    assert rows[-4:] == ['Module = "Configuration 0" 0x21,0x11', "1", "EndModule", ""]

@@ -24,6 +24,11 @@ def refusal(path, cause):
     return f"rackd: cannot use {path}\n  {cause}\n"
 
 
+def with_list(path, cause):
+    """Returns what is reported if a module is unknown or none is named."""
+    return refusal(path, cause) + f"  'rackd slave {path} --list' lists the modules\n"
+
+
 @pytest.mark.parametrize("name", FILES)
 def test_file_by_hand(written, by_hand, name):
     path = by_hand / f"{name}.gsd"
@@ -44,23 +49,27 @@ def test_other_ends_of_rows(written, by_hand, file_of, name):
     ("8DA", "8DI"), ("8D", "8DI"), ("4AI specials", "4AI special"), ("4AI-spezial", "4AI special")])
 def test_module_with_a_near_name(refused, by_hand, name, near):
     path = by_hand / "modular.gsd"
-    refused(refusal(path, f'no module "{name}", perhaps "{near}"'), "slave", path, *modules("8DO", name))
+    refused(with_list(path, f'no module "{name}", perhaps "{near}"'), "slave", path, *modules("8DO", name))
 
 
 @pytest.mark.parametrize("name", ["8", "8di!!", "", "Counter"], ids=["one-letter", "signs", "none", "far"])
 def test_module_without_a_near_name(refused, by_hand, name):
     path = by_hand / "modular.gsd"
-    refused(refusal(path, f'no module "{name}"'), "slave", path, *modules(name))
+    refused(with_list(path, f'no module "{name}"'), "slave", path, *modules(name))
 
 
 @pytest.mark.parametrize("words, cause", [
-    ([], "name the modules with --module"),
     (modules(*["8DI"] * 9), "more than 8 modules"),
     (modules("8DI", "8DI", "4AI special", "4AI special"), "18 octets of inputs, but Max_Input_Len is 16"),
-], ids=["none", "nine", "too-many-inputs"])
+], ids=["nine", "too-many-inputs"])
 def test_refused_modules(refused, by_hand, words, cause):
     path = by_hand / "modular.gsd"
     refused(refusal(path, cause), "slave", path, *words)
+
+
+def test_no_module_is_named(refused, by_hand):
+    path = by_hand / "modular.gsd"
+    refused(with_list(path, "name the modules with --module"), "slave", path)
 
 
 def test_no_module_in_the_file(refused, by_hand, file_of):
@@ -70,7 +79,7 @@ def test_no_module_in_the_file(refused, by_hand, file_of):
 
 def test_two_modules_of_a_compact_station(refused, by_hand, file_of):
     path = file_of("two.gsd", (by_hand / "compact.gsd").read_bytes() + b'Module = "other" 0x10\nEndModule\n')
-    refused(refusal(path, "name the modules with --module"), "slave", path)
+    refused(with_list(path, "name the modules with --module"), "slave", path)
 
 
 def test_configuration_is_cut(refused, by_hand, file_of):
@@ -102,3 +111,70 @@ def test_limits_of_data(written, refused, file_of, key, most, cause):
     small = file_with(most - 1)
     refused(refusal(small, cause), "slave", small, *modules("both"))
     assert b'cfg = "1122"' in written("slave", file_with(most), *modules("both"))
+
+
+@pytest.mark.parametrize("text, rows", [
+    (HEAD, ""),
+    (HEAD + b'Module = "a" 0x11\nEndModule\nModule = "b c" 0x21, \\\n 0x43 0xAA\n1\nPreset = 1\nEndModule\nModule = "d"\nEndModule\n',
+     '"a" 11\n"b c" 2143aa preset\n"d" \n'),
+    (HEAD + 'Module = "Z\xe4hler" 0x11\nEndModule\n'.encode("latin-1"), '"Z\xe4hler" 11\n'),
+], ids=["none", "three", "not-ascii"])
+def test_list_of_modules(written, file_of, text, rows):
+    assert written("slave", file_of("list.gsd", text), "--list").decode() == rows
+
+
+def test_list_of_a_damaged_file(refused, file_of):
+    path = file_of("damaged.gsd", HEAD + b'Module = 1\n')
+    refused(refusal(path, "row 4: no name in quotes"), "slave", path, "--list")
+
+
+@pytest.mark.parametrize("name", FILES)
+def test_mark_of_utf_8(written, by_hand, file_of, name):
+    """A file reads the same with the mark of UTF-8 (BOM) at its front."""
+    path = by_hand / f"{name}.gsd"
+    marked = file_of("marked.gsd", b"\xef\xbb\xbf" + path.read_bytes())
+    assert written("slave", marked, *modules_of(path)) == path.with_suffix(".toml").read_bytes()
+    assert written("slave", marked, "--list") == written("slave", path, "--list")
+
+
+@pytest.mark.parametrize("encoding", ["utf-16", "utf-16-be"])
+@pytest.mark.parametrize("words", [["--list"], []], ids=["list", "slave"])
+def test_utf_16(refused, by_hand, file_of, encoding, words):
+    text = (by_hand / "compact.gsd").read_bytes().decode("latin-1")
+    mark = "\ufeff" if encoding == "utf-16-be" else ""
+    path = file_of("wide.gsd", (mark + text).encode(encoding))
+    refused(refusal(path, "the file is in UTF-16; save it as ISO 8859-1, or as ASCII"), "slave", path, *words)
+
+
+@pytest.mark.parametrize("before, after", [
+    (b"Modular_Station = 1", b"Modular_Station = \\\n 1"),
+    (b"Ident_Number = 1", b"Ident_Number=\\\n\\\n1 ; one"),
+    (b'Module = "a" 0x11', b'Module = \\\n"a" 0x11'),
+    (b'Module = "a" 0x11', b'Module = \\\n"a" \\\n 0x11'),
+], ids=["flag", "two-rows", "module", "module-and-octets"])
+def test_value_on_the_next_row(written, file_of, before, after):
+    text = HEAD + b'Module = "a" 0x11\nEndModule\nModule = "b" 0x21\nEndModule\n'
+    assert text.count(before) == 1
+    plain = written("slave", file_of("plain.gsd", text), *modules("a"))
+    assert written("slave", file_of("next.gsd", text.replace(before, after)), *modules("a")) == plain
+
+
+@pytest.mark.parametrize("rows, line", [
+    (b"", "user_max = 0"), (b"Max_User_Prm_Data_Len = 7\n", "user_max = 7"), (b"User_Prm_Data_Len = 3\n", "user_max = 3"),
+    (b"Max_User_Prm_Data_Len = 7\nUser_Prm_Data_Len = 3\n", "user_max = 7"),
+    (b"Ext_User_Prm_Data_Const(0) = 0x00\n", None),
+], ids=["none", "most", "length", "both", "only-parameters"])
+def test_user_parameters(written, file_of, rows, line):
+    """A file that says nothing about parameters has none; one with rows about parameters and no length leaves it open."""
+    text = written("slave", file_of("user.gsd", HEAD + rows + b'Module = "a" 0x11\nEndModule\n'), *modules("a")).decode()
+    found = [row for row in text.splitlines() if row.startswith("user_max")]
+    assert found == ([] if line is None else [line])
+
+
+@pytest.mark.parametrize("fixed, cfg", [(b"", "21"), (b"FixPresetModules = 0\n", "21"), (b"FixPresetModules = 1\n", "1121")],
+                         ids=["missing", "0", "1"])
+def test_fixed_preset_modules(written, file_of, fixed, cfg):
+    """Modules that are plugged from the start are also plugged if others are named, if the file fixes them."""
+    path = file_of("fixed.gsd", HEAD + fixed + b'Module = "a" 0x11\nPreset = 1\nEndModule\nModule = "b" 0x21\nEndModule\n')
+    assert f'cfg = "{cfg}"' in written("slave", path, *modules("b")).decode()
+    assert 'cfg = "11"' in written("slave", path).decode()

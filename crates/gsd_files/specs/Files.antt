@@ -1,5 +1,5 @@
 -- What a GSD file says as a whole (own).
-use Rattle.std.specs.Prelude.{◌≡◌, ℕ, ◌+◌, ◌==◌, Bool, if◌then◌else◌, List, [], ◌∷◌, ◌++◌, Option, Some, None, Result, Ok, Err}
+use Rattle.std.specs.Prelude.{◌≡◌, ℕ, ◌+◌, ◌-◌, ◌==◌, take, count_by, length, Bool, if◌then◌else◌, List, [], ◌∷◌, ◌++◌, Option, Some, None, Result, Ok, Err}
 use Rattle.std.specs.List.{slice_split}
 use Rattle.gsd_files.specs.Steps.{◌>>=◌}
 use Rattle.gsd_files.specs.Reading.{no_facts, after_line}
@@ -52,11 +52,11 @@ ended_by facts modules None = file_by facts modules facts.ident
 abbrev pub file_of : Begun → Result File Cause
 file_of begun = if begun.state.facts.headed then ended_by begun.state.facts begun.modules begun.state.current else Err NoHeading
 
--- what these lines give behind those that have been read, of which there are `row`
-abbrev pub read_from : ℕ → Begun → List (List ℕ) → Result File RowFault
-read_from row begun [] = at_row row (file_of begun)
-read_from row begun (line ∷ lines) =
-    at_row (row + 1) (after_line begun.state line) >>= λ step. read_from (row + 1) (begun_by begun.modules step) lines
+-- what these lines give behind those that have been read, of which there are `row`; a fault of the whole file is one of the line `last`
+abbrev pub read_from : ℕ → ℕ → Begun → List (List ℕ) → Result File RowFault
+read_from last row begun [] = at_row last (file_of begun)
+read_from last row begun (line ∷ lines) =
+    at_row (row + 1) (after_line begun.state line) >>= λ step. read_from last (row + 1) (begun_by begun.modules step) lines
 
 abbrev pub start : Begun
 start = record { state = record { facts = no_facts; current = None; next = nexts.Row }; modules = [] }
@@ -69,9 +69,13 @@ is_lf octet = octet == 10
 abbrev pub lines_of : List ℕ → List (List ℕ)
 lines_of text = slice_split is_lf text
 
+-- the number of the last line, from 1; an LF at the end begins no further one
+abbrev pub last_row : List ℕ → ℕ
+last_row text = count_by is_lf (take (length text - 1) text) + 1
+
 -- what a GSD file says, or its first fault
 abbrev pub gsd_of : List ℕ → Result File RowFault
-gsd_of text = read_from 0 start (lines_of text)
+gsd_of text = read_from (last_row text) 0 start (lines_of text)
 
 -- what a `Gsd` holds
 abbrev pub file_in : Gsd → File

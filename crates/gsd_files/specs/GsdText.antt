@@ -66,10 +66,10 @@ module_name number = codes "Configuration " ++ (48 + number) ∷ []
 abbrev pub module_head : List ℕ
 module_head = codes "Module = \"Configuration "
 
--- the module of a configuration: its name and octets, its number and its end
+-- the module of a configuration: its name and octets, its reference from 1 and its end
 unfoldable pub module_text : ℕ → List ℕ → List ℕ
 module_text number octets =
-    module_head ++ ((48 + number) ∷ [] ++ (codes "\" " ++ (octets_text octets ++ (line_end ++ ((48 + number) ∷ [] ++ (line_end ++ ended (codes "EndModule")))))))
+    module_head ++ ((48 + number) ∷ [] ++ (codes "\" " ++ (octets_text octets ++ (line_end ++ (decimal (number + 1) ++ (line_end ++ ended (codes "EndModule")))))))
 
 -- a module for each configuration; the first has this number
 abbrev pub modules_text : ℕ → List (ArrayVec ℕ) → List ℕ
@@ -165,8 +165,13 @@ sizes_text sizes =
     ++ (number_line (codes "Max_Output_Len") sizes.outputs
     ++ number_line (codes "Max_Data_Len") sizes.both))
 
+-- the rows of lengths of a modular slave; a compact one has none
+abbrev pub lengths_text : Bool → Sizes → List ℕ
+lengths_text true sizes = sizes_text sizes
+lengths_text false sizes = []
+
 -- the GSD file of a slave, with the names of its vendor and its model in ISO 8859-1
 unfoldable pub gsd_text : List ℕ → List ℕ → SlaveSpec → List ℕ
 gsd_text vendor model slave =
     names_text vendor model slave.ident
-    ++ (fixed_text ++ (modes_text slave ++ (sizes_text (sizes_of slave.cfgs.items) ++ modules_text 0 slave.cfgs.items)))
+    ++ (fixed_text ++ (modes_text slave ++ (lengths_text (is_modular slave.cfgs.items) (sizes_of slave.cfgs.items) ++ modules_text 0 slave.cfgs.items)))

@@ -32,6 +32,7 @@ has_part (octet ∷ octets) text = begins_with (octet ∷ octets) text || has_pa
 abbrev pub size_named : List ℕ → Option Setting
 size_named key =
     if same_key key (codes "modular_station") then Some settings.Modular
+    else if same_key key (codes "fixpresetmodules") then Some settings.Fixed
     else if same_key key (codes "max_module") then Some settings.MostModules
     else if same_key key (codes "max_input_len") then Some settings.MostInputs
     else if same_key key (codes "max_output_len") then Some settings.MostOutputs
@@ -77,6 +78,7 @@ most_of settings.FailSafe = 1
 most_of settings.MostParameters = 237
 most_of settings.Parameters = 237
 most_of settings.Modular = 1
+most_of settings.Fixed = 1
 most_of settings.MostModules = 255
 most_of settings.MostInputs = 244
 most_of settings.MostOutputs = 244

@@ -1,7 +1,7 @@
 -- Definitions for private functions. No public clause cites this module.
 use Rattle.std.specs.Prelude.{◌≡◌, ℕ, ◌+◌, ◌≤◌, List, [], ◌++◌, take, length, Option, Some, None}
 use Rattle.std.specs.Borrow.{Bor}
-use Rattle.gsd_files.specs.Files.{Begun, read_from, lines_of, gsd_of}
+use Rattle.gsd_files.specs.Files.{Begun, read_from, last_row, lines_of, gsd_of}
 
 -- the lines of the text that is left
 abbrev pub lines_left : Option (Bor (List ℕ)) → List (List ℕ)
@@ -15,7 +15,7 @@ most_left (Some text) = length text.now + 1
 
 -- between two lines of a text: those left give what all lines give
 pub record IsReading (text : List ℕ) (row : ℕ) (begun : Begun) (left : Option (Bor (List ℕ))) : Type 0 where
-  pub whole : gsd_of text ≡ read_from row begun (lines_left left)
+  pub whole : gsd_of text ≡ read_from (last_row text) row begun (lines_left left)
   pub room : most_left left + row ≤ length text + 1
 
 -- octets and those of `more` that have been appended

@@ -73,10 +73,17 @@ plug_unnamed modular most plugged modules =
 abbrev pub nothing_plugged : Plugged
 nothing_plugged = plugged_by 0 []
 
+-- the modules that are plugged before those with names: those that are plugged from the start, if they are fixed
+abbrev pub plug_fixed : Bool → ℕ → List Module → Result Plugged PlugFault
+plug_fixed true most modules = plug_preset most nothing_plugged modules
+plug_fixed false most modules = Ok nothing_plugged
+
 -- the plugged modules of a file, by the names that are given
 abbrev pub plugged_of : Facts → List Module → List (List ℕ) → Result Plugged PlugFault
 plugged_of facts modules [] = plug_unnamed facts.modular (unwrap_or facts.most_modules 255) nothing_plugged modules
-plugged_of facts modules (name ∷ names) = plug_named (unwrap_or facts.most_modules 255) modules nothing_plugged (name ∷ names)
+plugged_of facts modules (name ∷ names) =
+    plug_fixed facts.fixed (unwrap_or facts.most_modules 255) modules >>= λ plugged.
+    plug_named (unwrap_or facts.most_modules 255) modules plugged (name ∷ names)
 
 -- ---- lengths
 
@@ -99,10 +106,16 @@ fits facts octets = fits_read facts (reading_of octets)
 
 -- ---- the slave
 
+-- no length is given: there are no user parameters, unless the file has rows about parameters
+abbrev pub user_unsaid : Bool → Option ℕ
+user_unsaid true = None
+user_unsaid false = Some 0
+
 -- the largest number of octets of user parameters: Max_User_Prm_Data_Len, or else User_Prm_Data_Len
-abbrev pub user_most : Option ℕ → Option ℕ → Option ℕ
-user_most (Some most) length = Some most
-user_most None length = length
+abbrev pub user_most : Bool → Option ℕ → Option ℕ → Option ℕ
+user_most parameters (Some most) length = Some most
+user_most parameters None (Some length) = Some length
+user_most parameters None None = user_unsaid parameters
 
 abbrev pub slave_by : File → List ℕ → PluggedSlave
 slave_by file octets = record {
@@ -110,7 +123,7 @@ slave_by file octets = record {
   sync = file.facts.sync;
   freeze = file.facts.freeze;
   failsafe = file.facts.failsafe;
-  user_max = user_most file.facts.most_parameters file.facts.parameters;
+  user_max = user_most file.facts.left.parameters file.facts.most_parameters file.facts.parameters;
   octets = record { items = octets };
   left = file.facts.left;
 }

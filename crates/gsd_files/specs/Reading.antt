@@ -1,5 +1,5 @@
 -- What a GSD file says, line by line (GSD specification, revision 3; own in detail).
-use Rattle.std.specs.Prelude.{codes, ℕ, ◌==◌, Bool, true, false, if◌then◌else◌, List, [], length, Option, Some, None, Result, Ok, Err}
+use Rattle.std.specs.Prelude.{codes, ℕ, ◌==◌, ◌&&◌, Bool, true, false, if◌then◌else◌, List, [], length, Option, Some, None, Result, Ok, Err}
 use Rattle.gsd_files.specs.Steps.{◌>>=◌}
 use Rattle.gsd_files.specs.Rows.{code_of, goes_on, body_of, key_of, value_of}
 use Rattle.gsd_files.specs.Values.{number_to, with_octets, name_in}
@@ -35,6 +35,7 @@ no_facts = record {
   most_parameters = None;
   parameters = None;
   modular = false;
+  fixed = false;
   most_modules = None;
   most_inputs = None;
   most_outputs = None;
@@ -53,6 +54,7 @@ with_number facts settings.FailSafe number = record facts { failsafe = number ==
 with_number facts settings.MostParameters number = record facts { most_parameters = Some number }
 with_number facts settings.Parameters number = record facts { parameters = Some number }
 with_number facts settings.Modular number = record facts { modular = number == 1 }
+with_number facts settings.Fixed number = record facts { fixed = number == 1 }
 with_number facts settings.MostModules number = record facts { most_modules = Some number }
 with_number facts settings.MostInputs number = record facts { most_inputs = Some number }
 with_number facts settings.MostOutputs number = record facts { most_outputs = Some number }
@@ -111,10 +113,20 @@ after_kind facts current more value (kinds.Setting setting) =
 after_kind facts current more value (kinds.Left group) =
     Ok (step_to (record facts { left = with_left facts.left group }) current (next_of more))
 
+-- a row ends behind its `=`, and goes on in the next line
+abbrev pub awaits_value : Bool → Option (List ℕ) → Bool
+awaits_value more None = false
+awaits_value more (Some value) = more && (length value == 0)
+
+-- a row of this kind, whose value may be in the next line
+abbrev pub after_key : Facts → Option Module → Bool → Option (List ℕ) → Kind → Result Step Cause
+after_key facts current more value kind =
+    if awaits_value more value then Ok (step_to facts current (nexts.Value kind)) else after_kind facts current more value kind
+
 -- a row behind the heading
 abbrev pub after_body : Facts → Option Module → Bool → List ℕ → Result Step Cause
 after_body facts current more body =
-    if length (key_of body) == 0 then Err NoKey else after_kind facts current more (value_of body) (kind_of (key_of body))
+    if length (key_of body) == 0 then Err NoKey else after_key facts current more (value_of body) (kind_of (key_of body))
 
 -- the heading
 abbrev pub after_heading : Facts → Option Module → Bool → List ℕ → Result Step Cause
@@ -140,6 +152,7 @@ after_octets facts (Some current) more body =
 abbrev pub after_code : Facts → Option Module → Next → List ℕ → Result Step Cause
 after_code facts current nexts.Row code = after_row facts current (goes_on code) (body_of code)
 after_code facts current nexts.Octets code = after_octets facts current (goes_on code) (body_of code)
+after_code facts current (nexts.Value kind) code = after_key facts current (goes_on code) (Some (body_of code)) kind
 after_code facts current nexts.Nothing code = Ok (step_to facts current (next_of (goes_on code)))
 
 -- what one more line gives

@@ -3,6 +3,7 @@
 ghost use Rattle.std.specs.Prelude.{◌≡◌};
 ghost use Rattle.gsd_files.specs.Reading.{no_facts};
 
+use crate::keys::Kind;
 use crate::values::Name;
 use dp_slave::Configuration;
 
@@ -47,6 +48,8 @@ pub struct Facts {
     pub parameters: Option<u32>,
     /// `Modular_Station`; false if the file doesn't have it.
     pub modular: bool,
+    /// `FixPresetModules`: the modules that are plugged from the start are always plugged; false if the file doesn't have it.
+    pub fixed: bool,
     /// `Max_Module`, 0 to 255.
     pub most_modules: Option<u32>,
     /// `Max_Input_Len`, 0 to 244.
@@ -73,6 +76,7 @@ impl Facts {
             most_parameters: None,
             parameters: None,
             modular: false,
+            fixed: false,
             most_modules: None,
             most_inputs: None,
             most_outputs: None,
@@ -93,6 +97,8 @@ pub(crate) enum Next {
     Row,
     /// As more octets of the module that is open.
     Octets,
+    /// As the value of a row of this kind, which has its key and `=` in a line before.
+    Value(Kind),
     /// It belongs to a row that is read over.
     Nothing,
 }

@@ -1,7 +1,7 @@
 //! Reads a GSD file.
 
 ghost use Rattle.std.specs.Prelude.{◌≡◌, ◌<◌, ◌+◌, ◌∷◌, [], Ok, IfOk, IfErr, IfSome, length, position, MatchOption};
-ghost use Rattle.gsd_files.specs.Files.{is_lf, lines_of, gsd_of, file_in, file_of, with_ended, Fails};
+ghost use Rattle.gsd_files.specs.Files.{is_lf, lines_of, gsd_of, file_in, file_of, with_ended, Fails, last_row};
 ghost use Rattle.gsd_files.specs.Steps.{seen};
 ghost use Rattle.gsd_files.specs.declared.cause.GsdReadFault.TheVariants.{Row, OutOfMemory};
 
@@ -46,6 +46,14 @@ fn first_line(text: &[u8]) -> (&[u8], Option<&[u8]>)
         Some(index) => (&text[..index], Some(&text[index + 1..])),
         None => (text, None),
     }
+}
+
+/// Returns the number of the last line, from 1. An LF at the end begins no further one.
+fn last_row(text: &[u8]) -> usize
+    ensures { result ≡ last_row text.now }
+{
+    let before = &text[..text.len().saturating_sub(1)];
+    before.iter().filter(|octet| is_lf(**octet)).count() + 1
 }
 
 /// Returns the fault of the line with this number.
@@ -120,6 +128,6 @@ pub fn read_gsd(alloc: Global, text: &[u8]) -> Result<Gsd, GsdReadFault>
     }
     match finished(state, modules) {
         Ok(gsd) => Ok(gsd),
-        Err(cause) => Err(at_row(row, cause)),
+        Err(cause) => Err(at_row(last_row(text), cause)),
     }
 }

@@ -20,6 +20,8 @@ pub(crate) enum Setting {
     Parameters,
     /// `Modular_Station`
     Modular,
+    /// `FixPresetModules`
+    Fixed,
     /// `Max_Module`
     MostModules,
     /// `Max_Input_Len`
@@ -130,6 +132,8 @@ fn size_named(key: &[u8]) -> Option<Setting>
 {
     if same_key(key, b"modular_station") {
         Some(Setting::Modular)
+    } else if same_key(key, b"fixpresetmodules") {
+        Some(Setting::Fixed)
     } else if same_key(key, b"max_module") {
         Some(Setting::MostModules)
     } else if same_key(key, b"max_input_len") {
@@ -187,6 +191,7 @@ pub(crate) fn most_of(setting: Setting) -> u32
         Setting::MostParameters => 237,
         Setting::Parameters => 237,
         Setting::Modular => 1,
+        Setting::Fixed => 1,
         Setting::MostModules => 255,
         Setting::MostInputs => 244,
         Setting::MostOutputs => 244,

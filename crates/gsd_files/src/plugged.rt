@@ -4,7 +4,7 @@ ghost use Rattle.std.specs.Prelude.{◌≡◌, ◌≤◌, length, map, unwrap_or
 ghost use Rattle.std.specs.Option.{option_map};
 ghost use Rattle.gsd_files.specs.Files.{file_in};
 ghost use Rattle.gsd_files.specs.Steps.{seen};
-ghost use Rattle.gsd_files.specs.Plugged.{module_named, joined, plug, plug_named, plug_preset, plug_only, has_preset, plug_unnamed, plugged_of, fits, fits_by, plugged_slave};
+ghost use Rattle.gsd_files.specs.Plugged.{module_named, joined, plug, plug_named, plug_preset, plug_only, has_preset, plug_unnamed, plugged_of, plug_fixed, nothing_plugged, user_most, fits, fits_by, plugged_slave};
 
 use crate::facts::{Facts, LeftOut, Module};
 use crate::gsd::Gsd;
@@ -209,7 +209,40 @@ fn plugged_of(facts: &Facts, modules: &[Module], names: &[&str]) -> Result<Plugg
     };
     match names {
         [] => plug_unnamed(facts.modular, most, nothing, modules),
-        [_name, ..] => plug_named(most, modules, nothing, names),
+        [_name, ..] => {
+            let plugged = plug_fixed(facts.fixed, most, nothing, modules)?;
+            plug_named(most, modules, plugged, names)
+        }
+    }
+}
+
+/// Plugs the modules that are plugged before those with names: those that the file presets, if they are fixed.
+fn plug_fixed(
+    fixed: bool,
+    most: u32,
+    nothing: Plugged,
+    modules: &[Module],
+) -> Result<Plugged, PlugFault>
+    requires { nothing ≡ nothing_plugged }
+    ensures { result ≡ plug_fixed fixed most modules.now }
+{
+    if fixed {
+        plug_preset(most, nothing, modules)
+    } else {
+        Ok(nothing)
+    }
+}
+
+/// Returns the largest number of octets of user parameters; `parameters` is whether the file has rows about parameters.
+fn user_most(parameters: bool, most: Option<u32>, length: Option<u32>) -> Option<u32>
+    ensures { result ≡ user_most parameters most length }
+{
+    match most {
+        Some(most) => Some(most),
+        None => match length {
+            Some(length) => Some(length),
+            None => { if parameters { None } else { Some(0) } }
+        },
     }
 }
 
@@ -250,7 +283,8 @@ fn check_octets(facts: &Facts, octets: &[u8]) -> Result<(), PlugFault>
 }
 
 /// Returns the slave of a GSD file with the modules of these names plugged, in this order; a name may stand more than
-/// once. If no module is named, those are plugged that the file presets, or the only one of a compact slave.
+/// once. If the file fixes the modules that it presets (`FixPresetModules`), these are plugged before them. If no module is
+/// named, those are plugged that the file presets, or the only one of a compact slave.
 ///
 /// Returns the first fault that applies: `UnknownModule`, `ManyModules` or `ManyOctets` of the first module that has
 /// one, `ChooseModules` or `NoModules` if none is named, then `NoConfiguration`, `ManyInputs`, `ManyOutputs` and
@@ -265,10 +299,11 @@ pub fn plugged_slave(gsd: &Gsd, names: &[&str]) -> Result<PluggedSlave, PlugFaul
         sync: gsd.facts.sync,
         freeze: gsd.facts.freeze,
         failsafe: gsd.facts.failsafe,
-        user_max: match gsd.facts.most_parameters {
-            Some(most) => Some(most),
-            None => gsd.facts.parameters,
-        },
+        user_max: user_most(
+            gsd.facts.left.parameters,
+            gsd.facts.most_parameters,
+            gsd.facts.parameters,
+        ),
         octets: plugged.octets,
         left: gsd.facts.left,
     })

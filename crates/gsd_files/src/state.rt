@@ -2,7 +2,7 @@
 
 ghost use Rattle.std.specs.Prelude.{◌≡◌};
 ghost use Rattle.std.specs.Option.{option_map};
-ghost use Rattle.gsd_files.specs.Reading.{with_number, with_left, next_of, octets_next_of, step_to, begin_module, end_module, preset_module, after_kind, after_body, after_heading, after_row, after_octets, after_line};
+ghost use Rattle.gsd_files.specs.Reading.{with_number, with_left, next_of, octets_next_of, step_to, begin_module, end_module, preset_module, after_kind, awaits_value, after_key, after_body, after_heading, after_row, after_octets, after_line};
 
 use crate::cause::Cause;
 use crate::facts::{Facts, LeftOut, Module, Next, State, Step};
@@ -24,6 +24,7 @@ fn with_number(facts: Facts, setting: Setting, number: u32) -> Facts
         Setting::MostParameters => more.most_parameters = Some(number),
         Setting::Parameters => more.parameters = Some(number),
         Setting::Modular => more.modular = number == 1,
+        Setting::Fixed => more.fixed = number == 1,
         Setting::MostModules => more.most_modules = Some(number),
         Setting::MostInputs => more.most_inputs = Some(number),
         Setting::MostOutputs => more.most_outputs = Some(number),
@@ -171,6 +172,32 @@ fn after_kind(
     }
 }
 
+/// Returns whether a row ends behind its `=`, and goes on in the next line.
+fn awaits_value(more: bool, value: Option<&[u8]>) -> bool
+    ensures { result ≡ awaits_value more (option_map (λ v. v.now) value.entry) }
+{
+    match value {
+        None => false,
+        Some(value) => more && value.is_empty(),
+    }
+}
+
+/// Reads a row of this kind, whose value may be in the next line.
+fn after_key(
+    facts: Facts,
+    current: Option<Module>,
+    more: bool,
+    value: Option<&[u8]>,
+    kind: Kind,
+) -> Result<Step, Cause>
+    ensures { result ≡ after_key facts current more (option_map (λ v. v.now) value.entry) kind }
+{
+    if awaits_value(more, value) {
+        return Ok(step_to(facts, current, Next::Value(kind)));
+    }
+    after_kind(facts, current, more, value, kind)
+}
+
 /// Reads a row behind the heading.
 fn after_body(facts: Facts, current: Option<Module>, more: bool, body: &[u8]) -> Result<Step, Cause>
     ensures { result ≡ after_body facts current more body.now }
@@ -179,7 +206,7 @@ fn after_body(facts: Facts, current: Option<Module>, more: bool, body: &[u8]) ->
     if key.is_empty() {
         return Err(Cause::NoKey);
     }
-    after_kind(facts, current, more, value_of(body), kind_of(key))
+    after_key(facts, current, more, value_of(body), kind_of(key))
 }
 
 /// Reads the heading.
@@ -253,6 +280,7 @@ pub(crate) fn after_line(state: State, line: &[u8]) -> Result<Step, Cause>
     match next {
         Next::Row => after_row(facts, current, more, body),
         Next::Octets => after_octets(facts, current, more, body),
+        Next::Value(kind) => after_key(facts, current, more, Some(body), kind),
         Next::Nothing => Ok(step_to(facts, current, next_of(more))),
     }
 }

@@ -2,7 +2,7 @@
 
 ghost use Rattle.std.specs.Prelude.{◌≡◌, ◌+◌, ◌++◌, ◌<◌, ◌≤◌, true, OnOk, IfOk, length};
 ghost use Rattle.std.specs.Fmt.{decimal, digit_glyph};
-ghost use Rattle.gsd_files.specs.GsdText.{number_line, text_line, hex_2, flag, octets_text, modules_text, module_text, ident_line, head_text, revision_text, kind_text, rates_text, times_text, cable_text, names_text, fixed_text, modes_text, sizes_text, gsd_text};
+ghost use Rattle.gsd_files.specs.GsdText.{number_line, text_line, hex_2, flag, octets_text, modules_text, module_text, ident_line, head_text, revision_text, kind_text, rates_text, times_text, cable_text, names_text, fixed_text, modes_text, sizes_text, lengths_text, is_modular, gsd_text};
 
 use crate::sizes::{Sizes, sizes_of};
 use dp_slave::{Configuration, SlaveSpec};
@@ -168,6 +168,13 @@ fn push_modes(out: &mut Vec<u8>, slave: &SlaveSpec) -> Result<(), AllocError>
     Ok(())
 }
 
+/// Returns whether a slave has more than one configuration.
+fn is_modular(cfgs: &[Configuration]) -> bool
+    ensures { result ≡ is_modular cfgs.now }
+{
+    cfgs.len() > 1
+}
+
 /// Returns 1 for true and 0 for false.
 fn flag(on: bool) -> u32
     ensures { result ≡ flag on }
@@ -185,6 +192,17 @@ fn push_sizes(out: &mut Vec<u8>, sizes: Sizes) -> Result<(), AllocError>
     push_number(out, b"Max_Output_Len", sizes.outputs)?;
     push_number(out, b"Max_Data_Len", sizes.both)?;
     Ok(())
+}
+
+/// Appends the rows of lengths of a modular slave. A compact slave has none.
+fn push_lengths(out: &mut Vec<u8>, modular: bool, sizes: Sizes) -> Result<(), AllocError>
+    ensures { OnOk result (out.new.items ≡ out.old.items ++ lengths_text modular sizes) }
+{
+    if modular {
+        push_sizes(out, sizes)
+    } else {
+        Ok(())
+    }
 }
 
 /// Appends octets as `0x21,0x11`.
@@ -218,7 +236,7 @@ fn push_module(out: &mut Vec<u8>, number: u8, octets: &[u8]) -> Result<(), Alloc
     push(out, b"\" ")?;
     push_octets(out, octets)?;
     push(out, b"\r\n")?;
-    push(out, &digit)?;
+    push_decimal(out, u32::from(number) + 1)?;
     push(out, b"\r\nEndModule\r\n")?;
     Ok(())
 }
@@ -254,7 +272,7 @@ pub fn gsd_text(
     push_names(&mut out, vendor, model, slave.ident)?;
     push_fixed(&mut out)?;
     push_modes(&mut out, slave)?;
-    push_sizes(&mut out, sizes_of(cfgs))?;
+    push_lengths(&mut out, is_modular(cfgs), sizes_of(cfgs))?;
     push_modules(&mut out, 0, cfgs)?;
     Ok(out)
 }

@@ -1,4 +1,5 @@
 pub mod Names
 pub mod GsdRuns
+pub mod ModuleLists
 pub mod SlaveText
 pub mod SlaveRuns

@@ -4,10 +4,12 @@
 
 mod fault;
 mod gsd;
+mod module_list;
 mod names;
 mod slave;
 mod slave_text;
 
 pub use fault::{GsdFault, NameFault, SlaveFault};
 pub use gsd::run_gsd;
+pub use module_list::list_modules;
 pub use slave::run_slave;
