@@ -70,7 +70,7 @@ def help_of(text: str) -> Help:
     """Reads a help: what it is about, the usage, sections with items, and details, each behind an empty row."""
     about, usage, *blocks = text.rstrip("\n").split("\n\n")
     found = Help(about, [row.removeprefix("Usage: ") if row.startswith("Usage") else row[7:] for row in usage.split("\n")])
-    while blocks and re.match(r"(Arguments|Options|Words.*):\n", blocks[0]):
+    while blocks and re.match(r"(Arguments|Options|Commands.*):\n", blocks[0]):
         head, *rows = blocks.pop(0).split("\n")
         found.sections[head.rstrip(":").split(" ")[0]] = items_of(rows)
     found.details = "\n\n".join(blocks)
@@ -109,7 +109,9 @@ def page_of(version: str, program: Help, words: Dict[str, Help]) -> str:
         for title, items in found.sections.items():
             rows += [f".SS {title}", *list_of(items)]
         rows += [".SS Details", *as_it_is(found.details)]
-    return "\n".join([*rows, ".SH DETAILS", *as_it_is(program.details)]) + "\n"
+    if program.details:
+        rows += [".SH DETAILS", *as_it_is(program.details)]
+    return "\n".join(rows) + "\n"
 
 
 def choices_of(found: Help) -> str:
@@ -186,7 +188,7 @@ def manual(path: str) -> Dict[str, str]:
     """Returns the text of each file that is made from the help of a program."""
     version = subprocess.run([path, "--version"], check=True, capture_output=True, text=True).stdout.split()[1]
     program = read_help(path)
-    names = [item.names for item in program.sections["Words"] if item.names != "help"]
+    names = [item.names for item in program.sections["Commands"] if item.names != "help"]
     words = {name: read_help(path, name) for name in names}
     return {PAGE: page_of(version, program, words), BASH: bash_of(program, words), ZSH: zsh_of(words),
             FISH: fish_of(program, words)}

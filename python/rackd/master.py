@@ -8,7 +8,7 @@ from typing import Callable, Dict, Optional, Set
 from . import frames
 from .cable import RunningCable
 from .connection import Ended, Session, open_session, still_there
-from .faults import SLAVE_REFUSALS, BadFrame, NoReply, RackError, SlaveRefused
+from .faults import RS, SLAVE_REFUSALS, BadFrame, NoReply, RackError, SlaveRefused
 from .frames import Frame
 
 # function codes of requests: SRD and SDN with high priority, FDL status; bits FCB and FCV
@@ -18,6 +18,9 @@ DATA_LOW, DATA_HIGH = 0x08, 0x0A
 # access points: the master's, and those of a slave
 MASTER, RD_INP, RD_OUTP, GLOBAL_CONTROL, GET_CFG, SLAVE_DIAG, SET_PRM, CHK_CFG = 62, 56, 57, 58, 59, 60, 61, 62
 EVERY_SLAVE = 127
+# the services of an SRD, by the access point of the slave
+SERVICES = {None: "Data_Exchange", RD_INP: "RD_Inp", RD_OUTP: "RD_Outp", GET_CFG: "Get_Cfg", SLAVE_DIAG: "Slave_Diag",
+            SET_PRM: "Set_Prm", CHK_CFG: "Chk_Cfg"}
 
 
 @dataclass(frozen=True)
@@ -210,14 +213,26 @@ class Master:
     def bring_up(self, slave: int, ident: int, cfg: bytes, *, watchdog_ms: int = 0, group: int = 0) -> None:
         """Brings a slave to data exchange: Slave_Diag, Set_Prm, Chk_Cfg, Slave_Diag.
 
-        Raises SlaveRefused if the last diagnosis has a fault, or another holder.
+        Raises SlaveRefused if the last diagnosis has a fault, or another holder. If the slave refuses the Chk_Cfg, it
+        raises RS, with what one more Slave_Diag shows of the Set_Prm.
         """
         self.slave_diag(slave)
         self.set_prm(slave, ident, watchdog_ms=watchdog_ms, group=group)
-        self.chk_cfg(slave, cfg)
+        try:
+            self.chk_cfg(slave, cfg)
+        except RS as refusal:
+            raise RS(f"{refusal}; {self._refused_parameters(slave, ident)}") from None
         diagnosis = self.slave_diag(slave)
         if diagnosis.station_not_ready or diagnosis.holder != self.address:
             raise SlaveRefused(f"slave {slave} is not in data exchange with master {self.address}: {diagnosis}")
+
+    def _refused_parameters(self, slave: int, ident: int) -> str:
+        """Returns what a Slave_Diag shows of the Set_Prm before it."""
+        diagnosis = self.slave_diag(slave)
+        if not diagnosis.prm_fault:
+            return f"Slave_Diag shows no Prm_Fault: {diagnosis}"
+        idents = f"the ident {diagnosis.ident:04X}, and the Set_Prm had {ident:04X}"
+        return f"Slave_Diag shows Prm_Fault, since the slave refused the Set_Prm: it has {idents}"
 
     # ---- requests
 
@@ -235,7 +250,8 @@ class Master:
                 (self.diagnosis_due.add if reply.fc == DATA_HIGH else self.diagnosis_due.discard)(slave)
             return reply.data
         kind = SLAVE_REFUSALS.get(reply.fc, SlaveRefused)
-        raise kind(f"slave {slave} refuses master {self.address}: {kind.__name__}, function code {reply.fc:02X}")
+        service = SERVICES.get(dsap, f"a request to point {dsap}")
+        raise kind(f"slave {slave} refuses {service} of master {self.address}: {kind.__name__}, function code {reply.fc:02X}")
 
     def raw(self, octets: bytes) -> bytes:
         """Sends octets as they are, once, and returns the next frame that comes, or nothing after `timeout`."""

@@ -111,10 +111,10 @@ def test_folder_is_made(serve, tmp_path):
 
 
 @pytest.mark.parametrize("folder, path, cause", [
-    ("file", "file", "something with this name exists already"),
-    ("file/under", "file/under", "a part of the path is no folder"),
-    ("/proc/rackd", "/proc/rackd", "nothing is there"),
-    ("/proc", f"/proc/{text_name(1)}", "nothing is there"),
+    ("file", "file", "this is a file; '--audit' expects a folder, which may be missing"),
+    ("file/under", "file/under", "a part of the path before the last '/' is not a folder"),
+    ("/proc/rackd", "/proc/rackd", "no such file or folder"),
+    ("/proc", f"/proc/{text_name(1)}", "no such file or folder"),
 ], ids=["file-in-its-place", "file-above-it", "folder-cannot-be-made", "file-cannot-be-made"])
 def test_folder_that_cannot_be_had(run, tmp_path, folder, path, cause):
     """The program ends with the path and the cause before it is ready, and changes nothing."""

@@ -86,7 +86,7 @@ def test_full_at_the_header(run, tmp_path, limit):
 
     prepare = limit_size if limit == SIZE else WatchedWrites(full=0).ask
     done = run("serve", tmp_path / "rack.toml", "--audit", tmp_path / "audit", preexec_fn=prepare)
-    assert done == (2, "", f"rackd: cannot make {tmp_path / 'audit' / text_name(1)}\n  a row was not taken whole\n")
+    assert done == (2, "", f"rackd: cannot make {tmp_path / 'audit' / text_name(1)}\n  a row was written only in part\n")
 
 
 def test_limit_on_file_sizes_ends_the_program(serve, tmp_path, assert_legal_text):

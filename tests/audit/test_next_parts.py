@@ -22,7 +22,7 @@ from support.watched_writes import WatchedWrites
 MOMENTS, AT_EDGES = 50, 30
 MOST_BYTES = 3 * MEGABYTE
 # The end of the last rows of standard error.
-NO_SPACE, IS_THERE = "a row was not taken whole", "something with this name exists already"
+NO_SPACE, IS_THERE = "a row was written only in part", "a file or folder of this name exists already"
 
 
 def kill_over_edges(serve, folder, moment):

@@ -89,7 +89,7 @@ def test_highest_number(serve, run, tmp_path):
     server = serve(usual_rack(), "--audit", folder)
     server.kill()
     assert text_numbers(folder) == [HIGHEST - 1, HIGHEST]
-    refused = (2, "", f"rackd: cannot make {path}\n  a text of the line has the highest number already\n")
+    refused = (2, "", f"rackd: cannot make {path}\n  an audit text of the line has the highest number; choose another folder\n")
     before = contents(folder)
     assert run("serve", server.rack, "--audit", folder) == refused
     assert contents(folder) == before

@@ -117,7 +117,7 @@ def test_follow_if_the_next_part_is_gone(serve, run, tmp_path):
     served = serve_parts(serve, tmp_path / "audit", 3)
     served.paths[1].unlink()
     done = run("explain", served.rack, served.paths[0], "--follow", "--faults")
-    assert (done.status, done.errors) == (2, f"rackd: cannot read {served.paths[1]}\n  nothing is there\n")
+    assert (done.status, done.errors) == (2, f"rackd: cannot read {served.paths[1]}\n  no such file or folder\n")
 
 
 def changed_rows(row):

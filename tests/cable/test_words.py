@@ -11,22 +11,22 @@ def test_port_in_use(run):
     with socket.create_server(("127.0.0.1", 0)) as listener:
         port = listener.getsockname()[1]
         done = run("cable", "7101", "--listen", port)
-    assert done == (2, "", f"rackd: cannot listen on {port}\n  in use\n")
+    assert done == (2, "", f"rackd: cannot listen on {port}\n  another program uses this port\n")
 
 
 def test_file_of_ports_that_cannot_be_made(run, tmp_path):
     path = tmp_path / "no" / "file"
     done = run("cable", "7101", "--listen", "0", "--ports", path)
-    assert done == (2, "", f"rackd: cannot make {path}\n  nothing is there\n")
+    assert done == (2, "", f"rackd: cannot make {path}\n  the folder of this file does not exist\n")
 
 
 WRONG = [
     ("", MISSING),
     ("7101", MISSING),
-    ("0 --listen 1", "invalid value '0' for '<PORT>': 0 is not in 1..=65535"),
-    ("65536 --listen 1", "invalid value '65536' for '<PORT>': 65536 is not in 1..=65535"),
+    ("0 --listen 1", "invalid value '0' for '<PORT>': expected a number from 1 to 65535"),
+    ("65536 --listen 1", "invalid value '65536' for '<PORT>': expected a number from 1 to 65535"),
     ("07101 --listen 1", "invalid value '07101' for '<PORT>': a number has no sign and no leading zero"),
-    ("7101 --listen 65536", "invalid value '65536' for '--listen <PORT2>': 65536 is not in 0..=65535"),
+    ("7101 --listen 65536", "invalid value '65536' for '--listen <PORT2>': expected a number from 0 to 65535"),
     ("7101 --listen 0 --lose 100.1", f"invalid value '100.1' for '--lose <P>': {CHANCE}"),
     ("7101 --listen 0 --lose 101", f"invalid value '101' for '--lose <P>': {CHANCE}"),
     ("7101 --listen 0 --spoil 1.12345", f"invalid value '1.12345' for '--spoil <P>': {CHANCE}"),
@@ -36,9 +36,11 @@ WRONG = [
     ("7101 --listen 0 --late x 5", f"invalid value 'x' for '--late <P> <MS>': {CHANCE}"),
     ("7101 --listen 0 --late 5 60001",
      "invalid value '60001' for '--late <P> <MS>': MS is a number of milliseconds, 0 to 60000,"),
-    ("7101 --listen 0 --seed x", "invalid value 'x' for '--seed <N>': invalid digit found in string"),
-    ("7101 --listen 0 --resync 0", "invalid value '0' for '--resync <MS>': 0 is not in 1..=60000"),
-    ("7101 --listen 0 --delay 60001", "invalid value '60001' for '--delay <MS>': 60001 is not in 0..=60000"),
+    ("7101 --listen 0 --seed x", "invalid value 'x' for '--seed <N>': expected a number from 0 to 18446744073709551615"),
+    ("7101 --listen 0 --resync 0",
+     "invalid value '0' for '--resync <MS>': expected a number of milliseconds from 1 to 60000, without a unit"),
+    ("7101 --listen 0 --delay 60001",
+     "invalid value '60001' for '--delay <MS>': expected a number of milliseconds from 0 to 60000, without a unit"),
     ("7101 --listen 0 --requests --replies", "the argument '--requests' cannot be used with '--replies'"),
     ("7101 --listen 0 --lost 1", "unexpected argument '--lost' found"),
 ]

@@ -3,9 +3,14 @@ import re
 
 import pytest
 
-from support.command_lines import ENTRY, FACTS, NOT_TOML, OTHER_RACK, TICK, Case, no_file, not_utf_8, table
+from support.command_lines import (
+    AUDIT, ENTRY, FACTS, LINE_2, NOT_TOML, OTHER_RACK, RACK, TICK, Case, no_file, not_utf_8, table)
 
-NO_HEADER = '  row 1: no header; does the text begin with "ready"?\n'
+EMPTY = '  f/empty is empty\n  expected "rack-audit 2 line 1"\n'
+EXPECTED = '  expected "rack-audit 2 line 1"\n'
+CRLF = "  it ends in CR LF; the rows of an audit text end in LF only, as 'dos2unix' writes them\n"
+NO_HEADER = ('  row 1 of f/served: found "ready"\n' + EXPECTED
+             + '  leave out the row "ready", with which the output of \'rackd serve\' begins\n')
 
 
 def cut_in(row, file, text=""):
@@ -34,21 +39,24 @@ ENTRY_GIVEN = f'"{ENTRY.rstrip()}"'
 CHECKED = {
     "a-legal-text": Case("check f/rack f/audit", 0, "legal 1\n"),
     "standard-input-is-left": Case("check f/rack f/audit", 0, "legal 1\n", input="x"),
-    "an-empty-text": Case("check f/rack f/empty", 1, "bad line 1\n"),
+    "an-empty-text": Case("check f/rack f/empty", 1, "bad line 1\n", EMPTY),
     "ready-above-the-text": Case("check f/rack f/served", 1, "bad line 1\n", NO_HEADER),
-    "a-text-of-another-line": Case("check f/rack f/other", 1, "bad line 1\n"),
+    "a-text-of-another-line": Case(
+        "check f/rack f/other", 1, "bad line 1\n", f'  row 1 of f/other: found "rack-audit 2 line 2"\n{EXPECTED}'),
     "no-last-LF": Case("check f/rack f/short", 1, "bad line 2\n", cut_in(2, "f/short")),
     "no-last-LF-wrong-before": Case("check f/rack f/cut", 1, "not the policy 2\n", differs(2, "f/cut", FACTS, ENTRY_GIVEN)),
     "the-last-of-two-files-ends-within-a-row": Case(
         "check f/rack f/line-1-7.000001.audit f/line-1-7.000002.audit", 1, "bad line 2\n",
         cut_in(2, "f/line-1-7.000002.audit", "the text, in ")),
-    "CR-LF": Case("check f/rack f/crlf", 1, "bad line 1\n"),
+    "CR-LF": Case(
+        "check f/rack f/crlf", 1, "bad line 1\n", f'  row 1 of f/crlf: found "rack-audit 2 line 1\\r"\n{EXPECTED}{CRLF}'),
     "other-facts": Case("check f/rack f/facts", 1, "not the policy 2\n", differs(2, "f/facts", FACTS, ENTRY_GIVEN)),
     "a-file-that-is-no-rack": Case("check f/script f/audit", 2, "", NOT_TOML),
     "the-rack-comes-before-the-text": Case("check f/script f/empty", 2, "", NOT_TOML),
     "an-endless-line": Case("check f/rack f/endless", 0, "legal 1\n"),
     "the-header-of-an-endless-line": Case("check f/rack f/header f/empty", 0, "legal 0\n"),
-    "a-version-that-there-is-not": Case("check f/rack f/later", 1, "bad line 1\n"),
+    "a-version-that-there-is-not": Case(
+        "check f/rack f/later", 1, "bad line 1\n", f'  row 1 of f/later: found "rack-audit 4 line 1"\n{EXPECTED}'),
     # A line of two places answers the second event as its last one, and an endless line does not.
     "an-endless-line-goes-on-at-its-last-place": Case("check f/two-places f/endless-beyond", 0, "legal 2\n"),
     "an-ordinary-line-does-not": Case(
@@ -65,9 +73,9 @@ EXPLAINED = {
     "a-slave-that-is-a-master": Case("explain f/rack f/audit --slave 1", 2, "", "rackd: the line has no slave 1\n"),
     "a-master-that-is-a-slave": Case("explain f/rack f/audit --master 5", 2, "", "rackd: the line has no master 5\n"),
     "neither-slave-nor-master": Case("explain f/rack f/audit --slave 9 --master 9", 2, "", "rackd: the line has no slave 9\n"),
-    "a-slave-and-no-header": Case("explain f/rack f/empty --slave 9", 1, "bad line 1\n"),
+    "a-slave-and-no-header": Case("explain f/rack f/empty --slave 9", 1, "bad line 1\n", EMPTY),
     "a-slave-and-a-file-that-is-no-rack": Case("explain f/script f/audit --slave 9", 2, "", NOT_TOML),
-    "nothing-to-explain": Case("explain f/rack f/empty", 1, "bad line 1\n"),
+    "nothing-to-explain": Case("explain f/rack f/empty", 1, "bad line 1\n", EMPTY),
     "ready-above-the-text": Case("explain f/rack f/served", 1, "bad line 1\n", NO_HEADER),
     "a-file-that-is-no-rack": Case("explain f/script f/audit", 2, "", NOT_TOML),
     "no-last-LF": Case(
@@ -84,6 +92,46 @@ def test_check(run, files, case):
 @table(EXPLAINED)
 def test_explain(run, files, case):
     assert run(*case.words.split(), cwd=files) == case.ended
+
+
+# What `explain`, `judge` and `capture` report of texts that are not legal, as `check` does.
+REASONS = {
+    "empty": ("f/empty", EMPTY),
+    "crlf": ("f/crlf", f'  row 1 of f/crlf: found "rack-audit 2 line 1\\r"\n{EXPECTED}{CRLF}'),
+    "another-line": ("f/other", f'  row 1 of f/other: found "rack-audit 2 line 2"\n{EXPECTED}'),
+    "another-rack": ("f/facts", differs(2, "f/facts", FACTS, ENTRY_GIVEN)),
+    "ready": ("f/served", NO_HEADER),
+}
+
+
+@pytest.mark.parametrize("word", ["check", "explain", "judge", "capture"])
+@pytest.mark.parametrize(("name", "reason"), REASONS.values(), ids=REASONS)
+def test_reason(run, files, word, name, reason):
+    status, _, errors = run(word, "f/rack", name, cwd=files)
+    assert (status, errors) == (1, reason)
+
+
+def test_row_that_is_badly_formed(run, files):
+    """A row behind the header is shown as it is."""
+    (files / "f/bad").write_text(f"{AUDIT}2 tick x | none | released\n", encoding="utf-8")
+    reason = '  row 3 of f/bad: found "2 tick x | none | released"\n  the row is badly formed\n'
+    assert run("check", "f/rack", "f/bad", cwd=files) == (1, "bad line 3\n", reason)
+
+
+def test_text_of_a_rack_with_two_lines(run, files):
+    (files / "f/two").write_text(f"{RACK}{LINE_2}", encoding="utf-8")
+    (files / "f/third").write_text(AUDIT.replace("line 1", "line 3"), encoding="utf-8")
+    reason = ('  row 1 of f/third: found "rack-audit 2 line 3"\n'
+              '  expected "rack-audit 2 line 1", or the header of another line of the rack\n')
+    assert run("check", "f/two", "f/third", cwd=files) == (1, "bad line 1\n", reason)
+
+
+def test_judge_of_a_legal_text_reports_no_reason(run, files):
+    """Status 1 of judge may come from a rule that was broken; then nothing is reported of the text."""
+    repeated = ENTRY + ENTRY.replace("1 req", "2 req", 1)
+    (files / "f/broken").write_text(f"rack-audit 2 line 1\n{repeated}", encoding="utf-8")
+    _, _, errors = run("judge", "f/rack", "f/broken", cwd=files)
+    assert errors == ""
 
 
 def test_judge_of_a_text_without_its_last_lf(run, files):

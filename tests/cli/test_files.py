@@ -9,7 +9,8 @@ RUN = {
     "an-empty-script": Case("run f/rack f/empty"),
     "a-line-that-is-no-command": Case("run f/rack f/wrong", 2, REPLY, f"rackd: script line 2\n{NO_COMMAND}"),
     "a-file-that-is-no-rack": Case("run f/script f/wrong", 2, "", NOT_TOML),
-    "two-percent-signs-in-a-rack-file": Case("run f/both f/script", 2, "", TWO_PERCENT_SIGNS),
+    "two-percent-signs-in-a-rack-file": Case(
+        "run f/both f/script", 2, "", TWO_PERCENT_SIGNS.replace("standard input", "f/both")),
     "two-percent-signs-in-a-script-file": Case("run f/rack f/mark", 2, "", f"rackd: script line 1\n{NO_COMMAND}"),
 }
 
@@ -31,7 +32,7 @@ REFUSED = {
     "files-come-before-what-they-hold": ("f/script f/none", no_file("f/none")),
     "a-rack-that-is-not-UTF-8": ("f/latin f/audit", not_utf_8("f/latin")),
     "a-second-file-that-is-not-UTF-8": ("f/rack f/latin", not_utf_8("f/latin")),
-    "a-folder": ("f/folder f/audit", "rackd: cannot read f/folder\n  a folder\n"),
+    "a-folder": ("f/folder f/audit", "rackd: cannot read f/folder\n  it is a folder, not a file\n"),
 }
 
 

@@ -8,33 +8,30 @@ from support.processes import run_program
 
 # The first line of the help of each word.
 FIRST = {
-    "run": "Run a script on a rack, from two files; 'rackd < INPUT' reads both from standard input",
-    "check": "Check whether a line of the rack would have answered as an audit text says",
+    "run": "Run a script on a rack; 'rackd < INPUT' reads both from one text",
+    "check": "Check whether a rack would have answered as an audit text says",
     "explain": "Explain an audit text in words, and check it as 'check' does",
-    "judge": "Judge the masters of an audit text: what each does that the standard rules out",
-    "capture": "Write the telegrams of an audit text as a capture for Wireshark (pcapng)",
-    "gsd": "Write a GSD file for a slave of a rack, for tools and masters that need one",
-    "slave": "Write the slave of a GSD file, with plugged modules, as a part of a rack file",
-    "serve": "Serve the lines of a rack to masters and operators at TCP ports of 127.0.0.1",
-    "watch": "Show a rack that is served in a browser: who may change which slave, and why not",
-    "operate": "Operate a line that is served: send commands, and print the answers",
+    "judge": "Judge the masters of an audit text by the rules of the standard",
+    "capture": "Write the telegrams of an audit text for Wireshark (pcapng)",
+    "gsd": "Write a GSD file for a slave of a rack",
+    "slave": "Write the slave of a GSD file as a part of a rack file",
+    "serve": "Serve a rack to masters and operators at TCP ports of 127.0.0.1",
+    "watch": "Show a rack that is served in a browser: who may change which slave",
+    "operate": "Send commands to a line that is served, and print the answers",
     "cable": "Put a cable with faults between masters and a line that is served",
 }
-FIRST_OF_PROGRAM = "rackd simulates a rack of PROFIBUS DP slaves, so that a master can be tried without hardware."
+FIRST_OF_PROGRAM = "rackd simulates PROFIBUS DP slaves: try a master without hardware."
 
 # Texts that the help of the program and of each word has, one behind another.
 TEXTS = {
     "rackd": [
-        "Usage: rackd < INPUT", "rackd run RACK SCRIPT", "rackd check RACK AUDIT..", "rackd explain RACK AUDIT.. [OPTIONS]",
-        "rackd judge RACK AUDIT.. [OPTIONS]", "rackd capture RACK AUDIT..",
-        "rackd gsd RACK LINE ADDRESS [--vendor T] [--model T]", "rackd slave GSD [--module NAME..]",
-        "rackd serve RACK [OPTIONS]", "rackd watch RACK FOLDER [--port N]", "rackd operate PORT",
-        "rackd cable PORT --listen PORT2 [OPTIONS]", "rackd WORD --help", "-h, --help", "-V, --version", "Exit statuses:",
-        "  0  ", "  1  ", "  2  ", "  3  ", "  4  ", "  5  ", "\nExample:\n  rackd "],
+        "Begin with 'rackd serve examples/serve/rack.toml --tick 100'", "Usage: rackd COMMAND ..", "rackd < INPUT",
+        "Commands ('rackd COMMAND --help'", "  serve ", "  check ", "  gsd ", "-h, --help", "-V, --version"],
     "run": [
         "Usage: rackd run RACK SCRIPT", "rackd < INPUT", "<RACK>", "<SCRIPT>", "exactly %%", "  line N ", "  m M HEX.. ",
         "  in A HEX ", "  diag A FLAGS HEX ", "  busy A POINT on ", "  busy A POINT off ", "  tick N ", "  halt ", "  step ",
-        "  owned M ", "  show A ", "  journal ", "\nExamples:\n  rackd "],
+        "  owned M ", "  show A ", "  journal ", "\nExit statuses of all commands:\n  0  ", "\n  1  ", "\n  2  ", "\n  3  ",
+        "\n  4  ", "\n  5  ", "\nExamples:\n  rackd "],
     "check": [
         "Usage: rackd check RACK AUDIT..", "<RACK>", "<AUDIT>...", "'ready'", "  legal N ", "  bad line N ",
         "  not the policy N ", "\nExamples:\n  rackd "],
@@ -46,13 +43,15 @@ TEXTS = {
     "judge": [
         "Usage: rackd judge RACK AUDIT.. [--master M] [--rules NAME,..] [--retries N] [--json | --junit]", "--master <M>",
         "0 to 255", "--rules <NAME,..>", "--retries <N>", "0 to 15 [default: 3]", "--json", "--junit",
-        "\nExamples:\n  rackd "],
+        "\nRules (docs/FORMATS.md", "\nExamples:\n  rackd "],
     "capture": [
         "Usage: rackd capture RACK AUDIT.. > FILE.pcapng", "<RACK>", "<AUDIT>...", "share/fdl.lua", "\nExamples:\n  rackd "],
     "gsd": [
         "Usage: rackd gsd RACK LINE ADDRESS [--vendor T] [--model T]", "<RACK>", "<LINE>", "0 to 255", "<ADDRESS>",
         "0 to 255", "--vendor <T>", "--model <T>", "\nExamples:\n  rackd "],
-    "slave": ["Usage: rackd slave GSD [--module NAME..]", "<GSD>", "--module <NAME>", "\nExamples:\n  rackd "],
+    "slave": [
+        "Usage: rackd slave GSD [--module NAME..]", "rackd slave GSD --list", "<GSD>", "--module <NAME>", "--list",
+        "\nExamples:\n  rackd "],
     "serve": [
         "Usage: rackd serve RACK [--sessions N] [--until-input-ends] [--ports FILE]",
         "[--audit FOLDER [--endless [--part MB] [--keep N]] [--page N]] [--tick MS]", "[--step MS] [--log [WHAT]]",
@@ -85,7 +84,6 @@ SAME = [pytest.param(name, form, id=form.replace(" ", "-")) for name, forms in F
 
 # The examples of the help that read files of the repository only, by what they are for.
 EXAMPLES = {
-    "rackd": ["rackd run examples/audit-rack.toml examples/audit-script.txt"],
     "run": ["rackd run examples/audit-rack.toml examples/audit-script.txt"],
     "check": ["rackd check examples/audit-rack.toml examples/audit.txt"],
     "explain": ["rackd explain examples/audit-rack.toml examples/audit.txt",
@@ -127,8 +125,17 @@ def test_each_word_has_a_help_of_its_own(helps):
     assert len({ended.output for ended in helps.values()}) == len(FIRST) + 1
 
 
-def test_help_of_the_program_has_at_most_50_lines(helps):
-    assert helps["rackd"].output.count("\n") <= 50
+def test_help_of_the_program_fits_a_terminal_of_24_rows_and_80_columns(helps):
+    rows = helps["rackd"].output.split("\n")[:-1]
+    assert len(rows) <= 24
+    assert [row for row in rows if len(row) > 80] == []
+
+
+def test_help_of_judge_lists_the_rules(helps, top):
+    """The rules are those of the table of docs/FORMATS.md, in its order."""
+    text = helps["judge"].output.split("\nRules (")[1].split("\n\n")[0].split("\n", 1)[1]
+    table = (top / "docs/FORMATS.md").read_text(encoding="utf-8").split("| Rule | Severity |")[1].split("\n\n")[0]
+    assert re.findall(r"[a-z][a-z-]+", text) == re.findall(r"^\| `([a-z-]+)` \|", table, re.MULTILINE)
 
 
 def test_help_of_operate_has_no_options_of_serve(helps):

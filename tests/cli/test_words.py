@@ -4,9 +4,7 @@ import pytest
 from support.command_lines import AUDIT, RACK, SLAVE_DIAG, no_file
 
 TRY = "For more information, try '--help'."
-PROGRAM = [
-    "Usage: rackd < INPUT", "rackd run ", "rackd check ", "rackd explain ", "rackd judge ", "rackd capture ", "rackd gsd ",
-    "rackd slave ", "rackd serve ", "rackd watch ", "rackd operate ", "rackd cable ", "rackd --help", TRY]
+PROGRAM = ["Usage: rackd COMMAND ..", "rackd < INPUT", TRY]
 CHECK = ["Usage: rackd check RACK AUDIT..", "rackd check --help", TRY]
 EXPLAIN = ["Usage: rackd explain RACK AUDIT..", "rackd explain --help", TRY]
 GSD = ["Usage: rackd gsd RACK LINE ADDRESS", "rackd gsd --help", TRY]
@@ -36,15 +34,31 @@ MESSAGES = [
     ("check rack audit --why", unexpected("--why"), CHECK),
     ("explain rack audit --from 01", zero("01", "--from <N>"), EXPLAIN),
     ("explain rack audit --json --summary", "the argument '--json' cannot be used with '--summary'", EXPLAIN),
-    ("judge rack audit --retries 16", invalid("16", "--retries <N>", "16 is not in 0..=15"), [TRY]),
-    ("judge rack audit --rules fcb-first,fcb", invalid("fcb", "--rules <NAME,..>", "there is no such rule"), [TRY]),
+    ("judge rack audit --retries 16", invalid("16", "--retries <N>", "expected a number from 0 to 15"), [TRY]),
+    ("judge rack audit --rules fcb-first,fcb", invalid("fcb", "--rules <NAME,..>", "there is no such rule"),
+     ["Rules:\n  fcb-repeated, fcb-not-alternated, ", "no-request", TRY]),
+    ("judge rack audit --rules fbc-repeated",
+     invalid("fbc-repeated", "--rules <NAME,..>", "there is no such rule, perhaps 'fcb-repeated'"), ["Rules:\n  ", TRY]),
+    ("judge rack audit --rules min-tsd,x",
+     invalid("min-tsd", "--rules <NAME,..>", "there is no such rule, perhaps 'min-tsdr'"), ["Rules:\n  ", TRY]),
     ("judge rack audit --json --junit", "the argument '--json' cannot be used with '--junit'", [TRY]),
     ("gsd rack 1 05", zero("05", "<ADDRESS>"), GSD),
     ("gsd rack +1 5", zero("+1", "<LINE>"), GSD),
     ("serve rack --session 1", unexpected("--session"), SERVE),
-    ("serve rack --sessions 0", invalid("0", "--sessions <N>", "0 is not in 1..=1000000"), [TRY]),
+    ("serve rack --sessions 0", invalid("0", "--sessions <N>", "expected a number from 1 to 1000000"), [TRY]),
     ("serve rack --log loud", "invalid value 'loud' for '--log [<WHAT>]'", ["[possible values: sessions, requests]", TRY]),
-    ("serve rack --tick 9", invalid("9", "--tick <MS>", "9 is not in 10..=60000"), [TRY]),
+    ("serve rack --tick 9", invalid("9", "--tick <MS>", "expected a number of milliseconds from 10 to 60000, without a unit"), [TRY]),
+    ("serve rack --tick 100ms",
+     invalid("100ms", "--tick <MS>", "expected a number of milliseconds from 10 to 60000, without a unit"), [TRY]),
+    ("serve rack --part x --endless --audit a",
+     invalid("x", "--part <MB>", "expected a number of megabytes from 1 to 4096, without a unit"), [TRY]),
+    ("serve rack --step 99999999999999999999",
+     invalid("99999999999999999999", "--step <MS>",
+             "expected a number of milliseconds from 1 to 86400000, without a unit"), [TRY]),
+    ("gsd rack x 5", invalid("x", "<LINE>", "expected a number from 0 to 255"), [TRY]),
+    ("cable 1 --listen 65536", invalid("65536", "--listen <PORT2>", "expected a number from 0 to 65535"), [TRY]),
+    ("explain rack audit --slave -1", unexpected("-1"), [TRY]),
+    ("slave file --list --module x", "the argument '--list' cannot be used with '--module <NAME>...'", [TRY]),
     ("serve rack --step 05", zero("05", "--step <MS>"), SERVE),
     ("operate 7 --tick 10", unexpected("--tick"), OPERATE),
     ("operate", MISSING, OPERATE),
@@ -52,7 +66,7 @@ MESSAGES = [
        invalid(word, "<PORT>", "it is the number of a port alone, of this machine (127.0.0.1)"),
        ["Usage: rackd operate PORT", TRY])
       for word in ("localhost:7201", "127.0.0.1:7201", "[::1]:7201", ":7201")),
-    ("operate 72x1", invalid("72x1", "<PORT>", "invalid digit found in string"), [TRY]),
+    ("operate 72x1", invalid("72x1", "<PORT>", "expected a number from 1 to 65535"), [TRY]),
 ]
 
 

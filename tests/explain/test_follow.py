@@ -24,7 +24,7 @@ NO_STATION = """\
     2  master 1 -> slave 9       SD2 SRD high FCB 1 FCV 0  Slave_Diag (60) from 62
        result      silence: NoStation. No slave has this address.
 """
-HINT = '  row 1: no header; does the text begin with "ready"?\n'
+HINT = '  row 1: expected a header, as "rack-audit 2 line 1"; leave out a row "ready" before it\n'
 
 
 def test_row_in_pieces(follow):

@@ -113,7 +113,7 @@ def test_part_that_is_no_file(follow):
     followed.write("".join(rows[:8]))
     followed.expect(first_blocks(entries, 7))
     (followed.folder / part(2)).mkdir()
-    errors = f"rackd: cannot read {followed.folder / part(2)}\n  a folder\n"
+    errors = f"rackd: cannot read {followed.folder / part(2)}\n  it is a folder, not a file\n"
     assert followed.wait() == (2, first_blocks(entries, 7), errors)
 
 

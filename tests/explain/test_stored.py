@@ -5,6 +5,7 @@ write the same.
 """
 from pathlib import Path
 
+from support.command_lines import without_reason, without_row_of_file
 from support.explanations import (STORED, audit_of, cases_of, differences, each_text, name_of, status_of, stored_audits,
                                   stored_cases, verdict_of, whole_explanation)
 from support.processes import run_program
@@ -20,10 +21,11 @@ def test_explanation(by, audit):
     assert cases, "there is no explanation of this text"
     for case in cases:
         done = run_program([by, "explain", case.rack, case.audit, *case.options])
+        errors = without_reason(done.errors) if done.status == 1 else without_row_of_file(done).errors
         status, name = status_of(verdict_of(case.expected)), name_of(case.base)
         faults += [f"{name}: status {done.status}, not {status}"] if done.status != status else []
         faults += differences((f"{name}, output", case.expected, done.output),
-                              (f"{name}, standard error", case.errors, done.errors))
+                              (f"{name}, standard error", case.errors, errors))
     assert not faults, "\n".join(faults)
 
 

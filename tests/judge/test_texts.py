@@ -80,7 +80,7 @@ def test_no_header(text):
     text.path.write_text("hello\n", encoding="ascii")
     done = text.judge()
     assert (done.status, done.output) == (1, "findings\nbad line 1\n")
-    assert "no header" in done.errors
+    assert done.errors == f'  row 1 of {text.path}: found "hello"\n  expected "rack-audit 2 line 1"\n'
 
 
 def test_row_that_is_not_utf8(text):

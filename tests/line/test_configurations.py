@@ -1,6 +1,7 @@
 """The octets of inputs and outputs that a configuration announces, and the choice of a Chk_Cfg among several."""
 import pytest
 
+from support.command_lines import without_row_of_file
 from support.line_rows import LineOfRows, play, text_of
 from support.racks import line, rack, slave
 
@@ -81,8 +82,8 @@ def test_several_octets(run):
 
 
 def refused(run, cfg):
-    """Runs a rack with a slave of this configuration, and returns how that ends."""
-    return run(input=rack(line(1, slave(5, cfg=cfg))))
+    """Runs a rack with a slave of this configuration, and returns how that ends, without the row of the file."""
+    return without_row_of_file(run(input=rack(line(1, slave(5, cfg=cfg)))))
 
 
 def refusal(cause):

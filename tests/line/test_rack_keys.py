@@ -1,6 +1,7 @@
 """What the keys of a slave in the rack file do, each by what the slave then answers."""
 import pytest
 
+from support.command_lines import without_row_of_file
 from support.line_rows import LineOfRows, play
 from support.racks import line, rack, slave
 
@@ -138,47 +139,48 @@ ask 1 5 4d default - => DataExch 1 | {FAIL_SAFE[failsafe]}
 
 # The keys of a line, the addresses of its slaves and their configuration; and what is reported.
 REFUSED = {
-    "a-slave-with-the-address-of-a-master": ({}, (1,), "", "TwiceAddress\n  line 1, slave 1: address 1 is a master's"),
-    "two-slaves-with-one-address": ({}, (5, 7, 5), "", "TwiceAddress\n  line 1, slave 3: address 5 is there twice"),
-    "one-place": ({"capacity": 1}, (5,), "", "Limit\n  line 1: capacity 1, of 2 to 65536"),
-    "a-place-too-many": ({"capacity": 65537}, (5,), "", "Limit\n  line 1: capacity 65537, of 2 to 65536"),
+    "a-slave-with-the-address-of-a-master": ({}, (1,), "", "TwiceAddress\n  line 1, slave 1: address 1 is that of a master, too"),
+    "two-slaves-with-one-address": ({}, (5, 7, 5), "", "TwiceAddress\n  line 1, slave 3: address 5 is used twice"),
+    "one-place": ({"capacity": 1}, (5,), "", "Limit\n  line 1: capacity 1, expected 2 to 65536"),
+    "a-place-too-many": ({"capacity": 65537}, (5,), "", "Limit\n  line 1: capacity 65537, expected 2 to 65536"),
     # A limit comes before an address that is there twice.
-    "an-address-above-126-twice": ({}, (127, 127), "", "Limit\n  line 1, slave 1: address 127, of 0 to 126"),
+    "an-address-above-126-twice": ({}, (127, 127), "", "Limit\n  line 1, slave 1: address 127, expected 0 to 126"),
     "a-configuration-that-is-cut": (
         {}, (5, 6), "c101", "BadCfg\n  line 1, slave 1: configuration 1 ends within its identifier at octet 1"),
     "an-address-twice-and-a-configuration-that-is-cut": (
-        {}, (5, 5), "c101", "TwiceAddress\n  line 1, slave 2: address 5 is there twice"),
+        {}, (5, 5), "c101", "TwiceAddress\n  line 1, slave 2: address 5 is used twice"),
 }
 
 
 @pytest.mark.parametrize(("keys", "addresses", "cfg", "fault"), REFUSED.values(), ids=REFUSED)
 def test_line_that_is_refused(run, keys, addresses, cfg, fault):
-    assert run(input=LineOfRows(slaves=addresses, cfg=cfg, **keys).rack) == (2, "", f"rackd: rack line 1 {fault}\n")
+    ended = without_row_of_file(run(input=LineOfRows(slaves=addresses, cfg=cfg, **keys).rack))
+    assert ended == (2, "", f"rackd: rack line 1 {fault}\n")
 
 
 # A line with one fault, whose other numbers are right but at their limits; and what is reported.
 AT_LIMITS = {
     "places-masters-slaves": (
         line(1, *range(1, 64), slave(64, user_max=238), masters=[0, 126], capacity=2),
-        "Limit\n  line 1, slave 64: user_max 238, at most 237"),
+        "Limit\n  line 1, slave 64: user_max 238, expected at most 237"),
     "places-and-an-address": (
-        line(1, 126, slave(5, user_max=238), capacity=65536), "Limit\n  line 1, slave 2: user_max 238, at most 237"),
-    "an-address-of-a-master": (line(1, 4, 3), "TwiceAddress\n  line 1, slave 2: address 3 is a master's"),
+        line(1, 126, slave(5, user_max=238), capacity=65536), "Limit\n  line 1, slave 2: user_max 238, expected at most 237"),
+    "an-address-of-a-master": (line(1, 4, 3), "TwiceAddress\n  line 1, slave 2: address 3 is that of a master, too"),
 }
 
 
 @pytest.mark.parametrize(("text", "fault"), AT_LIMITS.values(), ids=AT_LIMITS)
 def test_numbers_at_their_limits_are_no_faults(run, text, fault):
-    assert run(input=rack(text)) == (2, "", f"rackd: rack line 1 {fault}\n")
+    assert without_row_of_file(run(input=rack(text))) == (2, "", f"rackd: rack line 1 {fault}\n")
 
 
 # A line with several faults; and which of them is reported.
 SEVERAL_FAULTS = {
-    "places": (line(1, masters=[], slave=[], capacity=65537), "Limit\n  line 1: capacity 65537, of 2 to 65536"),
-    "no-master": (line(1, masters=[], slave=[]), "Limit\n  line 1: it has no master"),
-    "no-slave": (line(1, masters=[127], slave=[]), "Limit\n  line 1: it has no slave"),
-    "masters": (line(1, 127, masters=[1, 128, 127]), "Limit\n  line 1: master 128, of 0 to 126"),
-    "slaves": (line(1, slave(5, user_max=238), 127), "Limit\n  line 1, slave 1: user_max 238, at most 237"),
+    "places": (line(1, masters=[], slave=[], capacity=65537), "Limit\n  line 1: capacity 65537, expected 2 to 65536"),
+    "no-master": (line(1, masters=[], slave=[]), "Limit\n  line 1: no master, expected at least one"),
+    "no-slave": (line(1, masters=[127], slave=[]), "Limit\n  line 1: no slave, expected at least one"),
+    "masters": (line(1, 127, masters=[1, 128, 127]), "Limit\n  line 1: master 128, expected 0 to 126"),
+    "slaves": (line(1, slave(5, user_max=238), 127), "Limit\n  line 1, slave 1: user_max 238, expected at most 237"),
     "readers": (
         line(1, slave(5, lockers=[1], readers=[2, 9, 8]), slave(6, lockers=[7])),
         "UnknownListed\n  line 1, slave 1: readers has 9, which is no master of the line"),
@@ -190,4 +192,4 @@ SEVERAL_FAULTS = {
 
 @pytest.mark.parametrize(("text", "fault"), SEVERAL_FAULTS.values(), ids=SEVERAL_FAULTS)
 def test_first_of_several_faults(run, text, fault):
-    assert run(input=rack(text)) == (2, "", f"rackd: rack line 1 {fault}\n")
+    assert without_row_of_file(run(input=rack(text))) == (2, "", f"rackd: rack line 1 {fault}\n")

@@ -156,7 +156,7 @@ def test_nobody_listens(operate, streams):
     with socket.socket() as nobody:
         nobody.bind(("127.0.0.1", 0))
         port = nobody.getsockname()[1]
-        operate(port, **streams).ends_with(2, f"rackd: cannot connect to {port}", "  nobody listens there")
+        operate(port, **streams).ends_with(2, f"rackd: cannot connect to {port}", "  no program listens on this port")
 
 
 def test_nobody_listens_and_errors_are_full(operate):
@@ -170,7 +170,7 @@ def test_input_is_a_folder(operate, port, tmp_path):
     folder = os.open(tmp_path, os.O_RDONLY)
     client = operate(port.number, stdin=folder)
     os.close(folder)
-    client.ends_with(2, "rackd: cannot read -", "  a folder")
+    client.ends_with(2, "rackd: cannot read -", "  it is a folder, not a file")
 
 
 @pytest.fixture(params=["full", "closed"])

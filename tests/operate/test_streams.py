@@ -47,4 +47,4 @@ def test_input_is_closed(operate, port):
 def test_nobody_listens(operate, closed):
     with PlayedPort() as port:
         number = port.number
-    operate(number, closed=closed).ends_with(2, f"rackd: cannot connect to {number}", "  nobody listens there")
+    operate(number, closed=closed).ends_with(2, f"rackd: cannot connect to {number}", "  no program listens on this port")

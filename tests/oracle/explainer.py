@@ -2049,7 +2049,7 @@ def explain(words: List[str]) -> Tuple[int, str, str]:
         return STATUS_WRONG_INPUT, '', missing
     output = output_in_json(explained, options) if options.json else output_in_rows(explained, options)
     status = STATUS_LEGAL if explained.verdict.startswith('legal') else STATUS_WRONG_TEXT
-    return status, output, hint(text, explained) or cut_row(text, explained, files[1:])
+    return status, output, cut_row(text, explained, files[1:])
 
 
 def output_in_rows(explained: Explained, options: Options) -> str:
@@ -2076,13 +2076,6 @@ def missing_station(explained: Explained, options: Options) -> str:
         return f'rackd: the line has no slave {options.slave}\n'
     if options.master is not None and options.master not in spec.masters:
         return f'rackd: the line has no master {options.master}\n'
-    return ''
-
-
-def hint(text: str, explained: Explained) -> str:
-    """Returns the row of standard error for a text that begins with what `serve` writes before it."""
-    if explained.line is None and text.startswith('ready\n'):
-        return '  row 1: no header; does the text begin with "ready"?\n'
     return ''
 
 

@@ -53,17 +53,22 @@ def configurations(slave):
 
 
 def settings_wanted(slave):
-    """Returns keys and values that the GSD file of a slave of a rack file has to have, without names of vendor and model."""
+    """Returns keys and values that the GSD file of a slave of a rack file has to have, without names of vendor and model.
+
+    The value is None for a key that the file must not have: a compact slave has no lengths.
+    """
     sizes = [lengths(octets) for octets in configurations(slave)]
+    modular = len(sizes) > 1
     return {
         "Ident_Number": f"0x{slave['ident']:04X}",
         "Freeze_Mode_supp": "1" if slave.get("freeze", False) else "0",
         "Sync_Mode_supp": "1" if slave.get("sync", False) else "0",
         "Fail_Safe": "1" if slave.get("failsafe", False) else "0",
         "Max_User_Prm_Data_Len": str(slave.get("user_max", 237)),
-        "Max_Input_Len": str(max(inputs for inputs, _ in sizes)),
-        "Max_Output_Len": str(max(outputs for _, outputs in sizes)),
-        "Max_Data_Len": str(max(inputs + outputs for inputs, outputs in sizes)),
+        "Max_Module": "1" if modular else None,
+        "Max_Input_Len": str(max(inputs for inputs, _ in sizes)) if modular else None,
+        "Max_Output_Len": str(max(outputs for _, outputs in sizes)) if modular else None,
+        "Max_Data_Len": str(max(inputs + outputs for inputs, outputs in sizes)) if modular else None,
         "Max_Diag_Data_Len": "244",
-        "Modular_Station": "1" if len(sizes) > 1 else "0",
+        "Modular_Station": "1" if modular else "0",
     }

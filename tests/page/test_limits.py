@@ -105,7 +105,7 @@ def page_of(server):
 
 def assert_too_few_descriptors(status, errors):
     assert status == 2
-    assert re.fullmatch(r"rackd: cannot (make|listen on|read) .+\n  too few descriptors\n", errors)
+    assert re.fullmatch(r"rackd: cannot (make|listen on|read) .+\n  too few file descriptors; 'ulimit -n' shows and raises their number\n", errors)
 
 
 def test_few_descriptors_to_serve(start_server, tmp_path):

@@ -94,6 +94,25 @@ def test_bring_up_needs_data_exchange_and_the_holder(connect, diagnosis):
         master.bring_up(5, IDENT, CFG)
 
 
+# The last Slave_Diag of a bring-up whose Chk_Cfg was refused, and what is said of the Set_Prm.
+REFUSED_CHK_CFG = {
+    "prm-fault": ("680b0b688185083e3c420500ff80a1ef16",
+                  "Slave_Diag shows Prm_Fault, since the slave refused the Set_Prm: it has the ident 80A1, "
+                  "and the Set_Prm had 1234"),
+    "no-prm-fault": (FIRST_DIAGNOSIS, "Slave_Diag shows no Prm_Fault: Diagnosis("),
+}
+
+
+@pytest.mark.parametrize("diagnosis, said", REFUSED_CHK_CFG.values(), ids=REFUSED_CHK_CFG)
+def test_bring_up_whose_chk_cfg_is_refused(connect, diagnosis, said):
+    """The exception names the service, and what one more Slave_Diag shows."""
+    master, line = connect(FIRST_DIAGNOSIS, "e5", "100105030916", diagnosis)
+    with pytest.raises(RS) as raised:
+        master.bring_up(5, 0x1234, CFG)
+    assert str(raised.value).startswith(f"slave 5 refuses Chk_Cfg of master 1: RS, function code 03; {said}")
+    assert len(telegrams(master, line)) == 4
+
+
 def test_frame_count_bit_is_that_of_a_slave(connect):
     master, line = connect(*["e5"] * 5)
     for slave in (5, 6, 5, 5, 6):
@@ -175,6 +194,7 @@ def test_refusals_have_their_names(connect, reply, kind):
     with pytest.raises(kind) as raised:
         master.data_exchange(5, b"\0")
     assert raised.type is kind
+    assert str(raised.value) == f"slave 5 refuses Data_Exchange of master 1: {kind.__name__}, function code {reply[6:8]}"
 
 
 def test_high_priority_means_a_diagnosis_is_due(connect):

@@ -68,7 +68,7 @@ def test_log_of_requests(rack_factory):
     pytest.param(rack_text().replace("masters", "mesters"), "rackd: rack BadKey",
                  r'line \d+, key "mesters": no such key, perhaps "masters"', id="bad-key"),
     pytest.param(rack_text() + "x\n", "rackd: rack NotToml", ".+", id="no-toml"),
-    pytest.param(rack_text(line_text(1, 5, capacity=1)), "rackd: rack line 1 Limit", "line 1: capacity 1, of 2 to 65536",
+    pytest.param(rack_text(line_text(1, 5, capacity=1)), "rackd: rack line 1 Limit", "line 1: capacity 1, expected 2 to 65536",
                  id="limit"),
 ])
 def test_both_rows_of_a_fault(text, row, cause):
@@ -76,7 +76,9 @@ def test_both_rows_of_a_fault(text, row, cause):
         Rack(text)
     fault = raised.value
     assert (fault.status, fault.row) == (2, row)
-    assert fault.rows == (row, f"  {fault.cause}")
+    assert fault.rows[:2] == (row, f"  {fault.cause}")
+    assert re.fullmatch(r'  row \d+ of .*: (found|table) ".*"', fault.rows[2])
+    assert len(fault.rows) == 3
     assert re.fullmatch(cause, fault.cause)
     assert f"ended with status 2 before it was ready\n{row}\n  {fault.cause}" in str(fault)
 
@@ -86,7 +88,7 @@ def test_port_that_is_in_use():
         port = listener.getsockname()[1]
         with pytest.raises(RackFault) as raised:
             Rack(rack_text(line_text(1, 5, listen=port)))
-    assert raised.value.rows == (f"rackd: cannot listen on {port}", "  in use")
+    assert raised.value.rows == (f"rackd: cannot listen on {port}", "  another program uses this port")
 
 
 def test_fixed_ports(rack_factory):

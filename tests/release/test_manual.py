@@ -19,7 +19,7 @@ COMPLETIONS = {"bash": "share/bash-completion/completions/rackd", "zsh": "share/
 
 def words_of(help_text):
     """Returns the words that the help of the program lists, each with what it does."""
-    listed = help_text.partition("\nWords")[2].partition("\n\n")[0].split("\n")[1:]
+    listed = help_text.partition("\nCommands")[2].partition("\n\n")[0].split("\n")[1:]
     return {row.split()[0]: row.split(maxsplit=1)[1] for row in listed if row.split()[0] != "help"}
 
 

@@ -87,4 +87,4 @@ def test_nobody_listens_but_itself(program):
             _, errors = operate.communicate(timeout=PATIENCE)
         finally:
             operate.kill()
-    assert (operate.returncode, errors) == (2, b"rackd: cannot connect to 40000\n  nobody listens there\n")
+    assert (operate.returncode, errors) == (2, b"rackd: cannot connect to 40000\n  no program listens on this port\n")

@@ -62,7 +62,7 @@ def test_full_journal(serve, run, tmp_path, wrapper):
     assert printed_audits(run, server.rack, done.output, tmp_path) == {1: [
         f"1 req 1 {asks.hex()} | WaitPrm none | reply {answer.hex()} Done", "2 halt | none | released"]}
     notes = re.sub(r"[0-9:.]{12} ", "", done.errors)
-    assert notes == ("" if wrapper else "[WARN  rackd] line 1: halted, its journal is full\n"
+    assert notes == ("" if wrapper else "[WARN  rackd] line 1: halted, its journal is full; '--endless' lets a line continue\n"
                      "[INFO  rackd] served 1 sessions of masters and 1 of operators\n")
 
 

@@ -31,7 +31,7 @@ def fixture_rack_file(tmp_path):
 @each_of_them
 def test_path(run, rack_file, text, reported):
     """The path of a file that can't be read."""
-    assert run("check", f"no{text}file", rack_file) == Done(2, "", f"rackd: cannot read no{reported}file\n  nothing is there\n")
+    assert run("check", f"no{text}file", rack_file) == Done(2, "", f"rackd: cannot read no{reported}file\n  no such file or folder\n")
 
 
 @each_of_them
@@ -47,7 +47,7 @@ def test_folder(run, rack_file, tmp_path):
     """The path of a folder that can't be made."""
     (tmp_path / "taken").write_text("")
     assert run("serve", rack_file, "--audit", f"{tmp_path}/taken/\tfolder") == Done(
-        2, "", f"rackd: cannot make {tmp_path}/taken/\\tfolder\n  a part of the path is no folder\n")
+        2, "", f"rackd: cannot make {tmp_path}/taken/\\tfolder\n  a part of the path before the last '/' is not a folder\n")
 
 
 def test_key(run, rack_file, tmp_path):

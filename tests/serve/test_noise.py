@@ -19,6 +19,8 @@ DROPPED = {
     "6805056885816d3c3eed17": "dropped 11 octets: BadEnd (68 05 05 68 85 81 6d 3c 3e ed 17), the end delimiter is 17, not 16",
     "a20501490102030405060708ff00":
         "dropped 14 octets: BadEnd (a2 05 01 49 01 02 03 04 05 06 07 08 ff 00), the check sequence is ff, not 73",
+    "6803036885816d7316": "dropped 9 octets: NoStart, BadHead (68 03 03 68 85 81 6d 73 16), "
+                          "LE 3 is below 4: a telegram without data is an SD1",
     "33" * 20: "dropped 20 octets: NoStart (33 33 33 33 33 33 33 33 33 33 33 33 33 33 33 33 ..)",
     "33100501494e16": "dropped 7 octets: NoStart, BadEnd (33 10 05 01 49 4e 16), the check sequence is 4e, not 4f",
 }

@@ -15,7 +15,7 @@ LAST_ROW = "[INFO  rackd] served 5 sessions of masters and 5 of operators\n"
 ASKS, ANSWER = slave_diag(1, 5), fresh_diagnosis(1, 5)
 
 # The rows of `everything`, and how many of each there are.
-WARNINGS = {"WARN line 1: halted, its journal is full": 1}
+WARNINGS = {"WARN line 1: halted, its journal is full; '--endless' lets a line continue": 1}
 SESSIONS = {
     "INFO line 1: master 1 connected": 1,
     "INFO line 1: master 1 refused: AddressHeld": 1,

@@ -12,7 +12,7 @@ from support.racks import line, rack
 from support.telegrams import fresh_diagnosis, slave_diag
 
 ROW = "line 1 listen 1 operator 2\n"
-REFUSED = "rackd: cannot make {}\n  something with this name exists already\n"
+REFUSED = "rackd: cannot make {}\n  a file of this name exists; '--ports' only replaces one that names ports or is empty\n"
 
 
 @pytest.fixture(name="folder")
@@ -203,7 +203,7 @@ def test_no_folder(start_server, folder):
     path = folder / "none" / "ports"
     server = start_server(rack(), "--ports", path, names_ports=False)
     assert server.row() == b""
-    assert server.wait() == Done(2, "", f"rackd: cannot make {path}\n  nothing is there\n")
+    assert server.wait() == Done(2, "", f"rackd: cannot make {path}\n  the folder of this file does not exist\n")
 
 
 def test_file_is_a_folder(start_server, folder):

@@ -275,4 +275,4 @@ def test_full_journal_is_reported_once(serve):
     assert answer_to(operator, "halt") == "refused Halted"
     assert unread_of(master, bytes.fromhex("100501494f16"), server.pid) == 0
     server.end_input()
-    assert re.findall(r"(line 3: .*)", server.wait().errors) == ["line 3: halted, its journal is full"]
+    assert re.findall(r"(line 3: .*)", server.wait().errors) == ["line 3: halted, its journal is full; '--endless' lets a line continue"]

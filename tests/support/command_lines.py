@@ -1,4 +1,5 @@
 """Tables of command lines: the words of each, what it reads and how it ends; and the texts that they share."""
+import re
 from typing import NamedTuple
 
 import pytest
@@ -34,8 +35,10 @@ TICK = "2 tick 1 | none | released\n"
 
 # What is reported of input and files that are not accepted.
 NO_COMMAND = "  no such command; 'rackd run --help' lists them\n"
-NOT_TOML = "rackd: rack NotToml\n  row 1: key with no value, expected `=`\n"
-TWO_PERCENT_SIGNS = "rackd: rack NotToml\n  row 11: invalid key, expected letters, numbers, `-`, `_` or a quoted key\n"
+NOT_TOML = (f"rackd: rack NotToml\n  row 1: key with no value, expected `=`\n"
+            f"  row 1 of f/script: found \"{SLAVE_DIAG.rstrip()}\"\n")
+TWO_PERCENT_SIGNS = ("rackd: rack NotToml\n  row 11: invalid key, expected letters, numbers, `-`, `_` or a quoted key\n"
+                     "  row 11 of standard input: found \"%%\"\n")
 # The last row behind a row that is not the policy.
 OTHER_RACK = "  a check on another rack file than the line's own finds this too\n"
 
@@ -47,12 +50,30 @@ def with_ports(rack, listen, operator):
 
 def no_file(name):
     """Returns what is reported of a file that is missing."""
-    return f"rackd: cannot read {name}\n  nothing is there\n"
+    return f"rackd: cannot read {name}\n  no such file or folder\n"
 
 
 def not_utf_8(name):
     """Returns what is reported of a file that is not UTF-8."""
-    return f"rackd: cannot read {name}\n  not UTF-8\n"
+    return f"rackd: cannot read {name}\n  it is not UTF-8 text\n"
+
+
+# The row of a rack file that a cause is about.
+ROW_OF_FILE = re.compile(r'^  row \d+ of [^\n]+: (found|table) "[^\n]*"\n', re.MULTILINE)
+
+
+def without_row_of_file(done):
+    """Returns how a run ended without the row of the rack file that it reports, which `tests/line/test_rack_rows.py` tests."""
+    return Done(done.status, done.output, ROW_OF_FILE.sub("", done.errors))
+
+
+# Why a text that does not end within a row is not legal.
+REASON = re.compile(r"  (row \d+ of (?![^\n]* ends within )[^\n]*|[^\n]* is empty)\n(  [^\n]*\n)*")
+
+
+def without_reason(errors):
+    """Returns what was reported, unless it is why a text is not legal, which `tests/cli/test_audit_texts.py` tests."""
+    return "" if REASON.fullmatch(errors) else errors
 
 
 class Case(NamedTuple):

@@ -1,10 +1,10 @@
 //! Writes the telegrams of audit texts for Wireshark.
 
 use crate::audit_text::{AuditText, FirstRow, entries_from_header, files_of, open_text};
-use crate::cut_end::noted_end;
 use crate::fault::TextFault;
-use crate::notes::noted_first_part;
+use crate::notes::note_first_part;
 use crate::output::{buffered, written};
+use crate::reasons::noted_reason;
 use capture_texts::run_capture;
 use std::alloc::Global;
 use std::fs::Files;
@@ -28,11 +28,11 @@ pub fn capture_text<'a, H: Runtime + AllocGlobal>(
     let Some(status) = capture_out(rt, rack, text)? else {
         return Ok(ExitCode::SUCCESS);
     };
-    let code = noted_first_part(rt, first_row, status);
     if first_row == FirstRow::PartHeader {
-        return Ok(code);
+        note_first_part(rt);
+        return Ok(ExitCode::from(status));
     }
-    noted_end(rt, rack, &described, audit, code)
+    noted_reason(rt, rack, &described, audit, first_row, status)
 }
 
 /// Writes the telegrams of an audit text to standard output, and returns the exit status; None if standard output has no reader

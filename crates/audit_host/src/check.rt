@@ -1,10 +1,10 @@
 //! Checks audit texts.
 
 use crate::audit_text::{FirstRow, open_text};
-use crate::cut_end::note_cut_row;
-use crate::differences::note_difference;
 use crate::fault::TextFault;
 use crate::notes::noted_header;
+use crate::reasons::note_verdict;
+use crate::text_files::are_ordinary;
 use crate::verdict::{Verdict, verdict_of};
 use rack_file::Rack;
 use rack_script::RunFault;
@@ -29,7 +29,7 @@ pub fn check_text<'a, H: Runtime + AllocGlobal>(
 }
 
 /// Writes the verdict of a check on standard output, and returns its exit status. If the text is not legal, reports the row
-/// that is wrong, and that the text lacks a header.
+/// that is wrong, and why. Of files that cannot be read again, as a pipe, only a header that is missing is reported.
 fn end_check<H: Runtime + AllocGlobal>(
     rt: &H,
     rack: &Rack,
@@ -38,12 +38,11 @@ fn end_check<H: Runtime + AllocGlobal>(
     verdict: &Verdict,
 ) -> Result<ExitCode, RunFault> {
     write_verdict(rt, verdict.row.as_slice())?;
-    if verdict.cut_row().is_some() {
-        note_cut_row(rt, audit, verdict);
-    } else if verdict.status != 0 && !verdict.is_of_head {
-        note_difference(rt, rack, audit)?;
+    if !are_ordinary(rt, audit) {
+        return Ok(noted_header(rt, first_row, verdict.status));
     }
-    Ok(noted_header(rt, first_row, verdict.status))
+    note_verdict(rt, rack, audit, verdict)?;
+    Ok(ExitCode::from(verdict.status))
 }
 
 /// Writes the row of a verdict on standard output.

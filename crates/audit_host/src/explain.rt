@@ -3,13 +3,10 @@
 ghost use Rattle.std.specs.Prelude.{◌≡◌};
 ghost use Rattle.explain_texts.specs.TextRows.{nothing_read};
 
-use crate::audit_text::{
-    AuditText, Beginning, FileEntries, FirstRow, entries_of, files_of, open_text,
-};
-use crate::cut_end::noted_end;
+use crate::audit_text::{AuditText, Beginning, FileEntries, entries_of, files_of, open_text};
 use crate::fault::TextFault;
-use crate::notes::noted_header;
 use crate::output::{buffered, flushed, written};
+use crate::reasons::noted_reason;
 use crate::stations::check_stations;
 use audit_parts::fault_of_head;
 use dp_audit::AuditFault;
@@ -39,20 +36,23 @@ pub fn explain_text<'a, H: Runtime + AllocGlobal>(
 ) -> Result<ExitCode, TextFault<'a>> {
     let (described, text) = open_text(rt, rack, audit, shows)?;
     check_stations(&described, text.front.as_slice(), entries)?;
-    let code = explain_from(rt, rack, &described, &choice_of(entries), text)?;
-    noted_end(rt, rack, &described, audit, code)
+    let first_row = text.first_row();
+    match explain_from(rt, rack, &described, &choice_of(entries), text)? {
+        Some(status) => noted_reason(rt, rack, &described, audit, first_row, status),
+        None => Ok(ExitCode::SUCCESS),
+    }
 }
 
-/// Explains an audit text on a rack, which `rack` describes as text.
+/// Explains an audit text on a rack, which `rack` describes as text. Returns the exit status; None if standard output has no reader
+/// any more.
 fn explain_from<'a, H: Runtime + AllocGlobal + Files<File = R>, R: Read + Drop>(
     rt: &H,
     rack: &str,
     described: &Rack,
     choice: &Choice,
     text: AuditText<'a, '_, H, R>,
-) -> Result<ExitCode, TextFault<'a>> {
+) -> Result<Option<u8>, TextFault<'a>> {
     let alloc = rt.alloc();
-    let first_row = text.first_row();
     let AuditText {
         beginning,
         front,
@@ -62,16 +62,16 @@ fn explain_from<'a, H: Runtime + AllocGlobal + Files<File = R>, R: Read + Drop>(
         Beginning::NoPart => (None, front, None),
         Beginning::FirstPart(check) => (Some(check), front, None),
         Beginning::LaterPart(index, check) => (Some(check), Vec::new(alloc), Some((index, front))),
-        Beginning::WrongHead(fault) => return Ok(end_at(rt, fault, choice)?),
+        Beginning::WrongHead(fault) => return Ok(Some(end_at(rt, fault, choice)?)),
     };
     let rows = entries_of(alloc, check, first, reader)?;
     let Some((index, head)) = head else {
-        return explain_rows(rt, rack, Start::Header, choice, first_row, rows);
+        return explain_rows(rt, rack, Start::Header, choice, rows);
     };
     match described.lines.get(index) {
         Some(line) => {
             let start = Start::Head(&line.spec, head.as_slice());
-            explain_rows(rt, rack, start, choice, first_row, rows)
+            explain_rows(rt, rack, start, choice, rows)
         }
         None => Err(TextFault::Run(RunFault::CannotRead)),
     }
@@ -86,23 +86,20 @@ enum Start<'l> {
     Head(&'l LineSpec, &'l [u8]),
 }
 
-/// Explains the rows of an audit text, and writes the explanation on standard output.
+/// Explains the rows of an audit text, and writes the explanation on standard output. Returns the exit status; None if standard
+/// output has no reader any more.
 fn explain_rows<'a, H: Runtime + AllocGlobal + Files<File = R>, R: Read + Drop>(
     rt: &H,
     rack: &str,
     start: Start<'_>,
     choice: &Choice,
-    first_row: FirstRow,
     rows: FileEntries<'a, '_, H, R>,
-) -> Result<ExitCode, TextFault<'a>>
+) -> Result<Option<u8>, TextFault<'a>>
     requires { rows.text ≡ nothing_read }
 {
     let mut output = buffered(rt, rt.alloc())?;
     let explained = explain_out(rt.alloc(), rack, start, choice, rows, &mut output);
-    match written(output, explained)? {
-        Some(status) => Ok(noted_header(rt, first_row, status)),
-        None => Ok(ExitCode::SUCCESS),
-    }
+    written(output, explained)
 }
 
 /// Explains the rows of an audit text, and returns the exit status.
@@ -170,11 +167,11 @@ fn end_at(
     rt: &(impl Runtime + AllocGlobal),
     fault: AuditFault,
     choice: &Choice,
-) -> Result<ExitCode, RunFault> {
+) -> Result<u8, RunFault> {
     let mut output = buffered(rt, rt.alloc())?;
     let status = report_verdict_by(choice, Err(fault), &mut output)?;
     flushed(output)?;
-    Ok(ExitCode::from(status))
+    Ok(status)
 }
 
 /// Returns the entries that the words choose.

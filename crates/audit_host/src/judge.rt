@@ -1,10 +1,10 @@
 //! Judges the masters of audit texts.
 
 use crate::audit_text::{AuditText, FirstRow, entries_from_header, files_of, open_text};
-use crate::cut_end::noted_end;
 use crate::fault::TextFault;
-use crate::notes::noted_first_part;
+use crate::notes::note_first_part;
 use crate::output::{buffered, written};
+use crate::reasons::noted_reason;
 use crate::stations::check_stations;
 use judge_rules::JudgeRule;
 use judge_texts::{Form, JudgeChoice, run_judge};
@@ -58,11 +58,11 @@ fn judge_by<'a, H: Runtime + AllocGlobal>(
     let Some(status) = judge_out(rt, rack, text, choice)? else {
         return Ok(ExitCode::SUCCESS);
     };
-    let code = noted_first_part(rt, first_row, status);
     if first_row == FirstRow::PartHeader {
-        return Ok(code);
+        note_first_part(rt);
+        return Ok(ExitCode::from(status));
     }
-    noted_end(rt, rack, &described, audit, code)
+    noted_reason(rt, rack, &described, audit, first_row, status)
 }
 
 /// Judges an audit text, and writes the findings on standard output. Returns the exit status; None if standard output has no

@@ -7,6 +7,7 @@
 #![tactic(auto)]
 
 mod audit_text;
+mod bad_rows;
 mod capture;
 mod check;
 mod cut_end;
@@ -21,6 +22,7 @@ mod next_part;
 mod notes;
 mod output;
 mod progress;
+mod reasons;
 mod stations;
 mod text_files;
 mod verdict;

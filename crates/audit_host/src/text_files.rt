@@ -325,6 +325,11 @@ fn check_name<'a>(text: &mut Option<AuditName>, path: &'a str) -> Result<(), Tex
     }
 }
 
+/// Returns whether all these files are ordinary ones, which can be read again.
+pub(crate) fn are_ordinary(host: &impl Files, paths: &[&str]) -> bool {
+    size_of_text(host, paths).is_some()
+}
+
 /// Returns the number of bytes of these files; None if one of them is no ordinary file.
 fn size_of_text(host: &impl Files, paths: &[&str]) -> Option<u64> {
     let mut size: u64 = 0;

@@ -35,9 +35,16 @@ pub(crate) struct Verdict {
 impl Verdict {
     /// Returns the number of the row within which the text ends, in digits; None if another row is wrong, or none.
     pub(crate) fn cut_row(&self) -> Option<&str> {
-        if !self.is_cut {
-            return None;
-        }
+        if self.is_cut { self.bad_line() } else { None }
+    }
+
+    /// Returns the number of the row that is badly formed; None if there is none.
+    pub(crate) fn bad_row(&self) -> Option<usize> {
+        self.bad_line()?.parse().ok()
+    }
+
+    /// Returns the number of the row that is badly formed, in digits; None if there is none.
+    fn bad_line(&self) -> Option<&str> {
         let Ok(row) = from_utf8(self.row.as_slice()) else {
             return None;
         };

@@ -1,7 +1,7 @@
 //! The commands that read files and write to standard output.
 
 use crate::files::read_file;
-use crate::gsd::{write_gsd, write_slave};
+use crate::gsd::{write_gsd, write_modules, write_slave};
 use crate::scripts::run_files;
 use audit_host::{TextFault, capture_text, check_text, explain_text, follow_text, judge_text};
 use rackd_cli::{AuditCommand, FileCommand};
@@ -37,6 +37,7 @@ pub fn run_command<'a, H: Runtime + AllocGlobal + Wait + Clock>(
         } => run_audit_command(rt, rack, audit.as_slice(), command, terminals),
         FileCommand::Gsd { rack, described } => write_gsd(rt, rack, described),
         FileCommand::Slave { gsd, modules } => write_slave(rt, gsd, modules.as_slice()),
+        FileCommand::Modules { gsd } => write_modules(rt, gsd),
     }
 }
 
@@ -51,9 +52,15 @@ fn run_audit_command<'a, H: Runtime + AllocGlobal + Wait + Clock>(
     if terminals.output && matches!(command, AuditCommand::Capture) {
         return Err(Fault::OutputIsTerminal);
     }
-    let rack = read_file(rt, rack)?;
-    let done = audit_command_done(rt, rack.as_str(), audit, command, terminals);
-    reported(rt, rt.alloc(), rack.as_str(), done.map_err(Fault::from))
+    let text = read_file(rt, rack)?;
+    let done = audit_command_done(rt, text.as_str(), audit, command, terminals);
+    reported(
+        rt,
+        rt.alloc(),
+        rack,
+        text.as_str(),
+        done.map_err(Fault::from),
+    )
 }
 
 /// Does what a command does with an audit text, and returns the exit status. What is written for each entry shows the progress

@@ -2,7 +2,8 @@
 
 use crate::files::{read_fault, read_file};
 use audit_host::{buffered, flushed};
-use gsd_slaves::{GsdFault, SlaveFault, run_gsd, run_slave};
+use gsd_files::PlugFault;
+use gsd_slaves::{GsdFault, SlaveFault, list_modules, run_gsd, run_slave};
 use rack_script::RunFault;
 use rackd_cli::DescribedSlave;
 use rackd_faults::{Fault, report, reported};
@@ -12,17 +13,20 @@ use std::fs;
 use std::process::ExitCode;
 use std::rt::Runtime;
 
+/// What is reported of a GSD file in UTF-16.
+const UTF_16: &str = "the file is in UTF-16; save it as ISO 8859-1, or as ASCII";
+
 /// Writes the GSD file of a slave of the rack of this file to standard output.
 pub(crate) fn write_gsd<'a>(
     rt: &(impl Runtime + AllocGlobal),
     rack: &'a str,
     slave: DescribedSlave<'_>,
 ) -> Result<ExitCode, Fault<'a>> {
-    let rack = read_file(rt, rack)?;
+    let text = read_file(rt, rack)?;
     let mut output = buffered(rt, rt.alloc())?;
     let written = run_gsd(
         rt.alloc(),
-        rack.as_str(),
+        text.as_str(),
         slave.line,
         slave.address,
         slave.vendor,
@@ -34,7 +38,7 @@ pub(crate) fn write_gsd<'a>(
         Ok(()) => Ok(ExitCode::SUCCESS),
         Err(fault) => gsd_refused(rt, fault),
     };
-    reported(rt, rt.alloc(), rack.as_str(), done)
+    reported(rt, rt.alloc(), rack, text.as_str(), done)
 }
 
 /// Returns the fault of a GSD file that is not written. If a name is not accepted, reports this here, with the reason in a
@@ -60,16 +64,60 @@ pub(crate) fn write_slave<'a>(
     path: &'a str,
     modules: &[&str],
 ) -> Result<ExitCode, Fault<'a>> {
-    let gsd = match fs::read(rt, path) {
-        Ok(gsd) => gsd,
-        Err(error) => return Err(read_fault(error, path)),
-    };
+    let gsd = read_gsd_file(rt, path)?;
+    if is_utf_16(gsd.as_slice()) {
+        return Ok(report_reason(rt, Fault::BadGsd(path), UTF_16));
+    }
     let mut output = buffered(rt, rt.alloc())?;
-    let written = run_slave(rt.alloc(), gsd.as_slice(), modules, &mut output);
+    let written = run_slave(
+        rt.alloc(),
+        without_mark(gsd.as_slice()),
+        modules,
+        &mut output,
+    );
     flushed(output)?;
     match written {
         Ok(()) => Ok(ExitCode::SUCCESS),
         Err(fault) => slave_refused(rt, path, fault),
+    }
+}
+
+/// Writes a row for each module of this GSD file to standard output.
+pub(crate) fn write_modules<'a>(
+    rt: &(impl Runtime + AllocGlobal),
+    path: &'a str,
+) -> Result<ExitCode, Fault<'a>> {
+    let gsd = read_gsd_file(rt, path)?;
+    if is_utf_16(gsd.as_slice()) {
+        return Ok(report_reason(rt, Fault::BadGsd(path), UTF_16));
+    }
+    let mut output = buffered(rt, rt.alloc())?;
+    let written = list_modules(rt.alloc(), without_mark(gsd.as_slice()), &mut output);
+    flushed(output)?;
+    match written {
+        Ok(()) => Ok(ExitCode::SUCCESS),
+        Err(fault) => slave_refused(rt, path, fault),
+    }
+}
+
+/// Returns the bytes of a GSD file.
+fn read_gsd_file<'a>(
+    rt: &(impl Runtime + AllocGlobal),
+    path: &'a str,
+) -> Result<Vec<u8>, Fault<'a>> {
+    fs::read(rt, path).map_err(|error| read_fault(error, path))
+}
+
+/// Returns whether a file begins with the mark of UTF-16.
+fn is_utf_16(gsd: &[u8]) -> bool {
+    gsd.starts_with(b"\xff\xfe") || gsd.starts_with(b"\xfe\xff")
+}
+
+/// Returns a file without the mark of UTF-8 at its front, which some editors write.
+fn without_mark(gsd: &[u8]) -> &[u8] {
+    match gsd {
+        [0xEF, 0xBB, 0xBF, rest @ ..] => rest,
+        _ => gsd,
     }
 }
 
@@ -84,11 +132,27 @@ fn slave_refused<'a>(
         SlaveFault::OutOfMemory => Err(Fault::Run(RunFault::OutOfMemory)),
         SlaveFault::WriteFault => Err(Fault::Run(RunFault::WriteFault)),
         SlaveFault::Row(reason) => Ok(report_reason(errors, Fault::BadGsd(path), reason)),
-        SlaveFault::Modules(reason) => Ok(report_reason(errors, Fault::BadGsd(path), reason)),
+        SlaveFault::Modules(reason) => {
+            let code = report_reason(errors, Fault::BadGsd(path), reason);
+            if reason == PlugFault::ChooseModules {
+                report_list(errors, path);
+            }
+            Ok(code)
+        }
         SlaveFault::UnknownModule(reason) => {
-            Ok(report_reason(errors, Fault::BadGsd(path), reason.as_str()))
+            let code = report_reason(errors, Fault::BadGsd(path), reason.as_str());
+            report_list(errors, path);
+            Ok(code)
         }
     }
+}
+
+/// Reports which command lists the modules of a GSD file.
+fn report_list(errors: &impl Eprint, path: &str) {
+    let _ = eprintln!(errors;
+        "  'rackd slave {} --list' lists the modules",
+        Escaped(path)
+    );
 }
 
 /// Reports a fault, and its reason in a second row. Returns the exit status.

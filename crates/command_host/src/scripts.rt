@@ -10,12 +10,19 @@ use std::io;
 use std::process::ExitCode;
 use std::rt::Runtime;
 
+/// How faults name standard input.
+const STANDARD_INPUT: &str = "-";
+
 /// Runs the script of standard input on the rack of standard input.
 pub fn run_input<'a>(rt: &(impl Runtime + AllocGlobal)) -> Result<ExitCode, Fault<'a>> {
-    let text = io::read_to_string(rt.alloc(), rt.reader()).map_err(|error| read_fault(error, "-"))?;
+    let text = io::read_to_string(rt.alloc(), rt.reader()).map_err(|error| read_fault(
+        error,
+        STANDARD_INPUT,
+    ))?;
     let (rack, script) = split_input(text.as_str());
     let ran = run_out(rt, rack, script);
-    reported(rt, rt.alloc(), rack, reported_script(rt, script, ran))
+    let ran = reported_script(rt, script, ran);
+    reported(rt, rt.alloc(), STANDARD_INPUT, rack, ran)
 }
 
 /// Runs the script of one file on the rack of another.
@@ -24,11 +31,11 @@ pub(crate) fn run_files<'a>(
     rack: &'a str,
     script: &'a str,
 ) -> Result<ExitCode, Fault<'a>> {
-    let rack = read_file(rt, rack)?;
+    let text = read_file(rt, rack)?;
     let script = read_file(rt, script)?;
-    let ran = run_out(rt, rack.as_str(), script.as_str());
+    let ran = run_out(rt, text.as_str(), script.as_str());
     let ran = reported_script(rt, script.as_str(), ran);
-    reported(rt, rt.alloc(), rack.as_str(), ran)
+    reported(rt, rt.alloc(), rack, text.as_str(), ran)
 }
 
 /// Returns the exit status of a script. If one of its lines is not accepted, reports this here, with the form of its command

@@ -33,16 +33,16 @@ place_text (Slave line slave) = codes "line " ++ decimal line ++ codes ", slave 
 abbrev pub cause_text : Cause → List ℕ
 cause_text NoSuchKey = codes "no such key"
 cause_text Missing = codes "missing"
-cause_text (NoNumber least most) = codes "no number from " ++ decimal least ++ codes " to " ++ decimal most
-cause_text NoText = codes "no text"
-cause_text NoTextOrArray = codes "neither a text nor an array"
-cause_text NoHex = codes "no pairs of hex digits"
-cause_text ManyOctets = codes "more than 244 octets"
-cause_text NoFlag = codes "neither true nor false"
-cause_text NoArray = codes "no array"
-cause_text (Count least most) = codes "not " ++ decimal least ++ codes " to " ++ decimal most ++ codes " elements"
-cause_text NoTable = codes "an element is no table"
-cause_text NoDevice = codes "none of \"still\", \"counter\" and \"mirror\""
+cause_text (NoNumber least most) = codes "expected a number from " ++ decimal least ++ codes " to " ++ decimal most
+cause_text NoText = codes "expected a text in quotes"
+cause_text NoTextOrArray = codes "expected a text in quotes or an array of texts"
+cause_text NoHex = codes "expected pairs of hex digits without spaces, as \"2111\""
+cause_text ManyOctets = codes "expected at most 244 octets"
+cause_text NoFlag = codes "expected true or false"
+cause_text NoArray = codes "expected an array"
+cause_text (Count least most) = codes "expected " ++ decimal least ++ codes " to " ++ decimal most ++ codes " elements"
+cause_text NoTable = codes "expected a table as each element"
+cause_text NoDevice = codes "expected \"still\", \"counter\" or \"mirror\""
 
 -- printable ASCII, except `"` and `\`
 abbrev pub stands_for_itself : ℕ → Bool

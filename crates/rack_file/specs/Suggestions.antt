@@ -1,7 +1,7 @@
 -- The key that an unknown key may stand for (own).
-use Rattle.std.specs.Prelude.{codes, ℕ, nat_eq, nat_le, nat_lt, if◌then◌else◌, List, [], ◌∷◌, ◌++◌, length, Option, Some, None}
+use Rattle.std.specs.Prelude.{codes, ℕ, nat_le, nat_lt, if◌then◌else◌, List, [], ◌∷◌, ◌++◌, length, Option, Some, None}
 use Rattle.std.specs.Str.{chars}
-use Rattle.strsim.specs.Edits.{levenshtein_row}
+use Rattle.strsim.specs.Edits.{osa_table}
 use Rattle.rack_file.specs.declared.misread.Place.{Place}
 use Rattle.rack_file.specs.declared.misread.Place.TheVariants.{Rack, Line, Slave}
 use Rattle.rack_file.specs.declared.misread.Cause.{Cause}
@@ -16,21 +16,21 @@ keys_at Rack = rack_keys
 keys_at (Line line) = line_keys
 keys_at (Slave line slave) = slave_keys
 
--- how many letters have to be inserted, deleted or replaced
-abbrev pub letters_apart : List ℕ → List ℕ → ℕ
-letters_apart key name = levenshtein_row nat_eq (chars key) (chars name) (length (chars name))
+-- how many letters have to be inserted, deleted or replaced, or swapped with the next one
+abbrev pub edits_apart : List ℕ → List ℕ → ℕ
+edits_apart key name = (osa_table (chars key) (chars name)).last_row (length (chars name))
 
--- the first of these names that is at most this number of letters away
+-- the first of these names that is at most this number of edits away
 abbrev pub first_near : ℕ → List ℕ → List (List ℕ) → Option (List ℕ)
 first_near most key [] = None
-first_near most key (name ∷ names) = if nat_le (letters_apart key name) most then Some name else first_near most key names
+first_near most key (name ∷ names) = if nat_le (edits_apart key name) most then Some name else first_near most key names
 
 -- this one, or else the other
 abbrev pub or_else : Option (List ℕ) → Option (List ℕ) → Option (List ℕ)
 or_else (Some name) other = Some name
 or_else None other = other
 
--- a name that is one letter away; or else, for a key of six octets or more, one that is two letters away
+-- a name that is one edit away; or else, for a key of six octets or more, one that is two edits away
 abbrev pub nearest_key : List ℕ → List (List ℕ) → Option (List ℕ)
 nearest_key key names = or_else (first_near 1 key names) (if nat_lt (length key) 6 then None else first_near 2 key names)
 

@@ -6,7 +6,7 @@ ghost use Rattle.rack_file.specs.Suggestions.{first_near, keys_at, nearest_key};
 
 use crate::misread::Place;
 use std::alloc::{AllocError, Global};
-use strsim::levenshtein;
+use strsim::osa_distance;
 
 /// Returns the keys of the file itself.
 pub(crate) fn rack_keys() -> &'static [&'static str]
@@ -45,11 +45,12 @@ pub(crate) fn keys_at(place: Place) -> &'static [&'static str]
     }
 }
 
-/// The fewest octets of a key that may stand for one that is two letters away.
+/// The fewest octets of a key that may stand for one that is two edits away.
 const LONG_KEY: usize = 6;
 
-/// Returns the first of these names that is one letter away from a key; or else, for a key of at least six octets, the
-/// first that is two letters away. None if there is none. `AllocError` if memory runs out.
+/// Returns the first of these names that is one edit away from a key; or else, for a key of at least six octets, the
+/// first that is two edits away. An edit inserts, deletes or replaces a letter, or swaps two neighbours. None if there is
+/// none. `AllocError` if memory runs out.
 pub(crate) fn nearest_key(
     alloc: Global,
     key: &str,
@@ -68,7 +69,7 @@ pub(crate) fn nearest_key(
     }
 }
 
-/// Returns the first of these names that is at most `most` letters away from a key.
+/// Returns the first of these names that is at most `most` edits away from a key.
 fn first_near(
     alloc: Global,
     most: usize,
@@ -80,7 +81,7 @@ fn first_near(
     match names {
         [] => Ok(None),
         [name, others @ ..] => {
-            if levenshtein(alloc, key, name)? <= most {
+            if osa_distance(alloc, key, name)? <= most {
                 return Ok(Some(*name));
             }
             first_near(alloc, most, key, others)

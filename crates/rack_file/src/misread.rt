@@ -70,16 +70,16 @@ impl fmt::Display for Cause {
         match self {
             Cause::NoSuchKey => f.write_str("no such key"),
             Cause::Missing => f.write_str("missing"),
-            Cause::NoNumber(least, most) => write!(f, "no number from {least} to {most}"),
-            Cause::NoText => f.write_str("no text"),
-            Cause::NoTextOrArray => f.write_str("neither a text nor an array"),
-            Cause::NoHex => f.write_str("no pairs of hex digits"),
-            Cause::ManyOctets => f.write_str("more than 244 octets"),
-            Cause::NoFlag => f.write_str("neither true nor false"),
-            Cause::NoArray => f.write_str("no array"),
-            Cause::Count(least, most) => write!(f, "not {least} to {most} elements"),
-            Cause::NoTable => f.write_str("an element is no table"),
-            Cause::NoDevice => f.write_str("none of \"still\", \"counter\" and \"mirror\""),
+            Cause::NoNumber(least, most) => write!(f, "expected a number from {least} to {most}"),
+            Cause::NoText => f.write_str("expected a text in quotes"),
+            Cause::NoTextOrArray => f.write_str("expected a text in quotes or an array of texts"),
+            Cause::NoHex => f.write_str("expected pairs of hex digits without spaces, as \"2111\""),
+            Cause::ManyOctets => f.write_str("expected at most 244 octets"),
+            Cause::NoFlag => f.write_str("expected true or false"),
+            Cause::NoArray => f.write_str("expected an array"),
+            Cause::Count(least, most) => write!(f, "expected {least} to {most} elements"),
+            Cause::NoTable => f.write_str("expected a table as each element"),
+            Cause::NoDevice => f.write_str("expected \"still\", \"counter\" or \"mirror\""),
         }
     }
 }

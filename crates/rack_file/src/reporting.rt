@@ -23,7 +23,8 @@ use toml::Table;
 /// - `BadKey`: the first key that isn't accepted, with its place: `key "KEY": CAUSE` for the file itself,
 ///   `line L, key "KEY": CAUSE` for the line at this position of the file, from 1, and
 ///   `line L, slave S, key "KEY": CAUSE` for the slave at this position, from 1, among those of that line. If
-///   an unknown key is one letter away from a known one, or two and has six octets or more, `, perhaps "KEY"` follows.
+///   an unknown key is one edit away from a known one, or two and has six octets or more, `, perhaps "KEY"` follows.
+///   An edit inserts, deletes or replaces a letter, or swaps two neighbours.
 /// - `NotToml`: `row N: MESSAGE`, with the number of the text line, from 1, at which the text stops being TOML.
 ///
 /// In a key and a message, `"`, `\` and each octet that isn't printable ASCII are written `\xNN`.

@@ -11,7 +11,7 @@ pub(crate) const MOST_PLACES: u32 = 65_536;
 pub(crate) const MOST_ADDRESS: u8 = 126;
 
 /// What is wrong in a line of a rack, and in which slave. Its `Display` is one line without its LF, for example
-/// `line 1, slave 3: address 5 is there twice` (own).
+/// `line 1, slave 3: address 5 is used twice` (own).
 #[derive(Clone, Copy, Debug, PartialEq, Eq)]
 pub struct RackFileFault {
     /// The position of the line in the file, from 1.
@@ -69,21 +69,30 @@ impl fmt::Display for RackFileFault {
 impl fmt::Display for Wrong {
     fn fmt<W: fmt::Write>(&self, f: &mut fmt::Formatter<W>) -> fmt::Result {
         match *self {
-            Wrong::NumberOf(line, number) => write!(f, "line {line} has the number {number} too"),
+            Wrong::NumberOf(line, number) => write!(
+                f,
+                "number {number} is used twice, also by line {line}"
+            ),
             Wrong::Capacity(places) => {
-                write!(f, "capacity {places}, of {LEAST_PLACES} to {MOST_PLACES}")
+                write!(
+                    f,
+                    "capacity {places}, expected {LEAST_PLACES} to {MOST_PLACES}"
+                )
             }
-            Wrong::NoMaster => write!(f, "it has no master"),
-            Wrong::Master(address) => write!(f, "master {address}, of 0 to {MOST_ADDRESS}"),
-            Wrong::TwiceMaster(address) => write!(f, "master {address} is there twice"),
-            Wrong::NoSlave => write!(f, "it has no slave"),
-            Wrong::Slaves(count) => write!(f, "{count} slaves, at most {MOST_SLAVES}"),
-            Wrong::Address(address) => write!(f, "address {address}, of 0 to {MOST_ADDRESS}"),
-            Wrong::MastersAddress(address) => write!(f, "address {address} is a master's"),
-            Wrong::TwiceAddress(address) => write!(f, "address {address} is there twice"),
+            Wrong::NoMaster => write!(f, "no master, expected at least one"),
+            Wrong::Master(address) => write!(f, "master {address}, expected 0 to {MOST_ADDRESS}"),
+            Wrong::TwiceMaster(address) => write!(f, "master {address} is used twice"),
+            Wrong::NoSlave => write!(f, "no slave, expected at least one"),
+            Wrong::Slaves(count) => write!(f, "{count} slaves, expected at most {MOST_SLAVES}"),
+            Wrong::Address(address) => write!(f, "address {address}, expected 0 to {MOST_ADDRESS}"),
+            Wrong::MastersAddress(address) => write!(
+                f,
+                "address {address} is that of a master, too"
+            ),
+            Wrong::TwiceAddress(address) => write!(f, "address {address} is used twice"),
             Wrong::UserParameters(most) => write!(
                 f,
-                "user_max {most}, at most {MOST_USER_PARAMETERS}"
+                "user_max {most}, expected at most {MOST_USER_PARAMETERS}"
             ),
             Wrong::Listed(key, address) => {
                 write!(f, "{key} has {address}, which is no master of the line")

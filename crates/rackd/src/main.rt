@@ -50,7 +50,7 @@ fn main(rt: HostRuntime) -> ExitCode {
         };
         thread::spawn(&rt, showing).is_ok()
     };
-    let serve = move |rack: &str, options: ServeOptions<'_>| -> ExitCode {
+    let serve = move |path: &str, options: ServeOptions<'_>| -> ExitCode {
         let _named: (Option<TcpListener>, Option<TcpStream>, Option<File>) = (None, None, None);
         let Prepared {
             rack,
@@ -58,7 +58,7 @@ fn main(rt: HostRuntime) -> ExitCode {
             input,
             queue,
             written,
-        } = match prepare(rt, rack, options, rt.stdin(), start_page) {
+        } = match prepare(rt, path, options, rt.stdin(), start_page) {
             Ok(prepared) => prepared,
             Err(fault) => return report(&rt, fault),
         };
@@ -67,6 +67,7 @@ fn main(rt: HostRuntime) -> ExitCode {
             &host,
             host.sink(),
             rt.alloc(),
+            path,
             rack.as_str(),
             options,
             input,

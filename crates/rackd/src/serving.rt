@@ -116,18 +116,19 @@ fn watch_input<
     }
 }
 
-/// Serves a rack, and reports how that ended.
+/// Serves the rack of the file with this path, and reports how that ended.
 pub(crate) fn serve_rack<H: Print + Host + Sync>(
     rt: &H,
     errors: &impl Eprint,
     alloc: Global,
+    path: &str,
     rack: &str,
     options: ServeOptions<'_>,
     input: Option<InputEnd>,
     page: Option<ShutPage>,
 ) -> ExitCode {
     let served = serve_out(rt, alloc, rack, options, input.as_ref(), page);
-    ended(errors, reported(errors, alloc, rack, served))
+    ended(errors, reported(errors, alloc, path, rack, served))
 }
 
 /// Serves a rack, writes its output on standard output, and logs the number of sessions served. The page is served once

@@ -19,7 +19,7 @@ pub(crate) fn watch_folder<'a, H: WatchHost + Print + Eprint + Sync>(
         Ok(()) => Ok(ExitCode::SUCCESS),
         Err(fault) => Err(fault_of(fault)),
     };
-    reported(rt, rt.alloc(), text.as_str(), ended)
+    reported(rt, rt.alloc(), rack, text.as_str(), ended)
 }
 
 /// Returns the fault of the program for a fault of the page.

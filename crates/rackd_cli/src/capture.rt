@@ -5,7 +5,7 @@ use crate::help::Help;
 
 /// The help of `capture`.
 const HELP: Help = Help {
-    about: "Write the telegrams of an audit text as a capture for Wireshark (pcapng)",
+    about: "Write the telegrams of an audit text for Wireshark (pcapng)",
     usage: "\
 rackd capture RACK AUDIT.. > FILE.pcapng
        rackd capture --help",

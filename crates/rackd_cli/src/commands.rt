@@ -189,9 +189,9 @@ pub(crate) fn known<'a>(alloc: Global) -> Result<Command<'a>, AllocError> {
     let program = with_help(Command::new(alloc, "rackd"), help::PROGRAM)
         .version(VERSION)
         .subcommand_help_heading(help::WORDS);
+    let program = with_words(alloc, program, &port_words())?;
     let program = with_words(alloc, program, &text_words())?;
-    let program = with_words(alloc, program, &gsd_words())?;
-    with_words(alloc, program, &port_words())
+    with_words(alloc, program, &gsd_words())
 }
 
 /// Returns the word of this name in the form that `clap` requires, or the program if there is no such word.
@@ -203,7 +203,7 @@ pub(crate) fn command_named<'a>(alloc: Global, name: &str) -> Result<Command<'a>
 }
 
 /// Returns the word of this name, if there is one.
-fn word_named(name: &str) -> Option<&'static Word> {
+pub(crate) fn word_named(name: &str) -> Option<&'static Word> {
     if let Some(word) = word_in(&text_words(), name) {
         return Some(word);
     }

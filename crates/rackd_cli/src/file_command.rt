@@ -84,4 +84,9 @@ pub enum FileCommand<'a> {
         /// The names of the plugged modules, in the order of their slots.
         modules: Vec<&'a str>,
     },
+    /// `slave GSD --list`: list the modules of a GSD file.
+    Modules {
+        /// The path of the GSD file.
+        gsd: &'a str,
+    },
 }

@@ -1,6 +1,6 @@
 //! The words `gsd` and `slave`: their arguments, and what they ask for.
 
-use crate::arguments::{Argument, OCTET, OPTION, RACK_FILE, TEXT, Word};
+use crate::arguments::{Argument, FLAG, OCTET, OPTION, RACK_FILE, TEXT, Word};
 use crate::file_command::DescribedSlave;
 use crate::help::Help;
 use clap::{ArgAction, ArgMatches};
@@ -14,14 +14,16 @@ const VENDOR: &str = "vendor";
 
 const MODEL: &str = "model";
 
-/// The argument and the option of `slave`.
+/// The argument and the options of `slave`.
 pub(crate) const GSD_FILE: &str = "GSD";
 
 pub(crate) const MODULE: &str = "module";
 
+pub(crate) const LIST: &str = "list";
+
 /// The help of `gsd`.
 const GSD_HELP: Help = Help {
-    about: "Write a GSD file for a slave of a rack, for tools and masters that need one",
+    about: "Write a GSD file for a slave of a rack",
     usage: "\
 rackd gsd RACK LINE ADDRESS [--vendor T] [--model T]
        rackd gsd --help",
@@ -36,16 +38,21 @@ Examples:
 
 /// The help of `slave`.
 const SLAVE_HELP: Help = Help {
-    about: "Write the slave of a GSD file, with plugged modules, as a part of a rack file",
+    about: "Write the slave of a GSD file as a part of a rack file",
     usage: "\
 rackd slave GSD [--module NAME..]
+       rackd slave GSD --list
        rackd slave --help",
     details: "\
 Standard output gets a [[line.slave]] for a rack file, with what a rack simulates, and a comment for
 each part of the GSD file that is left out. Modules are plugged in the order of their names. A slave
 that is not modular needs none.
 
+With --list standard output gets a row for each module of the file, with its configuration octets in
+hex, its name, and 'preset' if it is plugged from the start.
+
 Examples:
+  rackd slave slave.gsd --list
   rackd slave slave.gsd --module 'Configuration 0' >> rack.toml",
 };
 
@@ -62,6 +69,8 @@ Name of the model in the file, at most 32 characters
 const FILE_HELP: &str = "GSD file of a slave, in ISO 8859-1";
 
 const MODULE_HELP: &str = "Plug the modules of these names, in the order of their slots";
+
+const LIST_HELP: &str = "List the modules of the file, with their configuration octets";
 
 /// The word `gsd`, with a rack, a slave of it, and the names that the file gives it.
 pub(crate) static GSD: Word = Word {
@@ -96,7 +105,7 @@ pub(crate) static GSD: Word = Word {
     ],
 };
 
-/// The word `slave`, with a GSD file and the plugged modules.
+/// The word `slave`, with a GSD file and the plugged modules, or the list of its modules.
 pub(crate) static SLAVE: Word = Word {
     name: "slave",
     help: SLAVE_HELP,
@@ -113,6 +122,12 @@ pub(crate) static SLAVE: Word = Word {
             most: usize::MAX,
             shown: &["NAME"],
             ..OPTION
+        },
+        Argument {
+            name: LIST,
+            help: LIST_HELP,
+            excludes: &[MODULE],
+            ..FLAG
         },
     ],
 };

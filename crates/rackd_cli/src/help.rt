@@ -15,45 +15,23 @@ pub(crate) struct Help {
 }
 
 /// The heading of the list of words.
-pub(crate) const WORDS: &str = "Words ('rackd WORD --help' has the details)";
+pub(crate) const WORDS: &str = "Commands ('rackd COMMAND --help' has the details)";
 
-/// The help of the program.
+/// The help of the program. It fits a terminal of 24 rows and 80 columns.
 pub(crate) const PROGRAM: Help = Help {
     about: "\
-rackd simulates a rack of PROFIBUS DP slaves, so that a master can be tried without hardware.
-It runs scripts or serves TCP ports, and checks and explains the audit texts that it writes.",
+rackd simulates PROFIBUS DP slaves: try a master without hardware.
+Begin with 'rackd serve examples/serve/rack.toml --tick 100', connect a master,
+and see by 'explain' and 'judge' what it did.",
     usage: "\
-rackd < INPUT
-       rackd run RACK SCRIPT
-       rackd check RACK AUDIT..
-       rackd explain RACK AUDIT.. [OPTIONS]
-       rackd judge RACK AUDIT.. [OPTIONS]
-       rackd capture RACK AUDIT..
-       rackd gsd RACK LINE ADDRESS [--vendor T] [--model T]
-       rackd slave GSD [--module NAME..]
-       rackd serve RACK [OPTIONS]
-       rackd watch RACK FOLDER [--port N]
-       rackd operate PORT
-       rackd cable PORT --listen PORT2 [OPTIONS]
-       rackd --help
-       rackd WORD --help",
-    details: "\
-Exit statuses:
-  0  done
-  1  check, explain, judge, capture: the audit text is not legal; judge: a master broke a rule
-  2  wrong words; input, a file, a rack or a script that is not accepted; a port that is in use,
-     that nobody listens on or that is closed too early; or an audit file that cannot be made
-  3  out of memory or threads
-  4  standard output cannot be written
-  5  an audit text cannot be written to its file
-
-Example:
-  rackd run examples/audit-rack.toml examples/audit-script.txt",
+rackd COMMAND ..
+       rackd < INPUT",
+    details: "",
 };
 
 /// The help of `run`, and of no word.
 pub(crate) const RUN: Help = Help {
-    about: "Run a script on a rack, from two files; 'rackd < INPUT' reads both from standard input",
+    about: "Run a script on a rack; 'rackd < INPUT' reads both from one text",
     usage: "\
 rackd run RACK SCRIPT
        rackd < INPUT
@@ -83,6 +61,15 @@ Standard output gets a line for each telegram: the reply, or no reply and the re
 was done. It gets a line for each command of the operator too. The run ends at the first wrong
 command.
 
+Exit statuses of all commands:
+  0  done
+  1  check, explain, judge, capture: the audit text is not legal; judge: a master broke a rule
+  2  invalid arguments; input, a file, a rack or a script that is not accepted; a port that is in
+     use, that no program listens on or that is closed too early; an audit file that cannot be made
+  3  out of memory or threads
+  4  standard output cannot be written
+  5  an audit text cannot be written to its file
+
 For example, the input
 
 [[line]]
@@ -107,7 +94,7 @@ Examples:
 
 /// The help of `check`.
 pub(crate) const CHECK: Help = Help {
-    about: "Check whether a line of the rack would have answered as an audit text says",
+    about: "Check whether a rack would have answered as an audit text says",
     usage: "\
 rackd check RACK AUDIT..
        rackd check --help",
@@ -115,10 +102,11 @@ rackd check RACK AUDIT..
 An audit text begins with its header, a line 'rack-audit ..'. In the output of 'serve' the line
 'ready' comes before it: leave that line out.
 
-Standard output gets one line. The exit status is 0 if the text is legal, else 1.
+Standard output gets one line. The exit status is 0 if the text is legal, else 1, and standard error
+gets the row that is wrong, and what was expected.
   legal N           The text is legal and has N entries
-  bad line N        Line N of the text is the first wrong one: it is badly formed
-  not the policy N  Line N of the text is the first wrong one: the rack would answer otherwise
+  bad line N        Row N of the text is the first wrong one: it is badly formed
+  not the policy N  Row N of the text is the first wrong one: the rack would answer otherwise
 
 Examples:
   rackd check examples/audit-rack.toml examples/audit.txt
@@ -158,7 +146,7 @@ Examples:
 
 /// The help of `serve`.
 pub(crate) const SERVE: Help = Help {
-    about: "Serve the lines of a rack to masters and operators at TCP ports of 127.0.0.1",
+    about: "Serve a rack to masters and operators at TCP ports of 127.0.0.1",
     usage: "\
 rackd serve RACK [--sessions N] [--until-input-ends] [--ports FILE]
              [--audit FOLDER [--endless [--part MB] [--keep N]] [--page N]] [--tick MS]
@@ -178,8 +166,8 @@ An operator sends the commands of a script other than 'm', 'line' and 'journal' 
 Without --tick, time passes only by the operator's 'tick'. With it, each line gets 'tick N' by the
 clock, where N is the number of units of 10 ms that have passed: before each request of a master, so
 that watchdogs are right to the unit when it is taken, and at least every MS milliseconds. No tick
-has more than twice MS. If rackd itself was held up, the rest is cut off: it releases no slave, and
-a warning says how much it was. With --step, the devices of the rack update the inputs of their
+has more than twice MS. If rackd itself was delayed, the rest is discarded: it releases no slave,
+and a warning says how much it was. With --step, the devices of the rack update the inputs of their
 slaves every MS milliseconds, as by 'step'.
 
 With --sessions, rackd prints the audit text of each line, in the order of line numbers, when all
@@ -212,7 +200,7 @@ Examples:
 
 /// The help of `watch`.
 pub(crate) const WATCH: Help = Help {
-    about: "Show a rack that is served in a browser: who may change which slave, and why not",
+    about: "Show a rack that is served in a browser: who may change which slave",
     usage: "\
 rackd watch RACK FOLDER [--port N]
        rackd watch --help",
@@ -230,7 +218,7 @@ Examples:
 
 /// The help of `operate`.
 pub(crate) const OPERATE: Help = Help {
-    about: "Operate a line that is served: send commands, and print the answers",
+    about: "Send commands to a line that is served, and print the answers",
     usage: "\
 rackd operate PORT
        rackd operate --help",

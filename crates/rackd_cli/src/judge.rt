@@ -3,9 +3,12 @@
 use crate::arguments::{AUDIT_FILES, Argument, FLAG, NUMBER, OCTET, OPTION, RACK_FILE, Word};
 use crate::commands::{JSON, MASTER};
 use crate::help::Help;
-use crate::refusals::BadValue;
+use crate::invocation::{Invocation, WordsFault};
+use crate::refusals::refuse;
 use clap::ArgMatches;
 use clap::builder::ValueParser;
+use std::alloc::{AllocError, Global};
+use strsim::osa_distance;
 
 /// The options of `judge` that no other word has.
 pub(crate) const RULES: &str = "rules";
@@ -20,7 +23,15 @@ const MOST_RETRIES: u64 = 15;
 /// The retries that are allowed if the words name no number.
 const USUAL_RETRIES: u8 = 3;
 
-/// The names of the rules.
+/// How many names of rules a row of a message has.
+const NAMES_IN_ROW: usize = 4;
+
+/// Returns the names of the rules.
+fn rule_names() -> &'static [&'static str] {
+    &RULE_NAMES
+}
+
+/// The names of the rules, which the help lists too.
 const RULE_NAMES: [&str; 23] = [
     "fcb-repeated",
     "fcb-not-alternated",
@@ -49,7 +60,7 @@ const RULE_NAMES: [&str; 23] = [
 
 /// The help of `judge`.
 const HELP: Help = Help {
-    about: "Judge the masters of an audit text: what each does that the standard rules out",
+    about: "Judge the masters of an audit text by the rules of the standard",
     usage: "\
 rackd judge RACK AUDIT.. [--master M] [--rules NAME,..] [--retries N] [--json | --junit]
        rackd judge --help",
@@ -60,7 +71,14 @@ one with those of the telegram before. How often each master broke each rule fol
 result of 'check'. The text is judged to its first wrong line.
 
 The exit status is 1 if the text is not legal, or if a rule whose severity is error was broken, and
-else 0. docs/FORMATS.md lists the rules.
+else 0.
+
+Rules (docs/FORMATS.md says what each one means):
+  fcb-repeated, fcb-not-alternated, fcb-first, fcb-not-allowed, retry-limit, prm-before-diag,
+  cfg-before-prm, exchange-before-ready, exchange-without-diag, exchange-after-rs,
+  exchange-of-other, length-repeated, diag-not-read, prm-of-other, min-tsdr, watchdog-short,
+  group-not-set, control-both, control-reserved, sdn-needs-reply, broadcast-needs-reply,
+  unknown-point, no-request
 
 With --json each finding is a line of JSON. With --junit standard output is JUnit XML, with one test
 case for each rule and master, and one for the text.
@@ -146,18 +164,66 @@ pub(crate) static JUDGE: Word = Word {
 };
 
 /// Returns the first name of the option `--rules` that is the name of no rule, if there is one.
-pub(crate) fn unknown_rule<'a>(words: &ArgMatches<'a>) -> Option<BadValue<'a>> {
+pub(crate) fn unknown_rule<'a>(words: &ArgMatches<'a>) -> Option<&'a str> {
     let names = words.get_str(RULES)?;
-    for value in names.split(',') {
-        if !RULE_NAMES.contains(&value) {
-            return Some(BadValue {
-                shown: "--rules <NAME,..>",
-                value,
-                reason: "there is no such rule",
-            });
+    for name in names.split(',') {
+        if !rule_names().contains(&name) {
+            return Some(name);
         }
     }
     None
+}
+
+/// Returns the answer to a name that is the name of no rule: the name that is near, and all names. Returns `OutOfMemory` if
+/// memory is refused.
+pub(crate) fn refuse_rule<'a>(alloc: Global, name: &str) -> Result<Invocation<'a>, WordsFault> {
+    match rule_message(alloc, name) {
+        Ok(message) => refuse(alloc, "judge", message.as_str()),
+        Err(_) => Err(WordsFault::OutOfMemory),
+    }
+}
+
+/// Returns what is reported of a name that is the name of no rule.
+fn rule_message(alloc: Global, name: &str) -> Result<String, AllocError> {
+    let mut message = match near_rule(alloc, name)? {
+        Some(near) => {
+            format!(in alloc;
+                "invalid value '{name}' for '--rules <NAME,..>': there is no such rule, perhaps '{near}'"
+            )?
+        }
+        None => format!(in alloc;
+            "invalid value '{name}' for '--rules <NAME,..>': there is no such rule"
+        )?,
+    };
+    message.push_str("\n\nRules:")?;
+    for (before, rule) in rule_names().iter().enumerate() {
+        message.push_str(if before % NAMES_IN_ROW == 0 {
+            "\n  "
+        } else {
+            ", "
+        })?;
+        message.push_str(rule)?;
+    }
+    Ok(message)
+}
+
+/// Returns the first rule whose name is at most two edits away from a name, and one with one edit before one with two.
+fn near_rule(alloc: Global, name: &str) -> Result<Option<&'static str>, AllocError> {
+    match rule_within(alloc, 1, name)? {
+        Some(rule) => Ok(Some(rule)),
+        None => rule_within(alloc, 2, name),
+    }
+}
+
+/// Returns the first rule whose name is at most this number of edits away from a name. An edit inserts, deletes or replaces a
+/// letter, or swaps two neighbours.
+fn rule_within(alloc: Global, most: usize, name: &str) -> Result<Option<&'static str>, AllocError> {
+    for rule in rule_names() {
+        if osa_distance(alloc, name, rule)? <= most {
+            return Ok(Some(*rule));
+        }
+    }
+    Ok(None)
 }
 
 /// Returns what is judged, by the options of `judge`.

@@ -12,6 +12,7 @@ mod gsd;
 mod help;
 mod invocation;
 mod judge;
+mod numbers;
 mod reading;
 mod refusals;
 mod serve;

@@ -7,9 +7,10 @@ use crate::commands::{
     TO, WATCHED, known,
 };
 use crate::file_command::{AuditCommand, Entries, FileCommand};
-use crate::gsd::{ADDRESS, GSD_FILE, LINE, MODULE, described_slave_of};
+use crate::gsd::{ADDRESS, GSD_FILE, LINE, LIST, MODULE, described_slave_of};
 use crate::invocation::{Invocation, WordsFault};
-use crate::judge::{RETRIES, judging_of, unknown_rule};
+use crate::judge::{RETRIES, judging_of, refuse_rule, unknown_rule};
+use crate::numbers::refused_number;
 use crate::refusals::{BadValue, refuse_value};
 use crate::serve::{
     ENDLESS, FOLDER, KEEP, LOG, PAGE, PART, PORTS, SESSIONS, STEP, TICK, UNTIL_INPUT_ENDS,
@@ -81,12 +82,16 @@ fn answer_of<'a>(
     words: &[String],
     error: Error,
 ) -> Result<Invocation<'a>, WordsFault> {
-    if error.kind() == Refused::ValueValidation
-        && let Some(host) = host_in(words)
-    {
+    if error.kind() != Refused::ValueValidation {
+        return Ok(Invocation::Answer(error));
+    }
+    if let Some(host) = host_in(words) {
         return refuse_value(alloc, "operate", host);
     }
-    Ok(Invocation::Answer(error))
+    match refused_number(alloc, words, &error)? {
+        Some(answer) => Ok(answer),
+        None => Ok(Invocation::Answer(error)),
+    }
 }
 
 /// Returns the word behind `operate` if it names a host too.
@@ -166,7 +171,7 @@ fn of_word<'a>(
 /// Returns what `judge` asks for.
 fn of_judge<'a>(alloc: Global, words: &ArgMatches<'a>) -> Result<Invocation<'a>, WordsFault> {
     match unknown_rule(words) {
-        Some(unknown) => refuse_value(alloc, "judge", unknown),
+        Some(unknown) => refuse_rule(alloc, unknown),
         None => of_files(alloc, "judge", words),
     }
 }
@@ -208,6 +213,9 @@ fn file_command_of<'a>(
         "gsd" => Ok(FileCommand::Gsd {
             rack: path_in(words, RACK),
             described: described_slave_of(words),
+        }),
+        "slave" if words.get_flag(LIST) => Ok(FileCommand::Modules {
+            gsd: path_in(words, GSD_FILE),
         }),
         "slave" => match texts_in(alloc, words, MODULE) {
             Ok(modules) => Ok(FileCommand::Slave {

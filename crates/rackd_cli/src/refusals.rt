@@ -32,8 +32,12 @@ pub(crate) fn refuse_value<'a>(
     }
 }
 
-/// Returns the answer of the word of this name, with this message.
-fn refuse<'a>(alloc: Global, word: &str, message: &str) -> Result<Invocation<'a>, WordsFault> {
+/// Returns the answer of the word of this name, with this message. Returns `OutOfMemory` if memory is refused.
+pub(crate) fn refuse<'a>(
+    alloc: Global,
+    word: &str,
+    message: &str,
+) -> Result<Invocation<'a>, WordsFault> {
     let Ok(mut command) = command_named(alloc, word) else {
         return Err(WordsFault::OutOfMemory);
     };

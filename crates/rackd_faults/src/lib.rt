@@ -4,6 +4,7 @@
 
 mod ending;
 mod rack_cause;
+mod rack_rows;
 mod reporting;
 
 pub use ending::{Fault, cause, status};

@@ -41,6 +41,25 @@ impl DroppedRows {
     }
 }
 
+/// The start delimiter of a telegram with data (IEC 61158-4-3, SD2).
+const SD2: u8 = 0x68;
+
+/// The least LE of an SD2: DA, SA, FC and one octet of data (IEC 61158-4-3, length octet).
+const LEAST_LENGTH: u8 = 4;
+
+/// Returns the LE of the first SD2 among these octets whose LE is too small for data, if there is one.
+fn short_length(octets: &[u8]) -> Option<u8> {
+    for place in 3..octets.len() {
+        let length = octets[place - 2];
+        let are_equal = length == octets[place - 1];
+        let is_framed = octets[place - 3] == SD2 && octets[place] == SD2;
+        if is_framed && are_equal && length < LEAST_LENGTH {
+            return Some(length);
+        }
+    }
+    None
+}
+
 /// A row about dropped octets: `dropped 64 octets: NoStart, BadHead (33 68 05 ..)`.
 #[derive(Drop)]
 pub(crate) struct DroppedRow {
@@ -58,6 +77,7 @@ impl fmt::Display for DroppedRow {
         }
         self.write_faults(f)?;
         self.write_octets(f)?;
+        self.write_length(f)?;
         match self.dropped.wrong_end {
             Some(end) => write!(f, ", {}", WrongEndWords(end)),
             None => Ok(()),
@@ -80,6 +100,20 @@ impl DroppedRow {
             }
         }
         Ok(())
+    }
+
+    /// Writes what is wrong if an SD2 has no data, if it is among the first octets.
+    fn write_length<W: fmt::Write>(&self, f: &mut fmt::Formatter<W>) -> fmt::Result {
+        if !self.dropped.bad_head {
+            return Ok(());
+        }
+        match short_length(self.dropped.first.as_slice()) {
+            Some(length) => write!(
+                f,
+                ", LE {length} is below {LEAST_LENGTH}: a telegram without data is an SD1"
+            ),
+            None => Ok(()),
+        }
     }
 
     /// Writes the first octets, and two dots if there are more.

@@ -219,7 +219,7 @@ fn cause_of_halt(is_halt: bool, outcome: &Outcome) -> Option<&'static str> {
     match outcome {
         Outcome::Released(_) if is_halt => Some(BY_OPERATOR),
         Outcome::Silence(Rule::Halted) | Outcome::Refused(OperatorFault::Halted) => {
-            Some("its journal is full")
+            Some("its journal is full; '--endless' lets a line continue")
         }
         Outcome::Reply { .. }
         | Outcome::Silence(_)

@@ -102,23 +102,29 @@ impl fmt::Display for Cause {
 
     fn fmt<W: fmt::Write>(&self, f: &mut fmt::Formatter<W>) -> fmt::Result {
         match self {
-            Cause::NotThere => f.write_str("  nothing is there"),
-            Cause::NoPermission => f.write_str("  no permission"),
-            Cause::IsFolder => f.write_str("  a folder"),
-            Cause::NoFolder => f.write_str("  a part of the path is no folder"),
-            Cause::IsThere => f.write_str("  something with this name exists already"),
-            Cause::NotText => f.write_str("  not UTF-8"),
-            Cause::InUse => f.write_str("  in use"),
-            Cause::TwiceInRack => f.write_str("  twice in this rack"),
-            Cause::FewDescriptors => f.write_str("  too few descriptors"),
-            Cause::NoSpace => f.write_str("  no space left"),
-            Cause::ReadOnly => f.write_str("  can be read alone"),
-            Cause::NobodyListens => f.write_str("  nobody listens there"),
-            Cause::NotTaken => f.write_str("  a row was not taken whole"),
-            Cause::Forgotten => f.write_str("  entries were forgotten before they were written"),
-            Cause::NoNumber => f.write_str("  a text of the line has the highest number already"),
+            Cause::NotThere => f.write_str("  no such file or folder"),
+            Cause::NoPermission => f.write_str("  permission denied"),
+            Cause::IsFolder => f.write_str("  it is a folder, not a file"),
+            Cause::NoFolder => f.write_str(
+                "  a part of the path before the last '/' is not a folder",
+            ),
+            Cause::IsThere => f.write_str("  a file or folder of this name exists already"),
+            Cause::NotText => f.write_str("  it is not UTF-8 text"),
+            Cause::InUse => f.write_str("  another program uses this port"),
+            Cause::TwiceInRack => f.write_str("  the rack file has this port twice"),
+            Cause::FewDescriptors => f.write_str(
+                "  too few file descriptors; 'ulimit -n' shows and raises their number",
+            ),
+            Cause::NoSpace => f.write_str("  no space left on the disk"),
+            Cause::ReadOnly => f.write_str("  the file system is read-only"),
+            Cause::NobodyListens => f.write_str("  no program listens on this port"),
+            Cause::NotTaken => f.write_str("  a row was written only in part"),
+            Cause::Forgotten => f.write_str("  memory lost entries before they were written"),
+            Cause::NoNumber => f.write_str(
+                "  an audit text of the line has the highest number; choose another folder",
+            ),
             Cause::Code(code) => write!(f, "  system error {code}"),
-            Cause::Unknown => f.write_str("  no cause is known"),
+            Cause::Unknown => f.write_str("  the system gives no cause"),
         }
     }
 }
