@@ -10,3 +10,6 @@ pub mod Dropping
 pub mod Recording
 pub mod RecordingLines
 pub mod ServingJobs
+pub mod KeepingSessions
+pub mod Sending
+pub mod KeptServed

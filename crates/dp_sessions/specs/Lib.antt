@@ -11,3 +11,5 @@ pub mod Dropped
 pub mod Recorded
 pub mod Recording
 pub mod ServedJobs
+pub mod KeptSessions
+pub mod KeptAt

@@ -8,6 +8,7 @@
 mod dropped;
 mod exchange;
 mod gate;
+mod jobs;
 pub mod laws;
 mod operator;
 mod operator_line;
@@ -16,6 +17,7 @@ mod pool;
 mod pool_fault;
 mod port;
 mod reads;
+mod serve_at;
 mod serving;
 mod session;
 mod session_end;
@@ -25,11 +27,12 @@ pub use dp_text::{OpLine, TextFault, read_op};
 pub use dropped::DroppedOctets;
 pub use exchange::{serve_pass, serve_pass_by};
 pub use gate::{Gate, NotRecorded, OpenGate};
+pub use jobs::{Job, KeptSession, ServedSessions, Workers, count_served};
 pub use operator::{
     serve_operator, serve_operator_at, serve_operator_pass, serve_operator_pass_by,
     serve_operator_session,
 };
-pub use pool::{Job, run_pool};
+pub use pool::run_pool;
 pub use pool_fault::PoolFault;
 pub use port::{LineAndClaims, Port};
 pub use rack_devices::next_inputs;
