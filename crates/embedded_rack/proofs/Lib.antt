@@ -3,3 +3,4 @@ mod Passing
 pub mod Sending
 pub mod RackLines
 mod Calls
+mod Replaying

@@ -6,7 +6,7 @@ use Rattle.dp_line.specs.World.{description_of, opening_fault}
 use Rattle.rack_file.specs.declared.rack.RackLine.{RackLine}
 use Rattle.rack_file.specs.Rack.{LineDescription, line_described}
 use Rattle.embedded_rack.specs.EmbeddedLines.{EmbeddedLine}
-use Rattle.embedded_rack.specs.RackCalls.{blank_answer, line_opened, rack_at_start}
+use Rattle.embedded_rack.specs.RackCalls.{blank_answer, descriptions_of, line_opened, rack_at_start}
 
 pub map-map : {A B C : Type 0} (f : B → C) (g : A → B) (xs : List A) → map (λ x. f (g x)) xs ≡ map f (map g xs)
 map-map f g [] = refl
@@ -27,6 +27,9 @@ lines_open lines all =
 -- a rack whose lines were opened one after another
 pub rack_started : (endless : Bool) (workers : ℕ) (lines : List RackLine) (opened : List EmbeddedLine)
     → opened ≡ map (λ line. line_opened endless (description_of line.spec)) lines
-    → record { lines = opened; answer = blank_answer; text = [] } ≡ rack_at_start endless (record { workers = workers; lines = map line_described lines })
+    → record { described = descriptions_of lines; forgets = endless; lines = opened; answer = blank_answer; text = [] }
+    ≡ rack_at_start endless (record { workers = workers; lines = map line_described lines })
 rack_started endless workers lines opened is =
-    ap (λ ls. record { lines = ls; answer = blank_answer; text = [] }) (is ∙ map-map (λ (line : LineDescription). line_opened endless line.line) line_described lines)
+    ap (λ ds. record { described = ds; forgets = endless; lines = opened; answer = blank_answer; text = [] }) (map-map (λ (line : LineDescription). line.line) line_described lines)
+    ∙ ap (λ ls. record { described = map (λ (line : LineDescription). line.line) (map line_described lines); forgets = endless; lines = ls; answer = blank_answer; text = [] })
+    (is ∙ map-map (λ (line : LineDescription). line_opened endless line.line) line_described lines)

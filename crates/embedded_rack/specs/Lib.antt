@@ -6,3 +6,5 @@ pub mod Asking
 pub mod Codes
 pub mod LineCalls
 pub mod RackCalls
+pub mod EntryReasons
+pub mod RackReasons

@@ -2,10 +2,11 @@
 use Rattle.std.specs.Prelude.{ℕ, ◌==◌, if◌then◌else◌, Bool, List, [], length, map, slice_get, slice_set, position, Option, Some, None, Result, Ok, Err, ◌≡◌}
 use Rattle.dp_line.specs.declared.event.Outcome.TheVariants as outcomes
 use Rattle.dp_line.specs.declared.event.Step.{Step}
-use Rattle.dp_line.specs.World.{Description}
+use Rattle.dp_line.specs.World.{Description, description_of}
 use Rattle.dp_text.specs.declared.op_line.OpLine.{OpLine}
 use Rattle.dp_text.specs.OpLines.{op_line_of}
 use Rattle.rack_file.specs.declared.fault.RackFault.{RackFault}
+use Rattle.rack_file.specs.declared.rack.RackLine.{RackLine}
 use Rattle.rack_file.specs.Rack.{RackDescription}
 use Rattle.embedded_rack.specs.EmbeddedLines.{EmbeddedLine, Sent, line_at_start, operated as line_operated}
 use Rattle.embedded_rack.specs.LineCalls.{LineAnswer, LineCalled, LineFed, endless_line_at_start, time_passed, line_fed, line_next, line_requested, row_of}
@@ -14,9 +15,15 @@ use Rattle.embedded_rack.specs.declared.call_fault.CallFault.TheVariants as call
 use Rattle.embedded_rack.specs.declared.taken_piece.TakenPiece.{TakenPiece}
 
 pub record EmbeddedRack : Type 0 where
+  -- the description of each line, at its index, and whether the lines forget old entries
+  pub described : List Description
+  pub forgets : Bool
   pub lines : List EmbeddedLine
   pub answer : Step
   pub text : List ℕ
+
+abbrev pub descriptions_of : List RackLine → List Description
+descriptions_of lines = map (λ line. description_of line.spec) lines
 
 -- no event was taken yet
 abbrev pub blank_answer : Step
@@ -27,7 +34,7 @@ abbrev pub line_opened : Bool → Description → EmbeddedLine
 line_opened endless line = if endless then endless_line_at_start line else line_at_start line
 
 abbrev pub rack_at_start : Bool → RackDescription → EmbeddedRack
-rack_at_start endless rack = record { lines = map (λ line. line_opened endless line.line) rack.lines; answer = blank_answer; text = [] }
+rack_at_start endless rack = record { described = map (λ line. line.line) rack.lines; forgets = endless; lines = map (λ line. line_opened endless line.line) rack.lines; answer = blank_answer; text = [] }
 
 -- the rack is the one that a text describes, at its start
 abbrev pub Opens : Bool → Result RackDescription RackFault → EmbeddedRack → Type 0

@@ -12,12 +12,15 @@ ghost use Rattle.dp_text.specs.HexWords.{octets_of_words};
 ghost use Rattle.dp_text.specs.Writes.{WritesPrefix};
 ghost use Rattle.embedded_rack.specs.EmbeddedLines.{line_at_start, sent, reported_of, operated, stepped, owned_line, show_line, journal_text};
 ghost use Rattle.embedded_rack.specs.LineCalls.{endless_line_at_start, time_passed, line_fed, line_next, line_requested, row_of};
+ghost use Rattle.embedded_rack.specs.EntryReasons.{Explains, explained_at, first_context};
 ghost use Rattle.embedded_rack.specs.Sends.{Sends};
 
 use crate::asking::asked_in;
 use crate::call_fault::CallFault;
 use crate::device_steps::feed_each;
+use crate::entry_reason::{EntryReason, ReasonFault};
 use crate::obey_fault::ObeyFault;
+use crate::replay::explain_entry;
 use crate::stream::{CHUNK, Stream, empty_streams, index_of};
 use crate::taken_piece::TakenPiece;
 use arrayvec::ArrayVec;
@@ -156,6 +159,24 @@ impl EmbeddedLine {
         }
         self.book.copy_record(place, record);
         record.set_line(text)
+    }
+
+    /// Returns the facts of the entry at a place, and sets `sentence` to its sentence, as an explanation of the journal has
+    /// it. `line` describes the line, and `forgets` is whether it was opened as an endless one. Returns `NoEntry` if there is
+    /// no such entry, or if it or one before it is forgotten; `OutOfMemory`.
+    ///
+    /// It takes all entries before this one again, on lines that it opens for that.
+    pub fn explain(
+        &self,
+        alloc: Global,
+        line: &LineSpec,
+        forgets: bool,
+        place: u32,
+        sentence: &mut Vec<u8>,
+    ) -> Result<EntryReason, ReasonFault>
+        ensures { Explains (explained_at self.now.journal (first_context forgets (description_of line.now)) place) sentence.new.items result }
+    {
+        explain_entry(alloc, &self.book, line, forgets, place, sentence)
     }
 
     /// Sends the octets of words as a master, and writes the answers. Returns `NoCommand` if the line has no such

@@ -1,14 +1,16 @@
 //! A rack in process.
 
-ghost use Rattle.std.specs.Prelude.{◌≡◌, ◌<◌, ◌==◌, if◌then◌else◌, [], None, Ok, Err, All, IfOk, IfErr, IfSome, IsUtf8, length, map, position};
+ghost use Rattle.std.specs.Prelude.{◌≡◌, ◌<◌, ◌==◌, if◌then◌else◌, [], None, Some, Ok, Err, All, IfOk, IfErr, IfSome, IsUtf8, length, map, option_map, position, slice_get};
 ghost use Rattle.dp_line.specs.World.{description_of, opening_fault};
 ghost use Rattle.rack_file.specs.Gives.{Fails};
 ghost use Rattle.rack_file.specs.Rack.{rack_described};
 ghost use Rattle.rack_file.specs.RackFile.{rack_in};
-ghost use Rattle.embedded_rack.specs.RackCalls.{Opens, blank_answer, entries_counted, fed, line_opened, next_piece, operated, rack_at_start, requested, rowed, ticked};
+ghost use Rattle.embedded_rack.specs.RackReasons.{ExplainsAtIndex, ExplainsEntry};
+ghost use Rattle.embedded_rack.specs.RackCalls.{Opens, blank_answer, descriptions_of, entries_counted, fed, line_opened, next_piece, operated, rack_at_start, requested, rowed, ticked};
 
 use crate::call_fault::CallFault;
 use crate::embedded_line::EmbeddedLine;
+use crate::entry_reason::{EntryReason, ReasonFault};
 use crate::taken_piece::TakenPiece;
 use dp_audit::Record;
 use dp_line::{LineSpec, Step};
@@ -21,21 +23,25 @@ use std::marker::Model;
 /// A rack in process: its lines in the order of its text, the answer to the last event, and the last text. No call
 /// waits, and only [`EmbeddedRack::open`] takes memory. A call that is refused changes no line.
 ///
-/// Contracts see the lines, the answer and the text.
+/// Contracts see the lines and their descriptions, whether they forget old entries, the answer and the text.
 #[derive(Drop)]
 pub struct EmbeddedRack {
     lines: Vec<EmbeddedLine>,
+    /// The description of each line, at its index.
+    specs: Vec<RackLine>,
+    /// Whether the lines forget old entries.
+    forgets: bool,
     answer: Step,
     text: Text,
     record: Record,
 }
 
 impl Model for EmbeddedRack {
-    ghost use Rattle.embedded_rack.specs.RackCalls.{EmbeddedRack as View};
+    ghost use Rattle.embedded_rack.specs.RackCalls.{EmbeddedRack as View, descriptions_of};
 
     ghost Value = { View };
 
-    ghost view = { λ r. record { lines = r.lines.items; answer = r.answer; text = r.text } };
+    ghost view = { λ r. record { described = descriptions_of r.specs.items; forgets = r.forgets; lines = r.lines.items; answer = r.answer; text = r.text } };
 }
 
 impl EmbeddedRack {
@@ -171,6 +177,53 @@ impl EmbeddedRack {
             None => Err(CallFault::NoLine),
         }
     }
+
+    /// Returns the facts of the entry at a place of the journal of a line, and sets `sentence` to its sentence, as
+    /// `rackd explain` writes it. See [`EmbeddedLine::explain`].
+    ///
+    /// Returns `NoLine`; `NoEntry` if the journal has no entry there, or has forgotten it or one before it; `OutOfMemory`.
+    pub fn explain(
+        &self,
+        alloc: Global,
+        line: u8,
+        place: u32,
+        sentence: &mut Vec<u8>,
+    ) -> Result<EntryReason, ReasonFault>
+        ensures { ExplainsEntry self.now line place sentence.new.items result }
+    {
+        match index_of(&self.lines, line) {
+            Some(index) => self.explain_at(alloc, index, place, sentence),
+            None => Err(ReasonFault::NoLine),
+        }
+    }
+
+    /// Explains an entry of the line at an index. See [`EmbeddedRack::explain`].
+    fn explain_at(
+        &self,
+        alloc: Global,
+        index: usize,
+        place: u32,
+        sentence: &mut Vec<u8>,
+    ) -> Result<EntryReason, ReasonFault>
+        requires { index < length self.now.lines }
+        ensures { ExplainsAtIndex self.now place sentence.new.items result (Some index) }
+    {
+        match spec_at(&self.specs, index) {
+            Some(spec) => self.lines[index].explain(alloc, spec, self.forgets, place, sentence),
+            None => Err(ReasonFault::NoLine),
+        }
+    }
+}
+
+/// Returns the description of the line at an index; None if there is none.
+fn spec_at(specs: &[RackLine], index: usize) -> Option<&LineSpec>
+    ensures { option_map (λ spec. description_of spec.now) result ≡ slice_get (descriptions_of specs.now) index }
+{
+    if index < specs.len() {
+        Some(&specs[index].spec)
+    } else {
+        None
+    }
 }
 
 /// Opens each line of the rack that a text describes at its start. See [`EmbeddedRack::open`].
@@ -180,29 +233,31 @@ fn opened(alloc: Global, text: &str, endless: bool) -> Result<EmbeddedRack, Rack
 {
     accepted_lines_can_be_opened();
     match read_rack(alloc, text) {
-        Ok(rack) => at_start(alloc, &rack, endless),
+        Ok(rack) => at_start(alloc, rack, endless),
         Err(fault) => Err(fault),
     }
 }
 
 /// Opens each line of a rack at its start; `OutOfMemory` if memory runs out.
-fn at_start(alloc: Global, rack: &Rack, endless: bool) -> Result<EmbeddedRack, RackFault>
-    requires { All (λ line. opening_fault (description_of line.spec) ≡ None) rack.now.lines.items }
-    ensures opened { IfOk result (λ opened. opened ≡ rack_at_start endless (rack_described rack.now)) }
+fn at_start(alloc: Global, rack: Rack, endless: bool) -> Result<EmbeddedRack, RackFault>
+    requires { All (λ line. opening_fault (description_of line.spec) ≡ None) rack.lines.items }
+    ensures opened { IfOk result (λ opened. opened ≡ rack_at_start endless (rack_described rack)) }
     ensures memory { IfErr result (λ fault. fault ≡ RackFault.OutOfMemory) }
 {
     match lines_of(alloc, &rack.lines, endless) {
-        Ok(lines) => Ok(with_lines(lines)),
+        Ok(lines) => Ok(with_lines(lines, rack.lines, endless)),
         Err(_) => Err(RackFault::OutOfMemory),
     }
 }
 
-/// Returns a rack of these lines that took no event yet.
-fn with_lines(lines: Vec<EmbeddedLine>) -> EmbeddedRack
-    ensures { result ≡ record { lines = lines.items; answer = blank_answer; text = [] } }
+/// Returns a rack of these lines, with their descriptions, that took no event yet.
+fn with_lines(lines: Vec<EmbeddedLine>, specs: Vec<RackLine>, forgets: bool) -> EmbeddedRack
+    ensures { result ≡ record { described = descriptions_of specs.items; forgets = forgets; lines = lines.items; answer = blank_answer; text = [] } }
 {
     EmbeddedRack {
         lines,
+        specs,
+        forgets,
         answer: Step::blank(),
         text: Text::new(),
         record: Record::blank(),

@@ -7,5 +7,5 @@ use Rattle.embedded_rack.proofs.embedded_rack.at_start.Goals as goal
 pub returns-in-Ok-clause-opened : goal.returns-in-Ok-clause-opened
 returns-in-Ok-clause-opened c =
     c.with_lines.ensures
-    ∙ rack_started c.args.endless c.args.rack.now.workers c.args.rack.now.lines.items c.in-Ok.lines.items
+    ∙ rack_started c.args.endless c.args.rack.workers c.args.rack.lines.items c.in-Ok.lines.items
     (c.in-Ok.ensures ∙ ap (map (λ line. line_opened c.args.endless (description_of line.spec))) c.deref.ensures.value)

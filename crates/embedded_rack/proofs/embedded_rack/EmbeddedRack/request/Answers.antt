@@ -2,20 +2,20 @@ use Rattle.std.proofs.Common.{◌==◌, ap, subst, ◌∙◌}
 use Rattle.std.specs.Prelude.{position}
 use Rattle.std.proofs.Common.{◌≡◌, set}
 use Rattle.embedded_rack.specs.LineCalls.{line_requested}
-use Rattle.embedded_rack.specs.RackCalls.{EmbeddedRack, Called, requested}
+use Rattle.embedded_rack.specs.RackCalls.{EmbeddedRack, Called, requested, descriptions_of}
 use Rattle.embedded_rack.proofs.Calls.{line_found, called_is}
 use Rattle.embedded_rack.proofs.embedded_rack.EmbeddedRack.request.Goals as goal
 
 pub returns-in-Some-clause-rack : goal.returns-in-Some-clause-rack
 returns-in-Some-clause-rack c =
-    let rack : EmbeddedRack = record { lines = c.self.inside.lines.items; answer = c.self.inside.answer; text = c.self.inside.text } in
+    let rack : EmbeddedRack = record { described = descriptions_of c.self.inside.specs.items; forgets = c.self.inside.forgets; lines = c.self.inside.lines.items; answer = c.self.inside.answer; text = c.self.inside.text } in
     let at = line_found c.self.inside.lines.items c.args.line c.in-Some.index c.index_mut.result.now (c.in-Some.ensures.index ∙ ap (position (λ line. line.journal.number == c.args.line)) c.deref.ensures.value) c.index_mut.ensures.value in
-    subst (λ (r : EmbeddedRack). record { lines = set c.self.inside.lines.items c.in-Some.index c.request.new.self; answer = c.request.new.answer; text = c.self.inside.text } ≡ (requested r c.args.line c.args.master c.args.octets.now).rack) c.self.view_is
+    subst (λ (r : EmbeddedRack). record { described = descriptions_of c.self.inside.specs.items; forgets = c.self.inside.forgets; lines = set c.self.inside.lines.items c.in-Some.index c.request.new.self; answer = c.request.new.answer; text = c.self.inside.text } ≡ (requested r c.args.line c.args.master c.args.octets.now).rack) c.self.view_is
     (ap (λ (d : Called (Unit {0})). d.rack) (called_is rack c.args.line c.in-Some.index c.index_mut.result.now (λ l. line_requested l c.args.master c.args.octets.now c.self.inside.answer) (record { line = c.request.new.self; answer = c.request.new.answer; result = c.request.result }) at c.request.ensures))
 
 pub returns-in-Some-clause-result : goal.returns-in-Some-clause-result
 returns-in-Some-clause-result c =
-    let rack : EmbeddedRack = record { lines = c.self.inside.lines.items; answer = c.self.inside.answer; text = c.self.inside.text } in
+    let rack : EmbeddedRack = record { described = descriptions_of c.self.inside.specs.items; forgets = c.self.inside.forgets; lines = c.self.inside.lines.items; answer = c.self.inside.answer; text = c.self.inside.text } in
     let at = line_found c.self.inside.lines.items c.args.line c.in-Some.index c.index_mut.result.now (c.in-Some.ensures.index ∙ ap (position (λ line. line.journal.number == c.args.line)) c.deref.ensures.value) c.index_mut.ensures.value in
     subst (λ (r : EmbeddedRack). c.request.result ≡ (requested r c.args.line c.args.master c.args.octets.now).result) c.self.view_is
     (ap (λ (d : Called (Unit {0})). d.result) (called_is rack c.args.line c.in-Some.index c.index_mut.result.now (λ l. line_requested l c.args.master c.args.octets.now c.self.inside.answer) (record { line = c.request.new.self; answer = c.request.new.answer; result = c.request.result }) at c.request.ensures))
