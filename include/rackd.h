@@ -1,16 +1,19 @@
 /* rackd in process: the simulated PROFIBUS DP slaves of a rack, called by a program in C.
  *
  * No function starts a thread, waits, reads a clock or a file, or writes anything but what its pointers name. The same
- * calls give the same answers, in each process and on each machine. Only rackd_open and rackd_cause take memory (malloc).
+ * calls give the same answers, in each process and on each machine. Only rackd_open, rackd_cause and rackd_why take memory
+ * (malloc), and the last two have freed it when they return.
  *
  * What a caller owes, since nothing can check it:
  * - Each pointer is valid for the number of octets beside it, and not null, also if that number is 0. What one pointer
  *   of a call names does not overlap with what another names.
- * - Only rackd_open is called with a closed rack, and it is not called with an open one: see rackd_is_open. A call of a
- *   closed rack reads a null pointer.
  * - A rackd_rack is changed by these functions only, and never copied: a copy is a second owner.
  * - Two calls with one rack never run at the same time. Different racks are independent, each may have a thread of its
  *   own, and a rack may move from one thread to another between two calls.
+ *
+ * What can be checked is: a call with a closed rack returns RACKD_CLOSED and sets nothing, rackd_open of an open rack returns
+ * RACKD_IS_OPEN, and rackd_close of a closed one does nothing. The functions at the end of this header check that. A program
+ * that calls the functions of the library without this header checks it itself.
  */
 #ifndef RACKD_H
 #define RACKD_H
@@ -39,7 +42,9 @@ enum {
     RACKD_NO_FRAME = 8,    /* the octets are not one whole frame: nothing is recorded */
     RACKD_NO_COMMAND = 9,  /* the octets are no line of an operator */
     RACKD_NO_ENTRY = 10,   /* the journal has no entry at this place, or an endless line has forgotten it */
-    RACKD_SHORT_ROOM = 11  /* there is no room for the reply, the answer or the row */
+    RACKD_SHORT_ROOM = 11, /* there is no room for the reply, the answer, the row or the sentence */
+    RACKD_CLOSED = 12,     /* the rack is closed */
+    RACKD_IS_OPEN = 13     /* the rack is open already */
 };
 
 /* What rackd_next sets `piece` to. 1 to 3 are octets that are no frame and are dropped. */
@@ -55,11 +60,87 @@ enum {
 #define RACKD_MOST_REPLY 255
 #define RACKD_MOST_TEXT 1800
 
-/* A rack. It begins closed: `rackd_rack rack = RACKD_CLOSED;` */
+/* A rack. It begins closed: `rackd_rack rack = RACKD_INITIALIZER;` */
 typedef struct rackd_rack {
     void *inside;
 } rackd_rack;
-#define RACKD_CLOSED { NULL }
+#define RACKD_INITIALIZER { NULL }
+
+/* Why an entry has its outcome: the number of the reason in rackd_facts, with the facts that it has. */
+enum {
+    RACKD_WHY_UNKNOWN = 0,             /* after a fault of rackd_why */
+
+    /* nobody replies, by a rule of the line */
+    RACKD_WHY_HALTED = 1,
+    RACKD_WHY_NO_FRAME = 2,
+    RACKD_WHY_NO_MASTER = 3,           /* master: the sender, which is no master of the line */
+    RACKD_WHY_FOREIGN_SENDER = 4,      /* master: the station that the frame names as its sender */
+    RACKD_WHY_TOKEN = 5,
+    RACKD_WHY_NOT_REQUEST = 6,
+    RACKD_WHY_BAD_FUNCTION = 7,
+    RACKD_WHY_BAD_EXTENSION = 8,
+    RACKD_WHY_BAD_BROADCAST = 9,
+    RACKD_WHY_NO_STATION = 10,
+    RACKD_WHY_MASTER_STATION = 11,     /* NoStation. master: the master of the line that has the address */
+    RACKD_WHY_LIVE_LIST_POLL = 12,     /* NoStation: an FDL status request looks for new stations */
+
+    /* a rule of the slave */
+    RACKD_WHY_STATUS = 13,             /* slave, state */
+    RACKD_WHY_NO_SERVICE = 14,         /* point; detail: the service that it takes, 1 SDN, 2 SRD, or RACKD_NONE */
+    RACKD_WHY_REPEAT_UNKNOWN = 15,
+    RACKD_WHY_RETRY = 16,              /* since: the entry whose octets are repeated */
+    RACKD_WHY_OTHER_REPEAT = 17,       /* point; since: the entry whose reply is repeated for other octets */
+    RACKD_WHY_NO_POINT = 18,           /* NotActive. slave, point */
+    RACKD_WHY_POINT_OFF = 19,          /* NotActive. slave, point, state; since: the entry that released it, or 0; detail: how,
+                                        * 1 wrong configuration, 2 wrong parameters, 3 unlocked, 4 halt, 5 watchdog */
+    RACKD_WHY_NOT_HOLDER = 20,         /* slave; master: its holder; since: the entry since which it is held */
+    RACKD_WHY_NOT_LISTED = 21,         /* master: the sender; detail: the list, 1 lockers, 2 readers */
+    RACKD_WHY_BUSY = 22,               /* point */
+    RACKD_WHY_LENGTH = 23,             /* value: the octets sent; limit: those that it takes; detail: 0 none, 1 exactly limit,
+                                        * 2 limit or none, 3 at most limit */
+    RACKD_WHY_NOT_SELECTED = 24,       /* slave; value: Group_Select; limit: the groups of the slave */
+
+    /* the rule Done: what the slave did */
+    RACKD_WHY_OUTPUTS_TAKEN = 25,
+    RACKD_WHY_OUTPUTS_WAIT = 26,       /* for Sync */
+    RACKD_WHY_NO_OUTPUTS = 27,
+    RACKD_WHY_DIAGNOSIS = 28,          /* detail: 1 if the holder has read it, else 0 */
+    RACKD_WHY_CONTROL = 29,            /* detail: the sum of 1 outputs cleared, 2 sync mode ends, 4 freeze mode ends; value and
+                                        * limit: Sync and Freeze, 0 not sent, 1 done, 2 beside its end, 3 not asked for */
+    RACKD_WHY_WRONG_PARAMETERS = 30,   /* master: the one that held the slave */
+    RACKD_WHY_UNLOCKED = 31,           /* slave; master: the one that held it; detail: 1 with Lock_Req, else 0 */
+    RACKD_WHY_LOCKED = 32,             /* slave; master: its holder; value: min TSDR */
+    RACKD_WHY_LOCKED_AGAIN = 33,       /* the same; since: the entry since which it is held */
+    RACKD_WHY_MIN_TSDR_SET = 34,       /* slave; master: its holder; value: min TSDR */
+    RACKD_WHY_MIN_TSDR_STAYS = 35,     /* the same */
+    RACKD_WHY_WRONG_CONFIGURATION = 36, /* master: the one that held the slave */
+    RACKD_WHY_CONFIGURED = 37,         /* value: the number of the configuration, from 0; limit: that before */
+    RACKD_WHY_READ = 38,
+    RACKD_WHY_TO_ALL = 39,             /* a Global_Control to all: the row of the entry has the rule of each slave */
+
+    /* a line of the operator */
+    RACKD_WHY_OPERATOR_DONE = 40,
+    RACKD_WHY_OPERATOR_REFUSED = 41,   /* detail: 1 NoStation, 2 WrongLength, 3 UnknownPoint, 4 Halted */
+    RACKD_WHY_TICKED = 42,             /* the row of the entry has the slaves that were released */
+    RACKD_WHY_LINE_HALTED = 43         /* detail: 1 if the journal is full, else 0 */
+};
+
+/* An address, a point, a state or a detail that a reason has not, or that is not known. */
+#define RACKD_NONE 255
+
+/* The facts of a reason. What a reason has not is RACKD_NONE, or 0 for `since`, `value` and `limit`. A station, a holder or
+ * a point that there is none of is RACKD_NONE too. */
+typedef struct rackd_facts {
+    uint64_t since;  /* the place of an entry, from 1 */
+    size_t value;    /* a number that the request has */
+    size_t limit;    /* a number that the slave has */
+    uint8_t reason;  /* RACKD_WHY_.. */
+    uint8_t slave;   /* an address */
+    uint8_t point;   /* the access point of the request (DSAP) */
+    uint8_t master;  /* an address */
+    uint8_t state;   /* of the slave before the request: 0 Wait_Prm, 1 Wait_Cfg, 2 Data_Exch */
+    uint8_t detail;
+} rackd_facts;
 
 /* Whether a rack is open. */
 static inline bool rackd_is_open(const rackd_rack *rack) {
@@ -107,11 +188,80 @@ uint32_t rackd_entries(rackd_rack *rack, uint8_t line, uint32_t *entries);
  * order are the text that `rackd check`, `explain`, `judge` and `capture` read. */
 uint32_t rackd_row(rackd_rack *rack, uint8_t line, uint32_t place, uint8_t *row, size_t room, size_t *count);
 
+/* Gives the reason for the outcome of the entry at a place of the journal of a line: copies the sentence that `rackd explain`
+ * writes of it, and sets `facts`. It takes all entries before it again, so it costs as much as they did. RACKD_NO_ENTRY also
+ * if an endless line has forgotten one of them. After RACKD_SHORT_ROOM `facts` is set, and `count` is the room needed; 1800
+ * octets are enough but for a wrong configuration of a slave that has many. */
+uint32_t rackd_why(rackd_rack *rack, uint8_t line, uint32_t place, uint8_t *sentence, size_t room, size_t *count,
+                   rackd_facts *facts);
+
 /* Copies the name of the rule of this number, as `NotHolder`; `count` is 0 if no rule has it. */
 uint32_t rackd_rule_name(uint8_t rule, uint8_t *name, size_t room, size_t *count);
 
 /* Copies the version of the library, RACKD_VERSION of its header. */
 uint32_t rackd_version(uint8_t *version, size_t room, size_t *count);
+
+/* ---- calls that refuse a rack in the wrong state. Each has the name of the function that it calls. */
+
+static inline uint32_t rackd_checked_open(rackd_rack *rack, const uint8_t *text, size_t octets, bool endless) {
+    return rackd_is_open(rack) ? (uint32_t)RACKD_IS_OPEN : rackd_open(rack, text, octets, endless);
+}
+
+static inline void rackd_checked_close(rackd_rack *rack) {
+    if (rackd_is_open(rack)) rackd_close(rack);
+}
+
+static inline uint32_t rackd_checked_request(rackd_rack *rack, uint8_t line, uint8_t master, const uint8_t *telegram,
+                                             size_t octets, uint8_t *reply, size_t room, size_t *count, uint8_t *rule,
+                                             uint32_t *place) {
+    return rackd_is_open(rack) ? rackd_request(rack, line, master, telegram, octets, reply, room, count, rule, place)
+                               : (uint32_t)RACKD_CLOSED;
+}
+
+static inline uint32_t rackd_checked_feed(rackd_rack *rack, uint8_t line, uint8_t master, const uint8_t *stream,
+                                          size_t octets, size_t *taken) {
+    return rackd_is_open(rack) ? rackd_feed(rack, line, master, stream, octets, taken) : (uint32_t)RACKD_CLOSED;
+}
+
+static inline uint32_t rackd_checked_next(rackd_rack *rack, uint8_t line, uint8_t master, uint8_t *piece, uint8_t *reply,
+                                          size_t room, size_t *count, uint8_t *rule, uint32_t *place) {
+    return rackd_is_open(rack) ? rackd_next(rack, line, master, piece, reply, room, count, rule, place)
+                               : (uint32_t)RACKD_CLOSED;
+}
+
+static inline uint32_t rackd_checked_tick(rackd_rack *rack, uint8_t line, uint32_t units) {
+    return rackd_is_open(rack) ? rackd_tick(rack, line, units) : (uint32_t)RACKD_CLOSED;
+}
+
+static inline uint32_t rackd_checked_operate(rackd_rack *rack, uint8_t line, const uint8_t *command, size_t octets,
+                                             uint8_t *answer, size_t room, size_t *count) {
+    return rackd_is_open(rack) ? rackd_operate(rack, line, command, octets, answer, room, count) : (uint32_t)RACKD_CLOSED;
+}
+
+static inline uint32_t rackd_checked_entries(rackd_rack *rack, uint8_t line, uint32_t *entries) {
+    return rackd_is_open(rack) ? rackd_entries(rack, line, entries) : (uint32_t)RACKD_CLOSED;
+}
+
+static inline uint32_t rackd_checked_row(rackd_rack *rack, uint8_t line, uint32_t place, uint8_t *row, size_t room,
+                                         size_t *count) {
+    return rackd_is_open(rack) ? rackd_row(rack, line, place, row, room, count) : (uint32_t)RACKD_CLOSED;
+}
+
+static inline uint32_t rackd_checked_why(rackd_rack *rack, uint8_t line, uint32_t place, uint8_t *sentence, size_t room,
+                                         size_t *count, rackd_facts *facts) {
+    return rackd_is_open(rack) ? rackd_why(rack, line, place, sentence, room, count, facts) : (uint32_t)RACKD_CLOSED;
+}
+
+#define rackd_open rackd_checked_open
+#define rackd_close rackd_checked_close
+#define rackd_request rackd_checked_request
+#define rackd_feed rackd_checked_feed
+#define rackd_next rackd_checked_next
+#define rackd_tick rackd_checked_tick
+#define rackd_operate rackd_checked_operate
+#define rackd_entries rackd_checked_entries
+#define rackd_row rackd_checked_row
+#define rackd_why rackd_checked_why
 
 #ifdef __cplusplus
 }

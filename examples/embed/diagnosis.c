@@ -39,7 +39,7 @@ static void operate(rackd_rack *rack, const char *command) {
 }
 
 int main(void) {
-    rackd_rack rack = RACKD_CLOSED;
+    rackd_rack rack = RACKD_INITIALIZER;
     uint8_t row[RACKD_MOST_TEXT];
     size_t count;
     if (rackd_open(&rack, (const uint8_t *)text, strlen(text), false) != RACKD_OK) return 1;

@@ -66,6 +66,21 @@ static void stream(rackd_rack *rack, uint8_t master, const uint8_t *octets, size
     } while (left > 0);
 }
 
+/* Asks why the newest entry has its outcome. An endless line that has forgotten entries gives no reason. */
+static void why(rackd_rack *rack, uint8_t *room, size_t limit) {
+    rackd_facts facts;
+    uint32_t place;
+    size_t count;
+    expect(rackd_entries(rack, 1, &place) == RACKD_OK, "entries are refused");
+    uint32_t done = rackd_why(rack, 1, place, room, limit, &count, &facts);
+    if (done == RACKD_NO_ENTRY) {
+        expect(count == 0 && facts.reason == RACKD_WHY_UNKNOWN, "no entry has a reason");
+        return;
+    }
+    expect(done == RACKD_OK && count > 0 && count <= limit, "an entry has no sentence");
+    expect(facts.reason > RACKD_WHY_UNKNOWN && facts.reason <= RACKD_WHY_LINE_HALTED, "an entry has no reason");
+}
+
 /* One call: the first octet chooses it, the others are its octets. */
 static void call(rackd_rack *rack, const uint8_t *data, size_t size) {
     uint8_t room[RACKD_MOST_TEXT + GUARD], frame[256], rule;
@@ -98,6 +113,10 @@ static void call(rackd_rack *rack, const uint8_t *data, size_t size) {
         expect(rackd_tick(rack, 1, left == 0 ? 1 : octets[0]) == RACKD_OK, "a tick is refused");
         break;
     default:
+        if (size > 1 && data[1] < 8) {
+            why(rack, room, limit);
+            break;
+        }
         expect(rackd_entries(rack, 1, &place) == RACKD_OK, "entries are refused");
         expect(rackd_row(rack, 1, place, room, limit, &count) == RACKD_OK, "there is no newest row");
     }
@@ -108,7 +127,7 @@ int LLVMFuzzerTestOneInput(const uint8_t *data, size_t size);
 
 /* One case: a new rack with endless lines, and calls of 2 to 65 octets each. */
 int LLVMFuzzerTestOneInput(const uint8_t *data, size_t size) {
-    rackd_rack rack = RACKD_CLOSED;
+    rackd_rack rack = RACKD_INITIALIZER;
     expect(rackd_open(&rack, (const uint8_t *)text, strlen(text), true) == RACKD_OK, "the rack is refused");
     while (size > 1) {
         size_t octets = 2 + data[0] % 64;
@@ -148,7 +167,7 @@ static size_t likely(uint64_t *state, uint8_t *data) {
 }
 
 int main(int argc, char **argv) {
-    rackd_rack rack = RACKD_CLOSED;
+    rackd_rack rack = RACKD_INITIALIZER;
     uint64_t state = 0x9E3779B97F4A7C15;
     uint8_t data[66];
     long calls = argc > 1 ? atol(argv[1]) : 1000000;

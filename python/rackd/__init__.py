@@ -38,6 +38,7 @@ A rack is the program `rackd serve`, which ends with the `with` statement or wit
         journal.refused()
         print(journal.explain(faults=True, slave=5))    # also first, last, master, refused, summary
         journal.judge(master=1)                         # what this master did that the standard rules out
+        line.why(3).sentence                            # why entry 3 has its outcome; in process also its facts
 
         operator.halt()                                 # permanent; the slaves that were released
 
@@ -57,11 +58,12 @@ from .master import Diagnosis, Master
 from .operator import Operator, Show, State
 from .port import Port
 from .rack import SAMPLE, Line, Rack
+from .reasons import Facts, Reason
 
 __all__ = [
-    "UE", "RR", "RS", "BadEnd", "BadFrame", "BadHead", "Cable", "Change", "Diagnosis", "EmbeddedLine", "EmbeddedRack", "Entry", "Finding",
-    "Frame", "Halted", "Journal", "Line", "Long", "Master", "NoProgram", "NoReply", "NoStart", "NoStation",
-    "NotACommand", "NotAccepted", "NotLegal", "Operator", "OperatorRefused", "Part", "Port", "Rack",
-    "RackError", "RackFault", "Refused", "RunningCable", "SAMPLE", "SessionEnded", "Short", "Show",
+    "UE", "RR", "RS", "BadEnd", "BadFrame", "BadHead", "Cable", "Change", "Diagnosis", "EmbeddedLine", "EmbeddedRack",
+    "Entry", "Facts", "Finding", "Frame", "Halted", "Journal", "Line", "Long", "Master", "NoProgram", "NoReply",
+    "NoStart", "NoStation", "NotACommand", "NotAccepted", "NotLegal", "Operator", "OperatorRefused", "Part", "Port",
+    "Rack", "RackError", "RackFault", "Reason", "Refused", "RunningCable", "SAMPLE", "SessionEnded", "Short", "Show",
     "SlaveRefused", "State", "TooLong", "TooMany", "UnknownPoint", "WrongLength",
 ]

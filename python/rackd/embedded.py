@@ -14,6 +14,7 @@ from .journal import Journal
 from .master import Master
 from .operator import Operator
 from .program import find_program
+from .reasons import FactsInC, Reason
 
 # The library that the repository carries, if this package lies in a checkout, and the one of an installed package.
 CARRIED = Path(__file__).resolve().parents[2] / "dist" / "x86_64-linux" / "librackd.so"
@@ -21,7 +22,7 @@ INSTALLED = Path(__file__).resolve().parent / "program" / "librackd.so"
 # room for each reply, and for each answer or row
 MOST_REPLY, MOST_TEXT = 255, 1800
 # what a call returns, and the piece that is a frame (include/rackd.h)
-OK, NO_COMMAND, FRAME = 0, 9, 255
+OK, NO_COMMAND, SHORT_ROOM, FRAME = 0, 9, 11, 255
 FAULTS = {1: "OutOfMemory", 2: "NotToml", 3: "BadKey", 4: "TwiceLine", 5: "Open"}
 # the reasons why octets of a stream are dropped
 DROPPED = {1: "NoStart", 2: "BadHead", 3: "BadEnd"}
@@ -124,6 +125,10 @@ class EmbeddedLine:
     def audit(self) -> bytes:
         """Returns the audit text of this line. Raises RackError if an endless line has forgotten entries."""
         return self.rack.audit(self.number)
+
+    def why(self, place: int) -> Reason:
+        """Returns why the entry at a place of the journal has its outcome. Raises RackError if there is no such entry."""
+        return self.rack.why(self.number, place)
 
     def stream(self, master: int, octets: bytes) -> bytes:
         """Sends octets of a master's stream, in any pieces, and returns the replies that they complete."""
@@ -258,6 +263,22 @@ class EmbeddedRack:
                       ctypes.byref(self._count)) != OK:
             raise RackError(f"line {line} has no entry {place}, or has forgotten it")
         return self._room.raw[:self._count.value]
+
+    def why(self, line: int, place: int) -> Reason:
+        """Returns why the entry at a place of the journal of a line has its outcome: its sentence and its facts.
+
+        It takes the entries before it again, so it costs as much time as they did. Raises RackError if there is no such
+        entry, or if an endless line has forgotten it or one before it.
+        """
+        facts, room = FactsInC(), ctypes.create_string_buffer(MOST_TEXT)
+        while True:
+            done = self._call("rackd_why", ctypes.c_uint8(line), ctypes.c_uint32(place), room,
+                              ctypes.c_size_t(len(room)), ctypes.byref(self._count), ctypes.byref(facts))
+            if done == OK:
+                return Reason(room.raw[:self._count.value].decode(), facts.facts())
+            if done != SHORT_ROOM:
+                raise RackError(f"line {line} has no entry {place}, or has forgotten entries")
+            room = ctypes.create_string_buffer(self._count.value)
 
     def _entries(self, line: int) -> Optional[int]:
         done = self._call("rackd_entries", ctypes.c_uint8(line), ctypes.byref(self._number))

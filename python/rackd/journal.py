@@ -8,8 +8,9 @@ import subprocess
 from dataclasses import dataclass
 from typing import Any, BinaryIO, Dict, Iterator, List, Mapping, Optional, Sequence, Tuple
 
-from .faults import RackFault
+from .faults import RackError, RackFault
 from .program import rows_of, run
+from .reasons import Reason
 
 
 @dataclass(frozen=True)
@@ -139,6 +140,13 @@ class Journal:
             if number is not None:
                 words += [f"--{name}", str(number)]
         return self._explained(*words)
+
+    def why(self, place: int) -> Reason:
+        """Returns why the entry at a place has its outcome. Raises RackError if there is no such entry."""
+        for entry in self.entries:
+            if entry.place == place:
+                return Reason(entry.sentence)
+        raise RackError(f"the journal has no entry {place}")
 
     def judge(self, *, master: Optional[int] = None, rules: Sequence[str] = (),
               retries: Optional[int] = None) -> List[Finding]:

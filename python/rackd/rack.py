@@ -20,6 +20,7 @@ from .master import Master
 from .operator import Operator
 from .port import Port
 from .program import find_program, rows_of, run
+from .reasons import Reason
 from .temporary import GuardedFolder, descriptors_of
 
 # Seconds that a rack may take to be ready, to end, and to be seen as ended once a connection has ended.
@@ -102,6 +103,10 @@ class Line:
         if len(parts) > 1 and not re.search(rb"^[0-9]", parts[-1], re.MULTILINE):
             parts.pop()
         return Journal(self._rack.program, self._rack.text, b"".join(parts))
+
+    def why(self, place: int) -> Reason:
+        """Returns why the entry at a place of the journal has its outcome. Raises RackError if there is no such entry."""
+        return self.journal().why(place)
 
     def _parts(self) -> List[bytes]:
         """Returns what the files of the journal have."""

@@ -34,7 +34,7 @@ void *__wrap_realloc(void *block, size_t octets) {
 int main(void) {
     long refused = 0;
     for (;;) {
-        rackd_rack rack = RACKD_CLOSED;
+        rackd_rack rack = RACKD_INITIALIZER;
         granted = refused;
         uint32_t done = rackd_open(&rack, (const uint8_t *)text, strlen(text), false);
         granted = -1;

@@ -1,4 +1,6 @@
 """The examples in C, and those in other languages whose compiler is installed."""
+import os
+import shutil
 import subprocess
 
 from support.embedded import find
@@ -19,3 +21,15 @@ def test_rust(library_folder, tmp_path):
     assert done.returncode == 0, done.stderr
     done = subprocess.run([program], check=False, capture_output=True, text=True)
     assert done.returncode == 0, done.stdout
+
+
+def test_go(library_folder, tmp_path):
+    """The tests of the package. It is compiled with the libraries of the folder, which come before the carried ones."""
+    folder = tmp_path / "examples" / "embed" / "go"
+    shutil.copytree(EXAMPLES / "go", folder)
+    (tmp_path / "include").symlink_to(TOP / "include")
+    (tmp_path / "dist").mkdir()
+    (tmp_path / "dist" / "x86_64-linux").symlink_to(library_folder)
+    environment = {**os.environ, "GOCACHE": str(tmp_path / "cache"), "GOFLAGS": "-mod=mod", "CGO_ENABLED": "1"}
+    done = subprocess.run([find("go"), "test", "./..."], check=False, capture_output=True, text=True, cwd=folder, env=environment)
+    assert done.returncode == 0, done.stdout + done.stderr

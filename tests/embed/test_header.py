@@ -2,6 +2,7 @@
 import re
 import subprocess
 
+from rackd.reasons import NAMES, NONE
 from support.embedded import find
 from support.repository import read
 
@@ -36,3 +37,9 @@ def test_the_shared_object_has_a_soname_with_the_version(shared_library):
 def test_the_version_is_that_of_the_program(run):
     version = re.search(r'#define RACKD_VERSION "(.*)"', read("include/rackd.h"))[1]
     assert run("--version").output.split()[1] == version
+
+
+def test_the_reasons_of_the_header_are_those_of_the_package():
+    reasons = {int(number): name for name, number in re.findall(r"^    RACKD_WHY_(\w+) = (\d+)", read("include/rackd.h"), re.MULTILINE)}
+    assert [reasons[number].lower() for number in sorted(reasons)] == list(NAMES)
+    assert f"#define RACKD_NONE {NONE}\n" in read("include/rackd.h")

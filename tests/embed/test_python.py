@@ -80,3 +80,38 @@ def test_closed_racks_and_sessions(shared_library):
     rack.close()
     with pytest.raises(rackd.SessionEnded):
         master.slave_diag(5)
+
+
+def test_why_a_request_was_refused(any_rack):
+    line = any_rack.line(1)
+    line.master(1).bring_up(5, 0x80A1, b"\x21\x11")
+    with pytest.raises(rackd.RS):
+        line.master(2).set_prm(5, 0x80A1)
+    refused, = line.journal().refused()
+    reason = line.why(refused.place)
+    assert reason.sentence == refused.sentence
+    assert "Master 1 holds slave 5 since entry " in reason.sentence
+    with pytest.raises(rackd.RackError):
+        line.why(refused.place + 1)
+
+
+def test_facts_of_a_refused_request(shared_library):
+    with rackd.EmbeddedRack(rackd.SAMPLE, library=shared_library) as rack:
+        line = rack.line(1)
+        line.master(1).set_prm(5, 0x80A1)
+        with pytest.raises(rackd.RS):
+            line.master(2).set_prm(5, 0x80A1)
+        assert line.why(2).facts == rackd.Facts(reason="not_holder", slave=5, point=None, master=1, state=None, since=1,
+                                                detail=None, value=0, limit=0)
+
+
+def test_why_on_an_endless_line_that_has_forgotten_entries(shared_library):
+    text = rackd.SAMPLE.replace("capacity = 65536", "capacity = 4")
+    with rackd.EmbeddedRack(text, endless=True, library=shared_library) as rack:
+        line = rack.line(1)
+        for place in range(1, 5):
+            line.operator().tick(1)
+            assert line.why(place).sentence == "no watchdog ran out."
+        line.operator().tick(1)
+        with pytest.raises(rackd.RackError):
+            line.why(5)

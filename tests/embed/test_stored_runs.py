@@ -3,15 +3,7 @@ from pathlib import Path
 
 import pytest
 from rackd import EmbeddedRack, RackError
-from support.embedded import Player
-from support.repository import TOP
-
-RUNS = sorted((TOP / "tests" / "runs").glob("*/*.script"))
-EXAMPLES = sorted(path for path in (TOP / "examples").glob("*.txt") if "\n%%\n" in path.read_text(encoding="utf-8"))
-
-
-def ids(paths):
-    return [f"{path.parent.name}-{path.stem}" for path in paths]
+from support.embedded import EXAMPLES, RUNS, Player, ids, input_of
 
 
 def played(rack_text, script, shared_library):
@@ -24,7 +16,7 @@ def played(rack_text, script, shared_library):
 def test_stored_run(path: Path, run, shared_library):
     rack = path.parent / "rack.toml"
     try:
-        text, stopped = played(rack.read_text(encoding="utf-8") + "\n", path.read_text(encoding="utf-8"), shared_library)
+        text, stopped = played(*input_of(path), shared_library)
     except RackError:
         pytest.skip("the rack is refused")
     done = run("run", str(rack), str(path))
@@ -35,5 +27,4 @@ def test_stored_run(path: Path, run, shared_library):
 
 @pytest.mark.parametrize("path", EXAMPLES, ids=ids(EXAMPLES))
 def test_example(path: Path, shared_library):
-    rack, _, script = path.read_text(encoding="utf-8").partition("\n%%\n")
-    assert played(rack + "\n", script, shared_library) == (path.with_suffix(".out").read_text(encoding="utf-8"), None)
+    assert played(*input_of(path), shared_library) == (path.with_suffix(".out").read_text(encoding="utf-8"), None)

@@ -29,7 +29,7 @@ static size_t ask(rackd_rack *rack, const uint8_t *telegram, size_t octets) {
 
 int main(int argc, char **argv) {
     char text[8192];
-    rackd_rack rack = RACKD_CLOSED;
+    rackd_rack rack = RACKD_INITIALIZER;
     size_t sum = 0;
     if (argc != 3) return 2;
     int slaves = strcmp(argv[1], "tick64") == 0 ? 64 : 1;

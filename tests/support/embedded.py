@@ -4,6 +4,11 @@ import shutil
 
 import pytest
 
+from support.repository import TOP
+
+# the scripts of the stored runs and of the examples
+RUNS = sorted((TOP / "tests" / "runs").glob("*/*.script"))
+EXAMPLES = sorted(path for path in (TOP / "examples").glob("*.txt") if "\n%%\n" in path.read_text(encoding="utf-8"))
 # the number of a line in a rack file
 NUMBER = re.compile(r"^number *= *(\d+)", re.MULTILINE)
 
@@ -14,6 +19,20 @@ def find(compiler):
     if found is None:
         pytest.skip(f"{compiler} is not installed")
     return found
+
+
+def ids(paths):
+    """Returns a name for each script."""
+    return [f"{path.parent.name}-{path.stem}" for path in paths]
+
+
+def input_of(path):
+    """Returns the text of the rack file and the script of a stored run or an example."""
+    text = path.read_text(encoding="utf-8")
+    if path.suffix == ".script":
+        return (path.parent / "rack.toml").read_text(encoding="utf-8") + "\n", text
+    rack, _, script = text.partition("\n%%\n")
+    return rack + "\n", script
 
 
 class NoCommand(Exception):

@@ -6,16 +6,21 @@
 #![tactic(auto)]
 
 mod answer;
+mod done_facts;
+mod facts;
 mod handle;
 mod names;
 mod opening;
 mod operating;
 mod parts;
+mod reasons;
 mod telegrams;
 mod text_out;
 
+pub use facts::Facts;
 pub use handle::Handle;
 pub use names::{rackd_rule_name, rackd_version};
 pub use opening::{rackd_cause, rackd_close, rackd_open};
 pub use operating::{rackd_entries, rackd_operate, rackd_row, rackd_tick};
+pub use reasons::rackd_why;
 pub use telegrams::{rackd_feed, rackd_next, rackd_request};

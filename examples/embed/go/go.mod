@@ -1,0 +1,3 @@
+module rackd
+
+go 1.19
