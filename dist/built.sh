@@ -1,7 +1,7 @@
 # shellcheck shell=bash
 # What tells whether a program is built from the sources as they are. It is read by ./rackd, ./test, dist/refresh and the
 # scripts of tests/, which set top to the folder of the repository before. Beside a program PROGRAM the file PROGRAM.built
-# says what it was built from.
+# says what it was built from; rackd.built in dist has the rows of the libraries beside those of the program.
 
 # the program that the repository carries, and the one that is built here
 carried=$top/dist/x86_64-linux/rackd
@@ -72,24 +72,64 @@ toolchain_of() {
   done <"$1.built"
 }
 
+# rows FILE KIND: the rows of a file that are about the program, or about the libraries
+rows() {
+  local name value kind
+  [ -f "$1" ] || return 0
+  while read -r name value; do
+    case $name in
+      archive | shared | library-*) kind=libraries ;;
+      *) kind=program ;;
+    esac
+    if [ "$kind" = "$2" ]; then echo "$name $value"; fi
+  done <"$1"
+}
+
+# write_rows FILE: writes the rows that are read to a file, all at once
+write_rows() {
+  local text
+  text=$(while IFS= read -r row; do echo "$row"; done)
+  echo "$text" >"$1.$$" && mv -f "$1.$$" "$1"
+}
+
 # mark PROGRAM SOURCES: notes that the program was built from sources of this sum, by which toolchain
 mark() {
-  printf 'program %s\nsources %s\ntoolchain %s\n' "$(sum "$1")" "$2" "$(rt version)" >"$1.built.$$" && mv -f "$1.built.$$" "$1.built"
+  {
+    printf 'program %s\nsources %s\ntoolchain %s\n' "$(sum "$1")" "$2" "$(rt version)"
+    rows "$1.built" libraries
+  } | write_rows "$1.built"
 }
 
 # are_built SOURCES: whether the carried libraries are there, as they were when they were built from sources of this sum
 are_built() {
-  local file=$libraries/librackd.built one other from
-  [ -f "$libraries/librackd.a" ] && [ -f "$libraries/librackd.so" ] && [ -f "$file" ] || return 1
-  { read -r one && read -r other && read -r from; } <"$file"
-  [ "$from" = "sources $1" ] && [ "$one" = "archive $(sum "$libraries/librackd.a")" ] &&
-    [ "$other" = "shared $(sum "$libraries/librackd.so")" ]
+  local name value archive='' shared='' from=''
+  [ -f "$libraries/librackd.a" ] && [ -f "$libraries/librackd.so" ] && [ -f "$carried.built" ] || return 1
+  while read -r name value; do
+    case $name in
+      archive) archive=$value ;;
+      shared) shared=$value ;;
+      library-sources) from=$value ;;
+    esac
+  done <"$carried.built"
+  [ "$from" = "$1" ] && [ "$archive" = "$(sum "$libraries/librackd.a")" ] && [ "$shared" = "$(sum "$libraries/librackd.so")" ]
+}
+
+# library_toolchain: the kit by which the carried libraries were built, as far as that is known
+library_toolchain() {
+  local name value
+  [ -f "$carried.built" ] || return 0
+  while read -r name value; do
+    if [ "$name" = library-toolchain ]; then echo "$value"; fi
+  done <"$carried.built"
 }
 
 # mark_libraries SOURCES: notes that the carried libraries were built from sources of this sum, by which toolchain
 mark_libraries() {
-  printf 'archive %s\nshared %s\nsources %s\ntoolchain %s\n' "$(sum "$libraries/librackd.a")" \
-    "$(sum "$libraries/librackd.so")" "$1" "$(rt version)" >"$libraries/librackd.built"
+  {
+    rows "$carried.built" program
+    printf 'archive %s\nshared %s\nlibrary-sources %s\nlibrary-toolchain %s\n' "$(sum "$libraries/librackd.a")" \
+      "$(sum "$libraries/librackd.so")" "$1" "$(rt version)"
+  } | write_rows "$carried.built"
 }
 
 # have_program: sets program to one that is built from these sources, for tests; rt builds it where there is none

@@ -32,11 +32,12 @@ else
     "${python:-python3}" -m pytest -q -p no:cacheprovider "--program=$carried" "$top/tests/cli/test_stored_runs.py"
 fi
 hold 'dist/ carries libraries of the sources as they are' are_built "$(sources rackd_library)"
-if [ -f "$archive" ] && [ "$(toolchain "$libraries/librackd")" = "$(rt version)" ]; then
+if [ -f "$archive" ] && [ "$(library_toolchain)" = "$(rt version)" ]; then
   made=$(mktemp -d)
   trap 'rm -rf "$made"' EXIT
   hold 'the libraries are made of the archive that is built here' "$top/dist/library.sh" "$archive" "$made"
   hold 'the carried archive is the same, octet for octet' cmp "$made/librackd.a" "$libraries/librackd.a"
+  hold 'the carried shared object is the same, octet for octet' cmp "$made/librackd.so" "$libraries/librackd.so"
 fi
 if [ "$failed" != 0 ]; then echo 'dist/refresh has the repository carry the program of these sources'; fi
 echo "$passed passed, $failed failed"
