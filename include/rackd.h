@@ -26,7 +26,7 @@
 extern "C" {
 #endif
 
-#define RACKD_VERSION "0.1.0"
+#define RACKD_VERSION "0.2.0"
 
 /* What a call returns. After any but RACKD_OK no line of the rack has changed, except after RACKD_SHORT_ROOM of
  * rackd_operate. */

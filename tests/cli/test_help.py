@@ -171,7 +171,7 @@ def kit(top):
 @pytest.mark.parametrize("form", ["--version", "-V"])
 def test_version(run, kit, form):
     """The version names the kit of README.md."""
-    assert run(form) == (0, f"rackd 0.1.0 ({kit})\n", "")
+    assert run(form) == (0, f"rackd 0.2.0 ({kit})\n", "")
 
 
 def test_kit_that_built_the_carried_program(top, kit):

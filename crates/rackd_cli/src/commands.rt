@@ -45,7 +45,7 @@ pub(crate) const PAGE_PORT: &str = "port";
 pub(crate) const PORT: &str = "PORT";
 
 /// What `--version` prints after the program's name: the version, and the toolchain that proves and builds the program.
-const VERSION: &str = "0.1.0 (rattle-kit-13f logic dac8208d650f15bf)";
+const VERSION: &str = "0.2.0 (rattle-kit-13f logic dac8208d650f15bf)";
 
 /// The word `run`, with a rack and a script.
 static RUN: Word = Word {

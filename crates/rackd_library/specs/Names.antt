@@ -12,4 +12,4 @@ abbrev pub name_of_rule : ℕ → List ℕ
 name_of_rule number = name_by_rule (rule_of number)
 
 abbrev pub version_text : List ℕ
-version_text = codes "0.1.0"
+version_text = codes "0.2.0"

@@ -42,5 +42,5 @@ pub extern "C" fn rackd_version(version: &mut [u8], count: &mut usize) -> u32
 fn version_name() -> &'static str
     ensures { result.now ≡ version_text }
 {
-    "0.1.0"
+    "0.2.0"
 }
