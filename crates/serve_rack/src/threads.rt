@@ -4,7 +4,7 @@ ghost use Rattle.serve_lines.specs.ServingLines.{AreSeated};
 
 use audit_files::{NewFiles, OldParts};
 use crossbeam_channel::{Receiver, RecvTimeoutError, bounded};
-use dp_sessions::{Gate, Job, PoolFault, run_pool};
+use dp_sessions::{Gate, Job, PoolFault, Workers, count_served, run_pool};
 use log::Log;
 use serve_clock::Schedule;
 use serve_lines::SeatedWorkers;
@@ -101,6 +101,7 @@ fn serve_sessions<'a, H: Host + Sync, G: TimedGate + Sync>(
     } = sessions;
     let Acceptors { masters, operators } = acceptors;
     let (rt, serve_phase) = (context.sockets.rt, context.sockets.serve_phase);
+    let alloc = context.alloc;
     let accepting = Accepting {
         masters,
         operators,
@@ -109,7 +110,7 @@ fn serve_sessions<'a, H: Host + Sync, G: TimedGate + Sync>(
     };
     serve_in_threads(
         rt,
-        context.alloc,
+        alloc,
         serve_phase,
         session_gate,
         schedule,
@@ -117,12 +118,15 @@ fn serve_sessions<'a, H: Host + Sync, G: TimedGate + Sync>(
         accepting,
         || -> Result<u32, PoolFault>
             requires { AreSeated workers }
-        { serve_masters(rt, serve_phase, workers, jobs, session_gate) },
+        { serve_masters(rt, alloc, serve_phase, workers, jobs, session_gate) },
     )
 }
 
-/// Serves the sessions of masters. If the thread of a worker cannot be started, serving stops once the workers that started
-/// have ended.
+/// How many sessions each worker keeps. Nothing reads them yet, so none is kept.
+const KEPT_SESSIONS: usize = 0;
+
+/// Serves the sessions of masters. If memory is refused or the thread of a worker cannot be started, serving stops once the
+/// workers that started have ended.
 fn serve_masters<
     R: Read + Send + Drop,
     W: Write + Send + Drop,
@@ -130,6 +134,7 @@ fn serve_masters<
     H: Net + Threads + Wait + Sync,
 >(
     rt: &H,
+    alloc: Global,
     serve_phase: &ServePhase,
     workers: SeatedWorkers<'_>,
     jobs: Receiver<Job<R, W>>,
@@ -138,11 +143,17 @@ fn serve_masters<
     requires { AreSeated workers }
 {
     let SeatedWorkers { ports, seats } = workers;
-    let served = run_pool(rt, ports, seats, jobs, session_gate, MAX_READS);
-    if served.is_err() {
+    let Ok(workers) = Workers::new(alloc, seats, KEPT_SESSIONS) else {
         serve_phase.stop(rt, rt);
+        return Err(PoolFault::OutOfMemory);
+    };
+    match run_pool(rt, ports, workers, jobs, session_gate, MAX_READS) {
+        Ok(all) => Ok(count_served(&all)),
+        Err(fault) => {
+            serve_phase.stop(rt, rt);
+            Err(fault)
+        }
     }
-    served
 }
 
 /// What accepts connections, this number at each port, and serves the operators.
