@@ -10,7 +10,9 @@ use crate::expecting::{Expecting, Written};
 use crate::{status_at_once, status_behind};
 use crossbeam_channel::{Receiver, bounded};
 use dp_line::LineSpec;
-use dp_sessions::{Job, OpenGate, PoolFault, Port, run_pool};
+use dp_sessions::{
+    Job, OpenGate, PoolFault, Port, ServedSessions, Workers, count_served, run_pool,
+};
 use dp_shared::{Claims, Line, WorkerSeat};
 use std::alloc::{AllocError, Global};
 use std::sync::Wait;
@@ -135,11 +137,13 @@ pub(crate) fn status<H: Threads + Wait + Sync>(
         alone(alloc, place.third)?,
         alone(alloc, place.fourth)?,
     )?;
+    let workers = Workers::new(alloc, seats, 1)?;
+    let workers_behind = Workers::new(alloc, seats_behind, 1)?;
     let ports = [place.port];
-    let ended = run_pool(rt, &ports, seats, jobs, &OpenGate, 100);
+    let ended = run_pool(rt, &ports, workers, jobs, &OpenGate, 100);
     match answer_of(ended, &written) {
         Answer::Refused => {
-            let ended = run_pool(rt, &ports, seats_behind, jobs_behind, &OpenGate, 100);
+            let ended = run_pool(rt, &ports, workers_behind, jobs_behind, &OpenGate, 100);
             Ok(status_behind(answer_of(ended, &behind)))
         }
         answer => Ok(status_at_once(answer)),
@@ -147,9 +151,12 @@ pub(crate) fn status<H: Threads + Wait + Sync>(
 }
 
 /// Returns the result of a pool that ended so, after this was written.
-fn answer_of(ended: Result<u32, PoolFault>, written: &Written) -> Answer {
+fn answer_of<R: Drop, W: Drop>(
+    ended: Result<Vec<ServedSessions<R, W>>, PoolFault>,
+    written: &Written,
+) -> Answer {
     match ended {
-        Ok(1) if written.is_whole(ANSWERED) => Answer::Whole,
+        Ok(all) if count_served(&all) == 1 && written.is_whole(ANSWERED) => Answer::Whole,
         Err(PoolFault::NoThread) => refused(written),
         _ => Answer::Other,
     }

@@ -1,3 +1,4 @@
 pub mod FreePlaces
 pub mod Journals
 pub mod Pairing
+pub mod PoolJournals

@@ -1,7 +1,7 @@
 //! Has clients of sessions and passes that use only public contracts, and tests calls of `dp_shared` and `dp_sessions`
 //! that the program doesn't make; it has only tests and opens no sockets.
 //!
-//! The clients are in [`threads`], [`tied`], [`returned_pass`], [`hand_backs`] and [`lent`]. Their contracts say what was
+//! The clients are in [`threads`], [`pools`], [`tied`], [`returned_pass`], [`hand_backs`] and [`lent`]. Their contracts say what was
 //! read and written, and what is in the journal, if they succeed. So each is run with values once or twice, to show that it
 //! succeeds: its test compares the numbers of reads, octets and entries. `test_sessions_that_their_clients_end` of
 //! `tests/serve/test_ends.py` compares all octets and entries of these sessions over sockets.
@@ -23,6 +23,8 @@ mod hand_backs;
 mod lent;
 #[cfg(test)]
 mod passes;
+#[cfg(test)]
+mod pools;
 #[cfg(test)]
 mod returned_pass;
 #[cfg(test)]

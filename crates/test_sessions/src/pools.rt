@@ -5,7 +5,7 @@ ghost use Rattle.dp_sessions.specs.Pools.{IsSeatAt};
 
 use crossbeam_channel::{Receiver, unbounded};
 use dp_line::Device;
-use dp_sessions::{Job, OpenGate, Port, run_pool};
+use dp_sessions::{Job, OpenGate, Port, Workers, count_served, run_pool};
 use dp_shared::WorkerSeat;
 use dp_telegram::Octets;
 use std::alloc::{AllocError, Global};
@@ -107,7 +107,9 @@ fn served<H: Threads + Wait + Sync, R: Read + Send + Drop, W: Write + Send + Dro
         both(alloc, one.second, two.second)?,
     )?;
     let ports = [one.port, two.port];
-    let count = run_pool(rt, &ports, seats, queue, &OpenGate, 100)?;
+    let workers = Workers::new(alloc, seats, 1)?;
+    let all = run_pool(rt, &ports, workers, queue, &OpenGate, 100)?;
+    let count = count_served(&all);
     let free = are_free(&ports[0], one.third) && are_free(&ports[1], two.third);
     Ok(format!(in alloc; "{count} served, free {free}")?)
 }
