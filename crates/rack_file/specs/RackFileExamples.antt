@@ -18,7 +18,7 @@ use Rattle.rack_file.specs.Rack.{LineDescription}
 use Rattle.rack_file.specs.Misreads.{bad_key, key_fault_text, shown}
 use Rattle.rack_file.specs.TomlKeys.{required, optional, elements_of, text_or_array_of, number_from, octets_of, each_from}
 use Rattle.rack_file.specs.RackFile.{masters_of, configuration_of, configurations_of, device_of, list_of, slave_of, slave_at, slaves_of, port_of, line_of, line_at, lines_of, all_open, rack_of, rack_of_document, rack_in}
-use Rattle.strsim.specs.Edits.{cost_at, next_row, rows}
+use Rattle.strsim.specs.Edits.{cost_at, osa_from, osa_row}
 use Rattle.rack_file.specs.Suggestions.{suggested_key}
 use Rattle.rack_file.specs.Causes.{cause_of, row_at}
 
@@ -290,31 +290,31 @@ missing_key = (refl, refl)
 
 pub wide_number :
     Reports (file_with_slaves (item (slave_5 65536) no_items))
-    (Slave 1 1) (codes "ident") (NoNumber 0 65535) (codes "line 1, slave 1, key \"ident\": no number from 0 to 65535")
+    (Slave 1 1) (codes "ident") (NoNumber 0 65535) (codes "line 1, slave 1, key \"ident\": expected a number from 0 to 65535")
 unfolding rack_on_literals
 wide_number = (refl, refl)
 
 pub negative_number :
     Reports (member (codes "workers") (integer (negsuc 0)) no_members)
-    Rack (codes "workers") (NoNumber 1 32) (codes "key \"workers\": no number from 1 to 32")
+    Rack (codes "workers") (NoNumber 1 32) (codes "key \"workers\": expected a number from 1 to 32")
 unfolding rack_on_literals
 negative_number = (refl, refl)
 
 pub number_for_a_text :
     Reports (file_with_slaves (item (slave_with_cfg (array (item (integer (pos 21)) no_items))) no_items))
-    (Slave 1 1) (codes "cfg") NoText (codes "line 1, slave 1, key \"cfg\": no text")
+    (Slave 1 1) (codes "cfg") NoText (codes "line 1, slave 1, key \"cfg\": expected a text in quotes")
 unfolding rack_on_literals
 number_for_a_text = (refl, refl)
 
 pub number_for_a_configuration :
     Reports (file_with_slaves (item (slave_with_cfg (integer (pos 21))) no_items))
-    (Slave 1 1) (codes "cfg") NoTextOrArray (codes "line 1, slave 1, key \"cfg\": neither a text nor an array")
+    (Slave 1 1) (codes "cfg") NoTextOrArray (codes "line 1, slave 1, key \"cfg\": expected a text in quotes or an array of texts")
 unfolding rack_on_literals
 number_for_a_configuration = (refl, refl)
 
 pub cut_pair :
     Reports (file_with_slaves (item (slave_with_cfg (string (codes "211"))) no_items))
-    (Slave 1 1) (codes "cfg") NoHex (codes "line 1, slave 1, key \"cfg\": no pairs of hex digits")
+    (Slave 1 1) (codes "cfg") NoHex (codes "line 1, slave 1, key \"cfg\": expected pairs of hex digits without spaces, as \"2111\"")
 unfolding rack_on_literals
 cut_pair = (refl, refl)
 
@@ -325,7 +325,7 @@ zeros (suc n) = codes "00" ++ zeros n
 
 pub long_configuration :
     Reports (file_with_slaves (item (slave_with_cfg (string (zeros 245))) no_items))
-    (Slave 1 1) (codes "cfg") ManyOctets (codes "line 1, slave 1, key \"cfg\": more than 244 octets")
+    (Slave 1 1) (codes "cfg") ManyOctets (codes "line 1, slave 1, key \"cfg\": expected at most 244 octets")
 unfolding rack_on_literals
 long_configuration = (refl, refl)
 
@@ -334,7 +334,7 @@ pub number_for_a_flag :
     (member (codes "cfg") (string [])
     (member (codes "ident") (integer (pos 1))
     (member (codes "sync") (integer (pos 1)) no_members))))) no_items))
-    (Slave 1 1) (codes "sync") NoFlag (codes "line 1, slave 1, key \"sync\": neither true nor false")
+    (Slave 1 1) (codes "sync") NoFlag (codes "line 1, slave 1, key \"sync\": expected true or false")
 unfolding rack_on_literals
 number_for_a_flag = (refl, refl)
 
@@ -342,23 +342,23 @@ pub number_for_masters :
     Reports (file (item (table (member (codes "capacity") (integer (pos 1))
     (member (codes "masters") (integer (pos 1))
     (member (codes "number") (integer (pos 1)) no_members)))) no_items))
-    (Line 1) (codes "masters") NoArray (codes "line 1, key \"masters\": no array")
+    (Line 1) (codes "masters") NoArray (codes "line 1, key \"masters\": expected an array")
 unfolding rack_on_literals
 number_for_masters = (refl, refl)
 
-pub no_line : Reports (file no_items) Rack (codes "line") (Count 1 8) (codes "key \"line\": not 1 to 8 elements")
+pub no_line : Reports (file no_items) Rack (codes "line") (Count 1 8) (codes "key \"line\": expected 1 to 8 elements")
 unfolding rack_on_literals
 no_line = (refl, refl)
 
 pub number_for_a_slave :
     Reports (file_with_slaves (item (slave_5 1) (item (integer (pos 5)) no_items)))
-    (Line 1) (codes "slave") NoTable (codes "line 1, key \"slave\": an element is no table")
+    (Line 1) (codes "slave") NoTable (codes "line 1, key \"slave\": expected a table as each element")
 unfolding rack_on_literals
 number_for_a_slave = (refl, refl)
 
 pub device_in_capitals :
     Reports (whole_file 32 (string (codes "Mirror")))
-    (Slave 1 1) (codes "device") NoDevice (codes "line 1, slave 1, key \"device\": none of \"still\", \"counter\" and \"mirror\"")
+    (Slave 1 1) (codes "device") NoDevice (codes "line 1, slave 1, key \"device\": expected \"still\", \"counter\" or \"mirror\"")
 unfolding rack_on_literals
 device_in_capitals = (refl, refl)
 
@@ -367,22 +367,26 @@ pub key_in_one_row : shown (0x61 ∷ 0x22 ∷ 0x0A ∷ 0x5C ∷ 0xC3 ∷ 0xBC �
 key_in_one_row = refl
 
 pub cause_of_a_text : option_map (λ file. cause_of (rack_of file)) (parse_document (codes "colour = 1\n")) ≡ Some (Some (codes "key \"colour\": no such key"))
-unfolding rack_on_literals chars rows next_row cost_at
+unfolding rack_on_literals chars osa_from osa_row cost_at
 cause_of_a_text = refl
 
 -- ---- the key that an unknown one may stand for
 
-pub one_letter_away : suggested_key Rack (codes "lines") NoSuchKey ≡ Some (codes "line")
-unfolding chars rows next_row cost_at
-one_letter_away = refl
+pub one_letter_more : suggested_key Rack (codes "lines") NoSuchKey ≡ Some (codes "line")
+unfolding chars osa_from osa_row cost_at
+one_letter_more = refl
 
-pub two_letters_away : suggested_key Rack (codes "wrokers") NoSuchKey ≡ Some (codes "workers")
-unfolding chars rows next_row cost_at
-two_letters_away = refl
+pub swapped_letters : suggested_key (Slave 1 1) (codes "idnet") NoSuchKey ≡ Some (codes "ident")
+unfolding chars osa_from osa_row cost_at
+swapped_letters = refl
 
-pub two_letters_of_a_short_key : suggested_key (Slave 1 1) (codes "cgf") NoSuchKey ≡ None
-unfolding chars rows next_row cost_at
-two_letters_of_a_short_key = refl
+pub two_edits : suggested_key Rack (codes "wrokres") NoSuchKey ≡ Some (codes "workers")
+unfolding chars osa_from osa_row cost_at
+two_edits = refl
+
+pub two_edits_of_a_short_key : suggested_key (Slave 1 1) (codes "cxx") NoSuchKey ≡ None
+unfolding chars osa_from osa_row cost_at
+two_edits_of_a_short_key = refl
 
 pub no_suggestion_for_a_known_key : suggested_key Rack (codes "line") Missing ≡ None
 no_suggestion_for_a_known_key = refl
