@@ -8,8 +8,9 @@
  * - Each pointer is valid for the number of octets beside it, and not null, also if that number is 0. What one pointer
  *   of a call names does not overlap with what another names.
  * - A rackd_rack is changed by these functions only, and never copied: a copy is a second owner.
- * - Two calls with one rack never run at the same time. Different racks are independent, each may have a thread of its
- *   own, and a rack may move from one thread to another between two calls.
+ * - Two calls with one rack never run at the same time. Different racks are independent, and each may have a thread of its
+ *   own. A rack may move from one thread to another between two calls, if a lock, the start or the end of a thread, or an
+ *   atomic orders the two.
  *
  * What can be checked is: a call with a closed rack returns RACKD_CLOSED and sets nothing, rackd_open of an open rack returns
  * RACKD_IS_OPEN, and rackd_close of a closed one does nothing. The functions at the end of this header check that. A program

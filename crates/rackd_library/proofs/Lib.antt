@@ -1,2 +1,3 @@
 pub mod AsBox
 mod Openings
+pub mod Sharing

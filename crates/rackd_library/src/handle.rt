@@ -16,7 +16,7 @@ use std::ptr::null_mut;
 pub(crate) const OUT_OF_MEMORY: u32 = 1;
 
 /// The rack of a C program: open, or closed. C keeps the pointer, which is null if the rack is closed; an open handle owns
-/// the rack.
+/// the rack, and may go to another thread with it.
 #[repr(C)]
 #[derive(Drop)]
 pub struct Handle {
@@ -30,6 +30,8 @@ impl Model for Handle {
 
     ghost also_owns = { λ h. held h.alloc h.ptr h.rack };
 }
+
+unsafe impl Send for Handle {}
 
 impl Handle {
     /// Returns a closed handle.

@@ -9,6 +9,7 @@ mod answer;
 mod done_facts;
 mod facts;
 mod handle;
+pub mod laws;
 mod names;
 mod opening;
 mod operating;
