@@ -94,7 +94,7 @@ def test_requests_are_those_of_the_master(suite):
     pytest.param("    bus.fail('no reason')\n", "no reason", id="fail"),
     pytest.param("    assert 1 == 2, 'one is two'\n", "line 5: AssertionError: one is two", id="assertion-with-words"),
     pytest.param("    assert 1 == 2\n", "line 5: AssertionError: assert 1 == 2", id="assertion"),
-    pytest.param("    bus.exchanges(5)\n    bus.master().set_prm(5, 1)\n", "line 6: RS: slave 5 refuses master 2: .+",
+    pytest.param("    bus.exchanges(5)\n    bus.master().set_prm(5, 1)\n", "line 6: RS: slave 5 refuses Set_Prm of master 2: .+",
                  id="refusal"),
 ])
 def test_reasons_of_scenarios(suite, steps, reason):

@@ -235,7 +235,7 @@ class Reader:
             if f"top the {name}" not in step.before:
                 raise Fault(f"line {step.number}: the document doesn't say to stop the {name} that runs")
             self.stop(name)
-        program = Running(["env", "-i", "-C", self.folder, *[f"{key}={value}" for key, value in self.environment.items()],
+        program = Running(["env", "--default-signal=INT", "-i", "-C", self.folder, *[f"{key}={value}" for key, value in self.environment.items()],
                            "bash", "-c", f"exec {step.text}"])
         self.staying[name] = program
         if ready is None:
