@@ -79,7 +79,7 @@ pub fn ports_of(lines: &[ServedLine], listening: &[Listeners<TcpListener>]) -> R
     all
 }
 
-/// Returns the port of a listener, or the one that the rack file names if the system does not tell.
+/// Returns the port of a listener. Without an answer of the system it is the one that the rack file names.
 fn port_of(listener: &TcpListener, named: u16) -> u16 {
     match listener.local_addr() {
         Ok(address) => address.port(),
