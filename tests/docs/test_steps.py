@@ -1,4 +1,4 @@
-"""docs/USING.md is followed from top to bottom in a fresh copy of the repository, and the steps of README.md in another one."""
+"""Each chapter of docs/guide is followed from top to bottom in a fresh copy of the repository, and so are the steps of README.md."""
 import importlib.util
 import os
 import re
@@ -6,6 +6,7 @@ import shutil
 import subprocess
 import sys
 import urllib.request
+from pathlib import Path
 
 import pytest
 
@@ -93,17 +94,27 @@ def missing(step):
     return reasons[0] if reasons else None
 
 
+CHAPTERS = sorted(listed("docs/guide/*.md"))
+
+
+def test_there_are_chapters():
+    assert [Path(name).name[:2] for name in CHAPTERS] == [f"{number:02}" for number in range(1, len(CHAPTERS) + 1)]
+
+
 @pytest.mark.slow
-def test_using_is_right_from_top_to_bottom(copied, read_in):
+@pytest.mark.parametrize("name", CHAPTERS)
+def test_chapter_is_right_from_top_to_bottom(name, copied, read_in):
     folder, ports = copied
-    reader, left_out = read_in(folder, os.path.dirname(sys.executable)), []
-    for step in steps_of(with_ports(read("docs/USING.md"), ports)):
-        reason = missing(step)
+    reader = read_in(folder, os.path.dirname(sys.executable))
+    steps = list(steps_of(with_ports(read(name), ports)))
+    reasons = [missing(step) for step in steps]
+    for step, reason in zip(steps, reasons):
         if reason is None:
             reader.follow(step)
-        else:
-            left_out.append(reason)
-    assert len([reason for reason in left_out if reason in LEFT_OUT.values()]) == len(LEFT_OUT)
+    assert reasons.count(None) > 0
+    absent = [reason for reason in reasons if reason and reason not in LEFT_OUT.values()]
+    if absent:
+        pytest.skip(f"steps were left out: {'; '.join(absent)}")
 
 
 # The parts of README that are followed in an installation too; others are about a checkout.

@@ -1,4 +1,4 @@
-"""The programs of README.md and docs/USING.md: they are compiled by the command that the document has, and print what it says."""
+"""The programs of README.md and docs/guide/10-inside-a-program.md: they are compiled by the command that the document has, and print what it says."""
 import re
 import subprocess
 
@@ -17,7 +17,7 @@ def blocks_behind(document, heading):
 
 
 @pytest.mark.parametrize("document, heading, name", [("README.md", "Inside a C program", "first"),
-                                                     ("docs/USING.md", "Inside a program", "why")])
+                                                     ("docs/guide/10-inside-a-program.md", "A program in C", "why")])
 def test_program_of_a_document(document, heading, name, library_folder, tmp_path):
     """The command is run in a folder with links to what it names."""
     find("cc")

@@ -12,7 +12,7 @@ from support.package_runs import CFG, IDENT
 from support.processes import PATIENCE
 from support.sleeping import left_at_sender, left_in_pipe
 
-# The first diagnosis of slave 5 for master 1, and inputs aa 55 of slave 5, both of docs/USING.md.
+# The first diagnosis of slave 5 for master 1, and inputs aa 55 of slave 5, both of docs/guide/01-first-master.md and docs/guide/03-operator-and-plant.md.
 FIRST_DIAGNOSIS = "680b0b688185083e3c020500ff80a1af16"
 INPUTS = "68050568010508aa550d16"
 # Seconds that a master waits for a reply that does not come.
@@ -76,7 +76,7 @@ def telegrams(master, line):
 
 
 def test_bring_up_sends_the_telegrams_of_the_manual(connect):
-    # the steps of docs/USING.md, but for the factors of the watchdog, 1 and 10 for 2 and 5
+    # the steps of docs/guide/01-first-master.md, but for the factors of the watchdog, 1 and 10 for 2 and 5
     master, line = connect(FIRST_DIAGNOSIS, "e5", "e5", "680b0b688185083e3c000c000180a1b616", INPUTS)
     master.bring_up(5, IDENT, CFG, watchdog_ms=100, group=1)
     assert master.data_exchange(5, b"\x12\x34").hex() == "aa55"

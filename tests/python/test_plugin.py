@@ -1,4 +1,4 @@
-"""The plugin for pytest: its fixtures and its reports, in runs of pytest of their own, and the test of docs/USING.md."""
+"""The plugin for pytest: its fixtures and its reports, in runs of pytest of their own, and the test of docs/guide/05-ci.md."""
 import re
 import textwrap
 
@@ -9,7 +9,7 @@ from support.racks import line as line_text
 from support.racks import rack as rack_text
 from support.racks import slave
 
-MANUAL = TOP / "docs" / "USING.md"
+CHAPTER = TOP / "docs" / "guide" / "05-ci.md"
 # Masters wait long, so that a run on a machine that is busy is like any other one.
 CONFTEST = """
 import rackd
@@ -163,7 +163,7 @@ def test_rack_that_is_killed(run_tests):
 
 
 def test_twelve_lines_of_the_manual(tmp_path):
-    section = MANUAL.read_text(encoding="utf-8").partition("\n## In CI\n")[2].partition("\n## ")[0]
+    section = CHAPTER.read_text(encoding="utf-8").partition("\n## A first test\n")[2].partition("\n## ")[0]
     lines = section[section.index("    import pytest\n"):].splitlines()
     code = lines[:12]
     assert all(not line or line.startswith("    ") for line in code)

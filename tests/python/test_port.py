@@ -13,7 +13,7 @@ from support.premises import measured, suppose, tried_again
 from support.processes import PATIENCE
 from support.sleeping import threads
 
-# The first telegram of docs/USING.md, and the reply to it.
+# The first telegram of docs/guide/01-first-master.md, and the reply to it.
 SLAVE_DIAG = bytes.fromhex("6805056885816d3c3eed16")
 DIAGNOSIS = bytes.fromhex("680b0b688185083e3c020500ff80a1af16")
 

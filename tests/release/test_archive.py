@@ -19,7 +19,7 @@ pytestmark = pytest.mark.slow
 # What the archive has at its top, and files that are below it.
 AT_TOP = {"README.md", "CHANGELOG.md", "install", "bin", "share"}
 SOME = ["bin/rackd", "share/man/man1/rackd.1", "share/rackd/fdl.lua", "share/rackd/examples/serve/rack.toml",
-        "share/rackd/examples/suite/master.c", "share/doc/rackd/README.md", "share/doc/rackd/docs/USING.md"]
+        "share/rackd/examples/suite/master.c", "share/doc/rackd/README.md", "share/doc/rackd/docs/guide/01-first-master.md"]
 
 
 def test_same_octets_again(archive, program, tmp_path):

@@ -1,6 +1,6 @@
 """Two masters and an operator at one slave: what each is answered, what the journal has, and what another line has of it.
 
-The octets are those of the examples in docs/USING.md and of the standard, written here and not coded by the package.
+The octets are those of the examples in docs/guide and of the standard, written here and not coded by the package.
 """
 import pytest
 
