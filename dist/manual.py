@@ -1,10 +1,11 @@
 #!/usr/bin/env python3
-"""Makes the man page of rackd, and completions for bash, zsh and fish, from what its own `--help` prints.
+"""Makes the man page of rackd, completions for bash, zsh and fish, and a chapter of the reference from its own `--help`.
 
 usage: dist/manual.py PROGRAM FOLDER
+       dist/manual.py PROGRAM --reference
 
-The files are written where they lie below the prefix of an installation. The program has the only list of its words and
-options, so nothing here names one.
+The files are written where they lie below the prefix of an installation, and the chapter to standard output. The program
+has the only list of its words and options, so nothing here names one.
 """
 import re
 import subprocess
@@ -114,6 +115,46 @@ def page_of(version: str, program: Help, words: Dict[str, Help]) -> str:
     return "\n".join(rows) + "\n"
 
 
+def table_of(title: str, items: List[Item]) -> List[str]:
+    """Returns the rows of Markdown for arguments or options."""
+    def cell(text: str) -> str:
+        return text.replace("|", "\\|").replace("<", "&lt;")
+
+    names = [item.names.replace("|", "\\|") for item in items]
+    return [f"| {title} | |", "|---|---|", *(f"| `{name}` | {cell(item.text)} |" for name, item in zip(names, items)), ""]
+
+
+def code_of(text: str) -> List[str]:
+    """Returns the rows of Markdown for a text with its line ends and blanks."""
+    return ["```", *text.split("\n"), "```", ""] if text else []
+
+
+def paragraphs_of(details: str) -> List[str]:
+    """Returns the rows of Markdown for paragraphs, in which indented rows are code."""
+    rows: List[str] = []
+    for block in details.split("\n\n"):
+        prose = [row for row in block.split("\n") if not row.startswith("  ")]
+        code = [row[2:] for row in block.split("\n") if row.startswith("  ")]
+        if prose:
+            rows += [*prose, ""]
+        rows += code_of("\n".join(code))
+    return rows
+
+
+def reference_of(version: str, program: Help, words: Dict[str, Help]) -> str:
+    """Returns the chapter of the reference about the command line: the program, and a section for each word."""
+    rows = ["# The command line", "",
+            "This chapter is for users of `rackd`: it has each word of the program with its arguments and options, made by",
+            f"`dist/manual.py` from what `rackd --help` of version {version} prints.", "", *code_of("\n".join(program.usage)),
+            *table_of("Options", program.options), *paragraphs_of(program.details)]
+    for name, found in words.items():
+        rows += [f"## {name}", "", f"{found.about}.", "", *code_of("\n".join(found.usage))]
+        for title, items in found.sections.items():
+            rows += table_of(title, items)
+        rows += paragraphs_of(found.details)
+    return "\n".join(rows).rstrip("\n") + "\n"
+
+
 def choices_of(found: Help) -> str:
     """Returns all forms of all options of a word."""
     return " ".join(option for item in found.options for option in item.options)
@@ -184,18 +225,36 @@ def fish_of(program: Help, words: Dict[str, Help]) -> str:
     return "\n".join(rows) + "\n"
 
 
-def manual(path: str) -> Dict[str, str]:
-    """Returns the text of each file that is made from the help of a program."""
+@dataclass
+class Manual:
+    """What the help of a program says: its version, the program, and each word."""
+
+    version: str
+    program: Help
+    words: Dict[str, Help]
+
+
+def read_manual(path: str) -> Manual:
+    """Reads the help of a program and of each of its words."""
     version = subprocess.run([path, "--version"], check=True, capture_output=True, text=True).stdout.split()[1]
     program = read_help(path)
     names = [item.names for item in program.sections["Commands"] if item.names != "help"]
-    words = {name: read_help(path, name) for name in names}
-    return {PAGE: page_of(version, program, words), BASH: bash_of(program, words), ZSH: zsh_of(words),
-            FISH: fish_of(program, words)}
+    return Manual(version, program, {name: read_help(path, name) for name in names})
+
+
+def manual(path: str) -> Dict[str, str]:
+    """Returns the text of each file that is made from the help of a program."""
+    found = read_manual(path)
+    return {PAGE: page_of(found.version, found.program, found.words), BASH: bash_of(found.program, found.words),
+            ZSH: zsh_of(found.words), FISH: fish_of(found.program, found.words)}
 
 
 def main() -> None:
     program, folder = sys.argv[1:]
+    if folder == "--reference":
+        found = read_manual(program)
+        print(reference_of(found.version, found.program, found.words), end="")
+        return
     for name, text in manual(program).items():
         path = Path(folder, name)
         path.parent.mkdir(parents=True, exist_ok=True)

@@ -7,7 +7,7 @@ from support.documents import (long_lines, misplaced_names, missing_paths, sente
                                wrong_commands)
 from support.repository import TOP, listed, read
 
-DOCUMENTS = sorted(name for name in listed("*.md") if "/" not in name or str(Path(name).parent) in ("docs", "docs/guide", "docs/internals"))
+DOCUMENTS = sorted(name for name in listed("*.md") if "/" not in name or str(Path(name).parent) in ("docs", "docs/guide", "docs/internals", "docs/reference"))
 # Words of rackd with `help`, and that of `python -m rackd`.
 WORDS = {"run", "check", "explain", "judge", "capture", "gsd", "slave", "serve", "watch", "operate", "cable", "help", "suite"}
 

@@ -3,10 +3,11 @@ import importlib.util
 import re
 import shutil
 import subprocess
+import sys
 
 import pytest
 
-from support.repository import TOP
+from support.repository import TOP, read
 
 spec = importlib.util.spec_from_file_location("manual", TOP / "dist/manual.py")
 manual = importlib.util.module_from_spec(spec)
@@ -81,6 +82,27 @@ def test_page_has_each_help(made, helps):
 def test_signs_of_roff():
     """A row that begins like a request of roff is none, and signs that roff changes stay as they are."""
     assert manual.roff(".SH a\n\\b -c 'd'") == "\\&.SH a\n\\eb \\-c \\(aqd\\(aq"
+
+
+def test_reference_is_that_of_the_program(program):
+    """The chapter of the reference about the command line is made again from the help of the program, to the octet."""
+    done = subprocess.run([sys.executable, TOP / "dist/manual.py", program, "--reference"], check=True, capture_output=True, text=True)
+    assert done.stdout == read("docs/reference/command-line.md")
+
+
+def test_reference_has_each_help(helps):
+    """Each paragraph of the help of each word, and each option with what it does, is in the chapter."""
+    text = plain(read("docs/reference/command-line.md")).replace("\\|", "|").replace("&lt;", "<")
+    for word, found in helps.items():
+        about, usage, *_ = found.split("\n\n")
+        assert plain(f"## {word} {about}.") in text
+        for row in usage.removeprefix("Usage: ").split("\n"):
+            assert plain(row.strip()) in text
+        details = found.partition("\nOptions:\n")[2]
+        for row in filter(None, map(str.strip, details.partition("\n\n")[2].split("\n"))):
+            assert plain(row) in text, row
+        for names in re.findall(r"(?m)^ {2,6}(-.*?)(?: {2,}.*)?$", details.partition("\n\n")[0]):
+            assert f"| `{names}` |" in text, names
 
 
 def test_page_has_no_other_option(made, helps):
