@@ -1,11 +1,11 @@
-"""What docs/ARCHITECTURE.md says about crates is what crates.txt and the sources say."""
+"""What docs/internals/architecture.md says about crates is what crates.txt and the sources say."""
 import pytest
 
 from support.crates import LIBRARIES, USERS, crates_of_document, crates_of_list, first_sentence, may_use, uses_in
 from support.repository import TOP, listed, read
 
 CRATES = crates_of_list(read("crates.txt"))
-SENTENCES = {name: text for name, _, text in crates_of_document(read("docs/ARCHITECTURE.md"))}
+SENTENCES = {name: text for name, _, text in crates_of_document(read("docs/internals/architecture.md"))}
 
 
 def root_of(crate):
@@ -15,7 +15,7 @@ def root_of(crate):
 
 
 def test_crates_are_listed_in_the_groups_and_the_order_of_crates_txt():
-    given = [(crate, group.casefold()) for crate, group, _ in crates_of_document(read("docs/ARCHITECTURE.md"))]
+    given = [(crate, group.casefold()) for crate, group, _ in crates_of_document(read("docs/internals/architecture.md"))]
     assert given == [(crate, group.casefold()) for crate, group, _ in CRATES]
 
 

@@ -7,7 +7,8 @@ from support.documents import (long_lines, misplaced_names, missing_paths, sente
                                wrong_commands)
 from support.repository import TOP, listed, read
 
-DOCUMENTS = sorted(name for name in listed("*.md") if "/" not in name or str(Path(name).parent) in ("docs", "docs/guide", "docs/internals", "docs/reference"))
+FOLDERS = {"docs", "docs/guide", "docs/internals", "docs/reference"}
+DOCUMENTS = sorted(name for name in listed("*.md") if "/" not in name or str(Path(name).parent) in FOLDERS)
 # Words of rackd with `help`, and that of `python -m rackd`.
 WORDS = {"run", "check", "explain", "judge", "capture", "gsd", "slave", "serve", "watch", "operate", "cable", "help", "suite"}
 
@@ -15,7 +16,7 @@ each_document = pytest.mark.parametrize("name", DOCUMENTS)
 
 
 def test_there_are_documents():
-    assert {"README.md", "CONTRIBUTING.md", "CHANGELOG.md", "docs/ARCHITECTURE.md", "docs/POLICY.md"} <= set(DOCUMENTS)
+    assert {"README.md", "CONTRIBUTING.md", "CHANGELOG.md", "docs/internals/architecture.md", "docs/POLICY.md"} <= set(DOCUMENTS)
 
 
 @each_document

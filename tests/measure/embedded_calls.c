@@ -1,4 +1,4 @@
-/* Makes calls of one kind to a rack in process, to count the instructions of one (docs/SPEED.md).
+/* Makes calls of one kind to a rack in process, to count the instructions of one (docs/internals/speed.md).
  *
  *     cc -O2 -I include tests/measure/embedded_calls.c dist/x86_64-linux/librackd.a -o embedded_calls
  *     valgrind --tool=callgrind ./embedded_calls diag 5000
