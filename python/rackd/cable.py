@@ -25,7 +25,7 @@ MARKS = {"on 126": "on 126", "off 126": "off 126", "clear": "on 126"}
 
 @dataclass(frozen=True)
 class Cable:
-    """What a cable does to telegrams by chance (docs/FORMATS.md, "Cable").
+    """What a cable does to telegrams by chance (docs/reference/cable.md).
 
     `lose`, `spoil` and `cut` are percentages with at most four decimals, `late` is one and milliseconds: at most one
     of these faults for a telegram. With `requests` or `replies` only those meet them. The same `seed` and the same
@@ -133,7 +133,7 @@ class RunningCable:
                     raise NoReply(f"the cable: no reply for {', '.join(self._waiting)}")
 
     def log(self) -> List[str]:
-        """Returns a row for each fault so far, with the octets before and after it (docs/FORMATS.md, "Cable")."""
+        """Returns a row for each fault so far, with the octets before and after it (docs/reference/cable.md)."""
         if not self._closed:
             self._order(self._mark)
         return self._rows(faults=True)

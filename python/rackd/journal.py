@@ -128,7 +128,7 @@ class Journal:
         return self.entries[index]
 
     def refused(self) -> List[Entry]:
-        """Returns the requests that were refused, by the definition of docs/FORMATS.md, "Log"."""
+        """Returns the requests that were refused, by the definition of docs/reference/log.md."""
         return [entry for entry in self.entries if entry.refused]
 
     def explain(self, *, faults: bool = False, first: Optional[int] = None, last: Optional[int] = None,

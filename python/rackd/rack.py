@@ -240,7 +240,7 @@ class Rack:
         return RackFault(f"the rack {end_of(status)} before it was closed", status, self._rows())
 
     def log(self) -> List[str]:
-        """Returns the log so far: sessions, octets that are no telegram, warnings (docs/FORMATS.md, "Log")."""
+        """Returns the log so far: sessions, octets that are no telegram, warnings (docs/reference/log.md)."""
         return rows_of((self.folder / "errors").read_bytes(), log=True)
 
     # ---- the program

@@ -1,6 +1,6 @@
 """What a cable stores is bounded: answers and reports that nobody reads, late telegrams, and lines that never end.
 
-docs/FORMATS.md ("Cable") has the numbers: 256 places for answers, 1,024 rows of the log, 4,096 late telegrams. The room of
+docs/reference/cable.md has the numbers: 256 places for answers, 1,024 rows of the log, 4,096 late telegrams. The room of
 the pipes is known too, so the tests count what the cable takes. It takes no more once it sleeps while something is left to
 be read.
 """

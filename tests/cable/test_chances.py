@@ -1,6 +1,6 @@
 """Faults by chance: which telegrams they meet, what becomes of these, and that a seed determines both.
 
-What a seed determines is computed here from the description in docs/FORMATS.md ("Cable"), by a PCG32 of these tests.
+What a seed determines is computed here from the description in docs/reference/cable.md, by a PCG32 of these tests.
 """
 import re
 from typing import NamedTuple

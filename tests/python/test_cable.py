@@ -1,4 +1,4 @@
-"""Cables with faults. Their rows are those of docs/FORMATS.md, "Cable"."""
+"""Cables with faults. Their rows are those of docs/reference/cable.md."""
 import re
 import time
 
