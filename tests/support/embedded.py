@@ -40,7 +40,7 @@ class NoCommand(Exception):
 
 
 class Player:
-    """Plays a script on an `EmbeddedRack`, and writes what `rackd run` writes (docs/FORMATS.md, "Scripts")."""
+    """Plays a script on an `EmbeddedRack`, and writes what `rackd run` writes (docs/reference/scripts.md)."""
 
     def __init__(self, rack):
         self.rack, self.numbers = rack, [int(number) for number in NUMBER.findall(rack.text.decode())]
