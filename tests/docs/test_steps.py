@@ -117,23 +117,20 @@ def test_chapter_is_right_from_top_to_bottom(name, copied, read_in):
         pytest.skip(f"steps were left out: {'; '.join(absent)}")
 
 
-# The parts of README that are followed in an installation too; others are about a checkout.
-OF_AN_INSTALLATION = {"Why a request was refused", "What a master does wrong"}
+# The part of README that is followed in an installation too; another one is about a checkout.
+OF_AN_INSTALLATION = "The first two minutes"
 
 
 def follow_readme(reader, text, port, is_installed=False):
-    """Follows README. Of its three commands the first goes on for weeks, the second runs a script, the third is another test."""
+    """Follows README. Its rack goes on for weeks, and has a page."""
     first, *others = steps_of(text)
-    serve, script, _ = first.text.split("\n")
-    assert {"--endless", "--keep", "--part"} <= set(serve.split())
-    reader.follow(first._replace(text=serve))
+    assert {"--endless", "--keep", "--part"} <= set(first.text.split())
+    reader.follow(first)
     assert urllib.request.urlopen(f"http://127.0.0.1:{port}/", timeout=PATIENCE).status == 200
-    reader.follow(first._replace(text=script, shown=read("examples/slave-diag.out").rstrip("\n")))
-    followed = [step for step in others if step.heading != "A script" and missing(step) is None]
+    followed = [step for step in others if missing(step) is None and (step.heading == OF_AN_INSTALLATION or not is_installed)]
     for step in followed:
-        if not is_installed or step.heading in OF_AN_INSTALLATION:
-            reader.follow(step)
-    assert OF_AN_INSTALLATION <= {step.heading for step in followed}
+        reader.follow(step)
+    assert OF_AN_INSTALLATION in {step.heading for step in followed}
 
 
 def test_readme_is_right(copied, read_in):
