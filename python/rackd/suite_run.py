@@ -136,9 +136,12 @@ class Run:
             raise self._error
         return self._failed
 
-    def end(self) -> None:
-        """Ends the scenario with its master and its rack, for the end of the suite. One that waits does not begin."""
+    def stop(self) -> None:
+        """Ends the scenario at its next wait, for the end of the suite. One that has not begun does not begin."""
         self._patience.stop()
+
+    def end(self) -> None:
+        """Ends a scenario that is stopped, with its master and its rack."""
         if not self._begun.is_set() or self._done.wait(STOP_TIME):
             return
         # a step that does not wait by `Bus.wait` ends with the rack, or stays until this process ends
@@ -227,8 +230,8 @@ def run_all(scenarios: Sequence[Scenario], options: Options) -> int:
     ended: "queue.Queue[Run]" = queue.Queue()
     runs = [Run(scenario, options, ended) for scenario in scenarios]
     unprinted = list(runs)
-    run_beside(runs, options.jobs)
     try:
+        run_beside(runs, options.jobs)
         for _ in runs:
             ended.get().failure()
             while unprinted and unprinted[0].is_done():
@@ -248,7 +251,10 @@ def print_row(run: Run, width: int) -> None:
 
 
 def end_all(runs: Sequence[Run]) -> None:
-    """Ends all scenarios that run or wait, side by side."""
+    """Ends all scenarios that run, side by side. Those that wait do not begin."""
+    # the last one first: when one ends, all behind it are stopped, and none of them begins in its place
+    for run in reversed(runs):
+        run.stop()
     threads = [threading.Thread(target=run.end, daemon=True) for run in runs]
     for thread in threads:
         thread.start()

@@ -1,10 +1,16 @@
 """A suite that is ended by a signal ends its masters, its racks and its cables, and leaves no files."""
+import queue
 import signal
+import threading
 
 import pytest
 
+from rackd.suite_patience import Patience
+from rackd.suite_run import Options, Run, end_all, read_folder, run_beside
+
 from support.clients import wait_for
 from support.package_runs import kill_all, names_in, runs, start_python, wait_until_ended
+from support.processes import PATIENCE
 from support.suite_runs import HEAD, LONG
 
 # Writes the process ids of the master, the rack and the cable, and goes on.
@@ -44,3 +50,31 @@ def test_suite_that_is_ended(suite, number, step):
             wait_for(lambda: names_in(suite.folder) == [])
         finally:
             kill_all([process.pid, *pids])
+
+
+def test_no_scenario_begins_in_the_place_of_one_that_is_ended(suite, monkeypatch):
+    """A scenario may end, and its place be taken, before any other one is told to end."""
+    begun, one_by_one, stop = [], threading.Lock(), Patience.stop
+
+    class WaitingRun(Run):
+        """A run without a rack, which waits until it is stopped."""
+
+        def _failure(self):
+            begun.append(self)
+            self._patience.rest(PATIENCE)
+
+    def stop_slowly(patience):
+        with one_by_one:
+            stop(patience)
+            if patience is one._patience:
+                wait_for(lambda: two.is_done() or two in begun)
+
+    monkeypatch.setattr(Patience, "stop", stop_slowly)
+    for name in ("one", "two"):
+        suite.scenario(name, HEAD + "def run(bus):\n    pass\n")
+    options = Options([], PATIENCE, PATIENCE, suite.folder, 1)
+    one, two = (WaitingRun(scenario, options, queue.Queue()) for scenario in read_folder(suite.folder / "scenarios", []))
+    run_beside([one, two], 1)
+    wait_for(lambda: begun)
+    end_all([one, two])
+    assert begun == [one]
