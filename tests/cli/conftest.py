@@ -37,16 +37,17 @@ CONTENTS = {
     "ordinary-beyond": f"rack-audit 2 line 1\n{ENTRY}{TICK}",
     "ordinary-halted": f"rack-audit 2 line 1\n{ENTRY}{HALT}",
     "endless-halted": f"rack-audit 3 line 1\n{ENTRY}{HALT}{TICK.replace('2', '3')}",
-    # Racks with ports that are wrong.
+    # Racks with ports that are wrong. The others are chosen by the system, for another program may have any port. One that is
+    # there twice is reported as such then too.
     "operator-missing": RACK.replace("masters", "listen = 47601\nmasters"),
     "listen-missing": RACK.replace("masters", "operator = 47601\nmasters"),
     "second-line-without-ports": with_ports(RACK, 47601, 47602) + LINE_2,
     "port-65536": with_ports(RACK, 47601, 65536),
     "two-lines-1": RACK * 2,
     "same": with_ports(RACK, 47601, 47601),
-    "port-of-two-lines": with_ports(LINE_2, 47601, 47602) + with_ports(RACK, 47603, 47601),
-    "masters-of-two-lines": with_ports(LINE_2, 47601, 47602) + with_ports(RACK, 47601, 47603),
-    "operators-of-two-lines": with_ports(LINE_2, 47602, 47601) + with_ports(RACK, 47603, 47601),
+    "port-of-two-lines": with_ports(LINE_2, 47601, 0) + with_ports(RACK, 0, 47601),
+    "masters-of-two-lines": with_ports(LINE_2, 47601, 0) + with_ports(RACK, 47601, 0),
+    "operators-of-two-lines": with_ports(LINE_2, 0, 47601) + with_ports(RACK, 0, 47601),
     "order-of-lines": with_ports(LINE_2, 47601, 47601) + with_ports(RACK, 47602, 47602),
 }
 

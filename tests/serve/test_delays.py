@@ -41,9 +41,10 @@ def test_stops_release_no_slave_that_is_polled(serve, tick):
     log, poller = ReleaseLog(server), Poller(server, 1, 5).exchanges(300)
     for _ in range(STOPS):
         with stopped_meanwhile(server):
-            longest, refused = poller.poll_for(POLLED, POLL)
-        suppose(longest <= STOPPED + 0.08, f"a poll came {longest * 1000:.0f} ms after the one before")
-        assert (log.releases(5), refused) == ([], 0)
+            refused = poller.poll_for(POLLED, POLL)
+        releases, longest = log.releases(5), poller.longest()
+        suppose(longest <= STOPPED + 0.08, f"no poll came for {longest * 1000:.0f} ms")
+        assert (releases, refused) == ([], 0)
     # A second has one row at most, so the last row may come a second later.
     at_least = STOPS * (STOPPED * 1000 - 2 * tick - 20)
     wait_for(lambda: sum(log.discarded()) >= at_least)

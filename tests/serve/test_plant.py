@@ -33,19 +33,20 @@ def test_plant(serve, tmp_path, seconds):
     with measured(server.pid) as machine:
         feeding = threading.Thread(target=lambda: fed.append(feed(server, seconds)))
         feeding.start()
-        gaps = []
+        seconds_in_time = 0
         while feeding.is_alive():
-            released = len(log.releases(poller.slave))
-            longest, refused = poller.poll_for(1, POLL)
-            gaps.append(longest)
-            if longest >= WATCHDOG / 1000 - UNIT:
-                poller.exchanges(WATCHDOG)
+            refused = poller.poll_for(1, POLL)
+            if poller.is_in_time(WATCHDOG):
+                assert refused == 0, "the slave was released while it was polled in time"
+                seconds_in_time += 1
             else:
-                assert (len(log.releases(poller.slave)), refused) == (released, 0)
+                poller.exchanges(WATCHDOG)
         feeding.join()
     assert fed, "an answer to a feed is wrong"
-    suppose(min(gaps) < WATCHDOG / 1000 - UNIT, "no second had its polls in time")
-    assert poller.poll() == (RATE * seconds - 1).to_bytes(2, "big")
+    suppose(seconds_in_time, "no second had its polls in time")
+    inputs = poller.poll()
+    suppose(poller.is_in_time(WATCHDOG), "the last poll came too late")
+    assert inputs == (RATE * seconds - 1).to_bytes(2, "big")
     suppose(fed[0] <= seconds * 1.25 or machine.held_up < seconds / 4, f"processes had no processor for {machine.held_up:.1f} s")
     assert fed[0] <= seconds * 1.25
     text, passed_by = audit / "line-1-1.000001.audit", time.monotonic() - began - 0.5

@@ -1,4 +1,5 @@
 """What tests about the time of lines need: when slaves were released by the log, masters that poll, and the ticks of a text."""
+import contextlib
 import re
 import tempfile
 import threading
@@ -73,23 +74,35 @@ class Poller:
     def __init__(self, server, address, of_slave, number=1):
         self.slave, self._master = of_slave, server.master(address, number)
         self.sent = self.came = time.time()
+        self._longest = 0.0
 
     def _ask(self, ask, *words, **keys):
-        self.sent = time.time()
+        before, self.sent = self.sent, time.time()
         try:
             return ask(self.slave, *words, **keys)
         finally:
             self.came = time.time()
+            self._longest = max(self._longest, self.came - before)
 
     def lock(self, milliseconds):
         """Sets parameters with a watchdog."""
         self._ask(self._master.set_prm, IDENT, watchdog_ms=milliseconds)
+        self._longest = 0.0
 
     def exchanges(self, milliseconds):
-        """Brings the slave into data exchange with a watchdog."""
+        """Brings the slave into data exchange with a watchdog. If the watchdog runs out meanwhile, the slave refuses all polls."""
         self.lock(milliseconds)
-        self._ask(self._master.chk_cfg, CFG)
+        with contextlib.suppress(SlaveRefused):
+            self._ask(self._master.chk_cfg, CFG)
         return self
+
+    def longest(self):
+        """Returns the most seconds without a request that the rack can have seen from when the slave was locked to this moment."""
+        return max(self._longest, time.time() - self.sent)
+
+    def is_in_time(self, milliseconds):
+        """Returns whether a watchdog of the slave cannot have run out since it was locked, whatever delayed the requests."""
+        return self.longest() < milliseconds / 1000 - UNIT
 
     def poll(self):
         """Exchanges data, and returns the inputs; None if the slave refuses."""
@@ -99,17 +112,12 @@ class Poller:
             return None
 
     def poll_for(self, seconds, every):
-        """Polls for a number of seconds.
-
-        Returns the longest time between two requests that the rack can have seen, and how many replies had no inputs.
-        """
-        until, longest, refused = time.monotonic() + seconds, 0.0, 0
+        """Polls for a number of seconds, and returns how many replies had no inputs."""
+        until, refused = time.monotonic() + seconds, 0
         while time.monotonic() < until:
-            before = self.sent
             refused += not self.poll()
-            longest = max(longest, self.came - before)
             time.sleep(every)
-        return longest, refused
+        return refused
 
     def close(self):
         """Ends the session."""

@@ -47,38 +47,50 @@ def waited(pid="self"):
     return nanoseconds / 1e9
 
 
-def pressure():
-    """Returns for how many seconds any thread of the machine was ready and had no processor; None if the system doesn't tell."""
+def pressure(kind):
+    """Returns for how many seconds any thread of the machine waited for a processor ("cpu"), for memory ("memory") or for a
+    disk ("io"); None if the system doesn't tell."""
     try:
-        rows = Path("/proc/pressure/cpu").read_text(encoding="ascii")
+        rows = Path(f"/proc/pressure/{kind}").read_text(encoding="ascii")
     except OSError:
         return None
     return int(rows.split("total=")[1].split()[0]) / 1e6
 
 
+def stalled():
+    """Returns for how many seconds any thread of the machine waited for memory or a disk; 0 if the system doesn't tell."""
+    return (pressure("memory") or 0.0) + (pressure("io") or 0.0)
+
+
 class Measured:
-    """The seconds of a `with measured(..)`, and for how many of them processes were held up, each for itself."""
+    """The seconds of a `with measured(..)`, for how many of them one process was held up, and for how many all were, added up.
+
+    A machine that waits for memory or a disk holds up each process.
+    """
 
     def __init__(self, processes, has_ending):
-        self._processes = processes
+        self._processes, self._has_ending = processes, has_ending
         self._begun, self._before = time.monotonic(), [waited(process) for process in processes]
-        self._pressure = pressure() if has_ending else None
-        self._has_ending = has_ending
-        self.seconds = self.held_up = 0.0
+        self._pressure, self._stalled = pressure("cpu") if has_ending else None, stalled()
+        self.seconds = self.held_up = self.all_held_up = 0.0
 
     def end(self):
         self.seconds = time.monotonic() - self._begun
-        self.held_up = max(waited(process) - before for process, before in zip(self._processes, self._before))
+        stall = stalled() - self._stalled
+        waits = [waited(process) - before for process, before in zip(self._processes, self._before)]
+        self.held_up, self.all_held_up = max(waits) + stall, sum(waits) + stall
         if self._has_ending:
-            self.held_up = max(self.held_up, self.seconds if self._pressure is None else pressure() - self._pressure)
+            cpu = self.seconds if self._pressure is None else pressure("cpu") - self._pressure
+            self.held_up = max(self.held_up, cpu + stall)
 
 
 @contextlib.contextmanager
 def measured(*pids, has_ending=False):
     """Measures the time of what is done in it, and for how long this process and those with these numbers were held up.
 
-    With `has_ending` there is a process that ends in this time. Nobody knows afterwards for how long its threads were held up. So
-    what counts is the time in which any thread of the machine was, or the whole time if the system doesn't tell.
+    Only threads count that are there at its end: those that are started for it have to stay until then. With `has_ending`
+    there is a process that ends in this time. Nobody knows afterwards for how long its threads were held up. So what counts is
+    the time in which any thread of the machine was, or the whole time if the system doesn't tell.
     """
     found = Measured(["self", *pids], has_ending)
     try:
