@@ -3,3 +3,5 @@ pub mod Decimals
 pub mod Joins
 pub mod Modes
 pub mod ReadBack
+pub mod ShortRows
+pub mod ReadRows

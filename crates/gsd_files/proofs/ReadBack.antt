@@ -1,17 +1,16 @@
 -- What is written in a GSD file is read back.
-use Rattle.std.proofs.Common.{◌≡◌, ℕ, ◌+◌, ◌*◌, ◌/◌, ◌%◌, ◌≤◌, ◌<◌, ◌==◌, Bool, true, false, ◌&&◌, ◌||◌, cond, List, [], ◌∷◌, ◌++◌, length, Option, Some, None, Ok, refl, sym, ap, ◌∙◌, append_assoc, codes, arith, length-append}
+use Rattle.std.proofs.Common.{◌≡◌, ℕ, ◌+◌, ◌*◌, ◌/◌, ◌%◌, ◌≤◌, ◌<◌, ◌==◌, Bool, true, false, ◌&&◌, ◌||◌, cond, List, [], ◌∷◌, ◌++◌, length, Option, Some, None, Ok, refl, sym, ap, ◌∙◌, append_assoc, codes, arith}
 use Rattle.std.specs.Prelude.{All, Result}
-use Rattle.std.specs.List.{slice_split, AllByRecursion}
+use Rattle.std.specs.List.{slice_split}
 use Rattle.std.specs.Fmt.{decimal, digit_glyph}
 use Rattle.std.proofs.lemmas.Bool.Decides.{nat_tests}
 use Rattle.std.proofs.lemmas.Fmt.{decimal_by_steps}
-use Rattle.std.proofs.lemmas.List.{append-nil}
 use Rattle.std.proofs.lemmas.List.Elements.{All-nil, All-cons}
 use Rattle.std.proofs.lemmas.List.Splits.{slice_split_at, slice_split_none}
 use Rattle.gsd_files.specs.Steps.{◌>>=◌}
 use Rattle.gsd_files.specs.declared.cause.Cause.{Cause}
 use Rattle.gsd_files.specs.Values.{digit_of, with_digit, with_digits, digits_number, has_hex_mark, number_of, is_separator, with_octets, with_words, with_word, with_octet_more}
-use Rattle.gsd_files.specs.GsdText.{hex_2, octets_text}
+use Rattle.gsd_files.specs.GsdText.{hex_2}
 
 -- ---- hex digits
 
@@ -21,7 +20,7 @@ hex_digit digit small = grind (arith, nat_tests)
 hex_plain : (digit : ℕ) → digit < 16 → is_separator (digit_glyph true digit) ≡ false
 hex_plain digit small = grind (arith, nat_tests)
 
-one_digit_more : (base number digit : ℕ) → number * base + digit ≤ 1000000 → with_digit base number (Some digit) ≡ Some (number * base + digit)
+one_digit_more : (base number digit : ℕ) → number * base + digit ≤ 4294967295 → with_digit base number (Some digit) ≡ Some (number * base + digit)
 one_digit_more base number digit within = grind (arith, nat_tests)
 
 two_digits : (x y a b : ℕ) → a < 16 → b < 16 → digit_of 16 x ≡ Some a → digit_of 16 y ≡ Some b
@@ -46,7 +45,7 @@ octet_read octet small =
 octet_added : (before : List ℕ) (octet : ℕ) → octet < 256 → length before < 244 → with_octet_more before (Some octet) ≡ Ok (before ++ octet ∷ [])
 octet_added before octet small room = grind (arith, nat_tests)
 
-word_read : (before : List ℕ) (octet : ℕ) → octet < 256 → length before < 244
+pub word_read : (before : List ℕ) (octet : ℕ) → octet < 256 → length before < 244
     → with_word before (codes "0x" ++ hex_2 octet) ≡ Ok (before ++ octet ∷ [])
 unfolding hex_2
 word_read before octet small room = ap (with_octet_more before) (octet_read octet small) ∙ octet_added before octet small room
@@ -61,25 +60,17 @@ unfolding hex_2
 plain octet small =
     plain_4 (digit_glyph true (octet / 16 % 16)) (digit_glyph true (octet % 16)) (hex_plain (octet / 16 % 16) (omega arith)) (hex_plain (octet % 16) (omega arith))
 
-first_words : (octet : ℕ) (rest : List ℕ) → octet < 256
+pub first_words : (octet : ℕ) (rest : List ℕ) → octet < 256
     → slice_split is_separator (codes "0x" ++ (hex_2 octet ++ (codes "," ++ rest))) ≡ (codes "0x" ++ hex_2 octet) ∷ slice_split is_separator rest
 first_words octet rest small =
     ap (slice_split is_separator) (sym (append_assoc (codes "0x") (hex_2 octet) (codes "," ++ rest)))
     ∙ slice_split_at is_separator (codes "0x" ++ hex_2 octet) 44 rest (plain octet small) refl
 
--- the octets of a configuration are read from their text, behind those before them
-pub octets_read : (octets before : List ℕ) → AllByRecursion (λ octet. octet < 256) octets → length before + length octets ≤ 244
-    → with_octets before (octets_text octets) ≡ Ok (before ++ octets)
-octets_read [] before all room = ap Ok (sym (append-nil before))
-octets_read (octet ∷ []) before all room =
-    ap (with_words before) (slice_split_none is_separator (codes "0x" ++ hex_2 octet) (plain octet all.0))
-    ∙ ap (λ (r : Result (List ℕ) Cause). r >>= λ more. with_words more []) (word_read before octet all.0 (omega arith))
-octets_read (octet ∷ next ∷ octets) before all room =
-    ap (with_words before) (first_words octet (octets_text (next ∷ octets)) all.0)
-    ∙ ap (λ (r : Result (List ℕ) Cause). r >>= λ more. with_words more (slice_split is_separator (octets_text (next ∷ octets))))
-    (word_read before octet all.0 (omega arith))
-    ∙ octets_read (next ∷ octets) (before ++ octet ∷ []) all.1 (omega (arith, length-append before (octet ∷ [])))
-    ∙ ap Ok (append_assoc before (octet ∷ []) (next ∷ octets))
+-- the last octet of a text
+pub octet_read_last : (before : List ℕ) (octet : ℕ) → octet < 256 → length before < 244 → with_octets before (codes "0x" ++ hex_2 octet) ≡ Ok (before ++ octet ∷ [])
+octet_read_last before octet small room =
+    ap (with_words before) (slice_split_none is_separator (codes "0x" ++ hex_2 octet) (plain octet small))
+    ∙ ap (λ (r : Result (List ℕ) Cause). r >>= λ more. with_words more []) (word_read before octet small room)
 
 -- ---- decimal numbers
 
@@ -96,12 +87,12 @@ digits_behind base None (octet ∷ front) last = none_stays base front last
     none_stays base front last = refl
 digits_behind base (Some number) (octet ∷ front) last = digits_behind base (with_digit base number (digit_of base octet)) front last
 
-first_digit : (n : ℕ) → n < 10 → n ≤ 1000000 → with_digits 10 (Some 0) ((48 + n) ∷ []) ≡ Some n
+first_digit : (n : ℕ) → n < 10 → n ≤ 4294967295 → with_digits 10 (Some 0) ((48 + n) ∷ []) ≡ Some n
 first_digit n small within =
     let value : 0 * 10 + n ≡ n = omega arith in
     ap (with_digit 10 0) (digit_10 n small) ∙ one_digit_more 10 0 n (omega arith) ∙ ap (λ (k : ℕ). Some k) value
 
-next_digit : (n : ℕ) (front : List ℕ) → 10 ≤ n → (n / 10 ≤ 1000000 → with_digits 10 (Some 0) front ≡ Some (n / 10)) → n ≤ 1000000
+next_digit : (n : ℕ) (front : List ℕ) → 10 ≤ n → (n / 10 ≤ 4294967295 → with_digits 10 (Some 0) front ≡ Some (n / 10)) → n ≤ 4294967295
     → with_digits 10 (Some 0) (front ++ (48 + n % 10) ∷ []) ≡ Some n
 next_digit n front large before within =
     let value : n / 10 * 10 + n % 10 ≡ n = omega arith in
@@ -112,9 +103,9 @@ next_digit n front large before within =
     ∙ ap (λ (k : ℕ). Some k) value
 
 -- the digits of a number are read as the number
-pub decimal_read : (n : ℕ) → n ≤ 1000000 → with_digits 10 (Some 0) (decimal n) ≡ Some n
+pub decimal_read : (n : ℕ) → n ≤ 4294967295 → with_digits 10 (Some 0) (decimal n) ≡ Some n
 decimal_read n within =
-    decimal_by_steps (λ m digits. m ≤ 1000000 → with_digits 10 (Some 0) digits ≡ Some m) first_digit next_digit n (omega arith) within
+    decimal_by_steps (λ m digits. m ≤ 4294967295 → with_digits 10 (Some 0) digits ≡ Some m) first_digit next_digit n (omega arith) within
 
 second_is_no_mark : (a : Bool) (digit : ℕ) → digit < 10 → (a && ((48 + digit) == 120 || (48 + digit) == 88)) ≡ false
 second_is_no_mark a digit small = grind (arith, nat_tests)
@@ -124,7 +115,7 @@ no_mark [] digit small e = refl
 no_mark (a ∷ []) digit small e = second_is_no_mark (a == 48) digit small
 no_mark (a ∷ b ∷ front) digit small e = e
 
-has_no_mark : (n : ℕ) → n ≤ 1000000 → has_hex_mark (decimal n) ≡ false
+has_no_mark : (n : ℕ) → n ≤ 4294967295 → has_hex_mark (decimal n) ≡ false
 has_no_mark n within =
     decimal_by_steps (λ m digits. has_hex_mark digits ≡ false) (λ m small. refl) (λ m front large e. no_mark front (m % 10) (omega arith) e) n (omega arith)
 
@@ -132,7 +123,7 @@ some_digits : (front : List ℕ) (last : ℕ) → digits_number 10 (front ++ las
 some_digits [] last = refl
 some_digits (a ∷ front) last = refl
 
-are_digits : (n : ℕ) → n ≤ 1000000 → digits_number 10 (decimal n) ≡ with_digits 10 (Some 0) (decimal n)
+are_digits : (n : ℕ) → n ≤ 4294967295 → digits_number 10 (decimal n) ≡ with_digits 10 (Some 0) (decimal n)
 are_digits n within =
     decimal_by_steps (λ m digits. digits_number 10 digits ≡ with_digits 10 (Some 0) digits) (λ m small. refl)
     (λ m front large e. some_digits front (48 + m % 10)) n (omega arith)
@@ -142,5 +133,5 @@ by_mark true hex plain e = absurd cc
 by_mark false hex plain e = refl
 
 -- a number up to 1,000,000 is read from its decimal text
-pub number_read : (n : ℕ) → n ≤ 1000000 → number_of (decimal n) ≡ Some n
+pub number_read : (n : ℕ) → n ≤ 4294967295 → number_of (decimal n) ≡ Some n
 number_read n within = by_mark (has_hex_mark (decimal n)) _ _ (has_no_mark n within) ∙ are_digits n within ∙ decimal_read n within

@@ -1,5 +1,5 @@
 -- The GSD file of a slave (GSD specification, revision 3; the defaults are own).
-use Rattle.std.specs.Prelude.{codes, ℕ, ◌+◌, ◌/◌, ◌%◌, Bool, true, false, nat_lt, max, List, [], ◌∷◌, ◌++◌, length, Result, Ok, Err}
+use Rattle.std.specs.Prelude.{codes, ℕ, ◌+◌, ◌-◌, ◌/◌, ◌%◌, ◌==◌, if◌then◌else◌, Bool, true, false, nat_lt, max, List, [], ◌∷◌, ◌++◌, length, Result, Ok, Err}
 use Rattle.std.specs.Fmt.{decimal, digit_glyph}
 use Rattle.arrayvec.specs.ArrayVec.{ArrayVec}
 use Rattle.dp_cfg.specs.Reading.{reading_of, input_octets, output_octets}
@@ -53,11 +53,20 @@ sizes_of (first ∷ others) = larger (sizes_read (reading_of first.items)) (size
 
 -- ---- modules
 
--- the octets of a configuration, as `0x21,0x11`
-abbrev pub octets_text : List ℕ → List ℕ
-octets_text [] = []
-octets_text (octet ∷ []) = codes "0x" ++ hex_2 octet
-octets_text (octet ∷ next ∷ octets) = codes "0x" ++ (hex_2 octet ++ (codes "," ++ octets_text (next ∷ octets)))
+-- what stands between two octets: the row goes on in the next one if there is room for no more in it
+abbrev pub separator : ℕ → List ℕ
+separator room = if room == 0 then codes ",\\" ++ line_end else codes ","
+
+-- the room behind an octet: a further row has 15 octets
+abbrev pub room_behind : ℕ → ℕ
+room_behind room = if room == 0 then 14 else room - 1
+
+-- the octets of a configuration, as `0x21,0x11`; the first row has room for this number of octets behind the first one
+abbrev pub octets_text : ℕ → List ℕ → List ℕ
+octets_text room [] = []
+octets_text room (octet ∷ []) = codes "0x" ++ hex_2 octet
+octets_text room (octet ∷ next ∷ octets) =
+    codes "0x" ++ (hex_2 octet ++ (separator room ++ octets_text (room_behind room) (next ∷ octets)))
 
 -- the name of the module of a configuration with this number, 0 to 9
 abbrev pub module_name : ℕ → List ℕ
@@ -66,10 +75,10 @@ module_name number = codes "Configuration " ++ (48 + number) ∷ []
 abbrev pub module_head : List ℕ
 module_head = codes "Module = \"Configuration "
 
--- the module of a configuration: its name and octets, its reference from 1 and its end
+-- the module of a configuration: its name and octets, ten of them in its first row, its reference from 1 and its end
 unfoldable pub module_text : ℕ → List ℕ → List ℕ
 module_text number octets =
-    module_head ++ ((48 + number) ∷ [] ++ (codes "\" " ++ (octets_text octets ++ (line_end ++ (decimal (number + 1) ++ (line_end ++ ended (codes "EndModule")))))))
+    module_head ++ ((48 + number) ∷ [] ++ (codes "\" " ++ (octets_text 9 octets ++ (line_end ++ (decimal (number + 1) ++ (line_end ++ ended (codes "EndModule")))))))
 
 -- a module for each configuration; the first has this number
 abbrev pub modules_text : ℕ → List (ArrayVec ℕ) → List ℕ

@@ -1,7 +1,7 @@
 -- What a line of a GSD file consists of: its code, its key and its value (GSD specification, revision 3; own in detail).
 use Rattle.std.specs.Prelude.{ℕ, ◌+◌, ◌-◌, ◌==◌, Bool, false, not, ◌&&◌, ◌||◌, nat_lt, if◌then◌else◌, List, [], ◌∷◌, length, take, drop, Option, Some, None, Result, Ok, Err}
 use Rattle.gsd_files.specs.declared.cause.Cause.{Cause}
-use Rattle.gsd_files.specs.declared.cause.Cause.TheVariants.{LongLine, OpenText}
+use Rattle.gsd_files.specs.declared.cause.Cause.TheVariants.{LongLine}
 
 -- a space, a tab, CR, and the octet that ended files of old systems
 abbrev pub is_blank : ℕ → Bool
@@ -37,17 +37,13 @@ abbrev pub skip_blanks : List ℕ → List ℕ
 skip_blanks [] = []
 skip_blanks (octet ∷ octets) = if is_blank octet then skip_blanks octets else octet ∷ octets
 
--- a line without its comment and the blanks around it
-abbrev pub trimmed : List ℕ → List ℕ
-trimmed line = skip_blanks (take (code_length false line) line)
-
--- no text is open at its end
-abbrev pub closed : List ℕ → Result (List ℕ) Cause
-closed code = if ends_quoted false code then Err OpenText else Ok code
+-- a line without its comment and the blanks around it; `quoted` if a text is open before it
+abbrev pub trimmed : Bool → List ℕ → List ℕ
+trimmed quoted line = skip_blanks (take (code_length quoted line) line)
 
 -- the code of a line of at most 2,048 octets
-abbrev pub code_of : List ℕ → Result (List ℕ) Cause
-code_of line = if nat_lt 2048 (length line) then Err LongLine else closed (trimmed line)
+abbrev pub code_of : Bool → List ℕ → Result (List ℕ) Cause
+code_of quoted line = if nat_lt 2048 (length line) then Err LongLine else Ok (trimmed quoted line)
 
 -- ---- continued lines
 
@@ -61,11 +57,11 @@ goes_on (octet ∷ next ∷ octets) = goes_on (next ∷ octets)
 abbrev pub body_of : List ℕ → List ℕ
 body_of code = if goes_on code then take (length code - 1) code else code
 
--- ---- a key and its value
+-- ---- a key, its argument and its value
 
--- octets of a key: all but blanks, `=` and `"`
+-- octets of a key: all but blanks, `=`, `"` and `(`
 abbrev pub is_key_octet : ℕ → Bool
-is_key_octet octet = not (is_blank octet) && not (octet == 61) && not (octet == 34)
+is_key_octet octet = not (is_blank octet) && not (octet == 61) && not (octet == 34) && not (octet == 40)
 
 abbrev pub key_length : List ℕ → ℕ
 key_length [] = 0
@@ -74,11 +70,43 @@ key_length (octet ∷ octets) = if is_key_octet octet then key_length octets + 1
 abbrev pub key_of : List ℕ → List ℕ
 key_of body = take (key_length body) body
 
+-- what follows the key and the blanks behind it
+abbrev pub behind_key : List ℕ → List ℕ
+behind_key body = skip_blanks (drop (key_length body) body)
+
+-- the number of octets before the first one that is this mark
+abbrev pub place_of : ℕ → List ℕ → ℕ
+place_of mark [] = 0
+place_of mark (octet ∷ octets) = if octet == mark then 0 else place_of mark octets + 1
+
+-- a text without its first octet and the blanks behind it
+abbrev pub behind_first : List ℕ → List ℕ
+behind_first [] = []
+behind_first (octet ∷ octets) = skip_blanks octets
+
+-- the argument of a key: the word between `(` and `)`
+abbrev pub argument_in : List ℕ → List ℕ
+argument_in [] = []
+argument_in (octet ∷ octets) = if octet == 40 then key_of (skip_blanks (take (place_of 41 octets) octets)) else []
+
+-- what follows the argument and the blanks behind it
+abbrev pub behind_argument : List ℕ → List ℕ
+behind_argument [] = []
+behind_argument (octet ∷ octets) = if octet == 40 then behind_first (drop (place_of 41 octets) octets) else octet ∷ octets
+
+-- the argument of the key of a row
+abbrev pub argument_of : List ℕ → List ℕ
+argument_of body = argument_in (behind_key body)
+
+-- what follows the key of a row and its argument
+abbrev pub rest_of : List ℕ → List ℕ
+rest_of body = behind_argument (behind_key body)
+
 -- what follows `=`
 abbrev pub behind_equals : List ℕ → Option (List ℕ)
 behind_equals [] = None
 behind_equals (octet ∷ octets) = if octet == 61 then Some (skip_blanks octets) else None
 
--- the value of a row, what follows its key and `=`
+-- the value of a row, what follows its key, the argument and `=`
 abbrev pub value_of : List ℕ → Option (List ℕ)
-value_of body = behind_equals (skip_blanks (drop (key_length body) body))
+value_of body = behind_equals (rest_of body)

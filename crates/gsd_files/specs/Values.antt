@@ -1,8 +1,9 @@
 -- The values of a GSD file: numbers, octets and names (GSD specification, revision 3; own in detail).
-use Rattle.std.specs.Prelude.{ℕ, ◌+◌, ◌-◌, ◌*◌, ◌/◌, ◌%◌, ◌==◌, Bool, false, ◌&&◌, ◌||◌, nat_le, nat_lt, if◌then◌else◌, List, [], ◌∷◌, ◌++◌, length, drop, Option, Some, None, Result, Ok, Err}
+use Rattle.std.specs.Prelude.{ℕ, ◌+◌, ◌-◌, ◌*◌, ◌/◌, ◌%◌, ◌==◌, Bool, false, ◌&&◌, ◌||◌, nat_le, nat_lt, if◌then◌else◌, List, [], ◌∷◌, ◌++◌, length, take, drop, Option, Some, None, Result, Ok, Err}
 use Rattle.std.specs.List.{slice_split}
 use Rattle.gsd_files.specs.Steps.{◌>>=◌}
-use Rattle.gsd_files.specs.Rows.{is_blank}
+use Rattle.gsd_files.specs.Rows.{is_blank, place_of}
+use Rattle.gsd_files.specs.declared.values.Span.{Span}
 use Rattle.gsd_files.specs.declared.cause.Cause.{Cause}
 use Rattle.gsd_files.specs.declared.cause.Cause.TheVariants.{NoValue, NoNumber, NoOctet, ManyOctets, NoName, LongName}
 
@@ -16,11 +17,11 @@ digit_of base octet =
     else if base == 16 && nat_le 65 octet && nat_le octet 70 then Some (octet - 55)
     else None
 
--- a number and one more digit; a larger one is read as 1,000,000
+-- a number and one more digit; a larger one is read as 4,294,967,295
 abbrev pub with_digit : ℕ → ℕ → Option ℕ → Option ℕ
 with_digit base number None = None
 with_digit base number (Some digit) =
-    if nat_lt 1000000 (number * base + digit) then Some 1000000 else Some (number * base + digit)
+    if nat_lt 4294967295 (number * base + digit) then Some 4294967295 else Some (number * base + digit)
 
 -- a number and more digits
 abbrev pub with_digits : ℕ → Option ℕ → List ℕ → Option ℕ
@@ -42,6 +43,29 @@ has_hex_mark (octet ∷ mark ∷ octets) = octet == 48 && (mark == 120 || mark =
 -- the number that a word is: hex digits behind `0x`, or decimal digits
 abbrev pub number_of : List ℕ → Option ℕ
 number_of word = if has_hex_mark word then digits_number 16 (drop 2 word) else digits_number 10 word
+
+-- a number of 32 bits that may have `-` before it, as its two's complement
+abbrev pub negated : Option ℕ → Option ℕ
+negated None = None
+negated (Some number) = Some (if number == 0 then 0 else 4294967296 - number)
+
+abbrev pub signed_of : List ℕ → Option ℕ
+signed_of [] = None
+signed_of (octet ∷ octets) = if octet == 45 then negated (number_of octets) else number_of (octet ∷ octets)
+
+-- what follows the first octet of `rest`; all of `word` if there is none
+abbrev pub last_of : List ℕ → List ℕ → List ℕ
+last_of word [] = word
+last_of word (octet ∷ octets) = octets
+
+abbrev pub span_by : Option ℕ → Option ℕ → Option Span
+span_by None last = None
+span_by (Some first) None = None
+span_by (Some first) (Some last) = Some (record { first = first; last = last })
+
+-- a number, or two with `-` between them
+abbrev pub span_of : List ℕ → Option Span
+span_of word = span_by (number_of (take (place_of 45 word) word)) (number_of (last_of word (drop (place_of 45 word) word)))
 
 -- a number from 0 to `most`
 abbrev pub number_within : ℕ → Option ℕ → Result ℕ Cause

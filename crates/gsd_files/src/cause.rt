@@ -6,7 +6,7 @@ use thiserror::Error;
 #[derive(Clone, Copy, Debug, PartialEq, Eq, Error)]
 pub enum Cause {
     /// The line has more than 2,048 octets.
-    #[error("more than 2048 octets in a row")]
+    #[error("expected at most 2048 octets in a row")]
     LongLine,
     /// A text has no closing `"`.
     #[error("a text without its closing quote")]
@@ -15,26 +15,35 @@ pub enum Cause {
     #[error("#Profibus_DP is missing before this row")]
     NoHeading,
     /// The line begins with `=` or `"`.
-    #[error("no key")]
+    #[error("expected a key")]
     NoKey,
     /// The key must have a value, and `=` before it.
-    #[error("no value")]
+    #[error("expected = and a value behind the key")]
     NoValue,
     /// The value isn't a number from 0 to this one.
-    #[error("no number from 0 to {0}")]
+    #[error("expected a number from 0 to {0}")]
     NoNumber(u32),
-    /// The value of `Module` doesn't begin with a name in quotes.
-    #[error("no name in quotes")]
+    /// The value of `Module` or `Slot` doesn't begin with a name in quotes.
+    #[error("expected a name in quotes")]
     NoName,
-    /// The name of a module has more than 128 octets in UTF-8.
-    #[error("a name of more than 128 octets")]
+    /// The name of a module or a slot has more than 128 octets in UTF-8.
+    #[error("expected a name of at most 128 octets")]
     LongName,
     /// What should be an octet isn't a number from 0 to 255.
-    #[error("no octet from 0 to 255")]
+    #[error("expected octets from 0 to 255")]
     NoOctet,
-    /// A module has more than 244 octets.
-    #[error("more than 244 octets")]
+    /// A module has more than 244 octets, or a row of user parameters.
+    #[error("expected at most 244 octets")]
     ManyOctets,
+    /// There are more than 237 octets of user parameters.
+    #[error("expected at most 237 octets of user parameters")]
+    ManyParameters,
+    /// What should be references of modules isn't a number, or two with `-` between them.
+    #[error("expected references of modules, as 1,2,5-9")]
+    NoReference,
+    /// A slot has more than 256 numbers or ranges of references.
+    #[error("expected at most 256 references and ranges of references")]
+    ManyReferences,
     /// A module begins before the one before it has ended.
     #[error("EndModule is missing before this row")]
     OpenModule,

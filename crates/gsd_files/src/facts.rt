@@ -4,8 +4,16 @@ ghost use Rattle.std.specs.Prelude.{◌≡◌};
 ghost use Rattle.gsd_files.specs.Reading.{no_facts};
 
 use crate::keys::Kind;
-use crate::values::Name;
+use crate::user::UserParameters;
+use crate::values::{Name, Span};
+use arrayvec::ArrayVec;
 use dp_slave::Configuration;
+
+/// The most numbers and ranges of references of a slot.
+const MOST_SPANS: usize = 256;
+
+/// References of modules.
+pub type References = ArrayVec<Span, MOST_SPANS>;
 
 /// A module of a GSD file.
 #[derive(Clone, Drop)]
@@ -16,12 +24,29 @@ pub struct Module {
     pub octets: Configuration,
     /// It is plugged from the start.
     pub preset: bool,
+    /// Its reference, the number in a row of its own; None if it has none.
+    pub reference: Option<u32>,
+    /// The default octets of its user parameters.
+    pub user: UserParameters,
+}
+
+/// A slot of a GSD file, which takes a module.
+#[derive(Drop)]
+pub struct Slot {
+    /// Its number: that of the module that it takes, from 1.
+    pub number: u32,
+    /// Its name, in UTF-8.
+    pub name: Name,
+    /// The reference of the module that is plugged if none is named; None or 0 if the slot is empty then.
+    pub default: Option<u32>,
+    /// The references of further modules that it takes.
+    pub allowed: References,
 }
 
 /// What kinds of rows were read over.
 #[derive(Clone, Copy, Debug, PartialEq, Eq)]
 pub struct LeftOut {
-    /// Rows of parameters and their texts.
+    /// Rows of parameters: their names, ranges and texts.
     pub parameters: bool,
     /// Rows of the diagnosis and its texts.
     pub diagnosis: bool,
@@ -30,7 +55,7 @@ pub struct LeftOut {
 }
 
 /// What the rows of a GSD file say that aren't those of a module. None is a key that the file doesn't have.
-#[derive(Clone, Copy)]
+#[derive(Drop)]
 pub struct Facts {
     /// `#Profibus_DP` was read.
     pub headed: bool,
@@ -44,8 +69,8 @@ pub struct Facts {
     pub failsafe: bool,
     /// `Max_User_Prm_Data_Len`, 0 to 237.
     pub most_parameters: Option<u32>,
-    /// `User_Prm_Data_Len`, 0 to 237.
-    pub parameters: Option<u32>,
+    /// The default octets of the user parameters that aren't those of a module.
+    pub user: UserParameters,
     /// `Modular_Station`; false if the file doesn't have it.
     pub modular: bool,
     /// `FixPresetModules`: the modules that are plugged from the start are always plugged; false if the file doesn't have it.
@@ -64,7 +89,7 @@ pub struct Facts {
 
 impl Facts {
     /// Returns the facts before the first line.
-    pub(crate) const fn before() -> Facts
+    pub(crate) fn before() -> Facts
         ensures { result ≡ no_facts }
     {
         Facts {
@@ -74,7 +99,7 @@ impl Facts {
             freeze: false,
             failsafe: false,
             most_parameters: None,
-            parameters: None,
+            user: ArrayVec::new(),
             modular: false,
             fixed: false,
             most_modules: None,
@@ -97,21 +122,47 @@ pub(crate) enum Next {
     Row,
     /// As more octets of the module that is open.
     Octets,
+    /// As more octets of user parameters, from this place.
+    UserOctets(u32),
+    /// As more references of the slot that is open.
+    References,
     /// As the value of a row of this kind, which has its key and `=` in a line before.
     Value(Kind),
-    /// It belongs to a row that is read over.
-    Nothing,
+    /// It belongs to a row that is read over, true if a text of that row is open.
+    Nothing(bool),
 }
 
-/// What has been read of a GSD file, except for the modules that have ended.
+/// How a line ends.
+#[derive(Clone, Copy)]
+pub(crate) struct End {
+    /// Its row goes on in the next line.
+    pub(crate) more: bool,
+    /// A text is open.
+    pub(crate) quoted: bool,
+}
+
+/// What has been read of a GSD file, except for the modules and slots that have ended.
 #[derive(Drop)]
 pub(crate) struct State {
     /// What the rows say.
     pub(crate) facts: Facts,
     /// The module that has begun and has not ended.
     pub(crate) current: Option<Module>,
+    /// The slot whose row goes on.
+    pub(crate) slot: Option<Slot>,
     /// How the next line is read.
     pub(crate) next: Next,
+}
+
+/// What a line ends.
+#[derive(Drop)]
+pub(crate) enum Ended {
+    /// Neither a module nor a slot.
+    Nothing,
+    /// This module.
+    Module(Module),
+    /// This slot.
+    Slot(Slot),
 }
 
 /// What one more line gives.
@@ -119,6 +170,6 @@ pub(crate) struct State {
 pub(crate) struct Step {
     /// What has been read behind the line.
     pub(crate) state: State,
-    /// The module that the line ends.
-    pub(crate) ended: Option<Module>,
+    /// What the line ends.
+    pub(crate) ended: Ended,
 }

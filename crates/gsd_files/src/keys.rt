@@ -1,7 +1,9 @@
 //! The keys of a GSD file.
 
 ghost use Rattle.std.specs.Prelude.{◌≡◌};
-ghost use Rattle.gsd_files.specs.Keys.{lower, same_key, begins_with, has_part, setting_named, size_named, group_named, kind_of, most_of};
+ghost use Rattle.gsd_files.specs.Keys.{lower, same_key, begins_with, has_part, setting_named, size_named, group_named, numbered, with_argument, special_kind, kind_of, is_left, most_of};
+
+use crate::values::number_of;
 
 /// A key with a number that a rack file or a check of the modules uses.
 #[derive(Clone, Copy)]
@@ -16,8 +18,6 @@ pub(crate) enum Setting {
     FailSafe,
     /// `Max_User_Prm_Data_Len`
     MostParameters,
-    /// `User_Prm_Data_Len`
-    Parameters,
     /// `Modular_Station`
     Modular,
     /// `FixPresetModules`
@@ -54,6 +54,16 @@ pub(crate) enum Kind {
     Preset,
     /// A key with a number.
     Setting(Setting),
+    /// `User_Prm_Data_Len` or `Ext_Module_Prm_Data_Len`
+    UserLength,
+    /// `User_Prm_Data`, or `Ext_User_Prm_Data_Const`: octets of user parameters from this place, counted from 0.
+    UserOctets(u32),
+    /// `Ext_User_Prm_Data_Ref`: the default of a user parameter at this place, counted from 0.
+    UserDefault(u32),
+    /// `Slot` with this number.
+    Slot(u32),
+    /// A row with nothing but this number: the reference of a module.
+    Reference(u32),
     /// A row that is read over.
     Left(Group),
 }
@@ -119,8 +129,6 @@ fn setting_named(key: &[u8]) -> Option<Setting>
         Some(Setting::FailSafe)
     } else if same_key(key, b"max_user_prm_data_len") {
         Some(Setting::MostParameters)
-    } else if same_key(key, b"user_prm_data_len") {
-        Some(Setting::Parameters)
     } else {
         size_named(key)
     }
@@ -160,9 +168,70 @@ fn group_named(key: &[u8]) -> Group
     }
 }
 
-/// Returns the kind of a row, by its key in any case.
-pub(crate) fn kind_of(key: &[u8]) -> Kind
-    ensures { result ≡ kind_of key.now }
+/// Returns the kind of a row by its key with this number as its argument; None if there is none.
+fn numbered(key: &[u8], number: u32) -> Option<Kind>
+    ensures { result ≡ numbered key.now number }
+{
+    if same_key(key, b"ext_user_prm_data_const") {
+        Some(Kind::UserOctets(number))
+    } else if same_key(key, b"ext_user_prm_data_ref") {
+        Some(Kind::UserDefault(number))
+    } else if same_key(key, b"slot") {
+        Some(Kind::Slot(number))
+    } else {
+        None
+    }
+}
+
+/// Returns the kind of a row by its key with this argument, or without one if it is empty; None if there is none.
+#[tactic(auto, unfolding(crate::specs::Keys::with_argument))]
+fn with_argument(key: &[u8], argument: &[u8]) -> Option<Kind>
+    ensures { result ≡ with_argument key.now argument.now }
+{
+    if argument.len() > 0 {
+        numbered(key, number_of(argument)?)
+    } else {
+        Some(Kind::Reference(number_of(key)?))
+    }
+}
+
+/// Returns the kind of a row of user parameters, of a slot or of a reference; None for other rows.
+fn special_kind(key: &[u8], argument: &[u8]) -> Option<Kind>
+    ensures { result ≡ special_kind key.now argument.now }
+{
+    if same_key(key, b"user_prm_data_len") {
+        return Some(Kind::UserLength);
+    }
+    if same_key(key, b"ext_module_prm_data_len") {
+        return Some(Kind::UserLength);
+    }
+    if same_key(key, b"user_prm_data") {
+        return Some(Kind::UserOctets(0));
+    }
+    with_argument(key, argument)
+}
+
+/// Returns whether a row of this kind is read over.
+pub(crate) fn is_left(kind: Kind) -> bool
+    ensures { result ≡ is_left kind }
+{
+    match kind {
+        Kind::Left(_) => true,
+        Kind::Module => false,
+        Kind::EndModule => false,
+        Kind::Preset => false,
+        Kind::Setting(_) => false,
+        Kind::UserLength => false,
+        Kind::UserOctets(_) => false,
+        Kind::UserDefault(_) => false,
+        Kind::Slot(_) => false,
+        Kind::Reference(_) => false,
+    }
+}
+
+/// Returns the kind of a row, by its key in any case and the argument of the key.
+pub(crate) fn kind_of(key: &[u8], argument: &[u8]) -> Kind
+    ensures { result ≡ kind_of key.now argument.now }
 {
     if same_key(key, b"module") {
         return Kind::Module;
@@ -175,7 +244,10 @@ pub(crate) fn kind_of(key: &[u8]) -> Kind
     }
     match setting_named(key) {
         Some(setting) => Kind::Setting(setting),
-        None => Kind::Left(group_named(key)),
+        None => match special_kind(key, argument) {
+            Some(kind) => kind,
+            None => Kind::Left(group_named(key)),
+        },
     }
 }
 
@@ -189,7 +261,6 @@ pub(crate) fn most_of(setting: Setting) -> u32
         Setting::Freeze => 1,
         Setting::FailSafe => 1,
         Setting::MostParameters => 237,
-        Setting::Parameters => 237,
         Setting::Modular => 1,
         Setting::Fixed => 1,
         Setting::MostModules => 255,

@@ -2,7 +2,7 @@
 
 ghost use Rattle.std.specs.Prelude.{◌≡◌, ◌≤◌, ◌<◌, length};
 ghost use Rattle.std.specs.Option.{option_map};
-ghost use Rattle.gsd_files.specs.Rows.{is_blank, quoted_after, ends_quoted, begins_comment, code_length, skip_blanks, trimmed, code_of, goes_on, body_of, is_key_octet, key_length, key_of, behind_equals, value_of};
+ghost use Rattle.gsd_files.specs.Rows.{is_blank, quoted_after, ends_quoted, begins_comment, code_length, skip_blanks, trimmed, code_of, goes_on, body_of, is_key_octet, key_length, key_of, behind_key, place_of, behind_first, argument_in, behind_argument, argument_of, rest_of, behind_equals, value_of};
 ghost use Rattle.gsd_files.specs.Steps.{seen};
 
 use crate::cause::Cause;
@@ -25,7 +25,7 @@ fn quoted_after(quoted: bool, octet: u8) -> bool
 }
 
 /// Returns whether a text is open at the end of the line.
-fn ends_quoted(quoted: bool, line: &[u8]) -> bool
+pub(crate) fn ends_quoted(quoted: bool, line: &[u8]) -> bool
     ensures { result ≡ ends_quoted quoted line.now }
 {
     match line {
@@ -79,27 +79,23 @@ pub(crate) fn skip_blanks(text: &[u8]) -> &[u8]
     }
 }
 
-/// Returns a line without its comment and the blanks around it.
-fn trimmed(line: &[u8]) -> &[u8]
-    ensures { result.now ≡ trimmed line.now }
+/// Returns a line without its comment and the blanks around it. `quoted` is whether a text is open before the line.
+pub(crate) fn trimmed(quoted: bool, line: &[u8]) -> &[u8]
+    ensures { result.now ≡ trimmed quoted line.now }
 {
-    let (code, _comment) = line.split_at(code_length(false, line));
+    let (code, _comment) = line.split_at(code_length(quoted, line));
     skip_blanks(code)
 }
 
-/// Returns the code of a line: what stands before its comment, without the blanks around it. `LongLine` for a line of
-/// more than 2,048 octets, `OpenText` if a text has no closing `"`.
-pub(crate) fn code_of(line: &[u8]) -> Result<&[u8], Cause>
-    ensures { seen (λ code. code.now) result ≡ code_of line.now }
+/// Returns the code of a line: what stands before its comment, without the blanks around it. `quoted` is whether a text
+/// is open before the line. `LongLine` for a line of more than 2,048 octets.
+pub(crate) fn code_of(quoted: bool, line: &[u8]) -> Result<&[u8], Cause>
+    ensures { seen (λ code. code.now) result ≡ code_of quoted line.now }
 {
     if line.len() > LONGEST_LINE {
         return Err(Cause::LongLine);
     }
-    let code = trimmed(line);
-    if ends_quoted(false, code) {
-        return Err(Cause::OpenText);
-    }
-    Ok(code)
+    Ok(trimmed(quoted, line))
 }
 
 /// Returns whether the row goes on in the next line.
@@ -129,7 +125,7 @@ pub(crate) fn body_of(code: &[u8]) -> &[u8]
 fn is_key_octet(octet: u8) -> bool
     ensures { result ≡ is_key_octet octet }
 {
-    !is_blank(octet) && octet != b'=' && octet != b'"'
+    !is_blank(octet) && octet != b'=' && octet != b'"' && octet != b'('
 }
 
 /// Returns the number of octets of the key.
@@ -157,6 +153,89 @@ pub(crate) fn key_of(body: &[u8]) -> &[u8]
     key
 }
 
+/// Returns what follows the key of a row and the blanks behind it.
+fn behind_key(body: &[u8]) -> &[u8]
+    ensures { result.now ≡ behind_key body.now }
+{
+    let (_key, rest) = body.split_at(key_length(body));
+    skip_blanks(rest)
+}
+
+/// Returns the number of octets before the first one that is this mark.
+pub(crate) fn place_of(mark: u8, text: &[u8]) -> usize
+    ensures place { result ≡ place_of mark text.now }
+    ensures most { result ≤ length text.now }
+{
+    match text {
+        [] => 0,
+        [octet, octets @ ..] => {
+            if *octet == mark {
+                0
+            } else {
+                place_of(mark, octets) + 1
+            }
+        }
+    }
+}
+
+/// Returns a text without its first octet and the blanks behind it.
+fn behind_first(text: &[u8]) -> &[u8]
+    ensures { result.now ≡ behind_first text.now }
+{
+    match text {
+        [] => text,
+        [_octet, octets @ ..] => skip_blanks(octets),
+    }
+}
+
+/// Returns the word between `(` and `)` at the front of a text.
+fn argument_in(text: &[u8]) -> &[u8]
+    ensures { result.now ≡ argument_in text.now }
+{
+    match text {
+        [] => text,
+        [octet, octets @ ..] => {
+            if *octet == b'(' {
+                let (argument, _rest) = octets.split_at(place_of(b')', octets));
+                key_of(skip_blanks(argument))
+            } else {
+                &[]
+            }
+        }
+    }
+}
+
+/// Returns what follows `(`, `)` and what stands between them at the front of a text.
+fn behind_argument(text: &[u8]) -> &[u8]
+    ensures { result.now ≡ behind_argument text.now }
+{
+    match text {
+        [] => text,
+        [octet, octets @ ..] => {
+            if *octet == b'(' {
+                let (_argument, rest) = octets.split_at(place_of(b')', octets));
+                behind_first(rest)
+            } else {
+                text
+            }
+        }
+    }
+}
+
+/// Returns the argument of the key of a row, as `0` of `Text(0)`.
+pub(crate) fn argument_of(body: &[u8]) -> &[u8]
+    ensures { result.now ≡ argument_of body.now }
+{
+    argument_in(behind_key(body))
+}
+
+/// Returns what follows the key of a row and its argument.
+pub(crate) fn rest_of(body: &[u8]) -> &[u8]
+    ensures { result.now ≡ rest_of body.now }
+{
+    behind_argument(behind_key(body))
+}
+
 /// Returns what follows `=`; None if there is no `=`.
 fn behind_equals(text: &[u8]) -> Option<&[u8]>
     ensures { option_map (λ value. value.now) result ≡ behind_equals text.now }
@@ -173,10 +252,9 @@ fn behind_equals(text: &[u8]) -> Option<&[u8]>
     }
 }
 
-/// Returns the value of a row, what follows its key and `=`; None if there is no `=`.
+/// Returns the value of a row, what follows its key, the argument and `=`; None if there is no `=`.
 pub(crate) fn value_of(body: &[u8]) -> Option<&[u8]>
     ensures { option_map (λ value. value.now) result ≡ value_of body.now }
 {
-    let (_key, rest) = body.split_at(key_length(body));
-    behind_equals(skip_blanks(rest))
+    behind_equals(rest_of(body))
 }

@@ -4,10 +4,10 @@ ghost use Rattle.std.specs.Prelude.{◌≡◌, ◌≤◌, ◌<◌, ◌==◌, ◌
 ghost use Rattle.std.specs.List.{slice_split};
 ghost use Rattle.std.specs.Option.{option_map};
 ghost use Rattle.gsd_files.specs.Steps.{seen};
-ghost use Rattle.gsd_files.specs.Values.{digit_of, with_digit, with_digits, digits_number, has_hex_mark, number_of, number_to, is_separator, with_octet_more, with_word, with_octets, utf8_of, with_character, name_from, name_in};
+ghost use Rattle.gsd_files.specs.Values.{digit_of, with_digit, with_digits, digits_number, has_hex_mark, number_of, negated, signed_of, last_of, span_of, number_to, is_separator, with_octet_more, with_word, with_octets, utf8_of, with_character, name_from, name_in};
 
 use crate::cause::Cause;
-use crate::rows::is_blank;
+use crate::rows::{is_blank, place_of};
 use arrayvec::ArrayVec;
 use dp_slave::Configuration;
 
@@ -15,10 +15,19 @@ use dp_slave::Configuration;
 pub const MOST_NAME: usize = 128;
 
 /// The largest number that a value may be: larger ones are read as this one.
-const LARGEST: u32 = 1_000_000;
+const LARGEST: u64 = 4_294_967_295;
 
 /// The name of a module, in UTF-8.
 pub type Name = ArrayVec<u8, MOST_NAME>;
+
+/// A number, or all numbers from the first to the last.
+#[derive(Clone, Copy, Default)]
+pub struct Span {
+    /// The first one.
+    pub first: u32,
+    /// The last one.
+    pub last: u32,
+}
 
 /// Returns the value of a digit to the base 10 or 16.
 fn digit_of(base: u32, octet: u8) -> Option<u32>
@@ -39,23 +48,21 @@ fn digit_of(base: u32, octet: u8) -> Option<u32>
 
 /// Returns a number and one more digit.
 fn with_digit(base: u32, number: u32, octet: u8) -> Option<u32>
-    requires base { base ≤ 16 }
-    requires number { number ≤ 1000000 }
-    ensures number { result ≡ with_digit base number (digit_of base octet) }
-    ensures most { IfSome result (λ more. more ≤ 1000000) }
+    requires { base ≤ 16 }
+    ensures { result ≡ with_digit base number (digit_of base octet) }
 {
-    let more = number * base + digit_of(base, octet)?;
+    let digit = digit_of(base, octet)?;
+    let more = u64::from(number) * u64::from(base) + u64::from(digit);
     if more > LARGEST {
-        Some(LARGEST)
+        Some(u32::MAX)
     } else {
-        Some(more)
+        Some(more as u32)
     }
 }
 
 /// Returns a number and more digits.
 fn with_digits(base: u32, number: u32, digits: &[u8]) -> Option<u32>
-    requires base { base ≤ 16 }
-    requires number { number ≤ 1000000 }
+    requires { base ≤ 16 }
     ensures { result ≡ with_digits base (Some number) digits.now }
 {
     match digits {
@@ -90,7 +97,7 @@ fn has_hex_mark(word: &[u8]) -> bool
 }
 
 /// Returns the number that a word is: hex digits behind `0x`, or decimal digits.
-fn number_of(word: &[u8]) -> Option<u32>
+pub(crate) fn number_of(word: &[u8]) -> Option<u32>
     ensures { result ≡ number_of word.now }
 {
     if word.len() >= 2 && has_hex_mark(word) {
@@ -99,6 +106,47 @@ fn number_of(word: &[u8]) -> Option<u32>
     } else {
         digits_number(10, word)
     }
+}
+
+/// Returns a number that may have `-` before it, as its two's complement of 32 bits.
+pub(crate) fn signed_of(word: &[u8]) -> Option<u32>
+    ensures { result ≡ signed_of word.now }
+{
+    match word {
+        [] => None,
+        [octet, octets @ ..] => {
+            if *octet == b'-' {
+                let number = number_of(octets)?;
+                if number == 0 {
+                    Some(0)
+                } else {
+                    Some(u32::MAX - number + 1)
+                }
+            } else {
+                number_of(word)
+            }
+        }
+    }
+}
+
+/// Returns what follows the first octet of `rest`, or all of `word` if there is none.
+fn last_of<'a>(word: &'a [u8], rest: &'a [u8]) -> &'a [u8]
+    ensures { result.now ≡ last_of word.entry.now rest.entry.now }
+{
+    match rest {
+        [] => word,
+        [_octet, octets @ ..] => octets,
+    }
+}
+
+/// Returns the number that a word is, or the two with `-` between them.
+pub(crate) fn span_of(word: &[u8]) -> Option<Span>
+    ensures { result ≡ span_of word.now }
+{
+    let (front, rest) = word.split_at(place_of(b'-', word));
+    let first = number_of(front)?;
+    let last = number_of(last_of(word, rest))?;
+    Some(Span { first, last })
 }
 
 /// Returns the value as a number from 0 to `most`. `NoValue` if there is no value, `NoNumber` if it isn't one.
@@ -166,7 +214,7 @@ fn separator_in(text: &[u8]) -> Option<usize>
 }
 
 /// Returns the text before the first separator, and the text after it, if there is one.
-fn first_word(text: &[u8]) -> (&[u8], Option<&[u8]>)
+pub(crate) fn first_word(text: &[u8]) -> (&[u8], Option<&[u8]>)
     ensures words { MatchOption result.1 (slice_split is_separator text.now ≡ result.0.now ∷ [])
         (λ rest. slice_split is_separator text.now ≡ result.0.now ∷ slice_split is_separator rest.now) }
     ensures shorter { IfSome result.1 (λ rest. length rest.now < length text.now) }

@@ -2,7 +2,7 @@
 
 ghost use Rattle.std.specs.Prelude.{◌≡◌, ◌+◌, ◌++◌, ◌<◌, ◌≤◌, true, OnOk, IfOk, length};
 ghost use Rattle.std.specs.Fmt.{decimal, digit_glyph};
-ghost use Rattle.gsd_files.specs.GsdText.{number_line, text_line, hex_2, flag, octets_text, modules_text, module_text, ident_line, head_text, revision_text, kind_text, rates_text, times_text, cable_text, names_text, fixed_text, modes_text, sizes_text, lengths_text, is_modular, gsd_text};
+ghost use Rattle.gsd_files.specs.GsdText.{number_line, text_line, hex_2, flag, separator, octets_text, modules_text, module_text, ident_line, head_text, revision_text, kind_text, rates_text, times_text, cable_text, names_text, fixed_text, modes_text, sizes_text, lengths_text, is_modular, gsd_text};
 
 use crate::sizes::{Sizes, sizes_of};
 use dp_slave::{Configuration, SlaveSpec};
@@ -205,9 +205,16 @@ fn push_lengths(out: &mut Vec<u8>, modular: bool, sizes: Sizes) -> Result<(), Al
     }
 }
 
-/// Appends octets as `0x21,0x11`.
-fn push_octets(out: &mut Vec<u8>, octets: &[u8]) -> Result<(), AllocError>
-    ensures { OnOk result (out.new.items ≡ out.old.items ++ octets_text octets.now) }
+/// Returns what stands between two octets, by the room behind the first one in its row.
+fn separator(room: usize) -> &'static [u8]
+    ensures { result.now ≡ separator room }
+{
+    if room == 0 { b",\\\r\n" } else { b"," }
+}
+
+/// Appends octets as `0x21,0x11`. The first row has room for this number of octets behind the first one, a further row for 15.
+fn push_octets(out: &mut Vec<u8>, room: usize, octets: &[u8]) -> Result<(), AllocError>
+    ensures { OnOk result (out.new.items ≡ out.old.items ++ octets_text room octets.now) }
 {
     match octets {
         [] => Ok(()),
@@ -218,8 +225,9 @@ fn push_octets(out: &mut Vec<u8>, octets: &[u8]) -> Result<(), AllocError>
         [octet, others @ ..] => {
             push(out, b"0x")?;
             push_hex(out, *octet)?;
-            push(out, b",")?;
-            push_octets(out, others)
+            push(out, separator(room))?;
+            let room = if room == 0 { 14 } else { room - 1 };
+            push_octets(out, room, others)
         }
     }
 }
@@ -234,7 +242,7 @@ fn push_module(out: &mut Vec<u8>, number: u8, octets: &[u8]) -> Result<(), Alloc
     push(out, b"Module = \"Configuration ")?;
     push(out, &digit)?;
     push(out, b"\" ")?;
-    push_octets(out, octets)?;
+    push_octets(out, 9, octets)?;
     push(out, b"\r\n")?;
     push_decimal(out, u32::from(number) + 1)?;
     push(out, b"\r\nEndModule\r\n")?;
