@@ -74,6 +74,23 @@ def test_output_that_takes_nothing(program, rack, by_hand, word):
     assert (done.returncode, done.stderr) == (4, b"rackd: cannot write\n")
 
 
+@pytest.mark.parametrize("count, wanted", [
+    (10, [",".join(["0x10"] * 10)]),
+    (11, [",".join(["0x10"] * 10) + ",\\", "0x11"]),
+    (26, [",".join(["0x10"] * 10) + ",\\", ",".join(["0x10"] * 15) + ",\\", "0x11"]),
+    (41, [",".join(["0x10"] * 10) + ",\\", ",".join(["0x10"] * 15) + ",\\", ",".join(["0x10"] * 15) + ",\\", "0x11"]),
+])
+def test_long_configuration(written, read_back, file_of, rack_text, count, wanted):
+    """Rows have at most 80 characters: ten octets stand in the row of the module, 15 in each further one."""
+    octets = "10" * (count - 1) + ("11" if count > 10 else "10")
+    path = file_of("long.toml", rack_text.replace('["2111", "4F00C101030010"]', f'"{octets}"').encode())
+    text = written("gsd", path, "7", "9")
+    rows = text.decode("latin-1").split("\r\n")
+    assert max(map(len, rows)) <= 80
+    assert rows[-3 - len(wanted):] == ['Module = "Configuration 0" ' + wanted[0], *wanted[1:], "1", "EndModule", ""]
+    assert [slave["cfg"] for slave in read_back(text, 1)] == [octets]
+
+
 def test_slave_with_one_configuration(written, file_of, rack_text):
     """The file of a compact slave has no number of modules and no lengths."""
     one = file_of("one.toml", rack_text.replace('["2111", "4F00C101030010"]', '"2111"').encode())

@@ -27,11 +27,12 @@ def lengths(octets):
 def settings_of(text):
     """Returns the keys and values of a GSD file that `rackd gsd` wrote, and its modules: the name and the octets of each.
 
-    Each row has to end in CR LF, no key may stand twice, and each module has to have its end.
+    Each row has to end in CR LF and has at most 80 characters, no key may stand twice, and each module has to have its end.
     """
     assert text.endswith(b"\r\n")
     assert text.count(b"\n") == text.count(b"\r") == text.count(b"\r\n")
-    rows = text.decode("latin-1").split("\r\n")[:-1]
+    assert all(len(row) <= 80 for row in text.decode("latin-1").split("\r\n"))
+    rows = text.decode("latin-1").replace("\\\r\n", "").split("\r\n")[:-1]
     assert rows[0] == "#Profibus_DP"
     found, modules = {}, []
     for row in rows[1:]:

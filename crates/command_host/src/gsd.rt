@@ -82,7 +82,7 @@ pub(crate) fn write_slave<'a>(
     }
 }
 
-/// Writes a row for each module of this GSD file to standard output.
+/// Writes a row for each module and each slot of this GSD file to standard output.
 pub(crate) fn write_modules<'a>(
     rt: &(impl Runtime + AllocGlobal),
     path: &'a str,
@@ -139,7 +139,7 @@ fn slave_refused<'a>(
             }
             Ok(code)
         }
-        SlaveFault::UnknownModule(reason) => {
+        SlaveFault::UnknownModule(reason) | SlaveFault::WrongModule(_, reason) => {
             let code = report_reason(errors, Fault::BadGsd(path), reason.as_str());
             report_list(errors, path);
             Ok(code)
@@ -147,7 +147,7 @@ fn slave_refused<'a>(
     }
 }
 
-/// Reports which command lists the modules of a GSD file.
+/// Reports which command lists the modules and slots of a GSD file.
 fn report_list(errors: &impl Eprint, path: &str) {
     let _ = eprintln!(errors;
         "  'rackd slave {} --list' lists the modules",

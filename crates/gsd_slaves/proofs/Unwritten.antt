@@ -24,3 +24,4 @@ no_table outcome old slave.WriteFault is = absurd is
 no_table outcome old (slave.Row fault) is = (is, refl)
 no_table outcome old (slave.Modules fault) is = (is, refl)
 no_table outcome old (slave.UnknownModule text) is = (is, refl)
+no_table outcome old (slave.WrongModule number text) is = (is, refl)

@@ -1,10 +1,12 @@
 -- What `rackd slave` writes (own).
 use Rattle.std.specs.Prelude.{◌≡◌, codes, ℕ, Bool, nat_eq, nat_le, nat_lt, is_some, List, [], ◌∷◌, ◌++◌, length, Option, Some, None, Result, Ok, Err, if◌then◌else◌, string_bytes}
+use Rattle.std.specs.Fmt.{decimal}
 use Rattle.std.specs.Io.KnownBytes.{Appends}
 use Rattle.strsim.specs.Edits.{levenshtein_row}
 use Rattle.dp_text.specs.Writes.{WritesPrefix}
 use Rattle.gsd_files.specs.Files.{File, gsd_of}
-use Rattle.gsd_files.specs.Plugged.{module_named, plugged_slave}
+use Rattle.gsd_files.specs.Naming.{module_named}
+use Rattle.gsd_files.specs.Plugged.{plugged_slave}
 use Rattle.gsd_files.specs.declared.cause.RowFault.{RowFault}
 use Rattle.gsd_files.specs.declared.facts.Module.{Module}
 use Rattle.gsd_files.specs.declared.plugged.PlugFault.{PlugFault}
@@ -14,9 +16,9 @@ use Rattle.gsd_slaves.specs.SlaveText.{slave_text}
 use Rattle.gsd_slaves.specs.declared.fault.SlaveFault.{SlaveFault}
 use Rattle.gsd_slaves.specs.declared.fault.SlaveFault.TheVariants as faults
 
--- ---- a name that no module has
+-- ---- a name that doesn't stand for one module
 
--- the first of the names that no module has
+-- the first of the names that doesn't stand for one module
 abbrev pub first_unknown : List Module → List (List ℕ) → List ℕ
 first_unknown modules [] = []
 first_unknown modules (name ∷ names) = if is_some (module_named modules name) then first_unknown modules names else name
@@ -39,14 +41,48 @@ or_far name modules None = if nat_lt (length name) 6 then None else first_near 2
 abbrev pub nearest : List ℕ → List Module → Option (List ℕ)
 nearest name modules = or_far name modules (first_near 1 name modules)
 
--- the text for a name that no module has
-abbrev pub unknown_text : List ℕ → Option (List ℕ) → List ℕ
-unknown_text name None = codes "no module \"" ++ name ++ codes "\""
-unknown_text name (Some near) = codes "no module \"" ++ (name ++ (codes "\", perhaps \"" ++ (near ++ codes "\"")))
+-- names in quotes, each behind a space
+abbrev pub quoted_names : List (List ℕ) → List ℕ
+quoted_names [] = []
+quoted_names (name ∷ names) = codes " \"" ++ (name ++ (codes "\"" ++ quoted_names names))
 
--- it is the text for this name; which near name it has is left open
+-- some names were appended
+abbrev pub AppendsNames : List ℕ → List ℕ → Type 0
+AppendsNames old new = (names : List (List ℕ)) × (new ≡ old ++ quoted_names names)
+
+-- what helps with a name that doesn't stand for one module
+pub data Hint : Type 0 where
+  no_hint : Hint
+  near_name : List ℕ → Hint
+  several_names : List (List ℕ) → Hint
+
+abbrev pub several_front : List ℕ → List ℕ
+several_front name = codes "several modules begin with \"" ++ (name ++ codes "\":")
+
+-- the text for a name that doesn't stand for one module
+abbrev pub unknown_text : List ℕ → Hint → List ℕ
+unknown_text name no_hint = codes "no module \"" ++ name ++ codes "\""
+unknown_text name (near_name near) = codes "no module \"" ++ (name ++ (codes "\", perhaps \"" ++ (near ++ codes "\"")))
+unknown_text name (several_names names) = several_front name ++ quoted_names names
+
+-- it is the text for this name; which other names it has is left open
 abbrev pub IsUnknownText : List ℕ → List ℕ → Type 0
-IsUnknownText name text = (near : Option (List ℕ)) × (text ≡ unknown_text name near)
+IsUnknownText name text = (hint : Hint) × (text ≡ unknown_text name hint)
+
+-- ---- a slot that doesn't take its module
+
+abbrev pub wrong_front : ℕ → List ℕ → List ℕ → List ℕ
+wrong_front number slot part =
+    codes "slot " ++ (decimal number ++ (codes " \"" ++ (slot ++ (codes "\" does not take \"" ++ (part ++ codes "\", but:")))))
+
+-- the text for a slot with this number and name, its module, and the names of those that it takes
+abbrev pub wrong_text : ℕ → List ℕ → List ℕ → List (List ℕ) → List ℕ
+wrong_text number slot part names = wrong_front number slot part ++ quoted_names names
+
+-- it is the text for this slot; which names it has is left open
+abbrev pub IsWrongText : ℕ → List ℕ → Type 0
+IsWrongText number text =
+    (slot : List ℕ) × (part : List ℕ) × (names : List (List ℕ)) × (text ≡ wrong_text number slot part names)
 
 -- ---- the run
 
@@ -78,6 +114,7 @@ IsFault outcome faults.OutOfMemory = Unit {0}
 IsFault outcome faults.WriteFault = ⊥
 IsFault outcome (faults.Row fault) = outcome ≡ Err (in_row fault)
 IsFault outcome (faults.Modules fault) = outcome ≡ Err (of_modules fault)
+IsFault outcome (faults.WrongModule number text) = (outcome ≡ Err (of_modules (plugs.WrongModule number))) × IsWrongText number (string_bytes text)
 IsFault outcome (faults.UnknownModule text) =
     (modules : List Module) × (name : List ℕ) × (outcome ≡ Err (unknown modules name)) × IsUnknownText name (string_bytes text)
 

@@ -59,8 +59,12 @@ pub enum SlaveFault {
     /// The modules can't be plugged.
     #[error("{0}")]
     Modules(PlugFault),
-    /// The file has no module with a name that is given. The text is `no module "NAME"`, and `, perhaps "NAME"` if one
-    /// has nearly this name.
+    /// A name that is given stands for no module, or for more than one. The text is `no module "NAME"`, with `, perhaps
+    /// "NAME"` if one has nearly this name, or `several modules begin with "NAME":` and their names.
     #[error("{0}")]
     UnknownModule(String),
+    /// The slot with this number doesn't take its module. The text has the names of the slot, of the module and of those that
+    /// the slot takes.
+    #[error("{1}")]
+    WrongModule(u32, String),
 }

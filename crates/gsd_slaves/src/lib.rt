@@ -4,6 +4,7 @@
 
 mod fault;
 mod gsd;
+mod hints;
 mod module_list;
 mod names;
 mod slave;

@@ -1,7 +1,7 @@
 //! A slave as a table of a rack file.
 
 ghost use Rattle.std.specs.Prelude.{◌≡◌, ◌+◌, ◌≤◌, ◌++◌, length};
-ghost use Rattle.gsd_slaves.specs.SlaveText.{truth_row, ident_row, cfg_row, user_max_row, left_row, left_rows, slave_text};
+ghost use Rattle.gsd_slaves.specs.SlaveText.{truth_row, ident_row, cfg_row, user_max_row, user_count_row, user_default_row, user_rows, left_row, left_rows, slave_text};
 
 use dp_text::Text;
 use gsd_files::{LeftOut, PluggedSlave};
@@ -47,18 +47,52 @@ fn push_cfg(text: &mut Text, octets: &[u8])
     text.push_str("\"\n");
 }
 
-/// Appends the row of the largest number of octets of user parameters, if it is known.
-fn push_user_max(text: &mut Text, most: Option<u32>)
+/// Appends the row of the largest number of octets of user parameters.
+fn push_user_max(text: &mut Text, most: u32)
     requires { length text.old + 30 ≤ 1800 }
     ensures text { text.new ≡ text.old ++ user_max_row most }
     ensures most { length text.new ≤ length text.old + 30 }
 {
-    match most {
-        None => {}
-        Some(most) => {
-            text.push_str("user_max = ");
-            text.push_number(most);
-            text.push(b'\n');
+    text.push_str("user_max = ");
+    text.push_number(most);
+    text.push(b'\n');
+}
+
+/// Appends a comment with the number of default octets of the user parameters.
+fn push_user_count(text: &mut Text, count: u32)
+    requires { length text.old + 80 ≤ 1800 }
+    ensures text { text.new ≡ text.old ++ user_count_row count }
+    ensures most { length text.new ≤ length text.old + 80 }
+{
+    text.push_str("# user parameters of a master: ");
+    text.push_number(count);
+    text.push_str(" octets, by default\n");
+}
+
+/// Appends a comment with the default octets of the user parameters.
+fn push_user_default(text: &mut Text, octets: &[u8])
+    requires room { length text.old + 500 ≤ 1800 }
+    requires octets { length octets.now ≤ 237 }
+    ensures text { text.new ≡ text.old ++ user_default_row octets.now }
+    ensures most { length text.new ≤ length text.old + 500 }
+{
+    text.push_str("# user_default = \"");
+    text.push_hex(octets);
+    text.push_str("\"\n");
+}
+
+/// Appends comments with the default octets of the user parameters and their number, if there are any.
+fn push_user(text: &mut Text, octets: &[u8])
+    requires room { length text.old + 580 ≤ 1800 }
+    requires octets { length octets.now ≤ 237 }
+    ensures text { text.new ≡ text.old ++ user_rows octets.now }
+    ensures most { length text.new ≤ length text.old + 580 }
+{
+    match octets {
+        [] => {}
+        [_octet, ..] => {
+            push_user_count(text, octets.len() as u32);
+            push_user_default(text, octets);
         }
     }
 }
@@ -83,7 +117,7 @@ fn push_all_left(text: &mut Text, left: LeftOut)
 {
     push_left(
         text,
-        "# left out: parameters and their texts\n",
+        "# left out: names, ranges and texts of parameters\n",
         left.parameters,
     );
     push_left(
@@ -94,7 +128,8 @@ fn push_all_left(text: &mut Text, left: LeftOut)
     push_left(text, "# left out: other keys\n", left.others);
 }
 
-/// Returns the table `[[line.slave]]` of a slave, with an address to choose, and comments that name what is left out.
+/// Returns the table `[[line.slave]]` of a slave, with an address to choose. Comments give the default octets of the user
+/// parameters, and name what is left out.
 pub(crate) fn slave_text(slave: &PluggedSlave) -> Text
     ensures { result ≡ slave_text slave.now }
 {
@@ -106,6 +141,7 @@ pub(crate) fn slave_text(slave: &PluggedSlave) -> Text
     push_truth(&mut text, "freeze = ", slave.freeze);
     push_user_max(&mut text, slave.user_max);
     push_truth(&mut text, "failsafe = ", slave.failsafe);
+    push_user(&mut text, slave.user.as_slice());
     push_all_left(&mut text, slave.left);
     text
 }
