@@ -12,7 +12,7 @@ from support.telegrams import ACCEPTED, fresh_diagnosis, slave_diag
 TAIL = b" /x HTTP/1.1\r\nHost: 127.0.0.1\r\n\r\nin 5 beef\n" + slave_diag(1, 5)
 HELLO = b"\x16\x03\x01\x02\x00\x01\x00\x01\xfc\x03\x03" + slave_diag(1, 5)
 STUN = b"\x00\x01\x00\x00\x21\x12\xa4\x42" + bytes(12) + slave_diag(1, 5)
-REPORT = "a master is rejected: a request of the web"
+REPORT = "a master is rejected: an HTTP, TLS or STUN request"
 
 
 def is_over(connection):

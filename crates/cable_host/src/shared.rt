@@ -72,7 +72,7 @@ impl Shared {
 
     /// Reports that a web page has made a connection, which is closed.
     pub(crate) fn report_web_request(&self, rt: &impl Wait) {
-        self.report(rt, "a master is rejected: a request of the web");
+        self.report(rt, "a master is rejected: an HTTP, TLS or STUN request");
     }
 
     /// Returns the random words of both directions of the next connection of a master. Each connection of one master has
