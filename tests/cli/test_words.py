@@ -39,6 +39,8 @@ MESSAGES = [
      ["Rules:\n  fcb-repeated, fcb-not-alternated, ", "no-request", TRY]),
     ("judge rack audit --rules fbc-repeated",
      invalid("fbc-repeated", "--rules <NAME,..>", "there is no such rule, perhaps 'fcb-repeated'"), ["Rules:\n  ", TRY]),
+    ("judge rack audit --rules min-tsdr --without x",
+     invalid("x", "--without <NAME,..>", "there is no such rule"), ["Rules:\n  ", TRY]),
     ("judge rack audit --rules min-tsd,x",
      invalid("min-tsd", "--rules <NAME,..>", "there is no such rule, perhaps 'min-tsdr'"), ["Rules:\n  ", TRY]),
     ("judge rack audit --json --junit", "the argument '--json' cannot be used with '--junit'", [TRY]),
@@ -142,6 +144,8 @@ WRONG = {
         rack audit --rules
         rack audit --rules x
         rack audit --rules min-tsdr,
+        rack audit --without
+        rack audit --without x
         rack audit --json --junit
         rack audit --junit --junit
         rack audit --follow""",

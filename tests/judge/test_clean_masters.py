@@ -9,7 +9,8 @@ WATCHED = bring_up(status=0x88, watchdog=(2, 5))
 
 def two_slaves():
     """Returns a script with all that a master does in a run: exchanges, controls, a diagnosis, watchdogs, a search."""
-    steps = [step for slave in (5, 6) for step in bring_up(slave, group=1, status=0x88, watchdog=(10, 10))]
+    # Slave 5 has Sync and Freeze, and its parameters ask for both.
+    steps = [step for slave, octet in ((5, 0xB8), (6, 0x88)) for step in bring_up(slave, group=1, status=octet, watchdog=(10, 10))]
     for number in range(20):
         steps += [exchange(bytes([number, 1])), exchange(b"\x07", slave=6)]
         if number % 5 == 0:
@@ -52,6 +53,12 @@ CLEAN = {
     "uses each point of DP-V0": [
         *bring_up(), Request(5, 56), Request(5, 57), get_cfg(), Request(5, 54, b"\x01"), Request(5, 54, b"\x01", fc=0x44),
         Request(5, 55, b"\x07\x80\xa1\x00")],
+    "clears the outputs and operates": [
+        *bring_up(), exchange(), control(0x02), exchange(b"\0\0"), control(0), exchange(), control(0x02, group=2), exchange()],
+    "sends outputs that look like access points": [*bring_up(), exchange(b"\x3d\x3e"), exchange(b"\x3c\x3e")],
+    # The reply to the first request is lost on the way: the master sends the same again.
+    "sends its first request again": [diag(fc=FIRST), *bring_up(), exchange()],
+    "sets min TSDR of a slave that has parameters": [*bring_up(), exchange(), prm(status=0), exchange()],
     "sends a wrong length once": [*bring_up(), exchange(b"\x01"), exchange()] * 2,
     "no entries": [],
 }

@@ -1,7 +1,7 @@
 """The options of `rackd judge`: masters, rules, retries, and words that are wrong."""
 import pytest
 
-from support.judging import FIRST, RULES, by, diag, prm
+from support.judging import FCB_1, FIRST, RULES, by, diag, prm
 
 # Six times the same request to a slave that is not there.
 RETRIES = [diag(9, fc=FIRST)] * 6
@@ -32,12 +32,22 @@ def test_as_many_retries_as_allowed(text_of):
     assert text_of(*RETRIES).findings("--retries", "5") == ([], 0)
 
 
+@pytest.mark.parametrize("options, places", [
+    (("--without", "fcb-first"), [2]), (("--without", "fcb-first,retry-limit"), [2]), (("--without", "prm-before-diag"), [1]),
+    (("--without", "fcb-first,prm-before-diag"), []), (("--rules", "fcb-first", "--without", "fcb-first"), []),
+    (("--rules", "fcb-first,prm-before-diag", "--without", "fcb-first"), [2]),
+], ids=str)
+def test_without(text_of, options, places):
+    found, _ = text_of(diag(9, fc=FCB_1), prm(5)).findings(*options)
+    assert [place for _, _, place in found] == places
+
+
 def test_all_rules_are_named(text_of):
     assert text_of().findings("--rules", ",".join(RULES)) == ([], 0)
 
 
 @pytest.mark.parametrize("options", [
-    ("--rules", "no-rule"), ("--rules", "fcb-first,"), ("--retries", "16"), ("--retries", "03"), ("--json", "--junit"),
+    ("--rules", "no-rule"), ("--rules", "fcb-first,"), ("--without", "no-rule"), ("--without", "fcb-first,"), ("--retries", "16"), ("--retries", "03"), ("--json", "--junit"),
     ("--master", "256"),
 ], ids="-".join)
 def test_wrong_words(text_of, options):

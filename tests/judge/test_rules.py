@@ -1,11 +1,13 @@
 """The rules of `rackd judge`: each is broken by a master that is changed in one way, and by no other."""
-import re
 from typing import NamedTuple
 
 import pytest
 
-from support.judging import (FCB_0, FCB_1, FIRST, RULES, WARNINGS, Request, bring_up, by, cfg, control, diag, exchange, get_cfg,
+from rackd.master import SDN
+
+from support.judging import (FCB_0, FCB_1, FIRST, ROWS, RULES, WARNINGS, Request, bring_up, by, cfg, control, diag, exchange, get_cfg,
                              prm, status)
+from support.rule_table import FORMATS, LIST, SOURCE, TABLE, list_of, rows_of_source, table_of
 
 # A clean master class 1: slave 5 is in data exchange behind it, at place 5. Each row of BROKEN changes this one thing.
 CLEAN = [*bring_up(), exchange()]
@@ -34,9 +36,12 @@ BROKEN = [
     Broken("fcb-repeated", [*CLEAN, exchange(b"\x56\x78", fc=FCB_1)], [6]),
     Broken("fcb-not-alternated", [*CLEAN, exchange(fc=FCB_1)], [6]),
     Broken("fcb-first", [diag(fc=FCB_0), prm(), cfg(), diag(), exchange()], [1]),
+    # Each of its requests has FCV 0; only the first may.
+    Broken("fcv-not-set", [step._replace(fc=FIRST) for step in CLEAN], [2, 3, 4, 5]),
     Broken("fcb-not-allowed", [*CLEAN, status(5, fc=0x69), control(0, fc=0x56)], [6, 7]),
     Broken("retry-limit", [ABSENT] * 6, [5]),
     Broken("prm-before-diag", [prm(), cfg(), diag(), exchange()], [1]),
+    Broken("prm-without-lock", [diag(), prm(status=0)], [2]),
     Broken("cfg-before-prm", [diag(), cfg()], [2]),
     Broken("exchange-before-ready", [diag(), prm(), exchange(), exchange()], [3, 4]),
     Broken("exchange-without-diag", [diag(), prm(), cfg(), exchange(), exchange()], [4]),
@@ -44,16 +49,28 @@ BROKEN = [
     Broken("exchange-of-other", [*bring_up(), *by(2, diag(), exchange())], [6], master=2),
     Broken("length-repeated", [*bring_up(), exchange(b"\x01"), exchange(), exchange(b"\x02"), exchange(b"\x03")], [7, 8]),
     Broken("diag-not-read", [*bring_up(), "diag 5 e 0407", *[exchange()] * 6], [10]),
+    # Set_Prm without bit 7 of DA and SA: its points are the first two octets of outputs, of which slave 5 has two.
+    Broken("extension-missing", [*CLEAN, exchange(b"\x3d\x3e\x80\0\0\x0b\x80\xa1\0")], [6]),
+    Broken("outputs-in-clear", [*CLEAN, control(0x02), exchange(b"\0\0"), exchange(b"\0\1"), control(0), exchange()], [8]),
     Broken("prm-of-other", [*bring_up(), *by(2, diag(), prm())], [6], master=2),
+    Broken("prm-short", [diag(), Request(5, 61, b"\x80\0\0\x0b\x80\xa1")], [2]),
+    Broken("prm-reserved", [diag(), prm(status=0x81), diag(), prm(status=0x82), diag(), prm(status=0x84)], [2, 4, 6]),
+    Broken("lock-and-unlock", [*CLEAN, prm(status=0xC0)], [6]),
     Broken("min-tsdr", [diag(), prm(min_tsdr=10), cfg(), diag(), exchange()], [2]),
+    Broken("watchdog-zero", [diag(), prm(status=0x88, watchdog=(0, 5)), diag(), prm(status=0x88, watchdog=(5, 0))], [2, 4]),
     # Get_Cfg ends a gap as long as the watchdog, and its reply does not show that the slave was lost.
     Broken("watchdog-short", [*WATCHED, exchange(), "tick 10", get_cfg(), exchange()], [7]),
-    Broken("group-not-set", [*bring_up(group=1), control(0x08, group=1), control(0x08, group=2)], [6]),
+    Broken("group-not-set", [*bring_up(group=1), control(0x04, group=1), control(0x04, group=2)], [6]),
     Broken("control-both", [*bring_up(), control(0x0C), control(0x30)], [5, 6]),
     Broken("control-reserved", [*bring_up(), control(0x01), control(0x40), control(0x80)], [5, 6, 7]),
+    Broken("control-length", [*bring_up(), *[Request(127, 58, octets, SDN) for octets in (b"", b"\0", b"\0\0\0")]], [5, 6, 7]),
+    Broken("control-not-asked", [*bring_up(), control(0x08), control(0x20)], [5, 6]),
+    Broken("control-with-srd", [*CLEAN, Request(5, 58, b"\0\0")], [6]),
     Broken("sdn-needs-reply", [prm(fc=0x44)], [1]),
     Broken("broadcast-needs-reply", [status(127)], [1]),
     Broken("unknown-point", [Request(5, 51, b"\x01")], [1]),
+    Broken("source-point", [diag(), get_cfg()._replace(ssap=None), get_cfg()._replace(ssap=61)], [2, 3]),
+    Broken("octets-not-allowed", [Request(5, point, b"\1") for point in (60, 59, 56, 57)], [1, 2, 3, 4]),
     # Tokens to itself are right.
     Broken("no-request", [*[OWN_TOKEN] * 5, *[SHORT_ACK] * 3, RESPONSE, SHORT_ACK], [9]),
 ]
@@ -117,10 +134,7 @@ FURTHER = {
 }
 
 
-def rules_of_formats(top):
-    """Returns the names of the rules and their severities in the order of the table in docs/FORMATS.md."""
-    table = (top / "docs" / "FORMATS.md").read_text(encoding="utf-8").split("## Judged\n")[1].split("\n## ")[0]
-    return re.findall(r"^\| `([a-z-]+)` \| (error|warning) \|", table, re.MULTILINE)
+each_rule = pytest.mark.parametrize("broken", BROKEN, ids=[broken.rule for broken in BROKEN])
 
 
 def findings_of(broken):
@@ -128,12 +142,26 @@ def findings_of(broken):
     return [(broken.rule, broken.master, place) for place in broken.places], 0 if broken.rule in WARNINGS else 1
 
 
-each_rule = pytest.mark.parametrize("broken", BROKEN, ids=[broken.rule for broken in BROKEN])
-
-
-def test_each_rule_has_a_case(top):
-    assert rules_of_formats(top) == [(rule, "warning" if rule in WARNINGS else "error") for rule in RULES]
+def test_each_rule_has_a_case():
     assert [broken.rule for broken in BROKEN] == RULES
+
+
+def test_table_of_formats_is_that_of_the_source():
+    """`python3 tests/support/rule_table.py` writes the table."""
+    made = table_of(rows_of_source(SOURCE.read_text(encoding="utf-8")))
+    assert TABLE.findall(FORMATS.read_text(encoding="utf-8")) == [made]
+
+
+def test_help_lists_the_rules(run):
+    assert LIST.findall(run("judge", "--help").output) == [list_of(ROWS)]
+
+
+@each_rule
+def test_words_of_a_rule(text_of, broken):
+    """A finding in JSON has the severity, the source and the text of docs/FORMATS.md."""
+    row = next(row for row in ROWS if row.name == broken.rule)
+    found = [keys for keys in text_of(*broken.script).rows_of_json() if "place" in keys]
+    assert {(keys["rule"], keys["severity"], keys["standard"], keys["text"]) for keys in found} == {tuple(row)}
 
 
 @each_rule
@@ -149,9 +177,11 @@ def test_rule_only(text_of, broken):
 
 @each_rule
 def test_rule_left_out(text_of, broken):
-    """The option --rules with all other rules drops its findings."""
+    """The option --rules with all other rules, and the option --without with this rule, drop its findings."""
     others = ",".join(rule for rule in RULES if rule != broken.rule)
-    assert text_of(*broken.script).findings("--rules", others) == ([], 0)
+    text = text_of(*broken.script)
+    assert text.findings("--rules", others) == ([], 0)
+    assert text.findings("--without", broken.rule) == ([], 0)
 
 
 @pytest.mark.parametrize("script, findings", FURTHER.values(), ids=[name.replace(" ", "-") for name in FURTHER])

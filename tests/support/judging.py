@@ -5,6 +5,8 @@ from typing import NamedTuple, Optional
 from rackd import frames
 from rackd.master import CHK_CFG, GET_CFG, GLOBAL_CONTROL, MASTER, SDN, SET_PRM, SLAVE_DIAG, STATUS
 
+from support.rule_table import FORMATS, rows_of_formats
+
 RACK = """
 [[line]]
 number = 1
@@ -21,14 +23,10 @@ address = 6
 ident = 0x0B3C
 cfg = "20"
 """
-# All rules in the order of docs/FORMATS.md, and those that are warnings.
-RULES = [
-    "fcb-repeated", "fcb-not-alternated", "fcb-first", "fcb-not-allowed", "retry-limit", "prm-before-diag", "cfg-before-prm",
-    "exchange-before-ready", "exchange-without-diag", "exchange-after-rs", "exchange-of-other", "length-repeated",
-    "diag-not-read", "prm-of-other", "min-tsdr", "watchdog-short", "group-not-set", "control-both", "control-reserved",
-    "sdn-needs-reply", "broadcast-needs-reply", "unknown-point", "no-request",
-]
-WARNINGS = {"retry-limit", "watchdog-short", "group-not-set", "control-both", "unknown-point", "no-request"}
+# All rules of docs/FORMATS.md, in their order, and those that are warnings.
+ROWS = rows_of_formats(FORMATS.read_text(encoding="utf-8"))
+RULES = [row.name for row in ROWS]
+WARNINGS = {row.name for row in ROWS if row.severity == "warning"}
 IDENTS = {5: b"\x80\xa1", 6: b"\x0b\x3c"}
 CONFIGURATIONS = {5: b"\x21\x11", 6: b"\x20"}
 # Function codes of SRD with high priority: the first one to a slave, and those with FCV 1 and FCB 0 or 1.
@@ -43,6 +41,7 @@ class Request(NamedTuple):
     data: bytes = b""
     fc: Optional[int] = None
     master: int = 1
+    ssap: Optional[int] = MASTER
 
 
 def diag(slave=5, fc=None):
@@ -98,7 +97,7 @@ def rows_of(script):
             fc = {None: FIRST, True: FCB_0, False: FCB_1}[turns.get(station)]
         if fc in (FIRST, FCB_0, FCB_1):
             turns[station] = fc != FCB_0
-        octets = frames.request(step.slave, step.master, fc, step.data, step.point, None if step.point is None else MASTER)
+        octets = frames.request(step.slave, step.master, fc, step.data, step.point, None if step.point is None else step.ssap)
         rows.append(f"m {step.master} {octets.hex(' ')}")
     return rows
 

@@ -28,7 +28,7 @@ pub fn judge_text<'a, H: Runtime + AllocGlobal>(
     judging: Judging<'_>,
     shows: bool,
 ) -> Result<ExitCode, TextFault<'a>> {
-    let Ok(rules) = rules_of(rt.alloc(), judging.rules) else {
+    let Ok(rules) = rules_of(rt.alloc(), &judging) else {
         return Err(TextFault::Run(RunFault::OutOfMemory));
     };
     let choice = JudgeChoice {
@@ -105,23 +105,23 @@ fn only_master(master: Option<u8>) -> Entries {
     }
 }
 
-/// Returns the rules of these names, separated by commas, in their order; all rules if no names are given. `AllocError` if
-/// memory runs out.
-fn rules_of(alloc: Global, names: Option<&str>) -> Result<Vec<JudgeRule>, AllocError> {
+/// Returns the rules that are judged by, in their order: those that are named, or all if none are, but for those that are
+/// left out. `AllocError` if memory runs out.
+fn rules_of(alloc: Global, judging: &Judging<'_>) -> Result<Vec<JudgeRule>, AllocError> {
     let mut rules = Vec::new(alloc);
     for rule in JudgeRule::ALL {
-        if is_named(names, rule) {
+        if is_named(judging.rules, rule, true) && !is_named(judging.without, rule, false) {
             rules.push(rule)?;
         }
     }
     Ok(rules)
 }
 
-/// Returns whether a rule is among these names.
-fn is_named(names: Option<&str>, rule: JudgeRule) -> bool {
+/// Returns whether a rule is among these names, separated by commas; without names, `otherwise`.
+fn is_named(names: Option<&str>, rule: JudgeRule, otherwise: bool) -> bool {
     match names {
         Some(names) => names.split(',').any(|name| name == rule.name()),
-        None => true,
+        None => otherwise,
     }
 }
 

@@ -2,9 +2,10 @@
 use Rattle.std.specs.Prelude.{ℕ, ◌+◌, ◌-◌, ◌^◌, ◌==◌, min, not, ◌&&◌, if◌then◌else◌, Bool, true, false, List, [], ◌∷◌, replicate, slice_index_or, slice_set}
 use Rattle.judge_rules.specs.declared.entry.Entry.{Entry}
 use Rattle.judge_rules.specs.declared.rule.JudgeRule.{JudgeRule}
+use Rattle.judge_rules.specs.declared.rule.TheConstants.{RULES}
 use Rattle.std.specs.List.{list_any}
-use Rattle.judge_rules.specs.declared.rule.Severity.{Severity}
-use Rattle.judge_rules.specs.declared.rule.Severity.TheVariants as severities
+use Rattle.judge_rules.specs.declared.rule_rows.Severity.{Severity}
+use Rattle.judge_rules.specs.declared.rule_rows.Severity.TheVariants as severities
 use Rattle.judge_rules.specs.Judges.{JudgeView}
 use Rattle.judge_rules.specs.RuleNames.{rule_number, rule_severity}
 use Rattle.judge_rules.specs.Rules.{breaks}
@@ -16,7 +17,7 @@ abbrev pub uncounted : RuleCount
 uncounted = record { count = 0; first = 0 }
 
 abbrev pub no_counts : Counts
-no_counts = record { by_rule = replicate 23 uncounted }
+no_counts = record { by_rule = replicate RULES uncounted }
 
 abbrev pub count_at : Counts → JudgeRule → RuleCount
 count_at counts rule = slice_index_or counts.by_rule (rule_number rule) uncounted

@@ -1,8 +1,9 @@
 -- Examples of findings as rows and as lines of JSON. Each holds by computation.
-use Rattle.std.specs.Prelude.{◌≡◌, codes, ℕ, Bool, true, [], ◌∷◌, refl}
+use Rattle.std.specs.Prelude.{◌≡◌, codes, ℕ, Bool, true, false, [], ◌∷◌, Some, refl}
 use Rattle.std.specs.Fmt.{digits}
 use Rattle.dp_telegram.specs.declared.function_code.Function.TheVariants.{SrdHigh}
 use Rattle.judge_rules.specs.declared.entry.Answer.TheVariants as answers
+use Rattle.judge_rules.specs.declared.entry.Payload.{Payload}
 use Rattle.judge_rules.specs.declared.entry.Entry.{Entry}
 use Rattle.judge_rules.specs.declared.entry.Entry.TheVariants as entries
 use Rattle.judge_rules.specs.declared.entry.Service.TheVariants as services
@@ -10,10 +11,13 @@ use Rattle.judge_rules.specs.declared.rule.JudgeRule.TheVariants as rules
 use Rattle.judge_rules.specs.Judges.{JudgeView}
 use Rattle.judge_findings.specs.Findings.{finding_fields, finding_lines_of, finding_rows_of, head_fields, head_words, octets_field, rule_fields, telegram_rows}
 
+abbrev pub no_payload : Payload
+no_payload = record { count = 0; is_zero = true; has_points = false }
+
 -- Slave_Diag to slave 5 with FCV 1 and this FCB; the octet stands for the telegram
 abbrev pub diag : Bool → ℕ → Entry
 diag fcb octet =
-    entries.Request (record { address = 5; function = SrdHigh; fcb = fcb; fcv = true; service = services.SlaveDiag; octets = record { items = octet ∷ [] }; time = 0; answer = answers.Rs })
+    entries.Request (record { address = 5; function = SrdHigh; fcb = fcb; fcv = true; service = services.SlaveDiag; ssap = Some 62; payload = no_payload; octets = record { items = octet ∷ [] }; time = 0; answer = answers.Rs })
 
 abbrev pub after_one : JudgeView
 after_one = record { retries = 3; past = diag true 16 ∷ [] }

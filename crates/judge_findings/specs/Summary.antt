@@ -3,8 +3,8 @@ use Rattle.std.specs.Prelude.{codes, ℕ, ◌==◌, if◌then◌else◌, List, [
 use Rattle.std.specs.List.{flat_map}
 use Rattle.std.specs.Fmt.{decimal}
 use Rattle.judge_rules.specs.declared.rule.JudgeRule.{JudgeRule}
-use Rattle.judge_rules.specs.declared.rule.Severity.{Severity}
-use Rattle.judge_rules.specs.declared.rule.Severity.TheVariants as severities
+use Rattle.judge_rules.specs.declared.rule_rows.Severity.{Severity}
+use Rattle.judge_rules.specs.declared.rule_rows.Severity.TheVariants as severities
 use Rattle.judge_rules.specs.RuleNames.{rule_name, rule_severity, rule_text, severity_name}
 use Rattle.judge_findings.specs.declared.seat.RuleCount.{RuleCount}
 use Rattle.judge_findings.specs.declared.seat.Seat.{Seat}

@@ -4,11 +4,8 @@ ghost use Rattle.std.specs.Prelude.{◌≡◌, ◌++◌, ◌∷◌, [], count_by
 ghost use Rattle.judge_findings.specs.Counts.{count_at, counted, first_seat, has_error, is_error, is_failure, no_counts, one_more};
 ghost use Rattle.judge_findings.specs.Lines.{is_seat_of};
 
-use judge_rules::{Entry, JudgeRule, MasterJudge, Severity};
+use judge_rules::{Entry, JudgeRule, MasterJudge, RULES, Severity};
 use std::alloc::{AllocError, Global};
-
-/// The number of rules.
-const RULES: usize = 23;
 
 /// How often a master broke a rule.
 #[derive(Clone, Copy, Debug)]

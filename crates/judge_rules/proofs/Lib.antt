@@ -9,3 +9,4 @@ pub mod Windows
 pub mod Retries
 pub mod Since
 pub mod Controls
+pub mod Clears

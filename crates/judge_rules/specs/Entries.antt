@@ -30,6 +30,10 @@ abbrev pub is_ue : Answer → Bool
 is_ue answers.Ue = true
 is_ue other = false
 
+abbrev pub is_rs : Answer → Bool
+is_rs answers.Rs = true
+is_rs other = false
+
 abbrev pub is_rr : Answer → Bool
 is_rr answers.Rr = true
 is_rr other = false

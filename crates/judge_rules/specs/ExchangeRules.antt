@@ -1,5 +1,5 @@
 -- The rules of Data_Exchange and of retries (IEC 61158-6-3, Data_Exchange; IEC 61158-4-3, retry), and of what is no request.
-use Rattle.std.specs.Prelude.{ℕ, ◌-◌, ◌==◌, ◌&&◌, max, nat_le, Bool, false, Option, Some, None}
+use Rattle.std.specs.Prelude.{ℕ, ◌-◌, ◌==◌, ◌&&◌, not, max, nat_le, Bool, false, Option, Some, None}
 use Rattle.judge_rules.specs.declared.bus.Bus.{Bus}
 use Rattle.judge_rules.specs.declared.entry.Request.{Request}
 use Rattle.judge_rules.specs.declared.station.Last.{Last}
@@ -41,3 +41,7 @@ retry_limit limit bus request = is_retry bus.last request && bus.retries == limi
 -- no-request: the fourth entry of a hundred that is no request of the master
 abbrev pub is_stray_often : Bus → Bool
 is_stray_often bus = bus.window.strays == 3
+
+-- outputs-in-clear: Data_Exchange with outputs that are not all 0, though the last Global_Control that changes it was Clear_Data to all slaves
+abbrev pub outputs_in_clear : Bus → Request → Bool
+outputs_in_clear bus request = exchange_asked request && bus.is_clear && not request.payload.is_zero

@@ -49,6 +49,15 @@ may_be_counted (Some last) = last.fcv || last.answered
 abbrev pub fcb_first : Station → Request → Bool
 fcb_first station request = is_counted request && request.fcv && not (may_be_counted station.last)
 
+-- fcv-not-set: FCV 0 again: the last SRD to the station, another telegram, had FCV 0 too, and was answered. The same telegram may be a retry
+abbrev pub stays_uncounted : Option Last → Request → Bool
+stays_uncounted None request = false
+stays_uncounted (Some last) request =
+    is_counted request && not request.fcv && not last.fcv && not (is_same_telegram last request) && last.answered
+
+abbrev pub fcv_not_set : Station → Request → Bool
+fcv_not_set station request = stays_uncounted station.last request
+
 -- fcb-not-allowed: FCB or FCV in a request without acknowledge, or for a status or an ident
 abbrev pub has_no_count : Function → Bool
 has_no_count functions.SdnLow = true

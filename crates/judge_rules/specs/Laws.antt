@@ -29,3 +29,8 @@ has_octets_of before request = same_octets before.octets.items request.octets.it
 -- the new SRD is counted, though the earlier one was neither counted nor answered
 abbrev pub is_counted_too_early : Request → Request → Bool
 is_counted_too_early before request = is_srd request && not (request.address == global_address) && request.fcv && not (before.fcv || is_answered before.answer)
+
+-- the new SRD has FCV 0 as the earlier one, another telegram, which was answered
+abbrev pub stays_without_fcv : Request → Request → Bool
+stays_without_fcv before request =
+    is_srd request && not (request.address == global_address) && not request.fcv && not before.fcv && not (has_octets_of before request) && is_answered before.answer

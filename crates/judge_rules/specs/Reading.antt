@@ -1,5 +1,5 @@
 -- The entry of a master that an event of a line and its outcome are: what the rules read of them.
-use Rattle.std.specs.Prelude.{ℕ, ◌*◌, ◌%◌, ◌==◌, ◌&&◌, ◌||◌, not, nat_lt, if◌then◌else◌, Bool, true, false, List, length, slice_index, Option, Some, None}
+use Rattle.std.specs.Prelude.{ℕ, ◌*◌, ◌%◌, ◌==◌, ◌&&◌, ◌||◌, not, nat_le, nat_lt, if◌then◌else◌, Bool, true, false, List, length, slice_index, Option, Some, None}
 use Rattle.std.specs.List.{list_all}
 use Rattle.dp_telegram.specs.declared.access.Parts.{Parts}
 use Rattle.dp_telegram.specs.declared.frame.Frame.{Frame}
@@ -21,6 +21,7 @@ use Rattle.judge_rules.specs.declared.entry.Answer.TheVariants as answers
 use Rattle.judge_rules.specs.declared.entry.Asked.{Asked}
 use Rattle.judge_rules.specs.declared.entry.Asked.TheVariants as asks
 use Rattle.judge_rules.specs.declared.entry.Control.{Control}
+use Rattle.judge_rules.specs.declared.entry.Payload.{Payload}
 use Rattle.judge_rules.specs.declared.entry.Diagnosis.{Diagnosis}
 use Rattle.judge_rules.specs.declared.entry.Entry.{Entry}
 use Rattle.judge_rules.specs.declared.entry.Entry.TheVariants as entries
@@ -31,17 +32,20 @@ use Rattle.judge_rules.specs.declared.entry.Service.TheVariants as services
 
 -- ---- what a request asks for
 
--- Control_Command (IEC 61158-6-3, Global_Control request)
-abbrev pub control_of : ℕ → Control
-control_of octet = record {
+-- Control_Command and Group_Select (IEC 61158-6-3, Global_Control request)
+abbrev pub control_of : ℕ → ℕ → Control
+control_of octet groups = record {
+  clear = is_set 1 octet;
   unfreeze = is_set 2 octet;
   freeze = is_set 3 octet;
   unsync = is_set 4 octet;
   sync = is_set 5 octet;
   reserved = is_set 0 octet || is_set 6 octet || is_set 7 octet;
+  is_to_all_groups = groups == 0;
 }
 
--- the octets of Set_Prm (IEC 61158-6-3, Set_Prm request): octet 1 has Lock_Req, Unlock_Req and WD_On, 2 and 3 the factors of the watchdog, 4 min TSDR
+-- the octets of Set_Prm (IEC 61158-6-3, Set_Prm request): octet 1 has Lock_Req (bit 7), Unlock_Req, Sync_Req, Freeze_Req and WD_On (bit 3), and its
+-- bits 0 to 2 are reserved; 2 and 3 are the factors of the watchdog, 4 is min TSDR
 abbrev pub asked_in : List ℕ → Asked
 asked_in payload =
     if nat_lt (length payload) 7 then asks.Short
@@ -56,8 +60,20 @@ watchdog_by_factors product = if product == 0 then None else Some product
 abbrev pub watchdog_in : List ℕ → Option ℕ
 watchdog_in payload = if is_set 3 (slice_index payload 0) then watchdog_by_factors (slice_index payload 1 * slice_index payload 2) else None
 
+abbrev pub has_zero_factor : List ℕ → Bool
+has_zero_factor payload = is_set 3 (slice_index payload 0) && (slice_index payload 1 == 0 || slice_index payload 2 == 0)
+
 abbrev pub parameters_in : List ℕ → Parameters
-parameters_in payload = record { asked = asked_in payload; min_tsdr = slice_index payload 3; watchdog = watchdog_in payload }
+parameters_in payload = record {
+  asked = asked_in payload;
+  min_tsdr = slice_index payload 3;
+  watchdog = watchdog_in payload;
+  has_zero_factor = has_zero_factor payload;
+  freeze = is_set 4 (slice_index payload 0);
+  sync = is_set 5 (slice_index payload 0);
+  locks_and_unlocks = is_set 6 (slice_index payload 0) && is_set 7 (slice_index payload 0);
+  reserved = is_set 0 (slice_index payload 0) || is_set 1 (slice_index payload 0) || is_set 2 (slice_index payload 0);
+}
 
 -- the service of a point that DP-V0 has; no simulated slave has 54 and 55 (IEC 61158-6-3, service access points)
 abbrev pub service_at : ℕ → List ℕ → Service
@@ -66,7 +82,7 @@ service_at point payload =
     else if point == 55 then services.SetSlaveAdd
     else if point == 56 then services.RdInp
     else if point == 57 then services.RdOutp
-    else if point == 58 then services.GlobalControl (control_of (slice_index payload 0))
+    else if point == 58 then services.GlobalControl (control_of (slice_index payload 0) (slice_index payload 1))
     else if point == 59 then services.GetCfg
     else if point == 60 then services.SlaveDiag
     else if point == 61 then services.SetPrm (parameters_in payload)
@@ -76,6 +92,13 @@ service_at point payload =
 abbrev pub service_of : Option ℕ → List ℕ → Service
 service_of None payload = services.DataExchange
 service_of (Some point) payload = service_at point payload
+
+-- the octets begin with a point of a slave and that of a master, as a telegram that names points without the bits that announce them
+abbrev pub has_points : List ℕ → Bool
+has_points payload = nat_le 55 (slice_index payload 0) && nat_le (slice_index payload 0) 62 && slice_index payload 1 == 62
+
+abbrev pub payload_of : List ℕ → Payload
+payload_of payload = record { count = length payload; is_zero = list_all (λ octet. octet == 0) payload; has_points = has_points payload }
 
 -- ---- the answer
 
@@ -149,6 +172,8 @@ request_of master octets outcome time telegram parts = record {
   fcb = frame_count_bit telegram.fc;
   fcv = frame_count_is_valid telegram.fc;
   service = service_of parts.dsap parts.payload.items;
+  ssap = parts.ssap;
+  payload = payload_of parts.payload.items;
   octets = octets;
   time = time;
   answer = answer_of master (service_of parts.dsap parts.payload.items) outcome;

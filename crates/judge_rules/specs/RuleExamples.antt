@@ -4,6 +4,7 @@ use Rattle.dp_telegram.specs.declared.function_code.Function.TheVariants.{SdnHig
 use Rattle.judge_rules.specs.declared.entry.Answer.{Answer}
 use Rattle.judge_rules.specs.declared.entry.Answer.TheVariants as answers
 use Rattle.judge_rules.specs.declared.entry.Asked.TheVariants as asks
+use Rattle.judge_rules.specs.declared.entry.Payload.{Payload}
 use Rattle.judge_rules.specs.declared.entry.Diagnosis.{Diagnosis}
 use Rattle.judge_rules.specs.declared.entry.Entry.{Entry}
 use Rattle.judge_rules.specs.declared.entry.Entry.TheVariants as entries
@@ -13,14 +14,17 @@ use Rattle.judge_rules.specs.declared.rule.JudgeRule.TheVariants as rules
 use Rattle.judge_rules.specs.Before.{srd_before}
 use Rattle.judge_rules.specs.Rules.{broken_rules}
 
+abbrev pub no_payload : Payload
+no_payload = record { count = 0; is_zero = true; has_points = false }
+
 -- an SRD to slave 5 at this time, with FCV 0 and FCB 1, and one with FCV 1; the octet stands for the telegram
 abbrev pub first_srd_at : ℕ → ℕ → Service → Answer → Entry
 first_srd_at time octet service answer =
-    entries.Request (record { address = 5; function = SrdHigh; fcb = true; fcv = false; service = service; octets = record { items = octet ∷ [] }; time = time; answer = answer })
+    entries.Request (record { address = 5; function = SrdHigh; fcb = true; fcv = false; service = service; ssap = Some 62; payload = no_payload; octets = record { items = octet ∷ [] }; time = time; answer = answer })
 
 abbrev pub srd_at : ℕ → Bool → ℕ → Service → Answer → Entry
 srd_at time fcb octet service answer =
-    entries.Request (record { address = 5; function = SrdHigh; fcb = fcb; fcv = true; service = service; octets = record { items = octet ∷ [] }; time = time; answer = answer })
+    entries.Request (record { address = 5; function = SrdHigh; fcb = fcb; fcv = true; service = service; ssap = Some 62; payload = no_payload; octets = record { items = octet ∷ [] }; time = time; answer = answer })
 
 -- the same before any tick
 abbrev pub first_srd : ℕ → Service → Answer → Entry
@@ -39,7 +43,7 @@ abbrev pub of_other : Diagnosis
 of_other = record { is_of_other = true; needs_parameters = false; is_ready = true }
 
 abbrev pub set_prm : Service
-set_prm = services.SetPrm (record { asked = asks.Lock; min_tsdr = 11; watchdog = None })
+set_prm = services.SetPrm (record { asked = asks.Lock; min_tsdr = 11; watchdog = None; has_zero_factor = false; freeze = false; sync = false; locks_and_unlocks = false; reserved = false })
 
 -- a master that brings slave 5 up: its entries up to the diagnosis that says that the slave is ready
 abbrev pub diagnosed : List Entry
@@ -140,7 +144,7 @@ poll_after_a_token = refl
 abbrev pub watched : List Entry
 watched =
     first_srd 1 services.SlaveDiag (answers.Diagnosis free)
-    ∷ srd false 2 (services.SetPrm (record { asked = asks.Lock; min_tsdr = 11; watchdog = Some 10 })) answers.Done
+    ∷ srd false 2 (services.SetPrm (record { asked = asks.Lock; min_tsdr = 11; watchdog = Some 10; has_zero_factor = false; freeze = false; sync = false; locks_and_unlocks = false; reserved = false })) answers.Done
     ∷ srd true 3 services.ChkCfg answers.Done ∷ srd false 1 services.SlaveDiag (answers.Diagnosis ready) ∷ []
 
 pub gap_of_90_ms : broken_rules 3 watched (srd_at 9 true 4 services.DataExchange answers.Done) ≡ []
@@ -204,7 +208,7 @@ diagnosis_is_busy = refl
 -- a Global_Control to all stations restarts the watchdog
 abbrev pub control_at : ℕ → Entry
 control_at time =
-    entries.Request (record { address = 127; function = SdnHigh; fcb = false; fcv = false; service = services.GlobalControl (record { unfreeze = false; freeze = false; unsync = false; sync = false; reserved = false }); octets = record { items = 9 ∷ [] }; time = time; answer = answers.Silence })
+    entries.Request (record { address = 127; function = SdnHigh; fcb = false; fcv = false; service = services.GlobalControl (record { clear = false; unfreeze = false; freeze = false; unsync = false; sync = false; reserved = false; is_to_all_groups = true }); ssap = Some 62; payload = no_payload; octets = record { items = 9 ∷ [] }; time = time; answer = answers.Silence })
 
 pub control_ends_a_gap : broken_rules 3 (watched ++ control_at 5 ∷ []) (srd_at 14 true 4 services.DataExchange answers.Done) ≡ []
 control_ends_a_gap = refl

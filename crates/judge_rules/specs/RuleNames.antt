@@ -1,166 +1,89 @@
--- The names of the rules, how bad it is to break one, and what they say.
-use Rattle.std.specs.Prelude.{ℕ, codes, List, [], ◌∷◌}
+-- The table of the rules: their numbers and names, how bad it is to break one, the part and the subject of the standard, and what they say.
+use Rattle.std.specs.Prelude.{ℕ, codes, List}
 use Rattle.judge_rules.specs.declared.rule.JudgeRule.{JudgeRule}
 use Rattle.judge_rules.specs.declared.rule.JudgeRule.TheVariants as rules
-use Rattle.judge_rules.specs.declared.rule.Severity.{Severity}
-use Rattle.judge_rules.specs.declared.rule.Severity.TheVariants as severities
+use Rattle.judge_rules.specs.declared.rule.TheConstants.JudgeRule.{ALL}
+use Rattle.judge_rules.specs.declared.rule_rows.Severity.{Severity}
+use Rattle.judge_rules.specs.declared.rule_rows.Severity.TheVariants as severities
+use Rattle.judge_rules.specs.declared.rule_rows.Source.{Source}
+use Rattle.judge_rules.specs.declared.rule_rows.Source.TheVariants as sources
+
+-- number is its index among all rules, from 0; text says what a master does that breaks it
+pub record RuleWords : Type 0 where
+  pub number : ℕ
+  pub name : List ℕ
+  pub severity : Severity
+  pub source : Source
+  pub text : List ℕ
+
+abbrev pub rule_row : JudgeRule → RuleWords
+rule_row rules.FcbRepeated = record { number = 0; name = codes "fcb-repeated"; severity = severities.Error; source = sources.FrameCountBit; text = codes "the FCB of the request before to this slave, with another telegram" }
+rule_row rules.FcbNotAlternated = record { number = 1; name = codes "fcb-not-alternated"; severity = severities.Error; source = sources.FrameCountBit; text = codes "the request before to this slave again, though it was answered" }
+rule_row rules.FcbFirst = record { number = 2; name = codes "fcb-first"; severity = severities.Error; source = sources.FrameCountBit; text = codes "FCV 1 in the first request to this slave, or after one with FCV 0 and no answer" }
+rule_row rules.FcvNotSet = record { number = 3; name = codes "fcv-not-set"; severity = severities.Error; source = sources.FrameCountBit; text = codes "FCV 0 again, though the request before to this slave, another telegram, was answered" }
+rule_row rules.FcbNotAllowed = record { number = 4; name = codes "fcb-not-allowed"; severity = severities.Error; source = sources.FrameCountBit; text = codes "FCB or FCV is set, and the function has neither" }
+rule_row rules.RetryLimit = record { number = 5; name = codes "retry-limit"; severity = severities.Warning; source = sources.Retry; text = codes "one retry more than the limit allows, with no answer to any" }
+rule_row rules.PrmBeforeDiag = record { number = 6; name = codes "prm-before-diag"; severity = severities.Error; source = sources.BringUp; text = codes "Set_Prm, though this slave never answered Slave_Diag" }
+rule_row rules.PrmWithoutLock = record { number = 7; name = codes "prm-without-lock"; severity = severities.Warning; source = sources.BringUp; text = codes "Set_Prm without Lock_Req, though this slave needs parameters" }
+rule_row rules.CfgBeforePrm = record { number = 8; name = codes "cfg-before-prm"; severity = severities.Error; source = sources.BringUp; text = codes "Chk_Cfg, though no Set_Prm was acknowledged since the slave needed parameters" }
+rule_row rules.ExchangeBeforeReady = record { number = 9; name = codes "exchange-before-ready"; severity = severities.Error; source = sources.BringUp; text = codes "Data_Exchange, though the slave did not report that it is ready" }
+rule_row rules.ExchangeWithoutDiag = record { number = 10; name = codes "exchange-without-diag"; severity = severities.Error; source = sources.BringUp; text = codes "Data_Exchange after Chk_Cfg, with no Slave_Diag between them" }
+rule_row rules.ExchangeAfterRs = record { number = 11; name = codes "exchange-after-rs"; severity = severities.Error; source = sources.DataExchange; text = codes "Data_Exchange goes on after RS" }
+rule_row rules.ExchangeOfOther = record { number = 12; name = codes "exchange-of-other"; severity = severities.Error; source = sources.DataExchange; text = codes "Data_Exchange, though the diagnosis showed another master" }
+rule_row rules.LengthRepeated = record { number = 13; name = codes "length-repeated"; severity = severities.Error; source = sources.DataExchange; text = codes "a wrong length again: UE, as for an earlier Data_Exchange" }
+rule_row rules.DiagNotRead = record { number = 14; name = codes "diag-not-read"; severity = severities.Error; source = sources.DataExchange; text = codes "the fourth Data_Exchange after DH, with no Slave_Diag since" }
+rule_row rules.ExtensionMissing = record { number = 15; name = codes "extension-missing"; severity = severities.Error; source = sources.AddressExtension; text = codes "a refused Data_Exchange whose data begin with access points: bit 7 of DA and SA is not set" }
+rule_row rules.OutputsInClear = record { number = 16; name = codes "outputs-in-clear"; severity = severities.Error; source = sources.GlobalControl; text = codes "outputs other than zero after Clear_Data to all slaves" }
+rule_row rules.PrmOfOther = record { number = 17; name = codes "prm-of-other"; severity = severities.Error; source = sources.SetPrm; text = codes "Set_Prm, though the diagnosis showed another master" }
+rule_row rules.PrmShort = record { number = 18; name = codes "prm-short"; severity = severities.Error; source = sources.SetPrm; text = codes "Set_Prm of less than seven octets" }
+rule_row rules.PrmReserved = record { number = 19; name = codes "prm-reserved"; severity = severities.Error; source = sources.SetPrm; text = codes "a reserved bit of the first octet of Set_Prm is set" }
+rule_row rules.LockAndUnlock = record { number = 20; name = codes "lock-and-unlock"; severity = severities.Warning; source = sources.SetPrm; text = codes "Set_Prm with Lock_Req and Unlock_Req: the slave is released" }
+rule_row rules.MinTsdr = record { number = 21; name = codes "min-tsdr"; severity = severities.Error; source = sources.SetPrm; text = codes "min TSDR is 1 to 10, and 11 is the least" }
+rule_row rules.WatchdogZero = record { number = 22; name = codes "watchdog-zero"; severity = severities.Error; source = sources.SetPrm; text = codes "WD_On is set, and a factor of the watchdog is 0" }
+rule_row rules.WatchdogShort = record { number = 23; name = codes "watchdog-short"; severity = severities.Warning; source = sources.SetPrm; text = codes "no SRD to this slave for its watchdog time or longer" }
+rule_row rules.GroupNotSet = record { number = 24; name = codes "group-not-set"; severity = severities.Warning; source = sources.GlobalControl; text = codes "no slave that the master holds has one of these groups in its parameters" }
+rule_row rules.ControlBoth = record { number = 25; name = codes "control-both"; severity = severities.Warning; source = sources.GlobalControl; text = codes "Freeze with Unfreeze, or Sync with Unsync" }
+rule_row rules.ControlReserved = record { number = 26; name = codes "control-reserved"; severity = severities.Error; source = sources.GlobalControl; text = codes "a reserved bit of Control_Command is set" }
+rule_row rules.ControlLength = record { number = 27; name = codes "control-length"; severity = severities.Error; source = sources.GlobalControl; text = codes "Global_Control of other than two octets" }
+rule_row rules.ControlNotAsked = record { number = 28; name = codes "control-not-asked"; severity = severities.Warning; source = sources.GlobalControl; text = codes "Sync or Freeze, though no Set_Prm asked for it" }
+rule_row rules.ControlWithSrd = record { number = 29; name = codes "control-with-srd"; severity = severities.Error; source = sources.GlobalControl; text = codes "Global_Control by SRD, and it has no reply" }
+rule_row rules.SdnNeedsReply = record { number = 30; name = codes "sdn-needs-reply"; severity = severities.Error; source = sources.FunctionCode; text = codes "SDN, which has no reply, to a service that has one" }
+rule_row rules.BroadcastNeedsReply = record { number = 31; name = codes "broadcast-needs-reply"; severity = severities.Error; source = sources.FunctionCode; text = codes "a function with a reply, to all stations" }
+rule_row rules.UnknownPoint = record { number = 32; name = codes "unknown-point"; severity = severities.Warning; source = sources.AccessPoints; text = codes "a point that DP-V0 has not" }
+rule_row rules.SourcePoint = record { number = 33; name = codes "source-point"; severity = severities.Error; source = sources.AccessPoints; text = codes "the access point of the master is not 62" }
+rule_row rules.OctetsNotAllowed = record { number = 34; name = codes "octets-not-allowed"; severity = severities.Error; source = sources.AccessPoints; text = codes "data in a request that has none: Slave_Diag, Get_Cfg, RD_Inp or RD_Outp" }
+rule_row rules.NoRequest = record { number = 35; name = codes "no-request"; severity = severities.Warning; source = sources.FunctionCode; text = codes "the fourth of a hundred entries that is no request of this master" }
 
 -- all rules, in the order in which an entry is judged
 abbrev pub all_rules : List JudgeRule
-all_rules =
-    rules.FcbRepeated
-    ∷ rules.FcbNotAlternated
-    ∷ rules.FcbFirst
-    ∷ rules.FcbNotAllowed
-    ∷ rules.RetryLimit
-    ∷ rules.PrmBeforeDiag
-    ∷ rules.CfgBeforePrm
-    ∷ rules.ExchangeBeforeReady
-    ∷ rules.ExchangeWithoutDiag
-    ∷ rules.ExchangeAfterRs
-    ∷ rules.ExchangeOfOther
-    ∷ rules.LengthRepeated
-    ∷ rules.DiagNotRead
-    ∷ rules.PrmOfOther
-    ∷ rules.MinTsdr
-    ∷ rules.WatchdogShort
-    ∷ rules.GroupNotSet
-    ∷ rules.ControlBoth
-    ∷ rules.ControlReserved
-    ∷ rules.SdnNeedsReply
-    ∷ rules.BroadcastNeedsReply
-    ∷ rules.UnknownPoint
-    ∷ rules.NoRequest
-    ∷ []
+all_rules = ALL
 
 abbrev pub severity_name : Severity → List ℕ
 severity_name severities.Error = codes "error"
 severity_name severities.Warning = codes "warning"
 
+abbrev pub source_name : Source → List ℕ
+source_name sources.FrameCountBit = codes "IEC 61158-4-3, frame count bit"
+source_name sources.Retry = codes "IEC 61158-4-3, retry"
+source_name sources.FunctionCode = codes "IEC 61158-4-3, function code of a request"
+source_name sources.AddressExtension = codes "IEC 61158-4-3, address extension"
+source_name sources.BringUp = codes "IEC 61158-6-3, bring-up of a slave"
+source_name sources.DataExchange = codes "IEC 61158-6-3, Data_Exchange"
+source_name sources.SetPrm = codes "IEC 61158-6-3, Set_Prm request"
+source_name sources.GlobalControl = codes "IEC 61158-6-3, Global_Control request"
+source_name sources.AccessPoints = codes "IEC 61158-6-3, service access points"
+
+abbrev pub rule_number : JudgeRule → ℕ
+rule_number rule = (rule_row rule).number
+
 abbrev pub rule_name : JudgeRule → List ℕ
-rule_name rules.FcbRepeated = codes "fcb-repeated"
-rule_name rules.FcbNotAlternated = codes "fcb-not-alternated"
-rule_name rules.FcbFirst = codes "fcb-first"
-rule_name rules.FcbNotAllowed = codes "fcb-not-allowed"
-rule_name rules.RetryLimit = codes "retry-limit"
-rule_name rules.PrmBeforeDiag = codes "prm-before-diag"
-rule_name rules.CfgBeforePrm = codes "cfg-before-prm"
-rule_name rules.ExchangeBeforeReady = codes "exchange-before-ready"
-rule_name rules.ExchangeWithoutDiag = codes "exchange-without-diag"
-rule_name rules.ExchangeAfterRs = codes "exchange-after-rs"
-rule_name rules.ExchangeOfOther = codes "exchange-of-other"
-rule_name rules.LengthRepeated = codes "length-repeated"
-rule_name rules.DiagNotRead = codes "diag-not-read"
-rule_name rules.PrmOfOther = codes "prm-of-other"
-rule_name rules.MinTsdr = codes "min-tsdr"
-rule_name rules.WatchdogShort = codes "watchdog-short"
-rule_name rules.GroupNotSet = codes "group-not-set"
-rule_name rules.ControlBoth = codes "control-both"
-rule_name rules.ControlReserved = codes "control-reserved"
-rule_name rules.SdnNeedsReply = codes "sdn-needs-reply"
-rule_name rules.BroadcastNeedsReply = codes "broadcast-needs-reply"
-rule_name rules.UnknownPoint = codes "unknown-point"
-rule_name rules.NoRequest = codes "no-request"
+rule_name rule = (rule_row rule).name
 
 abbrev pub rule_severity : JudgeRule → Severity
-rule_severity rules.FcbRepeated = severities.Error
-rule_severity rules.FcbNotAlternated = severities.Error
-rule_severity rules.FcbFirst = severities.Error
-rule_severity rules.FcbNotAllowed = severities.Error
-rule_severity rules.RetryLimit = severities.Warning
-rule_severity rules.PrmBeforeDiag = severities.Error
-rule_severity rules.CfgBeforePrm = severities.Error
-rule_severity rules.ExchangeBeforeReady = severities.Error
-rule_severity rules.ExchangeWithoutDiag = severities.Error
-rule_severity rules.ExchangeAfterRs = severities.Error
-rule_severity rules.ExchangeOfOther = severities.Error
-rule_severity rules.LengthRepeated = severities.Error
-rule_severity rules.DiagNotRead = severities.Error
-rule_severity rules.PrmOfOther = severities.Error
-rule_severity rules.MinTsdr = severities.Error
-rule_severity rules.WatchdogShort = severities.Warning
-rule_severity rules.GroupNotSet = severities.Warning
-rule_severity rules.ControlBoth = severities.Warning
-rule_severity rules.ControlReserved = severities.Error
-rule_severity rules.SdnNeedsReply = severities.Error
-rule_severity rules.BroadcastNeedsReply = severities.Error
-rule_severity rules.UnknownPoint = severities.Warning
-rule_severity rules.NoRequest = severities.Warning
+rule_severity rule = (rule_row rule).severity
 
--- the part and the subject of the standard
 abbrev pub rule_subject : JudgeRule → List ℕ
-rule_subject rules.FcbRepeated = codes "IEC 61158-4-3, frame count bit"
-rule_subject rules.FcbNotAlternated = codes "IEC 61158-4-3, frame count bit"
-rule_subject rules.FcbFirst = codes "IEC 61158-4-3, frame count bit"
-rule_subject rules.FcbNotAllowed = codes "IEC 61158-4-3, frame count bit"
-rule_subject rules.RetryLimit = codes "IEC 61158-4-3, retry"
-rule_subject rules.PrmBeforeDiag = codes "IEC 61158-6-3, bring-up of a slave"
-rule_subject rules.CfgBeforePrm = codes "IEC 61158-6-3, bring-up of a slave"
-rule_subject rules.ExchangeBeforeReady = codes "IEC 61158-6-3, bring-up of a slave"
-rule_subject rules.ExchangeWithoutDiag = codes "IEC 61158-6-3, bring-up of a slave"
-rule_subject rules.ExchangeAfterRs = codes "IEC 61158-6-3, Data_Exchange"
-rule_subject rules.ExchangeOfOther = codes "IEC 61158-6-3, Data_Exchange"
-rule_subject rules.LengthRepeated = codes "IEC 61158-6-3, Data_Exchange"
-rule_subject rules.DiagNotRead = codes "IEC 61158-6-3, Data_Exchange"
-rule_subject rules.PrmOfOther = codes "IEC 61158-6-3, Set_Prm request"
-rule_subject rules.MinTsdr = codes "IEC 61158-6-3, Set_Prm request"
-rule_subject rules.WatchdogShort = codes "IEC 61158-6-3, Set_Prm request"
-rule_subject rules.GroupNotSet = codes "IEC 61158-6-3, Global_Control request"
-rule_subject rules.ControlBoth = codes "IEC 61158-6-3, Global_Control request"
-rule_subject rules.ControlReserved = codes "IEC 61158-6-3, Global_Control request"
-rule_subject rules.SdnNeedsReply = codes "IEC 61158-4-3, function code of a request"
-rule_subject rules.BroadcastNeedsReply = codes "IEC 61158-4-3, function code of a request"
-rule_subject rules.UnknownPoint = codes "IEC 61158-6-3, service access points"
-rule_subject rules.NoRequest = codes "IEC 61158-4-3, function code of a request"
+rule_subject rule = source_name (rule_row rule).source
 
--- what a master does that breaks it
 abbrev pub rule_text : JudgeRule → List ℕ
-rule_text rules.FcbRepeated = codes "the FCB of the request before to this slave, with another telegram"
-rule_text rules.FcbNotAlternated = codes "the request before to this slave again, though it was answered"
-rule_text rules.FcbFirst = codes "FCV 1 in the first request to this slave, or after one with FCV 0 and no answer"
-rule_text rules.FcbNotAllowed = codes "FCB or FCV is set, and the function has neither"
-rule_text rules.RetryLimit = codes "one retry more than the limit allows, with no answer to any"
-rule_text rules.PrmBeforeDiag = codes "Set_Prm, though this slave never answered Slave_Diag"
-rule_text rules.CfgBeforePrm = codes "Chk_Cfg, though no Set_Prm was acknowledged since the slave needed parameters"
-rule_text rules.ExchangeBeforeReady = codes "Data_Exchange, though the slave did not report that it is ready"
-rule_text rules.ExchangeWithoutDiag = codes "Data_Exchange after Chk_Cfg, with no Slave_Diag between them"
-rule_text rules.ExchangeAfterRs = codes "Data_Exchange goes on after RS"
-rule_text rules.ExchangeOfOther = codes "Data_Exchange, though the diagnosis showed another master"
-rule_text rules.LengthRepeated = codes "a wrong length again: UE, as for an earlier Data_Exchange"
-rule_text rules.DiagNotRead = codes "the fourth Data_Exchange after DH, with no Slave_Diag since"
-rule_text rules.PrmOfOther = codes "Set_Prm, though the diagnosis showed another master"
-rule_text rules.MinTsdr = codes "min TSDR is 1 to 10, and 11 is the least"
-rule_text rules.WatchdogShort = codes "no SRD to this slave for its watchdog time or longer"
-rule_text rules.GroupNotSet = codes "no slave that the master holds has one of these groups in its parameters"
-rule_text rules.ControlBoth = codes "Freeze with Unfreeze, or Sync with Unsync"
-rule_text rules.ControlReserved = codes "a reserved bit of Control_Command is set"
-rule_text rules.SdnNeedsReply = codes "SDN, which has no reply, to a service that has one"
-rule_text rules.BroadcastNeedsReply = codes "a function with a reply, to all stations"
-rule_text rules.UnknownPoint = codes "a point that DP-V0 has not"
-rule_text rules.NoRequest = codes "the fourth of a hundred entries that is no request of this master"
-
--- its number, from 0, among all rules
-abbrev pub rule_number : JudgeRule → ℕ
-rule_number rules.FcbRepeated = 0
-rule_number rules.FcbNotAlternated = 1
-rule_number rules.FcbFirst = 2
-rule_number rules.FcbNotAllowed = 3
-rule_number rules.RetryLimit = 4
-rule_number rules.PrmBeforeDiag = 5
-rule_number rules.CfgBeforePrm = 6
-rule_number rules.ExchangeBeforeReady = 7
-rule_number rules.ExchangeWithoutDiag = 8
-rule_number rules.ExchangeAfterRs = 9
-rule_number rules.ExchangeOfOther = 10
-rule_number rules.LengthRepeated = 11
-rule_number rules.DiagNotRead = 12
-rule_number rules.PrmOfOther = 13
-rule_number rules.MinTsdr = 14
-rule_number rules.WatchdogShort = 15
-rule_number rules.GroupNotSet = 16
-rule_number rules.ControlBoth = 17
-rule_number rules.ControlReserved = 18
-rule_number rules.SdnNeedsReply = 19
-rule_number rules.BroadcastNeedsReply = 20
-rule_number rules.UnknownPoint = 21
-rule_number rules.NoRequest = 22
+rule_text rule = (rule_row rule).text

@@ -1,5 +1,5 @@
 -- The rules of a telegram on its own (IEC 61158-4-3, function code of a request; IEC 61158-6-3, service access points).
-use Rattle.std.specs.Prelude.{◌==◌, ◌&&◌, ◌||◌, Bool, true, false}
+use Rattle.std.specs.Prelude.{◌==◌, ◌&&◌, ◌||◌, not, Bool, true, false, Option, Some, None, ℕ}
 use Rattle.dp_telegram.specs.Access.{global_address}
 use Rattle.dp_telegram.specs.declared.function_code.Function.{Function}
 use Rattle.dp_telegram.specs.declared.function_code.Function.TheVariants as functions
@@ -7,7 +7,7 @@ use Rattle.dp_telegram.specs.FunctionCode.{asks_sdn}
 use Rattle.judge_rules.specs.declared.entry.Request.{Request}
 use Rattle.judge_rules.specs.declared.entry.Service.{Service}
 use Rattle.judge_rules.specs.declared.entry.Service.TheVariants as services
-use Rattle.judge_rules.specs.Entries.{is_srd}
+use Rattle.judge_rules.specs.Entries.{exchange_asked, is_srd, is_ue, is_rs}
 
 -- every service of DP-V0 but Global_Control has a reply; of those between masters some have none
 abbrev pub has_reply : Service → Bool
@@ -37,3 +37,41 @@ is_unknown other = false
 
 abbrev pub unknown_point : Request → Bool
 unknown_point request = (is_srd request || asks_sdn request.function) && is_unknown request.service
+
+-- source-point: an SRD or an SDN that names a point from 55 to 62, and whose SSAP is not 62; the functions between masters have other ones
+abbrev pub is_asked_by_62 : Service → Bool
+is_asked_by_62 services.DataExchange = false
+is_asked_by_62 services.MasterToMaster = false
+is_asked_by_62 services.Unknown = false
+is_asked_by_62 other = true
+
+abbrev pub is_point_62 : Option ℕ → Bool
+is_point_62 None = false
+is_point_62 (Some point) = point == 62
+
+abbrev pub source_point : Request → Bool
+source_point request =
+    (is_srd request || asks_sdn request.function) && is_asked_by_62 request.service && not (is_point_62 request.ssap)
+
+-- octets-not-allowed: data in an SRD for a service whose request has none
+abbrev pub has_no_data : Service → Bool
+has_no_data services.SlaveDiag = true
+has_no_data services.GetCfg = true
+has_no_data services.RdInp = true
+has_no_data services.RdOutp = true
+has_no_data other = false
+
+abbrev pub octets_not_allowed : Request → Bool
+octets_not_allowed request = is_srd request && has_no_data request.service && not (request.payload.count == 0)
+
+-- control-with-srd: an SRD to one station that names the point of Global_Control; one to all stations is broadcast-needs-reply
+abbrev pub is_global_control : Service → Bool
+is_global_control (services.GlobalControl control) = true
+is_global_control other = false
+
+abbrev pub control_with_srd : Request → Bool
+control_with_srd request = is_srd request && not (request.address == global_address) && is_global_control request.service
+
+-- extension-missing: Data_Exchange that is refused by UE or RS, and whose data begin with two access points
+abbrev pub extension_missing : Request → Bool
+extension_missing request = exchange_asked request && request.payload.has_points && (is_ue request.answer || is_rs request.answer)

@@ -1,15 +1,18 @@
 //! Laws of the rules of the bring-up: each is the contract of an empty function.
 
-ghost use Rattle.std.specs.Prelude.{◌≡◌, ◌++◌, ◌∷◌, ◌&&◌, ◌||◌, ℕ, true, false, List};
+ghost use Rattle.std.specs.Prelude.{◌≡◌, ◌++◌, ◌∷◌, ◌&&◌, ◌||◌, ℕ, true, false, List, Some};
+ghost use Rattle.judge_rules.specs.declared.entry.Asked.TheVariants as asks;
 ghost use Rattle.judge_rules.specs.declared.entry.Entry.{Entry};
 ghost use Rattle.judge_rules.specs.declared.entry.Entry.TheVariants as entries;
+ghost use Rattle.judge_rules.specs.declared.entry.Parameters.{Parameters};
 ghost use Rattle.judge_rules.specs.declared.entry.Request.{Request};
 ghost use Rattle.judge_rules.specs.declared.entry.Answer.TheVariants as answers;
 ghost use Rattle.judge_rules.specs.declared.rule.JudgeRule.{JudgeRule};
 ghost use Rattle.judge_rules.specs.declared.rule.JudgeRule.TheVariants as rules;
+ghost use Rattle.judge_rules.specs.BringUpRules.{is_without_lock};
 ghost use Rattle.judge_rules.specs.LawWords.{is_of_a_service, is_of_a_station, is_of_the_bring_up};
 ghost use Rattle.judge_rules.specs.Effects.{asks_prm, changes_parameters, configures, effect, ends_readiness, exchanges, gives_parameters, goes_on, goes_on_or_is_ready, have_no_effect, is_configured_by, is_request_to, is_refused, may_lose_parameters, refuses, shows_any, shows_or_refuses, shows_other, shows_own, shows_ready, shows_state, shows_unready, starts, starts_again, takes_parameters};
-ghost use Rattle.judge_rules.specs.Entries.{chk_cfg_asked, exchange_asked};
+ghost use Rattle.judge_rules.specs.Entries.{chk_cfg_asked, exchange_asked, prm_asked};
 ghost use Rattle.judge_rules.specs.Rules.{breaks};
 
 /// `prm-before-diag`: a Set_Prm to a station is reported exactly if before it no Slave_Diag of the station was
@@ -83,6 +86,21 @@ pub fn chk_cfg_needs_parameters()
         → have_no_effect changes_parameters request.address back ≡ true
         → breaks limit (front ++ entries.Request before ∷ back) (entries.Request request) rules.CfgBeforePrm
         ≡ breaks limit front (entries.Request request) rules.CfgBeforePrm }
+{}
+
+/// `prm-without-lock`: a Set_Prm with neither Lock_Req nor Unlock_Req gives no parameters. It is reported exactly if the
+/// station has none, so that a Chk_Cfg in its place would be reported as `cfg-before-prm`. No other request is reported.
+pub fn a_set_prm_without_lock_gives_no_parameters()
+    ensures asked { (limit : ℕ) (past : List Entry) (configuration request : Request) (parameters : Parameters)
+        → prm_asked request ≡ Some parameters
+        → parameters.asked ≡ asks.MinTsdr
+        → configuration.address ≡ request.address
+        → chk_cfg_asked configuration ≡ true
+        → breaks limit past (entries.Request request) rules.PrmWithoutLock
+        ≡ breaks limit past (entries.Request configuration) rules.CfgBeforePrm }
+    ensures other { (limit : ℕ) (past : List Entry) (request : Request)
+        → is_without_lock (prm_asked request) ≡ false
+        → breaks limit past (entries.Request request) rules.PrmWithoutLock ≡ false }
 {}
 
 /// `exchange-after-rs`: a Data_Exchange is reported if an earlier one was refused by RS, and after that no Slave_Diag

@@ -1,9 +1,9 @@
 //! The rules of the order of the bring-up (IEC 61158-6-3, bring-up of a slave).
 
 ghost use Rattle.std.specs.Prelude.{◌≡◌};
-ghost use Rattle.judge_rules.specs.BringUpRules.{cfg_before_prm, exchange_after_rs, exchange_before_ready, exchange_of_other, exchange_without_diag, is_before_ready, prm_before_diag};
+ghost use Rattle.judge_rules.specs.BringUpRules.{cfg_before_prm, exchange_after_rs, exchange_before_ready, exchange_of_other, exchange_without_diag, is_before_ready, is_without_lock, prm_before_diag, prm_without_lock};
 
-use crate::entry::Request;
+use crate::entry::{Asked, Parameters, Request};
 use crate::stage::Stage;
 use crate::station::Station;
 
@@ -12,6 +12,23 @@ pub(crate) fn prm_before_diag(station: &Station, request: &Request) -> bool
     ensures { result ≡ prm_before_diag station.now request.now }
 {
     request.asks_prm().is_some() && matches!(station.stage, Stage::Unseen)
+}
+
+/// Returns whether Set_Prm with neither Lock_Req nor Unlock_Req comes to a station that needs parameters.
+pub(crate) fn prm_without_lock(station: &Station, request: &Request) -> bool
+    ensures { result ≡ prm_without_lock station.now request.now }
+{
+    is_without_lock(request.asks_prm()) && !station.stage.is_parametrized()
+}
+
+/// Returns whether these parameters have neither Lock_Req nor Unlock_Req.
+fn is_without_lock(parameters: Option<Parameters>) -> bool
+    ensures { result ≡ is_without_lock parameters }
+{
+    match parameters {
+        Some(parameters) => matches!(parameters.asked, Asked::MinTsdr),
+        None => false,
+    }
 }
 
 /// Returns whether Chk_Cfg comes before a Set_Prm was acknowledged.

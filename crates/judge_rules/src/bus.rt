@@ -2,7 +2,7 @@
 
 ghost use Rattle.std.specs.Prelude.{◌≡◌};
 ghost use Rattle.dp_cfg.specs.Choosing.{same_octets};
-ghost use Rattle.judge_rules.specs.BusFacts.{bus_after, bus_after_request, bus_after_token, controls_all, has_fcv, is_retry, new_bus, window_after};
+ghost use Rattle.judge_rules.specs.BusFacts.{asks_freeze, asks_sync, bus_after, bus_after_request, bus_after_token, clear_after, controls_all, has_fcv, is_retry, new_bus, window_after};
 
 use crate::entry::{Entry, Request};
 use crate::parameter_rules::control_asked;
@@ -31,6 +31,12 @@ pub(crate) struct Bus {
     pub(crate) window: Window,
     /// The sum of the ticks before the last Global_Control to all stations, in units of 10 ms; 0 without one.
     pub(crate) controlled: u64,
+    /// Whether a Global_Control with Clear_Data went to all slaves, and none without it has followed.
+    pub(crate) is_clear: bool,
+    /// Whether a Set_Prm had Freeze_Req.
+    pub(crate) freeze_asked: bool,
+    /// Whether a Set_Prm had Sync_Req.
+    pub(crate) sync_asked: bool,
 }
 
 impl Window {
@@ -68,6 +74,9 @@ impl Bus {
                 strays: 0,
             },
             controlled: 0,
+            is_clear: false,
+            freeze_asked: false,
+            sync_asked: false,
         }
     }
 
@@ -129,6 +138,9 @@ impl Bus {
         if controls_all(request) {
             self.controlled = request.time;
         }
+        self.is_clear = clear_after(self.is_clear, request);
+        self.freeze_asked = self.freeze_asked || asks_freeze(request);
+        self.sync_asked = self.sync_asked || asks_sync(request);
     }
 }
 
@@ -137,6 +149,40 @@ fn controls_all(request: &Request) -> bool
     ensures { result ≡ controls_all request.now }
 {
     request.address == GLOBAL_ADDRESS && control_asked(request).is_some()
+}
+
+/// Returns whether Clear_Data is in force after a request: a Global_Control with it to all slaves begins it, and one
+/// without it ends it.
+fn clear_after(clear: bool, request: &Request) -> bool
+    ensures { result ≡ clear_after clear request.now }
+{
+    match control_asked(request) {
+        Some(control) => {
+            control.clear
+                && (clear || request.address == GLOBAL_ADDRESS && control.is_to_all_groups)
+        }
+        None => clear,
+    }
+}
+
+/// Returns whether it is a Set_Prm with Freeze_Req.
+fn asks_freeze(request: &Request) -> bool
+    ensures { result ≡ asks_freeze request.now }
+{
+    match request.asks_prm() {
+        Some(parameters) => parameters.freeze,
+        None => false,
+    }
+}
+
+/// Returns whether it is a Set_Prm with Sync_Req.
+fn asks_sync(request: &Request) -> bool
+    ensures { result ≡ asks_sync request.now }
+{
+    match request.asks_prm() {
+        Some(parameters) => parameters.sync,
+        None => false,
+    }
 }
 
 /// Returns whether this is an SRD with FCV 1.

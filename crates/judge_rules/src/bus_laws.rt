@@ -1,13 +1,14 @@
 //! Laws of the rules that depend on all entries of a master, whatever the station: each is the contract of an empty
 //! function.
 
-ghost use Rattle.std.specs.Prelude.{◌≡◌, ◌++◌, ◌∷◌, ◌==◌, ◌*◌, ◌<◌, ◌&&◌, ℕ, true, false, List, []};
+ghost use Rattle.std.specs.Prelude.{◌≡◌, ◌++◌, ◌∷◌, ◌==◌, ◌*◌, ◌<◌, ◌&&◌, ◌||◌, not, ℕ, true, false, List, [], None, Some};
+ghost use Rattle.judge_rules.specs.declared.entry.Control.{Control};
 ghost use Rattle.judge_rules.specs.declared.entry.Entry.{Entry};
 ghost use Rattle.judge_rules.specs.declared.entry.Entry.TheVariants as entries;
 ghost use Rattle.judge_rules.specs.declared.entry.Request.{Request};
 ghost use Rattle.judge_rules.specs.declared.rule.JudgeRule.TheVariants as rules;
-ghost use Rattle.judge_rules.specs.BusWords.{are_retries, entry_count, is_retry_of, last_request, stray_count};
-ghost use Rattle.judge_rules.specs.Entries.{is_srd};
+ghost use Rattle.judge_rules.specs.BusWords.{are_retries, entry_count, have_no_clear_to_all, have_no_freeze_prm, have_no_operate, have_no_sync_prm, is_clear_to_all, is_operate, is_retry_of, last_request, stray_count};
+ghost use Rattle.judge_rules.specs.Entries.{control_asked, exchange_asked, is_srd};
 ghost use Rattle.judge_rules.specs.Rules.{breaks};
 
 /// `no-request`: the entries of a master are taken in windows of one hundred, one after another; a passed token is not
@@ -60,4 +61,34 @@ pub fn a_passed_token_ends_the_retries_of_an_srd_with_fcv_0()
     ensures again { (limit : ℕ) (front : List Entry) (request : Request)
         → breaks limit (front ++ entries.PassedToken ∷ entries.PassedToken ∷ []) (entries.Request request) rules.RetryLimit
         ≡ breaks limit (front ++ entries.PassedToken ∷ []) (entries.Request request) rules.RetryLimit }
+{}
+
+/// `outputs-in-clear`: after a Global_Control with Clear_Data to all stations and all groups, and before one without
+/// Clear_Data, whichever stations that is for, a Data_Exchange is reported exactly if an octet of its outputs is not 0.
+/// After one without Clear_Data, and before the next with it, and if there is none with it, nothing is reported.
+pub fn outputs_are_zero_after_clear_data()
+    ensures clear { (limit : ℕ) (front back : List Entry) (control request : Request)
+        → is_clear_to_all (entries.Request control) ≡ true
+        → have_no_operate back ≡ true
+        → breaks limit (front ++ entries.Request control ∷ back) (entries.Request request) rules.OutputsInClear
+        ≡ (exchange_asked request && not request.payload.is_zero) }
+    ensures operate { (limit : ℕ) (front back : List Entry) (control request : Request)
+        → is_operate (entries.Request control) ≡ true
+        → have_no_clear_to_all back ≡ true
+        → breaks limit (front ++ entries.Request control ∷ back) (entries.Request request) rules.OutputsInClear ≡ false }
+    ensures never { (limit : ℕ) (past : List Entry) (request : Request)
+        → have_no_clear_to_all past ≡ true
+        → breaks limit past (entries.Request request) rules.OutputsInClear ≡ false }
+{}
+
+/// `control-not-asked`: a Global_Control is reported exactly if it has Freeze without Unfreeze and no Set_Prm before it had
+/// Freeze_Req, or Sync without Unsync and none had Sync_Req. No other request is reported.
+pub fn a_global_control_needs_its_request_bit()
+    ensures control { (limit : ℕ) (past : List Entry) (request : Request) (control : Control)
+        → control_asked request ≡ Some control
+        → breaks limit past (entries.Request request) rules.ControlNotAsked
+        ≡ (control.freeze && not control.unfreeze && have_no_freeze_prm past || control.sync && not control.unsync && have_no_sync_prm past) }
+    ensures other { (limit : ℕ) (past : List Entry) (request : Request)
+        → control_asked request ≡ None
+        → breaks limit past (entries.Request request) rules.ControlNotAsked ≡ false }
 {}

@@ -1,7 +1,7 @@
 //! What the rules read of an entry of a journal.
 
 ghost use Rattle.std.specs.Prelude.{◌≡◌};
-ghost use Rattle.judge_rules.specs.Entries.{chk_cfg_asked, diag_asked, exchange_asked, is_answered, is_served, is_srd, prm_asked, is_repeat_answer, is_done, is_rr, is_ue, is_dh, is_none_selected, diagnosis_in, diag_read};
+ghost use Rattle.judge_rules.specs.Entries.{chk_cfg_asked, diag_asked, exchange_asked, is_answered, is_served, is_srd, prm_asked, is_repeat_answer, is_done, is_rr, is_rs, is_ue, is_dh, is_none_selected, diagnosis_in, diag_read};
 
 use dp_telegram::{Function, GLOBAL_ADDRESS, Octets};
 
@@ -32,12 +32,27 @@ pub struct Request {
     pub fcv: bool,
     /// The service of the access point that it names.
     pub service: Service,
+    /// SSAP, the access point of the master; None if it names none.
+    pub ssap: Option<u8>,
+    /// The octets behind the access points.
+    pub payload: Payload,
     /// The octets of the whole frame.
     pub octets: Octets,
     /// The sum of the ticks before it, in units of 10 ms.
     pub time: u64,
     /// The answer.
     pub answer: Answer,
+}
+
+/// The octets of a request behind its access points.
+#[derive(Clone, Copy, Debug, PartialEq, Eq)]
+pub struct Payload {
+    /// How many there are.
+    pub count: usize,
+    /// Whether each of them is 0.
+    pub is_zero: bool,
+    /// Whether they begin with two access points that a master names together: one of a slave, 55 to 62, and 62.
+    pub has_points: bool,
 }
 
 /// The service of DP-V0 that an access point names (IEC 61158-6-3, service access points).
@@ -67,9 +82,11 @@ pub enum Service {
     Unknown,
 }
 
-/// The bits of Control_Command (IEC 61158-6-3, Global_Control request).
+/// The bits of Control_Command, and the groups (IEC 61158-6-3, Global_Control request).
 #[derive(Clone, Copy, Debug, PartialEq, Eq)]
 pub struct Control {
+    /// Bit 1, Clear_Data.
+    pub clear: bool,
     /// Bit 2.
     pub unfreeze: bool,
     /// Bit 3.
@@ -80,6 +97,8 @@ pub struct Control {
     pub sync: bool,
     /// Whether bit 0, 6 or 7 is set.
     pub reserved: bool,
+    /// Whether Group_Select is 0: it selects the slaves of all groups.
+    pub is_to_all_groups: bool,
 }
 
 /// What the octets of a Set_Prm ask for (IEC 61158-6-3, Set_Prm request).
@@ -91,6 +110,16 @@ pub struct Parameters {
     pub min_tsdr: u8,
     /// The watchdog time, in units of 10 ms, 1 to 65,025; None without WD_On, or with a factor 0.
     pub watchdog: Option<u32>,
+    /// Whether WD_On is set, and a factor is 0.
+    pub has_zero_factor: bool,
+    /// Freeze_Req.
+    pub freeze: bool,
+    /// Sync_Req.
+    pub sync: bool,
+    /// Whether Lock_Req and Unlock_Req are both set.
+    pub locks_and_unlocks: bool,
+    /// Whether bit 0, 1 or 2 of the first octet is set.
+    pub reserved: bool,
 }
 
 /// What a Set_Prm asks for, by Lock_Req and Unlock_Req.
@@ -189,6 +218,13 @@ impl Answer {
         ensures { result ≡ is_rr self }
     {
         matches!(self, Answer::Rr)
+    }
+
+    /// Returns whether it is RS.
+    pub(crate) fn is_rs(self) -> bool
+        ensures { result ≡ is_rs self }
+    {
+        matches!(self, Answer::Rs)
     }
 
     /// Returns whether it is UE.

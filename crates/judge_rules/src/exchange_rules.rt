@@ -1,7 +1,7 @@
 //! The rules of Data_Exchange (IEC 61158-6-3, Data_Exchange), of the watchdog, and of retries.
 
 ghost use Rattle.std.specs.Prelude.{◌≡◌};
-ghost use Rattle.judge_rules.specs.ExchangeRules.{diag_not_read, is_gap, is_past, is_stray_often, length_repeated, retry_limit, watchdog_short};
+ghost use Rattle.judge_rules.specs.ExchangeRules.{diag_not_read, is_gap, is_past, is_stray_often, length_repeated, outputs_in_clear, retry_limit, watchdog_short};
 
 use crate::bus::Bus;
 use crate::entry::Request;
@@ -18,6 +18,13 @@ pub(crate) fn length_repeated(station: &Station, request: &Request) -> bool
     ensures { result ≡ length_repeated station.now request.now }
 {
     request.asks_exchange() && request.answer.is_ue() && station.wrong_length
+}
+
+/// Returns whether a Data_Exchange has outputs that are not all 0, after Clear_Data to all slaves.
+pub(crate) fn outputs_in_clear(bus: &Bus, request: &Request) -> bool
+    ensures { result ≡ outputs_in_clear bus.now request.now }
+{
+    request.asks_exchange() && bus.is_clear && !request.payload.is_zero
 }
 
 /// Returns whether the fourth Data_Exchange after a DH comes, with no Slave_Diag since.

@@ -1,7 +1,7 @@
 //! The rules of the frame count bit (IEC 61158-4-3, frame count bit).
 
 ghost use Rattle.std.specs.Prelude.{◌≡◌};
-ghost use Rattle.judge_rules.specs.FcbRules.{counts_alike, is_counted, fcb_first, fcb_not_allowed, fcb_not_alternated, fcb_repeated, has_no_count};
+ghost use Rattle.judge_rules.specs.FcbRules.{counts_alike, is_counted, fcb_first, fcb_not_allowed, fcb_not_alternated, fcb_repeated, fcv_not_set, has_no_count};
 
 use crate::bus::same_octets;
 use crate::entry::Request;
@@ -57,6 +57,22 @@ pub(crate) fn fcb_first(station: &Station, request: &Request) -> bool
     match &station.last {
         Some(last) => is_counted(request) && request.fcv && !(last.fcv || last.answered),
         None => is_counted(request) && request.fcv,
+    }
+}
+
+/// Returns whether an SRD has FCV 0, though the last one to the station, another telegram, had FCV 0 and was answered.
+pub(crate) fn fcv_not_set(station: &Station, request: &Request) -> bool
+    ensures { result ≡ fcv_not_set station.now request.now }
+{
+    match &station.last {
+        Some(last) => {
+            is_counted(request)
+                && !request.fcv
+                && !last.fcv
+                && !same_octets(last.octets.as_slice(), request.octets.as_slice())
+                && last.answered
+        }
+        None => false,
     }
 }
 

@@ -8,13 +8,14 @@ ghost use Rattle.judge_rules.specs.declared.rule.JudgeRule.TheVariants as rules;
 ghost use Rattle.dp_telegram.specs.Access.{global_address};
 ghost use Rattle.judge_rules.specs.Before.{srd_before};
 ghost use Rattle.judge_rules.specs.Entries.{is_answered, is_srd};
-ghost use Rattle.judge_rules.specs.Laws.{has_fcb_of, has_octets_of, have_no_srd_to, is_counted_too_early, is_srd_to};
+ghost use Rattle.judge_rules.specs.Laws.{has_fcb_of, has_octets_of, have_no_srd_to, is_counted_too_early, is_srd_to, stays_without_fcv};
 ghost use Rattle.judge_rules.specs.Rules.{breaks};
 
 /// An SRD is compared with the last SRD of the master to the same station, whatever lies between; one to all stations is
 /// not judged. `fcb-repeated` is reported exactly if both have the same valid FCB and are other telegrams, and the first
 /// was answered, `fcb-not-alternated` exactly if they are the same telegram and the first was answered, and `fcb-first` exactly if the new one is counted though the first was
-/// neither counted nor answered. The telegram that is shown with a finding is that last SRD.
+/// neither counted nor answered. `fcv-not-set` is reported exactly if both have FCV 0 and are other telegrams, and the first
+/// was answered. The telegram that is shown with a finding is that last SRD.
 pub fn an_srd_is_compared_with_the_last_one()
     ensures repeated { (limit : ℕ) (front back : List Entry) (before request : Request)
         → is_srd_to request.address (entries.Request before) ≡ true
@@ -31,13 +32,18 @@ pub fn an_srd_is_compared_with_the_last_one()
         → have_no_srd_to request.address back ≡ true
         → breaks limit (front ++ entries.Request before ∷ back) (entries.Request request) rules.FcbFirst
         ≡ is_counted_too_early before request }
+    ensures uncounted { (limit : ℕ) (front back : List Entry) (before request : Request)
+        → is_srd_to request.address (entries.Request before) ≡ true
+        → have_no_srd_to request.address back ≡ true
+        → breaks limit (front ++ entries.Request before ∷ back) (entries.Request request) rules.FcvNotSet
+        ≡ stays_without_fcv before request }
     ensures shown { (front back : List Entry) (before request : Request)
         → is_srd_to request.address (entries.Request before) ≡ true
         → have_no_srd_to request.address back ≡ true
         → srd_before (front ++ entries.Request before ∷ back) (entries.Request request) ≡ Some before.octets.items }
 {}
 
-/// The first SRD of a master to a station repeats nothing, and breaks `fcb-first` exactly if it has FCV 1 and is not sent
+/// The first SRD of a master to a station repeats nothing, may have FCV 0, and breaks `fcb-first` exactly if it has FCV 1 and is not sent
 /// to all stations.
 pub fn the_first_srd_has_fcv_0()
     ensures first { (limit : ℕ) (past : List Entry) (request : Request)
@@ -47,4 +53,7 @@ pub fn the_first_srd_has_fcv_0()
     ensures repeated { (limit : ℕ) (past : List Entry) (request : Request)
         → have_no_srd_to request.address past ≡ true
         → breaks limit past (entries.Request request) rules.FcbRepeated ≡ false }
+    ensures uncounted { (limit : ℕ) (past : List Entry) (request : Request)
+        → have_no_srd_to request.address past ≡ true
+        → breaks limit past (entries.Request request) rules.FcvNotSet ≡ false }
 {}

@@ -2,11 +2,15 @@
 
 ghost use Rattle.std.specs.Prelude.{◌≡◌};
 ghost use Rattle.judge_rules.specs.Entries.{control_asked, control_in};
-ghost use Rattle.judge_rules.specs.ParameterRules.{control_both, control_reserved, group_not_set, has_low_min_tsdr, min_tsdr_low, prm_of_other};
+ghost use Rattle.judge_rules.specs.ParameterRules.{control_both, control_length, control_not_asked, control_reserved, group_not_set, has_low_min_tsdr, has_short, is_short, lock_and_unlock, min_tsdr_low, prm_of_other, prm_reserved, prm_short, watchdog_zero};
 
-use crate::entry::{Control, Parameters, Request, Service};
+use crate::bus::Bus;
+use crate::entry::{Asked, Control, Parameters, Request, Service};
 use crate::stage::Stage;
 use crate::station::Station;
+
+/// The octets of a Global_Control: Control_Command and Group_Select.
+const CONTROL_OCTETS: usize = 2;
 
 /// The least min TSDR, in bit times.
 const LEAST_MIN_TSDR: u8 = 11;
@@ -16,6 +20,58 @@ pub(crate) fn prm_of_other(station: &Station, request: &Request) -> bool
     ensures { result ≡ prm_of_other station.now request.now }
 {
     request.asks_prm().is_some() && matches!(station.stage, Stage::Taken)
+}
+
+/// Returns whether Set_Prm has fewer than seven octets.
+pub(crate) fn prm_short(request: &Request) -> bool
+    ensures { result ≡ prm_short request.now }
+{
+    has_short(request.asks_prm())
+}
+
+fn has_short(parameters: Option<Parameters>) -> bool
+    ensures { result ≡ has_short parameters }
+{
+    match parameters {
+        Some(parameters) => is_short(parameters.asked),
+        None => false,
+    }
+}
+
+fn is_short(asked: Asked) -> bool
+    ensures { result ≡ is_short asked }
+{
+    matches!(asked, Asked::Short)
+}
+
+/// Returns whether Set_Prm sets a reserved bit of its first octet.
+pub(crate) fn prm_reserved(request: &Request) -> bool
+    ensures { result ≡ prm_reserved request.now }
+{
+    match request.asks_prm() {
+        Some(parameters) => parameters.reserved,
+        None => false,
+    }
+}
+
+/// Returns whether Set_Prm sets Lock_Req and Unlock_Req.
+pub(crate) fn lock_and_unlock(request: &Request) -> bool
+    ensures { result ≡ lock_and_unlock request.now }
+{
+    match request.asks_prm() {
+        Some(parameters) => parameters.locks_and_unlocks,
+        None => false,
+    }
+}
+
+/// Returns whether Set_Prm sets WD_On, and a factor of the watchdog is 0.
+pub(crate) fn watchdog_zero(request: &Request) -> bool
+    ensures { result ≡ watchdog_zero request.now }
+{
+    match request.asks_prm() {
+        Some(parameters) => parameters.has_zero_factor && !is_short(parameters.asked),
+        None => false,
+    }
 }
 
 /// Returns whether Set_Prm has a min TSDR of 1 to 10.
@@ -58,6 +114,27 @@ pub(crate) fn control_reserved(request: &Request) -> bool
 {
     match control_asked(request) {
         Some(control) => control.reserved,
+        None => false,
+    }
+}
+
+/// Returns whether a Global_Control has other than two octets.
+pub(crate) fn control_length(request: &Request) -> bool
+    ensures { result ≡ control_length request.now }
+{
+    control_asked(request).is_some() && request.payload.count != CONTROL_OCTETS
+}
+
+/// Returns whether a Global_Control has Freeze or Sync that no Set_Prm of the master asked for. Both bits of a pair change
+/// nothing.
+pub(crate) fn control_not_asked(bus: &Bus, request: &Request) -> bool
+    ensures { result ≡ control_not_asked bus.now request.now }
+{
+    match control_asked(request) {
+        Some(control) => {
+            control.freeze && !control.unfreeze && !bus.freeze_asked
+                || control.sync && !control.unsync && !bus.sync_asked
+        }
         None => false,
     }
 }

@@ -6,7 +6,7 @@ ghost use Rattle.judge_rules.specs.Reading.{entry_of_frame, entry_of_telegram, e
 
 use crate::answers::answer_of;
 use crate::entry::{Entry, Request};
-use crate::services::service_of;
+use crate::services::{payload_of, service_of};
 use dp_line::{Event, Outcome};
 use dp_telegram::{FrameLent, GLOBAL_ADDRESS, Octets, PartsLent, TelegramLent, function_code};
 use explain_octets::ReadOctets;
@@ -97,6 +97,8 @@ fn request_of(
         fcb: function_code::fcb(telegram.fc()),
         fcv: function_code::fcv(telegram.fc()),
         service,
+        ssap: parts.ssap(),
+        payload: payload_of(parts.payload()),
         octets: octets.clone().unwrap(),
         time,
         answer: answer_of(master, service, outcome),

@@ -17,7 +17,7 @@ ghost use Rattle.judge_rules.specs.LawWords.{is_of_the_telegram};
 ghost use Rattle.judge_rules.specs.TelegramRules.{has_reply, is_answered_function};
 ghost use Rattle.judge_rules.specs.Rules.{breaks};
 
-/// Whether a request breaks one of these eight rules depends neither on the entries before it nor on the number of
+/// Whether a request breaks one of these rules depends neither on the entries before it nor on the number of
 /// retries that are allowed.
 pub fn what_lies_before_a_telegram_does_not_matter()
     ensures { (limit other : ℕ) (past before : List Entry) (request : Request) (rule : JudgeRule)

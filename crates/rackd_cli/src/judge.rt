@@ -7,11 +7,14 @@ use crate::invocation::{Invocation, WordsFault};
 use crate::refusals::refuse;
 use clap::ArgMatches;
 use clap::builder::ValueParser;
+use judge_rules::JudgeRule;
 use std::alloc::{AllocError, Global};
 use strsim::osa_distance;
 
 /// The options of `judge` that no other word has.
 pub(crate) const RULES: &str = "rules";
+
+pub(crate) const WITHOUT: &str = "without";
 
 pub(crate) const RETRIES: &str = "retries";
 
@@ -26,43 +29,12 @@ const USUAL_RETRIES: u8 = 3;
 /// How many names of rules a row of a message has.
 const NAMES_IN_ROW: usize = 4;
 
-/// Returns the names of the rules.
-fn rule_names() -> &'static [&'static str] {
-    &RULE_NAMES
-}
-
-/// The names of the rules, which the help lists too.
-const RULE_NAMES: [&str; 23] = [
-    "fcb-repeated",
-    "fcb-not-alternated",
-    "fcb-first",
-    "fcb-not-allowed",
-    "retry-limit",
-    "prm-before-diag",
-    "cfg-before-prm",
-    "exchange-before-ready",
-    "exchange-without-diag",
-    "exchange-after-rs",
-    "exchange-of-other",
-    "length-repeated",
-    "diag-not-read",
-    "prm-of-other",
-    "min-tsdr",
-    "watchdog-short",
-    "group-not-set",
-    "control-both",
-    "control-reserved",
-    "sdn-needs-reply",
-    "broadcast-needs-reply",
-    "unknown-point",
-    "no-request",
-];
-
 /// The help of `judge`.
 const HELP: Help = Help {
     about: "Judge the masters of an audit text by the rules of the standard",
     usage: "\
-rackd judge RACK AUDIT.. [--master M] [--rules NAME,..] [--retries N] [--json | --junit]
+rackd judge RACK AUDIT.. [--master M] [--rules NAME,..] [--without NAME,..] [--retries N]
+                  [--json | --junit]
        rackd judge --help",
     details: "\
 For each entry that breaks a rule, standard output gets a row with its place, its stations, the name
@@ -74,11 +46,13 @@ The exit status is 1 if the text is not legal, or if a rule whose severity is er
 else 0.
 
 Rules (docs/FORMATS.md says what each one means):
-  fcb-repeated, fcb-not-alternated, fcb-first, fcb-not-allowed, retry-limit, prm-before-diag,
-  cfg-before-prm, exchange-before-ready, exchange-without-diag, exchange-after-rs,
-  exchange-of-other, length-repeated, diag-not-read, prm-of-other, min-tsdr, watchdog-short,
-  group-not-set, control-both, control-reserved, sdn-needs-reply, broadcast-needs-reply,
-  unknown-point, no-request
+  fcb-repeated, fcb-not-alternated, fcb-first, fcv-not-set, fcb-not-allowed, retry-limit,
+  prm-before-diag, prm-without-lock, cfg-before-prm, exchange-before-ready, exchange-without-diag,
+  exchange-after-rs, exchange-of-other, length-repeated, diag-not-read, extension-missing,
+  outputs-in-clear, prm-of-other, prm-short, prm-reserved, lock-and-unlock, min-tsdr,
+  watchdog-zero, watchdog-short, group-not-set, control-both, control-reserved, control-length,
+  control-not-asked, control-with-srd, sdn-needs-reply, broadcast-needs-reply, unknown-point,
+  source-point, octets-not-allowed, no-request
 
 With --json each finding is a line of JSON. With --junit standard output is JUnit XML, with one test
 case for each rule and master, and one for the text.
@@ -92,6 +66,8 @@ Examples:
 const MASTER_HELP: &str = "Judge only the master at address M: 0 to 255 [default: all]";
 
 const RULES_HELP: &str = "Judge only by these rules, separated by commas [default: all]";
+
+const WITHOUT_HELP: &str = "Leave these rules out, separated by commas";
 
 const RETRIES_HELP: &str = "Retries of a request that gets no answer: 0 to 15 [default: 3]";
 
@@ -117,6 +93,8 @@ pub struct Judging<'a> {
     pub master: Option<u8>,
     /// The names of the rules, separated by commas, each of which is known; None stands for all rules.
     pub rules: Option<&'a str>,
+    /// The names of the rules that are left out, separated by commas, each of which is known; None leaves none out.
+    pub without: Option<&'a str>,
     /// How often a request may be sent again without an answer, 0 to 15.
     pub retries: u8,
     /// How findings are printed.
@@ -144,6 +122,12 @@ pub(crate) static JUDGE: Word = Word {
             ..OPTION
         },
         Argument {
+            name: WITHOUT,
+            help: WITHOUT_HELP,
+            shown: &["NAME,.."],
+            ..OPTION
+        },
+        Argument {
             name: RETRIES,
             help: RETRIES_HELP,
             value: ValueParser::Unsigned(0, MOST_RETRIES),
@@ -163,46 +147,70 @@ pub(crate) static JUDGE: Word = Word {
     ],
 };
 
-/// Returns the first name of the option `--rules` that is the name of no rule, if there is one.
-pub(crate) fn unknown_rule<'a>(words: &ArgMatches<'a>) -> Option<&'a str> {
-    let names = words.get_str(RULES)?;
+/// A name that is the name of no rule, and the option that has it.
+#[derive(Clone, Copy)]
+pub(crate) struct UnknownRule<'a> {
+    name: &'a str,
+    option: &'static str,
+}
+
+/// Returns the first name of the options `--rules` and `--without` that is the name of no rule, if there is one.
+pub(crate) fn unknown_rule<'a>(words: &ArgMatches<'a>) -> Option<UnknownRule<'a>> {
+    match unknown_in(words, RULES) {
+        Some(unknown) => Some(unknown),
+        None => unknown_in(words, WITHOUT),
+    }
+}
+
+/// Returns the first name of an option that is the name of no rule, if there is one.
+fn unknown_in<'a>(words: &ArgMatches<'a>, option: &'static str) -> Option<UnknownRule<'a>> {
+    let names = words.get_str(option)?;
     for name in names.split(',') {
-        if !rule_names().contains(&name) {
-            return Some(name);
+        if !is_rule(name) {
+            return Some(UnknownRule { name, option });
         }
     }
     None
 }
 
+/// Returns whether a rule has this name.
+fn is_rule(name: &str) -> bool {
+    JudgeRule::ALL.iter().any(|rule| rule.name() == name)
+}
+
 /// Returns the answer to a name that is the name of no rule: the name that is near, and all names. Returns `OutOfMemory` if
 /// memory is refused.
-pub(crate) fn refuse_rule<'a>(alloc: Global, name: &str) -> Result<Invocation<'a>, WordsFault> {
-    match rule_message(alloc, name) {
+pub(crate) fn refuse_rule<'a>(
+    alloc: Global,
+    unknown: UnknownRule<'_>,
+) -> Result<Invocation<'a>, WordsFault> {
+    match rule_message(alloc, unknown) {
         Ok(message) => refuse(alloc, "judge", message.as_str()),
         Err(_) => Err(WordsFault::OutOfMemory),
     }
 }
 
 /// Returns what is reported of a name that is the name of no rule.
-fn rule_message(alloc: Global, name: &str) -> Result<String, AllocError> {
+fn rule_message(alloc: Global, unknown: UnknownRule<'_>) -> Result<String, AllocError> {
+    let UnknownRule { name, option } = unknown;
     let mut message = match near_rule(alloc, name)? {
         Some(near) => {
             format!(in alloc;
-                "invalid value '{name}' for '--rules <NAME,..>': there is no such rule, perhaps '{near}'"
+                "invalid value '{name}' for '--{option} <NAME,..>': there is no such rule, perhaps '{near}'"
             )?
         }
         None => format!(in alloc;
-            "invalid value '{name}' for '--rules <NAME,..>': there is no such rule"
+            "invalid value '{name}' for '--{option} <NAME,..>': there is no such rule"
         )?,
     };
     message.push_str("\n\nRules:")?;
-    for (before, rule) in rule_names().iter().enumerate() {
+    for (before, rule) in JudgeRule::ALL.iter().enumerate() {
         message.push_str(if before % NAMES_IN_ROW == 0 {
             "\n  "
         } else {
             ", "
         })?;
-        message.push_str(rule)?;
+        message.push_str(rule.name())?;
     }
     Ok(message)
 }
@@ -218,9 +226,9 @@ fn near_rule(alloc: Global, name: &str) -> Result<Option<&'static str>, AllocErr
 /// Returns the first rule whose name is at most this number of edits away from a name. An edit inserts, deletes or replaces a
 /// letter, or swaps two neighbours.
 fn rule_within(alloc: Global, most: usize, name: &str) -> Result<Option<&'static str>, AllocError> {
-    for rule in rule_names() {
-        if osa_distance(alloc, name, rule)? <= most {
-            return Ok(Some(*rule));
+    for rule in JudgeRule::ALL {
+        if osa_distance(alloc, name, rule.name())? <= most {
+            return Ok(Some(rule.name()));
         }
     }
     Ok(None)
@@ -238,6 +246,7 @@ pub(crate) fn judging_of<'a>(words: &ArgMatches<'a>) -> Judging<'a> {
     Judging {
         master: words.get_one(MASTER),
         rules: words.get_str(RULES),
+        without: words.get_str(WITHOUT),
         retries: words.get_one(RETRIES).unwrap_or(USUAL_RETRIES),
         findings,
     }

@@ -13,12 +13,12 @@ use Rattle.judge_rules.specs.declared.rule.JudgeRule.{JudgeRule}
 use Rattle.judge_rules.specs.declared.rule.JudgeRule.TheVariants as rules
 use Rattle.judge_rules.specs.declared.stage.Stage.{Stage}
 use Rattle.judge_rules.specs.declared.station.Station.{Station}
-use Rattle.judge_rules.specs.BringUpRules.{is_before_ready, is_configured, is_lost, is_taken, is_unseen}
+use Rattle.judge_rules.specs.BringUpRules.{is_before_ready, is_configured, is_lost, is_taken, is_unseen, is_without_lock}
 use Rattle.judge_rules.specs.BusFacts.{bus_of}
-use Rattle.judge_rules.specs.Entries.{chk_cfg_asked, diagnosis_in, exchange_asked, is_chk_cfg, is_data_exchange, is_done, is_repeat_answer, is_rr, is_served, is_slave_diag, is_srd, is_ue, parameters_of, prm_asked}
+use Rattle.judge_rules.specs.Entries.{chk_cfg_asked, diagnosis_in, exchange_asked, is_chk_cfg, is_data_exchange, is_done, is_repeat_answer, is_rr, is_rs, is_served, is_slave_diag, is_srd, is_ue, parameters_of, prm_asked}
 use Rattle.judge_rules.specs.ExchangeRules.{is_third}
 use Rattle.judge_rules.specs.LawWords.{is_of_a_service}
-use Rattle.judge_rules.specs.ParameterRules.{has_low_min_tsdr}
+use Rattle.judge_rules.specs.ParameterRules.{has_lock_and_unlock, has_low_min_tsdr, has_reserved, has_short, sets_watchdog_zero}
 use Rattle.judge_rules.specs.Rules.{broken_by}
 use Rattle.judge_rules.specs.Stages.{after_chk_cfg, after_diag, after_exchange, after_service, is_parametrized, stage_after}
 use Rattle.judge_rules.specs.Stations.{new_station, one_more, station_after, station_of, station_with, unread_after, wrong_length_after}
@@ -33,6 +33,7 @@ unserved r is =
 pub judged : (limit : ℕ) (bus : Bus) (station : Station) (r : Request) (rule : JudgeRule) → is_served r ≡ false → is_of_a_service rule ≡ true
     → broken_by limit bus station r rule ≡ false
 judged limit bus station r rules.PrmBeforeDiag is of = ap (λ (b : Bool). is_some (if b then parameters_of r.service else None) && is_unseen station.stage) is
+judged limit bus station r rules.PrmWithoutLock is of = ap (λ (b : Bool). is_without_lock (if b then parameters_of r.service else None) && not (is_parametrized station.stage)) is
 judged limit bus station r rules.CfgBeforePrm is of = ap (λ (b : Bool). b && is_chk_cfg r.service && not (is_parametrized station.stage)) is
 judged limit bus station r rules.ExchangeBeforeReady is of = ap (λ (b : Bool). b && is_data_exchange r.service && is_before_ready station.stage) is
 judged limit bus station r rules.ExchangeWithoutDiag is of = ap (λ (b : Bool). b && is_data_exchange r.service && is_configured station.stage) is
@@ -41,6 +42,11 @@ judged limit bus station r rules.ExchangeOfOther is of = ap (λ (b : Bool). b &&
 judged limit bus station r rules.LengthRepeated is of = ap (λ (b : Bool). b && is_data_exchange r.service && is_ue r.answer && station.wrong_length) is
 judged limit bus station r rules.DiagNotRead is of = ap (λ (b : Bool). b && is_data_exchange r.service && is_third station.unread) is
 judged limit bus station r rules.PrmOfOther is of = ap (λ (b : Bool). is_some (if b then parameters_of r.service else None) && is_taken station.stage) is
+judged limit bus station r rules.ExtensionMissing is of = ap (λ (b : Bool). b && is_data_exchange r.service && r.payload.has_points && (is_ue r.answer || is_rs r.answer)) is
+judged limit bus station r rules.PrmShort is of = ap (λ (b : Bool). has_short (if b then parameters_of r.service else None)) is
+judged limit bus station r rules.PrmReserved is of = ap (λ (b : Bool). has_reserved (if b then parameters_of r.service else None)) is
+judged limit bus station r rules.LockAndUnlock is of = ap (λ (b : Bool). has_lock_and_unlock (if b then parameters_of r.service else None)) is
+judged limit bus station r rules.WatchdogZero is of = ap (λ (b : Bool). sets_watchdog_zero (if b then parameters_of r.service else None)) is
 judged limit bus station r rules.MinTsdr is of = ap (λ (b : Bool). has_low_min_tsdr (if b then parameters_of r.service else None)) is
 judged limit bus station r rule is of = absurd cc
 
@@ -106,6 +112,7 @@ agree_at address front back r is =
 same : (limit : ℕ) (bus other : Bus) (s t : Station) (r : Request) (rule : JudgeRule) → Agrees s t → is_of_a_service rule ≡ true
     → broken_by limit bus s r rule ≡ broken_by limit other t r rule
 same limit bus other s t r rules.PrmBeforeDiag agree of = ap (λ (stage : Stage). is_some (prm_asked r) && is_unseen stage) agree.stage
+same limit bus other s t r rules.PrmWithoutLock agree of = ap (λ (stage : Stage). is_without_lock (prm_asked r) && not (is_parametrized stage)) agree.stage
 same limit bus other s t r rules.CfgBeforePrm agree of = ap (λ (stage : Stage). chk_cfg_asked r && not (is_parametrized stage)) agree.stage
 same limit bus other s t r rules.ExchangeBeforeReady agree of = ap (λ (stage : Stage). exchange_asked r && is_before_ready stage) agree.stage
 same limit bus other s t r rules.ExchangeWithoutDiag agree of = ap (λ (stage : Stage). exchange_asked r && is_configured stage) agree.stage
@@ -114,7 +121,12 @@ same limit bus other s t r rules.ExchangeOfOther agree of = ap (λ (stage : Stag
 same limit bus other s t r rules.LengthRepeated agree of = ap (λ (wrong : Bool). exchange_asked r && is_ue r.answer && wrong) agree.wrong_length
 same limit bus other s t r rules.DiagNotRead agree of = ap (λ (unread : Option ℕ). exchange_asked r && is_third unread) agree.unread
 same limit bus other s t r rules.PrmOfOther agree of = ap (λ (stage : Stage). is_some (prm_asked r) && is_taken stage) agree.stage
+same limit bus other s t r rules.ExtensionMissing agree of = refl
+same limit bus other s t r rules.PrmShort agree of = refl
+same limit bus other s t r rules.PrmReserved agree of = refl
+same limit bus other s t r rules.LockAndUnlock agree of = refl
 same limit bus other s t r rules.MinTsdr agree of = refl
+same limit bus other s t r rules.WatchdogZero agree of = refl
 same limit bus other s t r rule agree of = absurd cc
 
 pub returns-clause-after : goal.returns-clause-after

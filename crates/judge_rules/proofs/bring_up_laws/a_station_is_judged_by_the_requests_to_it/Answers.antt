@@ -15,7 +15,9 @@ by_station : (limit : ℕ) (bus other : Bus) (station : Station) (request : Requ
     → broken_by limit bus station request rule ≡ broken_by limit other station request rule
 by_station limit bus other station request rules.RetryLimit is = absurd cc
 by_station limit bus other station request rules.NoRequest is = absurd cc
+by_station limit bus other station request rules.OutputsInClear is = absurd cc
 by_station limit bus other station request rules.WatchdogShort is = absurd cc
+by_station limit bus other station request rules.ControlNotAsked is = absurd cc
 by_station limit bus other station request rule is = refl
 
 pub returns : goal.returns

@@ -12,7 +12,7 @@ use Rattle.judge_rules.specs.declared.rule.JudgeRule.TheVariants as rules
 use Rattle.judge_rules.specs.declared.stage.Stage.{Stage}
 use Rattle.judge_rules.specs.declared.stage.Stage.TheVariants as stages
 use Rattle.judge_rules.specs.declared.station.Station.{Station}
-use Rattle.judge_rules.specs.BringUpRules.{is_before_ready, is_configured, is_lost, is_taken, is_unseen}
+use Rattle.judge_rules.specs.BringUpRules.{is_before_ready, is_configured, is_lost, is_taken, is_unseen, is_without_lock}
 use Rattle.judge_rules.specs.BusFacts.{bus_of}
 use Rattle.judge_rules.specs.Effects.{Effect}
 use Rattle.judge_rules.specs.Entries.{chk_cfg_asked, exchange_asked, prm_asked}
@@ -65,6 +65,7 @@ same_stage address front back r same =
 by_stage : (limit : ℕ) (bus other : Bus) (s t : Station) (r : Request) (rule : JudgeRule) → s.stage ≡ t.stage → is_of_the_bring_up rule ≡ true
     → broken_by limit bus s r rule ≡ broken_by limit other t r rule
 by_stage limit bus other s t r rules.PrmBeforeDiag same of = ap (λ (stage : Stage). is_some (prm_asked r) && is_unseen stage) same
+by_stage limit bus other s t r rules.PrmWithoutLock same of = ap (λ (stage : Stage). is_without_lock (prm_asked r) && not (is_parametrized stage)) same
 by_stage limit bus other s t r rules.CfgBeforePrm same of = ap (λ (stage : Stage). chk_cfg_asked r && not (is_parametrized stage)) same
 by_stage limit bus other s t r rules.ExchangeBeforeReady same of = ap (λ (stage : Stage). exchange_asked r && is_before_ready stage) same
 by_stage limit bus other s t r rules.ExchangeWithoutDiag same of = ap (λ (stage : Stage). exchange_asked r && is_configured stage) same

@@ -13,13 +13,22 @@ use Rattle.judge_rules.proofs.telegram_laws.what_lies_before_a_telegram_does_not
 alone : (limit other : ℕ) (bus before : Bus) (station earlier : Station) (request : Request) (rule : JudgeRule) → is_of_the_telegram rule ≡ true
     → broken_by limit bus station request rule ≡ broken_by other before earlier request rule
 alone limit other bus before station earlier request rules.FcbNotAllowed is = refl
+alone limit other bus before station earlier request rules.ExtensionMissing is = refl
+alone limit other bus before station earlier request rules.PrmShort is = refl
+alone limit other bus before station earlier request rules.PrmReserved is = refl
+alone limit other bus before station earlier request rules.LockAndUnlock is = refl
 alone limit other bus before station earlier request rules.MinTsdr is = refl
+alone limit other bus before station earlier request rules.WatchdogZero is = refl
 alone limit other bus before station earlier request rules.GroupNotSet is = refl
 alone limit other bus before station earlier request rules.ControlBoth is = refl
 alone limit other bus before station earlier request rules.ControlReserved is = refl
+alone limit other bus before station earlier request rules.ControlLength is = refl
+alone limit other bus before station earlier request rules.ControlWithSrd is = refl
 alone limit other bus before station earlier request rules.SdnNeedsReply is = refl
 alone limit other bus before station earlier request rules.BroadcastNeedsReply is = refl
 alone limit other bus before station earlier request rules.UnknownPoint is = refl
+alone limit other bus before station earlier request rules.SourcePoint is = refl
+alone limit other bus before station earlier request rules.OctetsNotAllowed is = refl
 alone limit other bus before station earlier request rule is = absurd cc
 
 pub returns : goal.returns
