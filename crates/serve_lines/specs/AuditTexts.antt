@@ -12,6 +12,7 @@ use Rattle.dp_shared.specs.Passes.{line_of}
 use Rattle.dp_shared.specs.declared.one_slot.OneSlot.{OneSlot}
 use Rattle.serve_faults.specs.declared.serve_fault.OutputFault.{OutputFault}
 use Rattle.serve_faults.specs.declared.serve_fault.OutputFault.TheVariants as outputs
+use Rattle.serve_lines.specs.ReturnedPasses.{AgreeWith, AllPaired, PassList}
 
 -- the journal of a line after serving; its entries are a legal history
 pub record IsJournalOf (line : LineSpec) (content : Content) : Type 0 where
@@ -21,18 +22,23 @@ pub record IsJournalOf (line : LineSpec) (content : Content) : Type 0 where
 abbrev pub text_of : Content → List ℕ
 text_of content = audit_text (version_of content.book.opening.capacity) content.book.number content.book.entries
 
--- the audit text of a line is written, or a prefix of it
-abbrev pub WritesAudit : LineSpec → Option (List ℕ) → Option (List ℕ) → Result (Unit {0}) OutputFault → Type 0
-WritesAudit line old new (Ok done) = (content : Content) × IsJournalOf line content × Appends old new (text_of content)
-WritesAudit line old new (Err outputs.WriteFault) = (content : Content) × IsJournalOf line content × WritesPrefix old new (text_of content)
-WritesAudit line old new (Err outputs.OutOfMemory) = Keeps old new
-WritesAudit line old new (Err (outputs.CannotMakePorts cause)) = ⊥
+-- the audit text of a line is written, or a prefix of it; if it is written, these passes, which were handed back, agree with its journal
+abbrev pub WritesAudit : LineSpec → PassList → Option (List ℕ) → Option (List ℕ) → Result (Unit {0}) OutputFault → Type 0
+WritesAudit line passes old new (Ok done) = (content : Content) × IsJournalOf line content × Appends old new (text_of content) × AgreeWith content passes
+WritesAudit line passes old new (Err outputs.WriteFault) = (content : Content) × IsJournalOf line content × WritesPrefix old new (text_of content)
+WritesAudit line passes old new (Err outputs.OutOfMemory) = Keeps old new
+WritesAudit line passes old new (Err (outputs.CannotMakePorts cause)) = ⊥
 
 -- the audit texts of these lines are written, in their order
 pub record AreWritten (lines : List LineSpec) (old new : Option (List ℕ)) : Type 0 where
   pub journals : List Content
   pub each : AllZip IsJournalOf lines journals
   pub written : Appends old new (flat_map text_of journals)
+
+-- they are written, and the passes of each line, which were handed back, agree with its journal
+pub record AreClosed (lines : List LineSpec) (passes : List PassList) (old new : Option (List ℕ)) : Type 0 where
+  pub texts : AreWritten lines old new
+  pub agree : AllPaired AgreeWith texts.journals passes
 
 -- a prefix of the audit texts of the first of these lines is written
 pub record AreBrokenOff (lines : List LineSpec) (old new : Option (List ℕ)) : Type 0 where
@@ -46,8 +52,8 @@ pub record AreBrokenOff (lines : List LineSpec) (old new : Option (List ℕ)) : 
 abbrev pub line_at : {S V P C : Type 0} → LineAndClaims (OneSlot S V LineSpec P) C → LineSpec
 line_at port = line_of port.line
 
--- the audit texts of these lines are written, or a part of them
-abbrev pub WritesAudits : List LineSpec → Option (List ℕ) → Option (List ℕ) → Result (Unit {0}) OutputFault → Type 0
-WritesAudits lines old new (Ok done) = AreWritten lines old new
-WritesAudits lines old new (Err (outputs.CannotMakePorts cause)) = ⊥
-WritesAudits lines old new (Err fault) = AreBrokenOff lines old new
+-- the lines are closed, and their audit texts are written, or a part of them
+abbrev pub WritesAudits : List LineSpec → List PassList → Option (List ℕ) → Option (List ℕ) → Result (Unit {0}) OutputFault → Type 0
+WritesAudits lines passes old new (Ok done) = AreClosed lines passes old new
+WritesAudits lines passes old new (Err (outputs.CannotMakePorts cause)) = ⊥
+WritesAudits lines passes old new (Err fault) = AreBrokenOff lines old new

@@ -1,2 +1,2 @@
-pub mod ServeOutput
 pub mod Serving
+pub mod ServeOutput

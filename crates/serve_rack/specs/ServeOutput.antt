@@ -1,5 +1,5 @@
 -- A rack that is served (own).
-use Rattle.std.specs.Prelude.{◌≡◌, ◌⊎◌, ℕ, ℤ, Bool, true, false, List, map, Option, Some, None, Result, Ok, Err, Contains, IsPermutation}
+use Rattle.std.specs.Prelude.{◌≡◌, ◌⊎◌, ℕ, ℤ, Bool, true, false, List, length, map, Option, Some, None, Result, Ok, Err, Contains, IsPermutation}
 use Rattle.std.specs.Borrow.{Bor}
 use Rattle.std.specs.List.{list_all}
 use Rattle.std.specs.List.Sorted.{IsNonDecreasingBy}
@@ -22,10 +22,13 @@ use Rattle.serve_faults.specs.declared.serve_fault.OutputFault.{OutputFault}
 use Rattle.serve_faults.specs.declared.serve_fault.OutputFault.TheVariants as outputs
 use Rattle.serve_faults.specs.declared.serve_fault.ServeFault.{ServeFault}
 use Rattle.serve_faults.specs.declared.serve_fault.ServeFault.TheVariants as faults
+use Rattle.serve_rack.specs.Serving.{HasLeft, most_reads}
 use Rattle.serve_rack.specs.declared.serve.Served.{Served}
+use Rattle.serve_rack.specs.declared.serving.ServedRack.{ServedRack}
 use Rattle.serve_sessions.specs.Ready.{ready}
 use Rattle.serve_lines.specs.declared.served_line.ServedLine.{ServedLine}
 use Rattle.serve_lines.specs.AuditTexts.{AreBrokenOff, AreWritten}
+use Rattle.serve_lines.specs.MasterSessions.{AreInJournals, AreServedAt, MasterPlace}
 use Rattle.serve_lines.specs.Listening.{ports_of}
 use Rattle.serve_lines.specs.ServedLines.{line_numbers, number_of, specs_of}
 
@@ -36,18 +39,26 @@ abbrev pub AreServed : Bool → List ServedLine → Option (List ℕ) → Option
 AreServed true lines old new = Appends old new ready
 AreServed false lines old new = (between : Option (List ℕ)) × Appends old between ready × AreWritten (specs_of lines) between new
 
+-- .. and this number of sessions of masters was served at these lines; by the journals of ordinary lines, those that are kept wrote E5 and then the
+-- replies of the entries under the numbers of their passes
+abbrev pub AreServedTo : Bool → List ServedLine → ℕ → Option (List ℕ) → Option (List ℕ) → Type 0
+AreServedTo true lines masters old new = Appends old new ready × AreServedAt most_reads masters (length lines)
+AreServedTo false lines masters old new =
+    (between : Option (List ℕ)) × Appends old between ready × ((texts : AreWritten (specs_of lines) between new) × AreInJournals most_reads masters texts.journals)
+
 -- a prefix of `ready` is written, or `ready` and a part of the audit texts of these lines
 abbrev pub AreServedInPart : Bool → List ServedLine → Option (List ℕ) → Option (List ℕ) → Type 0
 AreServedInPart true lines old new = WritesPrefix old new ready
 AreServedInPart false lines old new = WritesPrefix old new ready
     ⊎ ((between : Option (List ℕ)) × Appends old between ready × AreBrokenOff (specs_of lines) between new)
 
--- `ready` is written; if a write fails, a prefix of it; if memory, a thread or the file that names the ports is refused, nothing
-abbrev pub ServesConnections : Option (List ℕ) → Option (List ℕ) → Result (Option Served) OutputFault → Type 0
-ServesConnections old new (Ok served) = Appends old new ready
-ServesConnections old new (Err outputs.WriteFault) = WritesPrefix old new ready
-ServesConnections old new (Err outputs.OutOfMemory) = Keeps old new
-ServesConnections old new (Err (outputs.CannotMakePorts cause)) = Keeps old new
+-- `ready` is written, and then the sessions of masters are served at these places; if a write fails, a prefix of `ready` is written; if memory, a
+-- thread or the file that names the ports is refused, nothing
+abbrev pub ServesConnections : List MasterPlace → Option (List ℕ) → Option (List ℕ) → Result ServedRack OutputFault → Type 0
+ServesConnections places old new (Ok rack) = Appends old new ready × HasLeft places rack.served rack.passes.items
+ServesConnections places old new (Err outputs.WriteFault) = WritesPrefix old new ready
+ServesConnections places old new (Err outputs.OutOfMemory) = Keeps old new
+ServesConnections places old new (Err (outputs.CannotMakePorts cause)) = Keeps old new
 
 -- the cause of an error of the system
 abbrev pub IsCauseOfError : Cause → Type 0
@@ -71,7 +82,7 @@ serving_result endless None None = Err faults.OutOfMemory
 -- if the folder of audit texts, a file in it for one of these lines, or the file that names the ports cannot be made, nothing is written; if an audit
 -- file lacks an entry, everything is written
 abbrev pub ServesLines : Option (Bor (List ℕ)) → Bool → List ServedLine → Option (List ℕ) → Option (List ℕ) → Result Served ServeFault → Type 0
-ServesLines folder endless lines old new (Ok served) = AreServed endless lines old new
+ServesLines folder endless lines old new (Ok served) = AreServedTo endless lines served.masters old new
 ServesLines folder endless lines old new (Err (faults.CannotMake path cause)) = IsFolderOrFileIn folder (line_numbers lines) path × Keeps old new
 ServesLines folder endless lines old new (Err (faults.CannotWrite path cause)) = IsIncomplete folder endless (line_numbers lines) path cause × AreServed endless lines old new
 ServesLines folder endless lines old new (Err (faults.CannotMakePorts cause)) = Keeps old new
@@ -96,6 +107,10 @@ pub record AreLinesOf (rack : RackDescription) (lines : List ServedLine) : Type 
 abbrev pub IsServed : Bool → RackDescription → Option (List ℕ) → Option (List ℕ) → Type 0
 IsServed endless rack old new = (lines : List ServedLine) × AreLinesOf rack lines × AreServed endless lines old new
 
+-- .. and this number of sessions of masters was served
+abbrev pub IsServedTo : Bool → RackDescription → ℕ → Option (List ℕ) → Option (List ℕ) → Type 0
+IsServedTo endless rack masters old new = (lines : List ServedLine) × AreLinesOf rack lines × AreServedTo endless lines masters old new
+
 abbrev pub IsServedInPart : Bool → RackDescription → Option (List ℕ) → Option (List ℕ) → Type 0
 IsServedInPart endless rack old new = Keeps old new ⊎ ((lines : List ServedLine) × AreLinesOf rack lines × AreServedInPart endless lines old new)
 
@@ -103,7 +118,7 @@ IsServedInPart endless rack old new = Keeps old new ⊎ ((lines : List ServedLin
 -- the folder of audit texts, a file in it for a line of the rack, or the file that names the ports cannot be made. If an audit file lacks an entry,
 -- everything is written. If memory, a thread or a write is refused, a part is written
 abbrev pub ServesRack : Option (Bor (List ℕ)) → Bool → RackDescription → Option (List ℕ) → Option (List ℕ) → Result Served ServeFault → Type 0
-ServesRack folder endless rack old new (Ok served) = IsServed endless rack old new
+ServesRack folder endless rack old new (Ok served) = IsServedTo endless rack served.masters old new
 ServesRack folder endless rack old new (Err (faults.Rack racks.BadKey)) = (list_all has_ports rack.lines ≡ false) × Keeps old new
 ServesRack folder endless rack old new (Err (faults.CannotListen port cause)) =
     (lines : List ServedLine) × AreLinesOf rack lines × Contains (ports_of lines) port × Keeps old new

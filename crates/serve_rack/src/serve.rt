@@ -1,14 +1,26 @@
 //! Serving a rack at sockets.
 
-ghost use Rattle.std.specs.Prelude.{◌≡◌, ◌≤◌, ◌-◌, ◌^◌, All, None, is_some, length, unwrap_or};
+ghost use Rattle.std.specs.Prelude.{◌≡◌, ◌≤◌, ◌-◌, ◌^◌, ℕ, List, Option, All, IfSome, None, is_some, length, map, unwrap_or};
+ghost use Rattle.std.specs.Borrow.{Bor};
+ghost use Rattle.std.specs.Io.KnownBytes.{Appends};
+ghost use Rattle.audit_files.specs.AuditPaths.{IsFileIn};
 ghost use Rattle.dp_sessions.specs.Pools.{HasSeats};
 ghost use Rattle.dp_line.specs.World.{description_of, opening_fault};
 ghost use Rattle.rack_file.specs.Rack.{rack_described};
 ghost use Rattle.rack_file.specs.RackFile.{rack_in};
+ghost use Rattle.serve_lines.specs.MasterSessions.{place_at};
 ghost use Rattle.serve_lines.specs.OpenedLines.{AreOpened};
+ghost use Rattle.serve_lines.specs.ServedLines.{line_numbers};
+ghost use Rattle.serve_lines.specs.declared.served_line.ServedLine.{ServedLine};
 ghost use Rattle.serve_rack.specs.ServeOutput.{Serves, ServesLines, ServesRack};
+ghost use Rattle.serve_rack.specs.Serving.{HasLeft};
+ghost use Rattle.serve_sessions.specs.Ready.{ready};
 
-use crate::serving::{ListeningLines, numbers_of, serve_connections};
+use crate::serving::{
+    ListeningLines, ServedRack, ServingOutcome, numbers_of, result_of, serve_connections,
+};
+use dp_sessions::Port;
+use dp_sessions::laws::a_master_has_its_entries;
 use rack_file::laws::{
     accepted_lines_can_be_opened, accepted_racks_have_1_to_8_lines,
     accepted_racks_have_1_to_32_workers,
@@ -187,11 +199,32 @@ fn serve_opened<'a, 's, H: Host + Sync, W: Write>(
         Ok(outcome) => outcome,
         Err(fault) => return Err(fault),
     };
-    if options.endless.is_some() {
-        return outcome.into_result(true);
+    end_serving(alloc, ports, outcome, options.endless.is_some(), writer)
+}
+
+/// Closes the lines with the passes that serving left and writes their audit texts, unless they are endless. Returns the result of
+/// serving.
+fn end_serving<'a, W: Write>(
+    alloc: Global,
+    ports: Vec<Port>,
+    outcome: ServingOutcome<'a>,
+    are_endless: bool,
+    writer: &mut W,
+) -> Result<Served, ServeFault<'a>>
+    requires { HasLeft (map place_at ports.items) outcome.rack.served outcome.rack.passes.items }
+    ensures { (folder : Option (Bor (List ℕ))) → (lines : List ServedLine) → AreOpened lines ports.items → IfSome outcome.entry.incomplete (λ file. IsFileIn folder (line_numbers lines) file.path)
+        → (old : Option (List ℕ)) → Appends old (W.contents writer.old) ready → ServesLines folder are_endless lines old (W.contents writer.new) result }
+{
+    a_master_has_its_entries();
+    let ServingOutcome {
+        rack: ServedRack { served, passes },
+        incomplete,
+    } = outcome;
+    if are_endless {
+        return result_of(true, incomplete, served);
     }
-    match write_audits(alloc, ports, writer) {
-        Ok(()) => outcome.into_result(false),
+    match write_audits(alloc, ports, passes, writer) {
+        Ok(()) => result_of(false, incomplete, served),
         Err(fault) => Err(ServeFault::from(fault)),
     }
 }

@@ -1,26 +1,28 @@
 //! Accepting and serving the connections of all lines, and recording what is served.
 
-ghost use Rattle.std.specs.Prelude.{◌≡◌, ◌≤◌, ℕ, Bool, List, Option, All, Contains, Err, IfErr, IfOk, IfSome, None, OnOk, Some, length};
+ghost use Rattle.std.specs.Prelude.{◌≡◌, ◌≤◌, ℕ, Bool, List, Option, All, Contains, Err, IfErr, IfOk, IfSome, None, OnOk, Some, length, map};
 ghost use Rattle.std.specs.Borrow.{Bor};
 ghost use Rattle.std.specs.Io.KnownBytes.{Appends};
 ghost use Rattle.audit_trail.specs.Named.{name_of};
 ghost use Rattle.audit_files.specs.AuditPaths.{IsFileIn};
 ghost use Rattle.serve_sessions.specs.Recordings.{IsPartOfOne, paths_of};
 ghost use Rattle.serve_lines.specs.declared.served_line.ServedLine.{ServedLine};
+ghost use Rattle.serve_lines.specs.MasterSessions.{place_at};
 ghost use Rattle.serve_lines.specs.ServedLines.{line_numbers};
-ghost use Rattle.serve_rack.specs.Serving.{AreListening};
-ghost use Rattle.serve_lines.specs.ServingLines.{AreSeated, AreServedLines};
-ghost use Rattle.serve_rack.specs.ServeOutput.{AreServed, ServesConnections, ServesLines, serving_result};
+ghost use Rattle.serve_rack.specs.Serving.{AreListening, HasLeft};
+ghost use Rattle.serve_lines.specs.ServingLines.{AreSeated, AreServedLines, HaveSeats};
+ghost use Rattle.serve_rack.specs.ServeOutput.{AreServed, AreServedTo, ServesConnections, ServesLines, serving_result};
 ghost use Rattle.serve_sessions.specs.Ready.{ready};
 
 use crate::serve::{Served, sessions_of};
-use crate::threads::{Sessions, accept_and_serve, can_start};
+use crate::threads::{Sessions, accept_and_serve, can_start, end_unserved};
 use audit_files::{IncompleteFile, OldParts};
 use audit_trail::{Naming, NoTrail, RecordEntries};
 use crossbeam_channel::bounded;
+use dp_shared::ReturnedPass;
 use serve_clock::{LineClock, Schedule};
 use serve_faults::{OutputFault, ServeFault};
-use serve_lines::{Listeners, SeatedWorkers, ServedLine, ServedLines};
+use serve_lines::{Listeners, MasterPool, SeatedWorkers, ServedLine, ServedLines, ServedMasters};
 use serve_log::{LineNumbers, MOST_OPERATORS, Notes};
 use serve_options::{PartOptions, ServeOptions};
 use serve_sessions::{
@@ -54,30 +56,41 @@ pub(crate) struct ListeningLines<'l> {
     pub(crate) workers: SeatedWorkers<'l>,
 }
 
-/// How serving the connections of all lines has ended.
-#[derive(Clone, Copy)]
-pub(crate) struct ServingOutcome<'a> {
+/// What serving the connections of all lines has left.
+#[derive(Drop)]
+pub(crate) struct ServedRack {
     /// How many sessions were served, or `None` if a thread could not be started.
-    served: Option<Served>,
-    /// The first audit file that lacks an entry.
-    incomplete: Option<IncompleteFile<'a>>,
+    pub(crate) served: Option<Served>,
+    /// The passes of the sessions of masters that are kept: one list for each line, in their order, or no list if `served` is `None`.
+    pub(crate) passes: Vec<Vec<ReturnedPass>>,
 }
 
-impl<'a> ServingOutcome<'a> {
-    /// Returns the result of serving, once the audit texts are written.
-    pub(crate) fn into_result(self, are_endless: bool) -> Result<Served, ServeFault<'a>>
-        ensures exact { result ≡ serving_result are_endless self.entry.incomplete self.entry.served }
-        ensures serves { (folder : Option (Bor (List ℕ))) → (lines : List ServedLine) → IfSome self.entry.incomplete (λ file. IsFileIn folder (line_numbers lines) file.path)
-            → (old new : Option (List ℕ)) → AreServed are_endless lines old new → ServesLines folder are_endless lines old new result }
-    {
-        let ServingOutcome { served, incomplete } = self;
-        if let Some(file) = incomplete {
-            return Err(ServeFault::CannotWrite(file.path, file.cause(are_endless)));
-        }
-        match served {
-            Some(served) => Ok(served),
-            None => Err(ServeFault::OutOfMemory),
-        }
+/// How serving the connections of all lines has ended.
+#[derive(Drop)]
+pub(crate) struct ServingOutcome<'a> {
+    /// What it has left.
+    pub(crate) rack: ServedRack,
+    /// The first audit file that lacks an entry.
+    pub(crate) incomplete: Option<IncompleteFile<'a>>,
+}
+
+/// Returns the result of serving, once the audit texts are written.
+pub(crate) fn result_of<'a>(
+    are_endless: bool,
+    incomplete: Option<IncompleteFile<'a>>,
+    served: Option<Served>,
+) -> Result<Served, ServeFault<'a>>
+    ensures exact { result ≡ serving_result are_endless incomplete.entry served }
+    ensures serves { (folder : Option (Bor (List ℕ))) → (lines : List ServedLine) → IfSome incomplete.entry (λ file. IsFileIn folder (line_numbers lines) file.path)
+        → (old new : Option (List ℕ)) → AreServed are_endless lines old new → IfSome served (λ counts. AreServedTo are_endless lines counts.masters old new)
+        → ServesLines folder are_endless lines old new result }
+{
+    if let Some(file) = incomplete {
+        return Err(ServeFault::CannotWrite(file.path, file.cause(are_endless)));
+    }
+    match served {
+        Some(served) => Ok(served),
+        None => Err(ServeFault::OutOfMemory),
     }
 }
 
@@ -97,6 +110,7 @@ pub(crate) fn serve_connections<'a, 's, H: Host + Sync, W: Write>(
 ) -> Result<ServingOutcome<'a>, ServeFault<'a>>
     requires { AreListening listening }
     ensures ok { OnOk result (Appends (W.contents writer.old) (W.contents writer.new) ready) }
+    ensures left { IfOk result (λ outcome. HasLeft (map place_at listening.entry.workers.ports.now) outcome.rack.served outcome.rack.passes.items) }
     ensures incomplete { IfOk result (λ outcome. IfSome outcome.incomplete (λ file. IsFileIn options.entry.audit (line_numbers listening.entry.served.lines.now) file.path)) }
     ensures err { IfErr result (λ fault. (endless : Bool) → ServesLines options.entry.audit endless listening.entry.served.lines.now (W.contents writer.old) (W.contents writer.new) (Err fault)) }
 {
@@ -151,14 +165,15 @@ fn serve_unrecorded<'a, 's, H: Host + Sync, W: Write>(
 ) -> Result<ServingOutcome<'a>, ServeFault<'a>>
     requires { AreListening listening }
     ensures ok { OnOk result (Appends (W.contents writer.old) (W.contents writer.new) ready) }
+    ensures left { IfOk result (λ outcome. HasLeft (map place_at listening.entry.workers.ports.now) outcome.rack.served outcome.rack.passes.items) }
     ensures incomplete { IfOk result (λ outcome. outcome.incomplete ≡ None) }
     ensures err { IfErr result (λ fault. (folder : Option (Bor (List ℕ))) → (endless : Bool) → ServesLines folder endless listening.entry.served.lines.now (W.contents writer.old) (W.contents writer.new) (Err fault)) }
 {
     let none = &[NoTrail; MOST_LINES][..listening.served.lines.len()];
     let served = serve_with_recorders(context, listening, none, writer);
     match served {
-        Ok(served) => Ok(ServingOutcome {
-            served,
+        Ok(rack) => Ok(ServingOutcome {
+            rack,
             incomplete: None,
         }),
         Err(fault) => Err(ServeFault::from(fault)),
@@ -175,6 +190,7 @@ fn serve_recorded<'a, 's, H: Host + Sync, W: Write>(
 ) -> Result<ServingOutcome<'a>, ServeFault<'a>>
     requires { AreListening listening }
     ensures ok { OnOk result (Appends (W.contents writer.old) (W.contents writer.new) ready) }
+    ensures left { IfOk result (λ outcome. HasLeft (map place_at listening.entry.workers.ports.now) outcome.rack.served outcome.rack.passes.items) }
     ensures incomplete { IfOk result (λ outcome. IfSome outcome.incomplete (λ file. IsFileIn (Some folder.entry) (line_numbers listening.entry.served.lines.now) file.path)) }
     ensures err { IfErr result (λ fault. (endless : Bool) → ServesLines (Some folder.entry) endless listening.entry.served.lines.now (W.contents writer.old) (W.contents writer.new) (Err fault)) }
 {
@@ -199,8 +215,9 @@ fn serve_named<'a, 's, J: Naming + Send + Sync, H: Host + Sync, W: Write>(
     requires listening { AreListening listening }
     requires named { All (λ recorder. Contains J.trails (name_of recorder.file.trail.pass)) recorders.items }
     ensures ok { OnOk result (Appends (W.contents writer.old) (W.contents writer.new) ready) }
+    ensures left { IfOk result (λ outcome. HasLeft (map place_at listening.entry.workers.ports.now) outcome.rack.served outcome.rack.passes.items) }
     ensures incomplete { IfOk result (λ outcome. IfSome outcome.incomplete (λ file. IsPartOfOne (paths_of recorders.entry.items) file.path)) }
-    ensures err { IfErr result (λ fault. ServesConnections (W.contents writer.old) (W.contents writer.new) (Err fault)) }
+    ensures err { IfErr result (λ fault. ServesConnections (map place_at listening.entry.workers.ports.now) (W.contents writer.old) (W.contents writer.new) (Err fault)) }
 {
     let (rt, alloc, old_parts) = (context.sockets.rt, context.alloc, context.old_parts);
     let Some(recorders) = name_trails::<H, J>(alloc, recorders) else {
@@ -208,10 +225,10 @@ fn serve_named<'a, 's, J: Naming + Send + Sync, H: Host + Sync, W: Write>(
     };
     let served = serve_with_recorders(context, listening, &recorders, writer);
     match served {
-        Ok(served) => {
+        Ok(rack) => {
             let incomplete = first_incomplete(rt, recorders);
             delete_rest(old_parts);
-            Ok(ServingOutcome { served, incomplete })
+            Ok(ServingOutcome { rack, incomplete })
         }
         Err(fault) => Err(fault),
     }
@@ -232,9 +249,9 @@ fn serve_with_recorders<'a, H: Host + Sync, C: RecordEntries + Sync, W: Write>(
     listening: ListeningLines<'a>,
     recorders: &'a [C],
     writer: &mut W,
-) -> Result<Option<Served>, OutputFault>
+) -> Result<ServedRack, OutputFault>
     requires { AreListening listening }
-    ensures { ServesConnections (W.contents writer.old) (W.contents writer.new) result }
+    ensures { ServesConnections (map place_at listening.entry.workers.ports.now) (W.contents writer.old) (W.contents writer.new) result }
 {
     let Ok(clocks) = open_clocks(context, listening.served) else {
         return Err(OutputFault::OutOfMemory);
@@ -255,9 +272,9 @@ fn serve_with_clocks<'a, H: Host + Sync, C: RecordEntries + Sync, D: KeepTime + 
     recorders: &'a [C],
     clocks: &[D],
     writer: &mut W,
-) -> Result<Option<Served>, OutputFault>
+) -> Result<ServedRack, OutputFault>
     requires { AreListening listening }
-    ensures { ServesConnections (W.contents writer.old) (W.contents writer.new) result }
+    ensures { ServesConnections (map place_at listening.entry.workers.ports.now) (W.contents writer.old) (W.contents writer.new) result }
 {
     let gate = SessionGate {
         host: context.sockets.rt,
@@ -273,7 +290,7 @@ fn serve_with_clocks<'a, H: Host + Sync, C: RecordEntries + Sync, D: KeepTime + 
 /// Writes the file that names the ports, if there is one, and `ready`, and then accepts and serves the connections of all
 /// lines, with this gate of their sessions.
 ///
-/// Returns how many sessions were served, or `None` if a thread could not be started after that. Returns `OutOfMemory` if there
+/// Returns what serving left; the number of sessions is `None` if a thread could not be started after that. Returns `OutOfMemory` if there
 /// is not enough memory or there are not enough threads for all sessions, and `CannotMakePorts` if the file that names the ports
 /// cannot be made; nothing is written then. Returns `WriteFault` if `ready` is not written.
 fn serve_at_gate<'a, H: Host + Sync, G: TimedGate + Sync, W: Write>(
@@ -281,9 +298,9 @@ fn serve_at_gate<'a, H: Host + Sync, G: TimedGate + Sync, W: Write>(
     listening: ListeningLines<'a>,
     gate: &'a G,
     writer: &mut W,
-) -> Result<Option<Served>, OutputFault>
+) -> Result<ServedRack, OutputFault>
     requires { AreListening listening }
-    ensures { ServesConnections (W.contents writer.old) (W.contents writer.new) result }
+    ensures { ServesConnections (map place_at listening.entry.workers.ports.now) (W.contents writer.old) (W.contents writer.new) result }
 {
     let ListeningLines {
         served,
@@ -300,17 +317,27 @@ fn serve_at_gate<'a, H: Host + Sync, G: TimedGate + Sync, W: Write>(
     };
     match name_ports(context) {
         Ok(()) => {}
-        Err(fault) => return Err(fault),
+        Err(fault) => {
+            end_unserved(sessions);
+            return Err(fault);
+        }
     }
     let Ok(()) = write_ready(writer) else {
+        end_unserved(sessions);
         return Err(OutputFault::WriteFault);
     };
     match accept_and_serve(context, gate, schedule, sessions) {
-        Ok(masters) => Ok(Some(Served {
-            masters,
-            operators: context.operators.load(SeqCst),
-        })),
-        Err(_) => Ok(None),
+        Ok(ServedMasters { count, passes }) => Ok(ServedRack {
+            served: Some(Served {
+                masters: count,
+                operators: context.operators.load(SeqCst),
+            }),
+            passes,
+        }),
+        Err(_) => Ok(ServedRack {
+            served: None,
+            passes: Vec::new(context.alloc),
+        }),
     }
 }
 
@@ -343,16 +370,17 @@ fn open_sessions<'a, H: Host + Sync, G: TimedGate + Sync>(
     requires served { AreServedLines served }
     requires each { length listening.items ≡ length served.lines.now }
     requires seated { AreSeated workers }
-    ensures { IfOk result (λ sessions. AreSeated sessions.workers) }
+    ensures ports { IfOk result (λ sessions. sessions.pool.ports.now ≡ workers.entry.ports.now) }
+    ensures seats { IfOk result (λ sessions. HaveSeats sessions.pool.ports.now sessions.pool.workers.seats.items) }
 {
     let (sender, jobs) = bounded(context.alloc, MOST_WAITING)?;
     let acceptors = Acceptors::new(context, served, listening, sender)?;
     let operator_workers = operator_workers(context.alloc, &acceptors.operators, gate)?;
+    let pool = MasterPool::new(context.alloc, workers, jobs)?;
     Ok(Sessions {
         acceptors,
         operator_workers,
-        workers,
-        jobs,
+        pool,
     })
 }
 

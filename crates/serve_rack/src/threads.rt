@@ -1,21 +1,24 @@
 //! The threads that serve a rack.
 
-ghost use Rattle.serve_lines.specs.ServingLines.{AreSeated};
+ghost use Rattle.std.specs.Prelude.{IfOk, OnOk, map};
+ghost use Rattle.serve_lines.specs.MasterSessions.{HasServed, place_at};
+ghost use Rattle.serve_lines.specs.ServingLines.{HaveSeats};
+ghost use Rattle.serve_rack.specs.Serving.{most_reads};
 
 use audit_files::{NewFiles, OldParts};
 use crossbeam_channel::{Receiver, RecvTimeoutError, bounded};
-use dp_sessions::{Gate, Job, PoolFault, Workers, count_served, run_pool};
+use dp_sessions::PoolFault;
 use log::Log;
 use serve_clock::Schedule;
-use serve_lines::SeatedWorkers;
+use serve_lines::{MasterPool, ServedMasters, serve_masters};
 use serve_sessions::{
-    Acceptors, Host, MAX_READS, MasterJob, OperatedLine, OperatorWorker, ServeConnections,
-    ServerContext, TimedGate,
+    Acceptors, Host, MAX_READS, OperatedLine, OperatorWorker, ServeConnections, ServerContext,
+    TimedGate,
 };
-use serve_sockets::{Accept, Phase, ServePhase, stop_with_input};
+use serve_sockets::{
+    Accept, ConnectionReader, ConnectionWriter, Phase, ServePhase, stop_with_input,
+};
 use std::alloc::Global;
-use std::io::{Read, Write};
-use std::net::Net;
 use std::sync::{Mutex, Wait};
 use std::thread;
 use std::thread::{Scope, Threads};
@@ -40,6 +43,9 @@ pub(crate) fn can_start<H: Threads + Wait + Sync>(rt: &H, count: usize) -> bool 
     })
 }
 
+/// The workers of the masters of a rack, and the sessions that wait for them.
+pub(crate) type Masters<'a, H> = MasterPool<'a, ConnectionReader<'a, H>, ConnectionWriter<'a, H>>;
+
 /// What serves the sessions of a rack.
 #[derive(Drop)]
 pub(crate) struct Sessions<'a, H: Wait, G> {
@@ -48,9 +54,22 @@ pub(crate) struct Sessions<'a, H: Wait, G> {
     /// Serve the operators.
     pub(crate) operator_workers: Vec<OperatorWorker<'a, OperatedLine<'a>, H, G>>,
     /// Serve the masters.
-    pub(crate) workers: SeatedWorkers<'a>,
-    /// The sessions of masters that wait for a worker.
-    pub(crate) jobs: Receiver<MasterJob<'a, H>>,
+    pub(crate) pool: Masters<'a, H>,
+}
+
+/// Ends sessions that are not served: no connection of theirs was accepted.
+pub(crate) fn end_unserved<H: Host + Sync, G>(sessions: Sessions<'_, H, G>) {
+    let Sessions {
+        acceptors: _acceptors,
+        operator_workers: _operator_workers,
+        pool,
+    } = sessions;
+    end_pool(pool);
+}
+
+/// Ends workers that have served nothing.
+fn end_pool<R: Drop, W: Drop>(pool: MasterPool<'_, R, W>) {
+    drop(pool);
 }
 
 /// Starts a thread for each acceptor and each worker of operators, and then serves the sessions of masters by the workers. It
@@ -59,15 +78,16 @@ pub(crate) struct Sessions<'a, H: Wait, G> {
 ///
 /// If there is an input, another thread waits for its end and stops serving then.
 ///
-/// Returns how many sessions of masters were served. If the thread of a worker cannot be started, no connection is accepted once
-/// the workers that started have ended. If any other thread cannot be started, no connection is accepted.
+/// Returns what the workers left. If the thread of a worker cannot be started, no connection is accepted once the workers that
+/// started have ended. If any other thread cannot be started, no connection is accepted.
 pub(crate) fn accept_and_serve<'a, H: Host + Sync, G: TimedGate + Sync>(
     context: &'a ServerContext<'a, H>,
     session_gate: &'a G,
     schedule: Schedule,
     sessions: Sessions<'a, H, G>,
-) -> Result<u32, PoolFault>
-    requires { AreSeated sessions.workers }
+) -> Result<ServedMasters, PoolFault>
+    requires { HaveSeats sessions.pool.ports.now sessions.pool.workers.seats.items }
+    ensures { IfOk result (λ served. HasServed most_reads (map place_at sessions.entry.pool.ports.now) served.count served.passes.items) }
 {
     let (rt, serve_phase) = (context.sockets.rt, context.sockets.serve_phase);
     let Some(input) = context.input else {
@@ -77,11 +97,15 @@ pub(crate) fn accept_and_serve<'a, H: Host + Sync, G: TimedGate + Sync>(
         rt,
         serve_phase,
         input,
-        || -> Result<u32, PoolFault>
-            requires { AreSeated sessions.workers }
+        || -> Result<ServedMasters, PoolFault>
+            requires { HaveSeats sessions.pool.ports.now sessions.pool.workers.seats.items }
+            ensures { IfOk result (λ served. HasServed most_reads (map place_at sessions.entry.pool.ports.now) served.count served.passes.items) }
         { serve_sessions(context, session_gate, schedule, sessions) },
     );
-    served.unwrap_or(Err(PoolFault::NoThread))
+    match served {
+        Some(served) => served,
+        None => Err(PoolFault::NoThread),
+    }
 }
 
 /// Starts the threads of all sessions, and serves those of masters, as [`accept_and_serve`] does.
@@ -90,70 +114,36 @@ fn serve_sessions<'a, H: Host + Sync, G: TimedGate + Sync>(
     session_gate: &'a G,
     schedule: Schedule,
     sessions: Sessions<'a, H, G>,
-) -> Result<u32, PoolFault>
-    requires { AreSeated sessions.workers }
+) -> Result<ServedMasters, PoolFault>
+    requires { HaveSeats sessions.pool.ports.now sessions.pool.workers.seats.items }
+    ensures { IfOk result (λ served. HasServed most_reads (map place_at sessions.entry.pool.ports.now) served.count served.passes.items) }
 {
     let Sessions {
         acceptors,
         operator_workers,
-        workers,
-        jobs,
+        pool,
     } = sessions;
     let Acceptors { masters, operators } = acceptors;
-    let (rt, serve_phase) = (context.sockets.rt, context.sockets.serve_phase);
-    let alloc = context.alloc;
     let accepting = Accepting {
         masters,
         operators,
         operator_workers,
         sessions: context.sessions,
     };
+    let (rt, serve_phase) = (context.sockets.rt, context.sockets.serve_phase);
     serve_in_threads(
         rt,
-        alloc,
+        context.alloc,
         serve_phase,
         session_gate,
         schedule,
         context.old_parts,
         accepting,
-        || -> Result<u32, PoolFault>
-            requires { AreSeated workers }
-        { serve_masters(rt, alloc, serve_phase, workers, jobs, session_gate) },
+        || -> Result<ServedMasters, PoolFault>
+            requires { HaveSeats pool.ports.now pool.workers.seats.items }
+            ensures { IfOk result (λ served. HasServed most_reads (map place_at pool.entry.ports.now) served.count served.passes.items) }
+        { serve_masters(rt, serve_phase, pool, session_gate, MAX_READS) },
     )
-}
-
-/// How many sessions each worker keeps. Nothing reads them yet, so none is kept.
-const KEPT_SESSIONS: usize = 0;
-
-/// Serves the sessions of masters. If memory is refused or the thread of a worker cannot be started, serving stops once the
-/// workers that started have ended.
-fn serve_masters<
-    R: Read + Send + Drop,
-    W: Write + Send + Drop,
-    G: Gate + Sync,
-    H: Net + Threads + Wait + Sync,
->(
-    rt: &H,
-    alloc: Global,
-    serve_phase: &ServePhase,
-    workers: SeatedWorkers<'_>,
-    jobs: Receiver<Job<R, W>>,
-    session_gate: &G,
-) -> Result<u32, PoolFault>
-    requires { AreSeated workers }
-{
-    let SeatedWorkers { ports, seats } = workers;
-    let Ok(workers) = Workers::new(alloc, seats, KEPT_SESSIONS) else {
-        serve_phase.stop(rt, rt);
-        return Err(PoolFault::OutOfMemory);
-    };
-    match run_pool(rt, ports, workers, jobs, session_gate, MAX_READS) {
-        Ok(all) => Ok(count_served(&all)),
-        Err(fault) => {
-            serve_phase.stop(rt, rt);
-            Err(fault)
-        }
-    }
 }
 
 /// What accepts connections, this number at each port, and serves the operators.
@@ -176,7 +166,8 @@ fn serve_in_threads<
     P: ServeConnections + Send + Drop,
     G: TimedGate + Sync,
     H: NewFiles + Threads + Wait + Log + Clock + Sync,
-    S: FnOnce() -> Result<u32, PoolFault>,
+    T,
+    S: FnOnce() -> Result<T, PoolFault>,
 >(
     rt: &H,
     alloc: Global,
@@ -186,8 +177,9 @@ fn serve_in_threads<
     old_parts: Option<&OldParts<'_, H>>,
     accepting: Accepting<M, O, P>,
     serve: S,
-) -> Result<u32, PoolFault>
+) -> Result<T, PoolFault>
     requires { S.pre serve }
+    ensures { OnOk result (S.post serve result) }
 {
     let Ok((ending, ended)) = bounded(alloc, 1) else {
         return Err(PoolFault::OutOfMemory);
@@ -195,8 +187,9 @@ fn serve_in_threads<
     thread::scope(
         thread::scope_env(),
         rt,
-        |scope| -> Result<u32, PoolFault>
+        |scope| -> Result<T, PoolFault>
             requires { S.pre serve }
+            ensures { OnOk result (S.post serve result) }
         {
             let have_started = start_clock(scope, rt, session_gate, schedule, ended)
                 && start_deleting(scope, old_parts);
@@ -222,20 +215,18 @@ fn serve_while_accepting<
     O: Accept + Send + Drop,
     P: ServeConnections + Send + Drop,
     H: Threads + Wait + Clock + Sync,
-    S: FnOnce() -> Result<u32, PoolFault>,
->(
-    rt: &H,
-    serve_phase: &ServePhase,
-    accepting: Accepting<M, O, P>,
-    serve: S,
-) -> Result<u32, PoolFault>
+    T,
+    S: FnOnce() -> Result<T, PoolFault>,
+>(rt: &H, serve_phase: &ServePhase, accepting: Accepting<M, O, P>, serve: S) -> Result<T, PoolFault>
     requires { S.pre serve }
+    ensures { OnOk result (S.post serve result) }
 {
     thread::scope(
         thread::scope_env(),
         rt,
-        |scope| -> Result<u32, PoolFault>
+        |scope| -> Result<T, PoolFault>
             requires { S.pre serve }
+            ensures { OnOk result (S.post serve result) }
         {
             if !start_accepting(scope, rt, serve_phase, accepting) {
                 return Err(PoolFault::NoThread);

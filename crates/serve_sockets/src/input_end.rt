@@ -2,6 +2,8 @@
 //!
 //! A thread of its own reads the input, because a read can't be ended: the program ends while that thread waits.
 
+ghost use Rattle.std.specs.Prelude.{IfSome};
+
 use crate::serve_phase::ServePhase;
 use crossbeam_channel::{Receiver, Sender, bounded};
 use std::alloc::Global;
@@ -65,19 +67,21 @@ fn read_to_end<H: Wait + Drop, R: Read + Drop>(rt: H, mut input: R, ended: Sende
 
 /// Runs `serve` while a thread of its own stops serving if the input ends.
 ///
-/// Returns None if the thread is refused; `serve` is not run then.
+/// Returns what `serve` returned, or None if the thread is refused; `serve` is not run then.
 pub fn stop_with_input<
     H: Net<Listener = TcpListener, Stream = TcpStream> + Threads + Wait + Sync,
     T,
     S: FnOnce() -> T,
 >(rt: &H, serve_phase: &ServePhase, input: &InputEnd, serve: S) -> Option<T>
     requires { S.pre serve }
+    ensures { IfSome result (λ served. S.post serve served) }
 {
     thread::scope(
         thread::scope_env(),
         rt,
         |scope| -> Option<T>
             requires { S.pre serve }
+            ensures { IfSome result (λ served. S.post serve served) }
         {
             let waiting = move || input.wait_and_stop(rt, serve_phase);
             if scope.spawn(waiting).is_err() {

@@ -1,8 +1,9 @@
-use Rattle.std.proofs.Common.{Some}
+use Rattle.std.proofs.Common.{Some, map}
 use Rattle.audit_trail.specs.Named.{name_of}
 use Rattle.serve_sessions.specs.Recordings.{paths_of}
 use Rattle.serve_lines.specs.ServedLines.{line_numbers}
 use Rattle.serve_sessions.proofs.Recording.{incomplete_in}
+use Rattle.serve_lines.specs.MasterSessions.{place_at}
 use Rattle.serve_rack.proofs.LinesServed.{served_not_at_all, served_unopened}
 use Rattle.serve_sessions.proofs.Naming.{each_gives}
 use Rattle.serve_rack.proofs.serving.serve_recorded.Goals as goal
@@ -20,4 +21,4 @@ returns-in-Ok-served-clause-incomplete g c =
 
 pub returns-in-Err-served-clause-err : goal.returns-in-Err-served-clause-err
 returns-in-Err-served-clause-err g c = λ endless.
-    rw c.from-in-Err-served.ensures (served_not_at_all (Some c.args.folder) endless c.args.listening.served.lines.now (g.W.Write.contents c.args.writer.now) (g.W.Write.contents c.serve_named-served.new.writer) c.in-Err-served.fault c.in-Err-served.ensures.err)
+    rw c.from-in-Err-served.ensures (served_not_at_all (Some c.args.folder) endless c.args.listening.served.lines.now (map place_at c.args.listening.workers.ports.now) (g.W.Write.contents c.args.writer.now) (g.W.Write.contents c.serve_named-served.new.writer) c.in-Err-served.fault c.in-Err-served.ensures.err)
