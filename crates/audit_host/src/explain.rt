@@ -12,13 +12,13 @@ use audit_parts::fault_of_head;
 use dp_audit::AuditFault;
 use dp_line::LineSpec;
 use dp_text::Text;
-use explain_texts::{Choice, Follower, TextRows, explain_entries};
+use explain_texts::{Choice, FactWriter, Follower, TakesFacts, TextRows, explain_entries};
 use rack_file::Rack;
-use rack_script::{RunFault, report_verdict_by, run_explain};
+use rack_script::{RunFault, report_verdict_to, run_explain};
 use rackd_cli::Entries;
 use std::alloc::Global;
 use std::fs::Files;
-use std::io::{BufRead, Read, Write};
+use std::io::{BufRead, Read};
 use std::process::ExitCode;
 use std::rt::Runtime;
 
@@ -37,7 +37,7 @@ pub fn explain_text<'a, H: Runtime + AllocGlobal>(
     let (described, text) = open_text(rt, rack, audit, shows)?;
     check_stations(&described, text.front.as_slice(), entries)?;
     let first_row = text.first_row();
-    match explain_from(rt, rack, &described, &choice_of(entries), text)? {
+    match explain_from(rt, rack, &described, entries, text)? {
         Some(status) => noted_reason(rt, rack, &described, audit, first_row, status),
         None => Ok(ExitCode::SUCCESS),
     }
@@ -49,7 +49,7 @@ fn explain_from<'a, H: Runtime + AllocGlobal + Files<File = R>, R: Read + Drop>(
     rt: &H,
     rack: &str,
     described: &Rack,
-    choice: &Choice,
+    entries: Entries,
     text: AuditText<'a, '_, H, R>,
 ) -> Result<Option<u8>, TextFault<'a>> {
     let alloc = rt.alloc();
@@ -62,16 +62,16 @@ fn explain_from<'a, H: Runtime + AllocGlobal + Files<File = R>, R: Read + Drop>(
         Beginning::NoPart => (None, front, None),
         Beginning::FirstPart(check) => (Some(check), front, None),
         Beginning::LaterPart(index, check) => (Some(check), Vec::new(alloc), Some((index, front))),
-        Beginning::WrongHead(fault) => return Ok(Some(end_at(rt, fault, choice)?)),
+        Beginning::WrongHead(fault) => return Ok(Some(end_at(rt, fault, entries)?)),
     };
     let rows = entries_of(alloc, check, first, reader)?;
     let Some((index, head)) = head else {
-        return explain_rows(rt, rack, Start::Header, choice, rows);
+        return explain_rows(rt, rack, Start::Header, entries, rows);
     };
     match described.lines.get(index) {
         Some(line) => {
             let start = Start::Head(&line.spec, head.as_slice());
-            explain_rows(rt, rack, start, choice, rows)
+            explain_rows(rt, rack, start, entries, rows)
         }
         None => Err(TextFault::Run(RunFault::CannotRead)),
     }
@@ -92,57 +92,59 @@ fn explain_rows<'a, H: Runtime + AllocGlobal + Files<File = R>, R: Read + Drop>(
     rt: &H,
     rack: &str,
     start: Start<'_>,
-    choice: &Choice,
+    entries: Entries,
     rows: FileEntries<'a, '_, H, R>,
 ) -> Result<Option<u8>, TextFault<'a>>
     requires { rows.text ≡ nothing_read }
 {
-    let mut output = buffered(rt, rt.alloc())?;
-    let explained = explain_out(rt.alloc(), rack, start, choice, rows, &mut output);
-    written(output, explained)
+    let alloc = rt.alloc();
+    let mut receiver = FactWriter::new(alloc, entries.as_json, buffered(rt, alloc)?);
+    let choice = choice_of(entries);
+    let explained = explain_out(alloc, rack, start, &choice, rows, &mut receiver);
+    written(receiver.into_writer(), explained)
 }
 
 /// Explains the rows of an audit text, and returns the exit status.
-fn explain_out<'a, H: Runtime + AllocGlobal + Files<File = R>, R: Read + Drop, W: Write>(
+fn explain_out<'a, H: Runtime + AllocGlobal + Files<File = R>, R: Read + Drop, T: TakesFacts>(
     alloc: Global,
     rack: &str,
     start: Start<'_>,
     choice: &Choice,
     rows: FileEntries<'a, '_, H, R>,
-    output: &mut W,
+    receiver: &mut T,
 ) -> Result<u8, TextFault<'a>>
     requires { rows.text ≡ nothing_read }
 {
     let mut rows = rows;
-    let explained = explain_from_start(alloc, rack, start, choice, &mut rows, output);
+    let explained = explain_from_start(alloc, rack, start, choice, &mut rows, receiver);
     files_of(&rows).ended(explained)
 }
 
 /// Explains rows from this start on, and returns the exit status.
-fn explain_from_start<R: BufRead, W: Write>(
+fn explain_from_start<R: BufRead, T: TakesFacts>(
     alloc: Global,
     rack: &str,
     start: Start<'_>,
     choice: &Choice,
     rows: &mut TextRows<R>,
-    output: &mut W,
+    receiver: &mut T,
 ) -> Result<u8, RunFault>
     requires { rows.old.text ≡ nothing_read }
 {
     match start {
-        Start::Header => run_explain(alloc, rack, rows, choice, output),
-        Start::Head(line, head) => explain_behind(alloc, line, head, choice, rows, output),
+        Start::Header => run_explain(alloc, rack, rows, choice, receiver),
+        Start::Head(line, head) => explain_behind(alloc, line, head, choice, rows, receiver),
     }
 }
 
 /// Explains the rows behind the head of a part of this line, and returns the exit status.
-fn explain_behind<R: BufRead, W: Write>(
+fn explain_behind<R: BufRead, T: TakesFacts>(
     alloc: Global,
     line: &LineSpec,
     head: &[u8],
     choice: &Choice,
     rows: &mut TextRows<R>,
-    output: &mut W,
+    receiver: &mut T,
 ) -> Result<u8, RunFault>
     requires { rows.old.text ≡ nothing_read }
 {
@@ -153,12 +155,12 @@ fn explain_behind<R: BufRead, W: Write>(
     match Follower::open_behind(alloc, line, head, &mut Text::new()) {
         Ok(follower) => {
             let mut follower = follower;
-            match explain_entries(&mut follower, line, rows, choice, output) {
+            match explain_entries(&mut follower, line, rows, choice, receiver) {
                 Ok(status) => Ok(status),
                 Err(fault) => Err(RunFault::of_rows(fault)),
             }
         }
-        Err(fault) => report_verdict_by(choice, Err(fault_of_head(line, fault)), output),
+        Err(fault) => report_verdict_to(Err(fault_of_head(line, fault)), receiver),
     }
 }
 
@@ -166,11 +168,12 @@ fn explain_behind<R: BufRead, W: Write>(
 fn end_at(
     rt: &(impl Runtime + AllocGlobal),
     fault: AuditFault,
-    choice: &Choice,
+    entries: Entries,
 ) -> Result<u8, RunFault> {
-    let mut output = buffered(rt, rt.alloc())?;
-    let status = report_verdict_by(choice, Err(fault), &mut output)?;
-    flushed(output)?;
+    let alloc = rt.alloc();
+    let mut receiver = FactWriter::new(alloc, entries.as_json, buffered(rt, alloc)?);
+    let status = report_verdict_to(Err(fault), &mut receiver)?;
+    flushed(receiver.into_writer())?;
     Ok(status)
 }
 
@@ -184,6 +187,5 @@ pub(crate) fn choice_of(entries: Entries) -> Choice {
         faults: entries.are_faults,
         refused: entries.are_refused,
         summary: entries.only_summary,
-        json: entries.as_json,
     }
 }

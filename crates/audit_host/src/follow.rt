@@ -11,10 +11,11 @@ use crate::text_files::{AuditFiles, FileRows, rows_of};
 use audit_parts::{is_part_header, rows_behind_header};
 use dp_audit::AuditFault;
 use dp_line::LineSpec;
-use explain_texts::{Choice, ExplainFault, FollowFault, TextRows};
+use explain_texts::{Choice, ExplainFault, FactWriter, FollowFault, TextRows};
 use rack_file::Rack;
-use rack_script::{RunFault, report_verdict_by};
+use rack_script::{RunFault, report_verdict_to};
 use rackd_cli::Entries;
+use std::alloc::Global;
 use std::fs::Files;
 use std::io::{BufRead, Read, Write};
 use std::process::ExitCode;
@@ -55,13 +56,12 @@ fn follow_rows<'a, H: Runtime + AllocGlobal + Files<File = R> + Wait + Clock, R:
     if !read_next(rt, rows, &mut output)? {
         return Ok(ExitCode::SUCCESS);
     }
-    let choice = choice_of(entries);
     match line_of(rack, rows.row()) {
         Some(line) => {
             check_line(line, entries)?;
-            follow_line(rt, line, rows, &choice, &mut output)
+            follow_line(rt, line, rows, entries, &mut output)
         }
-        None => end_at_header(rt, rows.row(), &choice, &mut output),
+        None => end_at_header(rt, rows.row(), entries, &mut output),
     }
 }
 
@@ -70,9 +70,10 @@ fn follow_line<'a, H: Runtime + AllocGlobal + Wait + Clock, R: BufRead, W: Write
     rt: &H,
     line: &LineSpec,
     rows: &mut TextRows<R>,
-    choice: &Choice,
+    entries: Entries,
     output: &mut W,
 ) -> Result<ExitCode, TextFault<'a>> {
+    let choice = choice_of(entries);
     let mut front = Vec::new(rt.alloc());
     if !read_front(rt, line, rows, &mut front, output)? {
         return Ok(ExitCode::SUCCESS);
@@ -80,19 +81,32 @@ fn follow_line<'a, H: Runtime + AllocGlobal + Wait + Clock, R: BufRead, W: Write
     let mut parts = match FollowedParts::open(rt.alloc(), line, front.as_slice()) {
         Ok(parts) => parts,
         Err(AuditFault::OutOfMemory) => return Err(TextFault::Run(RunFault::OutOfMemory)),
-        Err(fault) => return end_at(fault, choice, output),
+        Err(fault) => return end_at(rt.alloc(), fault, entries, output),
     };
     for _ in rt.forever() {
         if !read_next(rt, rows, output)? {
             return Ok(ExitCode::SUCCESS);
         }
-        match parts.take_row(rows.row(), choice, output) {
+        match explain_row(rt.alloc(), &mut parts, rows.row(), entries, &choice, output) {
             Ok(()) => {}
-            Err(FollowFault::Wrong(fault)) => return end_at(fault, choice, output),
+            Err(FollowFault::Wrong(fault)) => return end_at(rt.alloc(), fault, entries, output),
             Err(FollowFault::Explain(fault)) => return end_early(fault, output),
         }
     }
     unreachable!()
+}
+
+/// Takes the next row of a text, and explains it on this writer.
+fn explain_row<W: Write>(
+    alloc: Global,
+    parts: &mut FollowedParts<'_>,
+    row: &[u8],
+    entries: Entries,
+    choice: &Choice,
+    output: &mut W,
+) -> Result<(), FollowFault> {
+    let mut receiver = FactWriter::new(alloc, entries.as_json, output);
+    parts.take_row(row, choice, &mut receiver)
 }
 
 /// Appends the first row of a text, which was read, and the other rows of a head if it is the header of a later part. Returns
@@ -149,27 +163,39 @@ fn read_next<H: Wait + Clock, R: BufRead, W: Write>(
 
 /// Writes the row of a check of a text whose first row is no header of the rack.
 fn end_at_header<'a, W: Write>(
-    errors: &impl Eprint,
+    rt: &(impl Eprint + AllocGlobal),
     row: &[u8],
-    choice: &Choice,
+    entries: Entries,
     output: &mut W,
 ) -> Result<ExitCode, TextFault<'a>> {
-    note_header(errors, row);
-    end_at(AuditFault::BadLine(1), choice, output)
+    note_header(rt, row);
+    end_at(rt.alloc(), AuditFault::BadLine(1), entries, output)
 }
 
 /// Writes the row of a check that found this fault, or its line of JSON, and returns its exit status.
 fn end_at<'a, W: Write>(
+    alloc: Global,
     fault: AuditFault,
-    choice: &Choice,
+    entries: Entries,
     output: &mut W,
 ) -> Result<ExitCode, TextFault<'a>> {
-    let status = report_verdict_by(choice, Err(fault), output)?;
+    let status = write_verdict(alloc, fault, entries, output)?;
     if reaches_reader(output)? {
         Ok(ExitCode::from(status))
     } else {
         Ok(ExitCode::SUCCESS)
     }
+}
+
+/// Writes the verdict on a text that has this fault on this writer, and returns its exit status.
+fn write_verdict<W: Write>(
+    alloc: Global,
+    fault: AuditFault,
+    entries: Entries,
+    output: &mut W,
+) -> Result<u8, RunFault> {
+    let mut receiver = FactWriter::new(alloc, entries.as_json, output);
+    report_verdict_to(Err(fault), &mut receiver)
 }
 
 /// Returns the fault for rows that were not written. That nobody reads standard output any more is none.

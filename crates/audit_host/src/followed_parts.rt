@@ -7,9 +7,8 @@ use audit_parts::{HeadRows, fault_of_head, is_part_header};
 use dp_audit::AuditFault;
 use dp_line::LineSpec;
 use dp_text::{Lines, Text};
-use explain_texts::{Choice, ExplainFault, FollowFault, Follower};
+use explain_texts::{Choice, ExplainFault, FollowFault, Follower, TakesEntries};
 use std::alloc::Global;
-use std::io::Write;
 
 /// The rows of an audit text that are followed: those of entries are explained, and those of heads are checked.
 #[derive(Drop)]
@@ -57,16 +56,16 @@ impl<'a> FollowedParts<'a> {
     }
 
     /// Takes the next row. Explains it as [`Follower::take_row`] does, unless it is one of a head.
-    pub(crate) fn take_row<W: Write>(
+    pub(crate) fn take_row<T: TakesEntries>(
         &mut self,
         row: &[u8],
         choice: &Choice,
-        writer: &mut W,
+        receiver: &mut T,
     ) -> Result<(), FollowFault> {
         if self.is_of_head(row)? {
             return Ok(());
         }
-        self.follower.take_row(row, choice, writer)
+        self.follower.take_row(row, choice, receiver)
     }
 
     /// Takes the next row if it is one of a head, and returns whether it is.

@@ -8,8 +8,8 @@ use crate::fault::TextFault;
 use crate::text_files::FileReader;
 use audit_parts::PartsCheck;
 use dp_audit::AuditFault;
-use explain_texts::TextRows;
-use rack_script::{Choice, RunFault, report_verdict_by, run_check, run_parts_check};
+use explain_texts::{RowWriter, TextRows};
+use rack_script::{RunFault, report_verdict_to, run_check, run_parts_check};
 use std::alloc::Global;
 use std::fs::Files;
 use std::io::{BufRead, Read};
@@ -94,7 +94,7 @@ fn check_part_rows<R: BufRead>(
 /// Returns the verdict on a text that begins with a head that has this fault. `front` has the rows of the head that were read.
 fn verdict_on_head(alloc: Global, front: &[u8], fault: AuditFault) -> Result<Verdict, RunFault> {
     let mut row = new_row(alloc)?;
-    let status = report_verdict_by(&every_entry(), Err(fault), &mut row)?;
+    let status = report_verdict_to(Err(fault), &mut RowWriter::new(alloc, &mut row))?;
     let is_cut = !front.ends_with(b"\n");
     Ok(Verdict {
         status,
@@ -151,19 +151,5 @@ fn new_row(alloc: Global) -> Result<Vec<u8>, RunFault> {
     match Vec::with_capacity(alloc, LONGEST) {
         Ok(row) => Ok(row),
         Err(_) => Err(RunFault::OutOfMemory),
-    }
-}
-
-/// Returns the choice of every entry, in rows.
-fn every_entry() -> Choice {
-    Choice {
-        from: None,
-        to: None,
-        slave: None,
-        master: None,
-        faults: false,
-        refused: false,
-        summary: false,
-        json: false,
     }
 }

@@ -15,11 +15,15 @@ use Rattle.dp_audit.specs.Checking.{TakesRow}
 use Rattle.dp_audit.proofs.Written.{none_written}
 use Rattle.capture_texts.specs.Blocks.{Block, capture_octets}
 use Rattle.explain_events.specs.EventContexts.{EventContextView}
+use Rattle.explain_events.specs.ExplainedEntries.{explained_entry_text}
 use Rattle.explain_texts.specs.declared.choice.Choice.{Choice}
 use Rattle.explain_texts.specs.declared.follow_fault.FollowFault.TheVariants as follows
-use Rattle.explain_texts.specs.Explained.{reported_row}
-use Rattle.explain_texts.specs.Followed.{FollowerView, FollowsRow, after_row, event_taken, event_unless, following, text_of_row}
-use Rattle.explain_texts.specs.Known.{KnownView, known_after}
+use Rattle.explain_texts.specs.Explained.{reported_event, reported_row}
+use Rattle.explain_texts.specs.Followed.{FollowerView, FollowsRow, after_row, event_taken, event_unless, facts_of_row, following}
+use Rattle.explain_texts.specs.Known.{KnownView, known_after, outcome_reported}
+use Rattle.explain_texts.specs.Reported.{Reported}
+use Rattle.explain_texts.specs.Reports.{Reports, Takes}
+use Rattle.explain_texts.specs.Written.{WritesRows}
 use Rattle.capture_texts.specs.declared.row_fault.Cut.{Cut}
 use Rattle.capture_texts.specs.declared.row_fault.RowFault.{RowFault}
 use Rattle.capture_texts.specs.declared.row_fault.RowFault.TheVariants as faults
@@ -61,11 +65,6 @@ event_is : (follower : FollowerView) (row : List ℕ) (event : Event) → follow
 event_is follower row event faultless judged =
     ap (λ (f : Option AuditFault). event_unless f (judged_line follower.known.context.world row)) faultless ∙ ap (event_unless None) judged
 
-text_is : (follower : FollowerView) (row : List ℕ) (event : Event) → follower.fault ≡ None → judged_line follower.known.context.world row ≡ right event → lines_of (text_of_row every_entry follower row) ≡ explained_rows follower.known.context event
-unfolding explained_rows
-text_is follower row event faultless judged =
-    ap (λ (e : Option Event). lines_of (reported_row every_entry follower.known e)) (event_is follower row event faultless judged)
-
 -- a right row, as both have taken it
 pub record IsEntry (follower : FollowerView) (row : List ℕ) (event : Event) (after : FollowerView) (left : World) (answer : Step) : Type 0 where
   pub judged_so : judged_line follower.known.context.world row ≡ right event
@@ -88,15 +87,26 @@ entry_is follower row event after state left answer faultless same takes is =
       outcome_is = ap (λ (a : Step). a.outcome) stepped.answered;
     }
 
--- the rows that the follower wrote
-pub rows_are : (follower : FollowerView) (row : List ℕ) (event : Event) (choice : Choice) (before rows : List ℕ) (done : Unit {0}) → follower.fault ≡ None → judged_line follower.known.context.world row ≡ right event
-    → (after_row follower row).fault ≡ None → choice ≡ every_entry → before ≡ [] → FollowsRow (text_of_row choice follower row) (after_row follower row).fault (Some before) (Some rows) (Ok done)
-    → lines_of rows ≡ explained_rows follower.known.context event
-rows_are follower row event choice before rows done faultless judged right_after all none wrote =
-    let appended : rows ≡ before ++ text_of_row choice follower row =
-    subst (λ (f : Option AuditFault). FollowsRow (text_of_row choice follower row) f (Some before) (Some rows) (Ok done)) right_after wrote in
-    ap lines_of (appended ∙ ap (λ (b : List ℕ). b ++ text_of_row choice follower row) none ∙ ap (λ (c : Choice). text_of_row c follower row) all)
-    ∙ text_is follower row event faultless judged
+-- the rows of the entry that the follower reported
+abbrev TakesRows : {S : Type 0} → (S → List ℕ) → Takes S
+TakesRows written old fact result new = WritesRows fact (Some (written old)) (Some (written new)) result
+
+one_entry : {S : Type 0} (written : S → List ℕ) (context : EventContextView) (event : Event) (before now : S) → written before ≡ [] → Reports (TakesRows written) before now (reported_event every_entry context event)
+    → lines_of (written now) ≡ explained_rows context event
+unfolding explained_rows
+one_entry written context event before now none taken =
+    ap (λ s. lines_of (written s)) taken.2
+    ∙ ap lines_of (taken.1 ∙ ap (λ (b : List ℕ). b ++ explained_entry_text context (step context.world event).world (context.world.count + 1) event (outcome_reported context.world event)) none)
+
+pub rows_are : {S : Type 0} (written : S → List ℕ) (follower : FollowerView) (row : List ℕ) (event : Event) (choice : Choice) (before now : S) (done : Unit {0}) → follower.fault ≡ None → judged_line follower.known.context.world row ≡ right event
+    → (after_row follower row).fault ≡ None → choice ≡ every_entry → written before ≡ [] → FollowsRow (TakesRows written) (facts_of_row choice follower row) (after_row follower row).fault before now (Ok done)
+    → lines_of (written now) ≡ explained_rows follower.known.context event
+rows_are written follower row event choice before now done faultless judged right_after all none follows =
+    let taken : Reports (TakesRows written) before now (facts_of_row choice follower row) =
+    subst (λ (f : Option AuditFault). FollowsRow (TakesRows written) (facts_of_row choice follower row) f before now (Ok done)) right_after follows in
+    one_entry written follower.known.context event before now none
+    (subst (λ (facts : List Reported). Reports (TakesRows written) before now facts)
+    (ap (λ (c : Choice). facts_of_row c follower row) all ∙ ap (reported_row every_entry follower.known) (event_is follower row event faultless judged)) taken)
 
 -- ---- its packets
 
@@ -156,5 +166,5 @@ takes_wrong number row known after world state left answer old fault same takes 
     (subst (λ (w : World). TakesRow (judged_line w row) state left answer (Err fault)) same takes)
 
 -- the follower does not find another fault than the line
-pub never_wrong : {P : Type 0} (text : List ℕ) (fault : Option AuditFault) (old new : Option (List ℕ)) (found : AuditFault) → fault ≡ None → FollowsRow text fault old new (Err (follows.Wrong found)) → P
-never_wrong text fault old new found none wrote = absurd (subst (λ (f : Option AuditFault). FollowsRow text f old new (Err (follows.Wrong found))) none wrote)
+pub never_wrong : {P S : Type 0} (takes : Takes S) (facts : List Reported) (fault : Option AuditFault) (old new : S) (found : AuditFault) → fault ≡ None → FollowsRow takes facts fault old new (Err (follows.Wrong found)) → P
+never_wrong takes facts fault old new found none took = absurd (subst (λ (f : Option AuditFault). FollowsRow takes facts f old new (Err (follows.Wrong found))) none took)

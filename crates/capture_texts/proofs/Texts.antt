@@ -20,12 +20,11 @@ use Rattle.explain_texts.proofs.RightRows.{fails, right_is_step, step_counts}
 use Rattle.explain_texts.proofs.WrongRow.{any_choice}
 use Rattle.rack_script.specs.declared.run_fault.RunFault.{RunFault}
 use Rattle.rack_script.specs.declared.run_fault.RunFault.TheVariants as runs
-use Rattle.rack_script.specs.Explanations.{Explains}
 use Rattle.rack_script.specs.ReadFaults.{run_fault_of_read}
 use Rattle.capture_texts.specs.declared.row_fault.Cut.{Cut}
 use Rattle.capture_texts.specs.declared.row_fault.Cut.TheVariants as cuts
 use Rattle.capture_texts.specs.Captured.{captured_rows, captured_text}
-use Rattle.capture_texts.specs.Captures.{CapturesText, Ends, run_fault_of_cut}
+use Rattle.capture_texts.specs.Captures.{CapturesText, Ends, run_fault_of_cut, WritesCapture}
 use Rattle.capture_texts.proofs.Rows.{AreCaptured, IsRefused, IsTaken, cut_captured, end_captured, unread_captured, wrong_captured}
 use Rattle.capture_texts.proofs.Deciding.{header_refused, part_refused}
 
@@ -114,9 +113,9 @@ unread_text number line text row read whole follower old now fault result is are
 -- ---- the exit status
 
 -- a text is written, and a call ends so
-pub ends_so : (verdict known : Result ℕ AuditFault) (row text : List ℕ) (old new : Option (List ℕ)) (result : Result ℕ RunFault) → verdict ≡ known → Appends old new text → Ends verdict row result → Explains known row text old new result
+pub ends_so : (verdict known : Result ℕ AuditFault) (row text : List ℕ) (old new : Option (List ℕ)) (result : Result ℕ RunFault) → verdict ≡ known → Appends old new text → Ends verdict row result → WritesCapture known row text old new result
 ends_so verdict known row text old new (Ok status) is written ends =
-    subst (λ (v : Result ℕ AuditFault). Explains v row text old new (Ok status)) is (ends.0, written, ends.1)
+    subst (λ (v : Result ℕ AuditFault). WritesCapture v row text old new (Ok status)) is (ends.0, written, ends.1)
 ends_so verdict known row text old new (Err runs.NotText) is written ends = ((text, [], sym (append-nil text), written), ends)
 ends_so verdict known row text old new (Err runs.OutOfMemory) is written ends = absurd ends
 ends_so verdict known row text old new (Err runs.WriteFault) is written ends = absurd ends
@@ -126,7 +125,7 @@ ends_so verdict known row text old new (Err (runs.Rack fault)) is written ends =
 
 -- the capture of a text on a line ends early
 pub ends_early : (number : ℕ) (line : Description) (read row : List ℕ) (old new : Option (List ℕ)) (fault : RunFault) → CapturesText number line read old new (Err fault)
-    → Explains (checked line read) row (capture_octets (captured_text number line read)) old new (Err fault)
+    → WritesCapture (checked line read) row (capture_octets (captured_text number line read)) old new (Err fault)
 ends_early number line read row old new runs.OutOfMemory prefix = prefix
 ends_early number line read row old new runs.WriteFault prefix = prefix
 ends_early number line read row old new runs.CannotRead prefix = prefix
@@ -139,8 +138,8 @@ then_cut : (old new newer : Option (List ℕ)) (text more : List ℕ) → Append
 then_cut old new newer text more written others =
     more_prefix old new newer text more [] (text ++ more) written others (ap (λ (m : List ℕ). text ++ m) (append-nil more))
 
-pub then_explains : (verdict : Result ℕ AuditFault) (row : List ℕ) (old new newer : Option (List ℕ)) (text more : List ℕ) (result : Result ℕ RunFault) → Appends old new text → Explains verdict row more new newer result
-    → Explains verdict row (text ++ more) old newer result
+pub then_explains : (verdict : Result ℕ AuditFault) (row : List ℕ) (old new newer : Option (List ℕ)) (text more : List ℕ) (result : Result ℕ RunFault) → Appends old new text → WritesCapture verdict row more new newer result
+    → WritesCapture verdict row (text ++ more) old newer result
 then_explains verdict row old new newer text more (Ok status) written others = (others.0, appends_more old new newer text more written others.1, others.2)
 then_explains verdict row old new newer text more (Err runs.OutOfMemory) written others = then_cut old new newer text more written others
 then_explains verdict row old new newer text more (Err runs.WriteFault) written others = then_cut old new newer text more written others
@@ -151,20 +150,20 @@ then_explains verdict row old new newer text more (Err (runs.Rack fault)) writte
 
 -- the front of a text is written, whole or in part, and a call ends early
 pub front_cut : (verdict : Result ℕ AuditFault) (row : List ℕ) (old new : Option (List ℕ)) (front text : List ℕ) (cut : Cut) (fault : RunFault) → fault ≡ run_fault_of_cut cut → WritesPrefix old new front
-    → Explains verdict row (front ++ text) old new (Err fault)
+    → WritesCapture verdict row (front ++ text) old new (Err fault)
 front_cut verdict row old new front text cuts.OutOfMemory fault is prefix =
-    subst (λ (f : RunFault). Explains verdict row (front ++ text) old new (Err f)) (sym is) (front_prefix old new front text (front ++ text) prefix refl)
+    subst (λ (f : RunFault). WritesCapture verdict row (front ++ text) old new (Err f)) (sym is) (front_prefix old new front text (front ++ text) prefix refl)
 front_cut verdict row old new front text cuts.WriteFault fault is prefix =
-    subst (λ (f : RunFault). Explains verdict row (front ++ text) old new (Err f)) (sym is) (front_prefix old new front text (front ++ text) prefix refl)
+    subst (λ (f : RunFault). WritesCapture verdict row (front ++ text) old new (Err f)) (sym is) (front_prefix old new front text (front ++ text) prefix refl)
 
 front_unread_by : (verdict : Result ℕ AuditFault) (row : List ℕ) (old new : Option (List ℕ)) (front text : List ℕ) (fault : ReadFault) → (unread fault ≡ unread reads.NotText → ⊥) → WritesPrefix old new front
-    → Explains verdict row (front ++ text) old new (Err (run_fault_of_read fault))
+    → WritesCapture verdict row (front ++ text) old new (Err (run_fault_of_read fault))
 front_unread_by verdict row old new front text reads.OutOfMemory named prefix = front_prefix old new front text (front ++ text) prefix refl
 front_unread_by verdict row old new front text reads.CannotRead named prefix = front_prefix old new front text (front ++ text) prefix refl
 front_unread_by verdict row old new front text reads.NotText named prefix = absurd (named refl)
 
 pub front_unread : (verdict : Result ℕ AuditFault) (row : List ℕ) (old new : Option (List ℕ)) (front text : List ℕ) (fault : ReadFault) (result : RunFault) → result ≡ run_fault_of_read fault → (unread fault ≡ unread reads.NotText → ⊥)
-    → Appends old new front → Explains verdict row (front ++ text) old new (Err result)
+    → Appends old new front → WritesCapture verdict row (front ++ text) old new (Err result)
 front_unread verdict row old new front text fault result is named written =
-    subst (λ (f : RunFault). Explains verdict row (front ++ text) old new (Err f)) (sym is)
+    subst (λ (f : RunFault). WritesCapture verdict row (front ++ text) old new (Err f)) (sym is)
     (front_unread_by verdict row old new front text fault named (front, [], sym (append-nil front), written))

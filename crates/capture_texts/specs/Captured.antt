@@ -21,9 +21,9 @@ use Rattle.capture_texts.specs.Blocks.{Block, interface, packet, section}
 use Rattle.rack_script.specs.Checks.{line_named}
 use Rattle.capture_texts.specs.Comments.{comment_of}
 
--- the choice of every entry, in rows
+-- the choice of every entry
 abbrev pub every_entry : Choice
-every_entry = record { from = None; to = None; slave = None; master = None; refused = false; faults = false; summary = false; json = false }
+every_entry = record { from = None; to = None; slave = None; master = None; refused = false; faults = false; summary = false }
 
 -- ---- the packets of an entry
 

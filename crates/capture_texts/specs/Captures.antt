@@ -18,7 +18,6 @@ use Rattle.explain_texts.specs.TextRows.{TextRead, octets_read}
 use Rattle.rack_script.specs.declared.run_fault.RunFault.{RunFault}
 use Rattle.rack_script.specs.declared.run_fault.RunFault.TheVariants as runs
 use Rattle.rack_script.specs.Checks.{checked_on}
-use Rattle.rack_script.specs.Explanations.{Explains}
 use Rattle.rack_script.specs.Runs.{RefusesRack}
 use Rattle.capture_texts.specs.declared.row_fault.Cut.{Cut}
 use Rattle.capture_texts.specs.declared.row_fault.Cut.TheVariants as cuts
@@ -68,11 +67,22 @@ Ends verdict row (Err runs.CannotRead) = ⊥
 Ends verdict row (Err (runs.Script line)) = ⊥
 Ends verdict row (Err (runs.Rack fault)) = ⊥
 
+-- at the end the writer has all octets, and the last row that was read is UTF-8 if the text is not legal; or a prefix, if memory ran out, a read or a
+-- write failed, or the row is not UTF-8
+abbrev pub WritesCapture : Result ℕ AuditFault → List ℕ → List ℕ → Option (List ℕ) → Option (List ℕ) → Result ℕ RunFault → Type 0
+WritesCapture verdict row octets old new (Ok status) = (status ≡ verdict_status verdict) × Appends old new octets × IsReadable verdict row
+WritesCapture verdict row octets old new (Err runs.WriteFault) = WritesPrefix old new octets
+WritesCapture verdict row octets old new (Err runs.OutOfMemory) = WritesPrefix old new octets
+WritesCapture verdict row octets old new (Err runs.CannotRead) = WritesPrefix old new octets
+WritesCapture verdict row octets old new (Err runs.NotText) = WritesPrefix old new octets × (¬ (IsUtf8 row))
+WritesCapture verdict row octets old new (Err (runs.Script line)) = ⊥
+WritesCapture verdict row octets old new (Err (runs.Rack fault)) = ⊥
+
 -- at the end the writer has the whole capture of the text, as far as it was read, and the last row that was read is UTF-8 if the text is not legal;
 -- or a prefix, if memory ran out, a read or a write failed, or the row is not UTF-8. If the rack is refused, nothing is written
 abbrev pub RunsCapture : Result RackDescription RackFault → TextRead → Option (List ℕ) → Option (List ℕ) → Result ℕ RunFault → Type 0
 RunsCapture (Ok rack) text old new result =
-    Explains (checked_on rack (octets_read text)) text.row (capture_octets (captured_on rack (octets_read text))) old new result
+    WritesCapture (checked_on rack (octets_read text)) text.row (capture_octets (captured_on rack (octets_read text))) old new result
 RunsCapture (Err fault) text old new result = RefusesRack fault old new result
 
 -- ---- what decides

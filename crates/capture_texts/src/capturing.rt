@@ -9,11 +9,10 @@ ghost use Rattle.capture_texts.specs.Blocks.{capture_octets};
 ghost use Rattle.explain_texts.specs.Followed.{first_follower, verdict_by};
 ghost use Rattle.explain_texts.specs.TextRows.{Begins, known_text, octets_read};
 ghost use Rattle.rack_script.specs.Checks.{checked_on};
-ghost use Rattle.rack_script.specs.Explanations.{Explains};
 ghost use Rattle.rack_file.specs.RackFile.{rack_in};
 ghost use Rattle.rack_file.specs.Rack.{rack_described};
 ghost use Rattle.capture_texts.specs.Captured.{captured_on, captured_text};
-ghost use Rattle.capture_texts.specs.Captures.{CapturesText, Decides, DecidesOn, DecidesOnRack, RunsCapture, Ends};
+ghost use Rattle.capture_texts.specs.Captures.{CapturesText, Decides, DecidesOn, DecidesOnRack, RunsCapture, Ends, WritesCapture};
 
 use crate::entries::EntryCapture;
 use crate::opening::{interface_named, write_opening};
@@ -68,7 +67,7 @@ fn capture_on<R: BufRead, W: Write>(
     requires opens { All (λ line. opening_fault (description_of line.spec) ≡ None) rack.now.lines.items }
     requires few { length rack.now.lines.items < 2 ^ 32 }
     requires first { rows.old.text.past ≡ [] }
-    ensures captured { Explains (checked_on (rack_described rack.now) (octets_read rows.new.text)) rows.new.text.row (capture_octets (captured_on (rack_described rack.now) (octets_read rows.new.text)))
+    ensures captured { WritesCapture (checked_on (rack_described rack.now) (octets_read rows.new.text)) rows.new.text.row (capture_octets (captured_on (rack_described rack.now) (octets_read rows.new.text)))
         (W.contents writer.old) (W.contents writer.new) result }
     ensures decided { OnOk result (IfSome (known_text rows.old.text (R.remaining rows.old.reader)) (DecidesOnRack (rack_described rack.now) (octets_read rows.new.text))) }
 {
@@ -97,7 +96,7 @@ fn capture_line<R: BufRead, W: Write>(
 ) -> Result<u8, RunFault>
     requires opens { opening_fault (description_of line.now) ≡ None }
     requires first { rows.old.text.past ≡ [] }
-    ensures captured { Explains (checked (description_of line.now) (octets_read rows.new.text)) rows.new.text.row (capture_octets (captured_text interface (description_of line.now) (octets_read rows.new.text)))
+    ensures captured { WritesCapture (checked (description_of line.now) (octets_read rows.new.text)) rows.new.text.row (capture_octets (captured_text interface (description_of line.now) (octets_read rows.new.text)))
         (W.contents writer.old) (W.contents writer.new) result }
     ensures decided { rows.old.text.whole ≡ true → OnOk result (IfSome (known_text rows.old.text (R.remaining rows.old.reader)) (Decides interface (description_of line.now) (octets_read rows.new.text))) }
     ensures unread { rows.old.text.whole ≡ false → rows.new.text ≡ rows.old.text }

@@ -17,7 +17,7 @@ use crate::row_fault::{Cut, RowFault};
 use dp_audit::{open_line, take_row};
 use dp_line::{Event, LineSpec, LineState, Step};
 use dp_text::{Text, write_whole};
-use explain_texts::{Choice, FollowFault, Follower};
+use explain_texts::{Choice, FollowFault, Follower, RowWriter};
 use std::alloc::{AllocError, Global};
 use std::io::Write;
 
@@ -36,15 +36,15 @@ pub(crate) struct EntryCapture<'a> {
     answer: Step,
     /// A buffer for a part of a row, as the policy gives it.
     written: Text,
-    /// A buffer for the rows of one entry.
-    rows: Vec<u8>,
+    /// Has the rows of one entry.
+    rows: RowWriter<Vec<u8>>,
     /// A buffer for the comment of one entry.
     comment: Vec<u8>,
     /// A buffer for the packets of one entry.
     capture: Capture,
 }
 
-/// Returns the choice of every entry, in rows.
+/// Returns the choice of every entry.
 fn every_entry() -> Choice
     ensures { result ≡ every_entry }
 {
@@ -56,7 +56,6 @@ fn every_entry() -> Choice
         refused: false,
         faults: false,
         summary: false,
-        json: false,
     }
 }
 
@@ -85,7 +84,7 @@ impl<'a> EntryCapture<'a> {
             interface,
             answer: Step::blank(),
             written: Text::new(),
-            rows: Vec::new(alloc),
+            rows: RowWriter::new(alloc, Vec::new(alloc)),
             comment: Vec::new(alloc),
             capture: Capture::new(alloc),
         })
@@ -108,7 +107,7 @@ impl<'a> EntryCapture<'a> {
             Ok(event) => event,
             Err(fault) => return Err(RowFault::Wrong(fault)),
         };
-        self.rows.clear();
+        self.rows.writer.clear();
         match self.follower.take_row(row, &every_entry(), &mut self.rows) {
             Ok(()) => {}
             Err(FollowFault::Wrong(fault)) => return Err(RowFault::Wrong(fault)),
@@ -129,7 +128,7 @@ impl<'a> EntryCapture<'a> {
         writer: &mut W,
     ) -> Result<(), Cut>
         ensures same { self.new ≡ record self.old { comment = self.new.comment; capture = self.new.capture } }
-        ensures written { LeavesPackets (packets_of self.old.interface time (comment_of place event.now self.old.answer.outcome (lines_of self.old.rows.items)) event.now self.old.answer.outcome)
+        ensures written { LeavesPackets (packets_of self.old.interface time (comment_of place event.now self.old.answer.outcome (lines_of self.old.rows.writer.items)) event.now self.old.answer.outcome)
             (W.contents writer.old) (W.contents writer.new) result }
     {
         if self.fill(place, time, event).is_err() {
@@ -145,7 +144,7 @@ impl<'a> EntryCapture<'a> {
     fn fill(&mut self, place: u64, time: u64, event: &Event) -> Result<(), AllocError>
         ensures same { self.new ≡ record self.old { comment = self.new.comment; capture = self.new.capture } }
         ensures filled { OnOk result (self.new.capture
-            ≡ capture_octets (packets_of self.old.interface time (comment_of place event.now self.old.answer.outcome (lines_of self.old.rows.items)) event.now self.old.answer.outcome)) }
+            ≡ capture_octets (packets_of self.old.interface time (comment_of place event.now self.old.answer.outcome (lines_of self.old.rows.writer.items)) event.now self.old.answer.outcome)) }
     {
         let outcome = &self.answer.outcome;
         set_comment(
@@ -153,7 +152,7 @@ impl<'a> EntryCapture<'a> {
             place,
             event,
             outcome,
-            self.rows.as_slice(),
+            self.rows.writer.as_slice(),
         )?;
         self.capture.clear();
         let mark = Mark {

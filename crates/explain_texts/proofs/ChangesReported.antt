@@ -29,49 +29,49 @@ use Rattle.explain_texts.proofs.UnchangedSlaves.{Ways, LinesHave, found_is, halt
 
 -- ---- the rows that are written
 
-none_rows : (f : ℕ → List ℕ) (slaves : List SlaveRecord) → AllByRecursion (λ slave. f (address_of_slave slave) ≡ []) slaves → flat_map f (map address_of_slave slaves) ≡ []
+none_rows : {T : Type 0} (f : ℕ → List T) (slaves : List SlaveRecord) → AllByRecursion (λ slave. f (address_of_slave slave) ≡ []) slaves → flat_map f (map address_of_slave slaves) ≡ []
 none_rows f [] none = refl
 none_rows f (slave ∷ slaves) none =
     flat_map-cons f (address_of_slave slave) (map address_of_slave slaves)
-    ∙ ap (λ (text : List ℕ). text ++ flat_map f (map address_of_slave slaves)) none.0
+    ∙ ap (λ text. text ++ flat_map f (map address_of_slave slaves)) none.0
     ∙ none_rows f slaves none.1
 
-kept_row : (f : ℕ → List ℕ) (slave : SlaveRecord) (some all : List SlaveRecord) (b : Bool) → (b ≡ false → f (address_of_slave slave) ≡ [])
+kept_row : {T : Type 0} (f : ℕ → List T) (slave : SlaveRecord) (some all : List SlaveRecord) (b : Bool) → (b ≡ false → f (address_of_slave slave) ≡ [])
     → flat_map f (map address_of_slave some) ≡ flat_map f (map address_of_slave all)
     → flat_map f (map address_of_slave (cond b (slave ∷ some) some)) ≡ flat_map f (map address_of_slave (slave ∷ all))
 kept_row f slave some all true none same =
     flat_map-cons f (address_of_slave slave) (map address_of_slave some)
-    ∙ ap (λ (text : List ℕ). f (address_of_slave slave) ++ text) same
+    ∙ ap (λ text. f (address_of_slave slave) ++ text) same
     ∙ sym (flat_map-cons f (address_of_slave slave) (map address_of_slave all))
 kept_row f slave some all false none same =
     same
-    ∙ ap (λ (text : List ℕ). text ++ flat_map f (map address_of_slave all)) (sym (none refl))
+    ∙ ap (λ text. text ++ flat_map f (map address_of_slave all)) (sym (none refl))
     ∙ sym (flat_map-cons f (address_of_slave slave) (map address_of_slave all))
 
-kept_rows : (f : ℕ → List ℕ) (holds : SlaveRecord → Bool) (slaves : List SlaveRecord) → AllByRecursion (λ slave. holds slave ≡ false → f (address_of_slave slave) ≡ []) slaves
+kept_rows : {T : Type 0} (f : ℕ → List T) (holds : SlaveRecord → Bool) (slaves : List SlaveRecord) → AllByRecursion (λ slave. holds slave ≡ false → f (address_of_slave slave) ≡ []) slaves
     → flat_map f (map address_of_slave (filter holds slaves)) ≡ flat_map f (map address_of_slave slaves)
 kept_rows f holds [] none = refl
 kept_rows f holds (slave ∷ slaves) none = kept_row f slave (filter holds slaves) slaves (holds slave) none.0 (kept_rows f holds slaves none.1)
 
-none_above : (f : ℕ → List ℕ) (address first : ℕ) (slaves : List SlaveRecord) → first ≡ address → AreAbove first slaves
+none_above : {T : Type 0} (f : ℕ → List T) (address first : ℕ) (slaves : List SlaveRecord) → first ≡ address → AreAbove first slaves
     → AllByRecursion (λ slave. eqb (address_of_slave slave) address ≡ false → f (address_of_slave slave) ≡ []) slaves → AllByRecursion (λ slave. f (address_of_slave slave) ≡ []) slaves
 none_above f address first [] same above none = tt
 none_above f address first (slave ∷ slaves) same above none =
     (none.0 (ne_eqb (address_of_slave slave) address (λ e. omega (arith, above.0))), none_above f address first slaves same above.1 none.1)
 
-one_by : (f : ℕ → List ℕ) (address : ℕ) (first : SlaveRecord) (slaves : List SlaveRecord) (b : Bool) → eqb (address_of_slave first) address ≡ b → AreAbove (address_of_slave first) slaves
+one_by : {T : Type 0} (f : ℕ → List T) (address : ℕ) (first : SlaveRecord) (slaves : List SlaveRecord) (b : Bool) → eqb (address_of_slave first) address ≡ b → AreAbove (address_of_slave first) slaves
     → (b ≡ false → f (address_of_slave first) ≡ [])
     → AllByRecursion (λ slave. eqb (address_of_slave slave) address ≡ false → f (address_of_slave slave) ≡ []) slaves
     → (b ≡ false → flat_map f (map address_of_slave slaves) ≡ f address) → flat_map f (map address_of_slave (first ∷ slaves)) ≡ f address
 one_by f address first slaves true e above none others more =
     let same = eqb-true (address_of_slave first) address e in
     flat_map-cons f (address_of_slave first) (map address_of_slave slaves)
-    ∙ ap (λ (text : List ℕ). f (address_of_slave first) ++ text) (none_rows f slaves (none_above f address (address_of_slave first) slaves same above others))
+    ∙ ap (λ text. f (address_of_slave first) ++ text) (none_rows f slaves (none_above f address (address_of_slave first) slaves same above others))
     ∙ append-nil (f (address_of_slave first))
     ∙ ap f same
 one_by f address first slaves false e above none others more =
     flat_map-cons f (address_of_slave first) (map address_of_slave slaves)
-    ∙ ap (λ (text : List ℕ). text ++ flat_map f (map address_of_slave slaves)) (none refl)
+    ∙ ap (λ text. text ++ flat_map f (map address_of_slave slaves)) (none refl)
     ∙ more refl
 
 none_found : (first : SlaveRecord) (address : ℕ) (found : Option SlaveRecord) (b : Bool) → b ≡ false → found ≡ None → cond b (Some first) found ≡ None
@@ -79,7 +79,7 @@ none_found first address found true e none = absurd cc
 none_found first address found false e none = none
 
 -- only the row of one address
-one_row : (f : ℕ → List ℕ) (address : ℕ) (slaves : List SlaveRecord) → Ascend slaves → (slave_among slaves address ≡ None → f address ≡ [])
+one_row : {T : Type 0} (f : ℕ → List T) (address : ℕ) (slaves : List SlaveRecord) → Ascend slaves → (slave_among slaves address ≡ None → f address ≡ [])
     → AllByRecursion (λ slave. eqb (address_of_slave slave) address ≡ false → f (address_of_slave slave) ≡ []) slaves → flat_map f (map address_of_slave slaves) ≡ f address
 one_row f address [] ascend absent none = sym (absent refl)
 one_row f address (first ∷ slaves) ascend absent none =
@@ -114,21 +114,21 @@ every P [] each = tt
 every P (slave ∷ slaves) each = (each slave, every P slaves each)
 
 -- a text for each slave, which is empty if the entry leaves state and holder of the slave unchanged
-abbrev pub ShowsChanges : World → Entry → (ℕ → List ℕ) → Type 0
+abbrev pub ShowsChanges : {T : Type 0} → World → Entry → (ℕ → List T) → Type 0
 ShowsChanges world entry row = (address : ℕ) → state_and_holder_at (after_entry world entry) address ≡ state_and_holder_at world address → row address ≡ []
 
 -- a slave that an event can't change has no text
-no_row_there : (world : World) (entry : Entry) (row : ℕ → List ℕ) (address : ℕ) → ShowsChanges world entry row → IsOfALine world → Follows world entry
+no_row_there : {T : Type 0} (world : World) (entry : Entry) (row : ℕ → List T) (address : ℕ) → ShowsChanges world entry row → IsOfALine world → Follows world entry
     → is_touched address entry.event entry.outcome ≡ false → row address ≡ []
 no_row_there world entry row address shows line follows out = shows address (untouched_world world entry address line follows out)
 
-nobody_there : (world : World) (entry : Entry) (row : ℕ → List ℕ) (address : ℕ) → ShowsChanges world entry row → slave_at world address ≡ None → row address ≡ []
+nobody_there : {T : Type 0} (world : World) (entry : Entry) (row : ℕ → List T) (address : ℕ) → ShowsChanges world entry row → slave_at world address ≡ None → row address ≡ []
 nobody_there world entry row address shows none =
     shows address (
     ap (option_map state_and_holder) (at_after world entry.event address ∙ ap (option_map (slave_after world entry.event)) none)
     ∙ sym (ap (option_map state_and_holder) none))
 
-kept_by : (world : World) (entry : Entry) (row : ℕ → List ℕ) (slave : SlaveRecord) → ShowsChanges world entry row → slave_at world (address_of_slave slave) ≡ Some slave
+kept_by : {T : Type 0} (world : World) (entry : Entry) (row : ℕ → List T) (slave : SlaveRecord) → ShowsChanges world entry row → slave_at world (address_of_slave slave) ≡ Some slave
     → state_and_holder (slave_after world entry.event slave) ≡ state_and_holder slave → row (address_of_slave slave) ≡ []
 kept_by world entry row slave shows here same =
     shows (address_of_slave slave) (
@@ -136,10 +136,10 @@ kept_by world entry row slave shows here same =
     ∙ ap Some same
     ∙ sym (ap (option_map state_and_holder) here))
 
-abbrev AreAllRows : World → (ℕ → List ℕ) → List ℕ → Type 0
+abbrev AreAllRows : {T : Type 0} → World → (ℕ → List T) → List ℕ → Type 0
 AreAllRows world row addresses = flat_map row addresses ≡ flat_map row (map address_of_slave world.slaves)
 
-none_touched : (world : World) (entry : Entry) (row : ℕ → List ℕ) → ShowsChanges world entry row → IsOfALine world → Follows world entry → touched entry.event entry.outcome ≡ []
+none_touched : {T : Type 0} (world : World) (entry : Entry) (row : ℕ → List T) → ShowsChanges world entry row → IsOfALine world → Follows world entry → touched entry.event entry.outcome ≡ []
     → AreAllRows world row (touched entry.event entry.outcome)
 none_touched world entry row shows line follows none =
     ap (flat_map row) none
@@ -149,7 +149,7 @@ none_touched world entry row shows line follows none =
 one_apart : (one address : ℕ) → eqb address one ≡ false → list_any (λ other. eqb other address) (one ∷ []) ≡ false
 one_apart one address apart = let other = ne_eqb one address (λ same. both_ways (eqb address one) apart (eq-eqb address one (sym same))) in rw other refl
 
-one_touched_alone : (world : World) (entry : Entry) (row : ℕ → List ℕ) (address : ℕ) → ShowsChanges world entry row → IsOfALine world → Follows world entry
+one_touched_alone : {T : Type 0} (world : World) (entry : Entry) (row : ℕ → List T) (address : ℕ) → ShowsChanges world entry row → IsOfALine world → Follows world entry
     → touched entry.event entry.outcome ≡ address ∷ [] → AreAllRows world row (touched entry.event entry.outcome)
 one_touched_alone world entry row address shows line follows one =
     ap (flat_map row) one
@@ -160,7 +160,7 @@ one_touched_alone world entry row address shows line follows one =
     (λ slave apart. no_row_there world entry row (address_of_slave slave) shows line follows
     (ap (list_any (λ other. eqb other (address_of_slave slave))) one ∙ one_apart address (address_of_slave slave) apart))))
 
-some_touched : (world : World) (entry : Entry) (row : ℕ → List ℕ) (holds : SlaveRecord → Bool) → ShowsChanges world entry row → IsOfALine world
+some_touched : {T : Type 0} (world : World) (entry : Entry) (row : ℕ → List T) (holds : SlaveRecord → Bool) → ShowsChanges world entry row → IsOfALine world
     → touched entry.event entry.outcome ≡ addresses_where holds world
     → ((slave : SlaveRecord) → is_in_wait_prm slave.state ≡ is_none slave.holder → holds slave ≡ false → state_and_holder (slave_after world entry.event slave) ≡ state_and_holder slave)
     → AreAllRows world row (touched entry.event entry.outcome)
@@ -172,7 +172,7 @@ some_touched world entry row holds shows line some keeps =
     (keeps slave (found_is (λ s. is_in_wait_prm s.state ≡ is_none s.holder) world.slaves (address_of_slave slave) slave line.waits_unheld here) stays))
     (found_self world.slaves line.ascend))
 
-receiver_rows : (world : World) (entry : Entry) (row : ℕ → List ℕ) (receiver : Receiver) → ShowsChanges world entry row → IsOfALine world → Follows world entry
+receiver_rows : {T : Type 0} (world : World) (entry : Entry) (row : ℕ → List T) (receiver : Receiver) → ShowsChanges world entry row → IsOfALine world → Follows world entry
     → touched entry.event entry.outcome ≡ asked_addresses receiver → AreAllRows world row (touched entry.event entry.outcome)
 receiver_rows world entry row (Slave address) shows line follows is = one_touched_alone world entry row address shows line follows is
 receiver_rows world entry row AllSlaves shows line follows is = none_touched world entry row shows line follows is
@@ -188,7 +188,7 @@ after_halt : (world : World) (slave : SlaveRecord) → is_in_wait_prm slave.stat
 unfolding slave_after
 after_halt world slave waiting free = halt_state_and_holder slave waiting free
 
-op_rows : (world : World) (entry : Entry) (row : ℕ → List ℕ) (op : Op) → ShowsChanges world entry row → IsOfALine world → Follows world entry → entry.event ≡ Operator op
+op_rows : {T : Type 0} (world : World) (entry : Entry) (row : ℕ → List T) (op : Op) → ShowsChanges world entry row → IsOfALine world → Follows world entry → entry.event ≡ Operator op
     → entry.outcome ≡ outcome_of world (Operator op) → AreAllRows world row (touched entry.event entry.outcome)
 unfolding outcome_of
 op_rows world entry row (Input address octets) shows line follows is reported = none_touched world entry row shows line follows (rw (is, reported) refl)
@@ -201,7 +201,7 @@ op_rows world entry row Halt shows line follows is reported =
     some_touched world entry row is_held shows line (rw (is, reported) refl)
     (λ slave waiting free. ap (λ (e : Event). state_and_holder (slave_after world e slave)) is ∙ after_halt world slave waiting free)
 
-event_rows : (world : World) (entry : Entry) (row : ℕ → List ℕ) (event : Event) → entry.event ≡ event → ShowsChanges world entry row → IsOfALine world → Follows world entry
+event_rows : {T : Type 0} (world : World) (entry : Entry) (row : ℕ → List T) (event : Event) → entry.event ≡ event → ShowsChanges world entry row → IsOfALine world → Follows world entry
     → AreAllRows world row (touched entry.event entry.outcome)
 event_rows world entry row (Request master octets) is shows line follows =
     receiver_rows world entry row (receiver_of_frame (frame_of octets.items)) shows line follows (ap (λ (e : Event). touched e entry.outcome) is)

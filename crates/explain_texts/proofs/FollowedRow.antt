@@ -1,6 +1,5 @@
 -- A right row that a follower takes.
-use Rattle.std.proofs.Common.{◌≡◌, ℕ, ◌+◌, List, [], Option, Some, None, Result, Ok, Err, OnOk, refl, sym, ap, subst, ◌∙◌}
-use Rattle.std.proofs.lemmas.List.{append-nil}
+use Rattle.std.proofs.Common.{◌≡◌, ℕ, ◌+◌, List, Option, Some, None, Result, Ok, Err, OnOk, refl, sym, ap, subst, ◌∙◌}
 use Rattle.dp_line.specs.declared.event.Event.{Event}
 use Rattle.dp_line.specs.declared.event.Outcome.{Outcome}
 use Rattle.dp_line.specs.declared.event.Step.{Step}
@@ -13,11 +12,15 @@ use Rattle.explain_texts.specs.declared.choice.Choice.{Choice}
 use Rattle.explain_texts.specs.declared.explain_fault.ExplainFault.{ExplainFault}
 use Rattle.explain_texts.specs.declared.follow_fault.FollowFault.{FollowFault}
 use Rattle.explain_texts.specs.declared.history.History.{History}
+use Rattle.explain_texts.specs.declared.hold.Hold.{Hold}
 use Rattle.explain_texts.specs.Holds.{holds_ended}
 use Rattle.explain_texts.specs.Known.{KnownView, first_known, first_world, known_with, outcome_reported, outcome_with}
-use Rattle.explain_texts.specs.Explained.{Leaves, chosen_text, ended_by_row, known_behind, reported_row}
-use Rattle.explain_texts.specs.Followed.{FollowerView, FollowsRow, after_row, event_taken, event_unless, first_wrong, first_follower, following, judged_next, holds_of_row, text_of_row}
+use Rattle.explain_texts.specs.Explained.{chosen_entry, ended_by_row, known_behind, reported_row}
+use Rattle.explain_texts.specs.Followed.{FollowerView, FollowsRow, after_row, event_taken, event_unless, first_wrong, first_follower, following, judged_next, facts_of_row, holds_of_row}
 use Rattle.explain_texts.specs.Following.{StoresHolds, first_fault, known_at, stored_with}
+use Rattle.explain_texts.specs.Reported.{Reported}
+use Rattle.explain_texts.specs.Reports.{LeavesFacts, Takes}
+use Rattle.explain_texts.proofs.Reporting.{whole_prefix}
 
 -- before the first entry
 pub opened_is : (history : History) (world : World) (line : Description) (lines : List (List ℕ)) → world ≡ first_world line (places_of_lines line lines)
@@ -79,14 +82,14 @@ entry_is self row event history before state after fault answer halted place vie
           ∙ ap (λ (w : World). outcome_reported w event) world;
     }
 
--- ---- what is known after it, what is written of it, and the holds that it ended
+-- ---- what is known after it, what is reported of it, and the holds that it ended
 
 with_same : (before known : KnownView) (after next : World) (place there : ℕ) (event : Event) (outcome reported : Outcome) → before ≡ known → after ≡ next → place ≡ there → outcome ≡ reported
     → known_with before after place event outcome ≡ known_with known next there event reported
 with_same before known after next place there event outcome reported a b c d = rw (a, b, c, d) refl
 
 chosen_same : (choice : Choice) (before known : KnownView) (after next : World) (place there : ℕ) (event : Event) (outcome reported : Outcome) → before ≡ known → after ≡ next → place ≡ there → outcome ≡ reported
-    → chosen_text choice before.context after place event outcome ≡ chosen_text choice known.context next there event reported
+    → chosen_entry choice before.context after place event outcome ≡ chosen_entry choice known.context next there event reported
 chosen_same choice before known after next place there event outcome reported a b c d = rw (a, b, c, d) refl
 
 ended_same : (before known : KnownView) (after next : World) (place there : ℕ) (event : Event) (outcome reported : Outcome) → before ≡ known → after ≡ next → place ≡ there → outcome ≡ reported
@@ -107,36 +110,36 @@ known_is self row event history later before after left fault place outcome entr
     ∙ sym (ap (known_behind self.known) entry.taken) in
     ap (λ (k : KnownView). follower_of k fault) known ∙ ap (follower_of (known_behind self.known (event_taken self row))) (none ∙ sym entry.fault)
 
--- a text that is written, and then a fault of the holds
-written_follows : (text : List ℕ) (old new : Option (List ℕ)) (reported stored : Result (Unit {0}) ExplainFault) (result : Result (Unit {0}) FollowFault) → Leaves text old new reported → result ≡ first_fault reported stored
-    → FollowsRow text None old new result
-written_follows text old new (Ok done) (Ok stored) result leaves is = subst (FollowsRow text None old new) (sym is) leaves
-written_follows text old new (Ok done) (Err fault) result leaves is = subst (FollowsRow text None old new) (sym is) (text, [], sym (append-nil text), leaves)
-written_follows text old new (Err fault) stored result leaves is = subst (FollowsRow text None old new) (sym is) leaves
+-- facts that are reported, and then a fault of the holds
+reported_follows : {S : Type 0} (takes : Takes S) (facts : List Reported) (old new : S) (reported stored : Result (Unit {0}) ExplainFault) (result : Result (Unit {0}) FollowFault) → LeavesFacts takes facts old new reported
+    → result ≡ first_fault reported stored → FollowsRow takes facts None old new result
+reported_follows takes facts old new (Ok done) (Ok stored) result leaves is = subst (FollowsRow takes facts None old new) (sym is) leaves
+reported_follows takes facts old new (Ok done) (Err fault) result leaves is = subst (FollowsRow takes facts None old new) (sym is) (whole_prefix takes old new facts leaves)
+reported_follows takes facts old new (Err fault) stored result leaves is = subst (FollowsRow takes facts None old new) (sym is) leaves
 
-pub reported_is : (choice : Choice) (self : FollowerView) (row : List ℕ) (event : Event) (before : KnownView) (after : World) (place : ℕ) (outcome : Outcome) (old new : Option (List ℕ))
+pub reported_is : {S : Type 0} (takes : Takes S) (choice : Choice) (self : FollowerView) (row : List ℕ) (event : Event) (before : KnownView) (after : World) (place : ℕ) (outcome : Outcome) (old new : S)
     (reported stored : Result (Unit {0}) ExplainFault) (result : Result (Unit {0}) FollowFault)
-    → IsEntry self row event before after place outcome → Leaves (chosen_text choice before.context after place event outcome) old new reported → result ≡ first_fault reported stored
-    → FollowsRow (text_of_row choice self row) (after_row self row).fault old new result
-reported_is choice self row event before after place outcome old new reported stored result entry leaves is =
-    let text : chosen_text choice before.context after place event outcome ≡ text_of_row choice self row =
+    → IsEntry self row event before after place outcome → LeavesFacts takes (chosen_entry choice before.context after place event outcome) old new reported → result ≡ first_fault reported stored
+    → FollowsRow takes (facts_of_row choice self row) (after_row self row).fault old new result
+reported_is takes choice self row event before after place outcome old new reported stored result entry leaves is =
+    let facts : chosen_entry choice before.context after place event outcome ≡ facts_of_row choice self row =
     chosen_same choice before self.known after (step self.known.context.world event).world place (self.known.context.world.count + 1) event outcome (outcome_reported self.known.context.world event) entry.known entry.left entry.placed entry.outcome_is
     ∙ sym (ap (reported_row choice self.known) entry.taken) in
-    subst (λ (f : Option AuditFault). FollowsRow (text_of_row choice self row) f old new result) (sym entry.fault)
-    (subst (λ (t : List ℕ). FollowsRow t None old new result) text (written_follows (chosen_text choice before.context after place event outcome) old new reported stored result leaves is))
+    subst (λ (f : Option AuditFault). FollowsRow takes (facts_of_row choice self row) f old new result) (sym entry.fault)
+    (subst (λ (fs : List Reported). FollowsRow takes fs None old new result) facts (reported_follows takes (chosen_entry choice before.context after place event outcome) old new reported stored result leaves is))
 
-holds_stored : (text : List ℕ) (old new : Option (List ℕ)) (reported stored : Result (Unit {0}) ExplainFault) (result : Result (Unit {0}) FollowFault) → OnOk stored (new ≡ stored_with text old) → result ≡ first_fault reported stored
-    → StoresHolds text old new result
-holds_stored text old new (Ok done) (Ok stored) result stores is = subst (StoresHolds text old new) (sym is) stores
-holds_stored text old new (Ok done) (Err fault) result stores is = subst (StoresHolds text old new) (sym is) tt
-holds_stored text old new (Err fault) stored result stores is = subst (StoresHolds text old new) (sym is) tt
+holds_stored : (ended : List Hold) (old new : Option (List Hold)) (reported stored : Result (Unit {0}) ExplainFault) (result : Result (Unit {0}) FollowFault) → OnOk stored (new ≡ stored_with ended old) → result ≡ first_fault reported stored
+    → StoresHolds ended old new result
+holds_stored ended old new (Ok done) (Ok stored) result stores is = subst (StoresHolds ended old new) (sym is) stores
+holds_stored ended old new (Ok done) (Err fault) result stores is = subst (StoresHolds ended old new) (sym is) tt
+holds_stored ended old new (Err fault) stored result stores is = subst (StoresHolds ended old new) (sym is) tt
 
-pub stored_is : (self : FollowerView) (row : List ℕ) (event : Event) (before : KnownView) (after : World) (place : ℕ) (outcome : Outcome) (old new : Option (List ℕ))
+pub stored_is : (self : FollowerView) (row : List ℕ) (event : Event) (before : KnownView) (after : World) (place : ℕ) (outcome : Outcome) (old new : Option (List Hold))
     (reported stored : Result (Unit {0}) ExplainFault) (result : Result (Unit {0}) FollowFault)
     → IsEntry self row event before after place outcome → OnOk stored (new ≡ stored_with (holds_ended before.context.world after place event outcome) old) → result ≡ first_fault reported stored
     → StoresHolds (holds_of_row self row) old new result
 stored_is self row event before after place outcome old new reported stored result entry stores is =
-    let text : holds_ended before.context.world after place event outcome ≡ holds_of_row self row =
+    let holds : holds_ended before.context.world after place event outcome ≡ holds_of_row self row =
     ended_same before self.known after (step self.known.context.world event).world place (self.known.context.world.count + 1) event outcome (outcome_reported self.known.context.world event) entry.known entry.left entry.placed entry.outcome_is
     ∙ sym (ap (ended_by_row self.known.context.world) entry.taken) in
-    subst (λ (t : List ℕ). StoresHolds t old new result) text (holds_stored (holds_ended before.context.world after place event outcome) old new reported stored result stores is)
+    subst (λ (hs : List Hold). StoresHolds hs old new result) holds (holds_stored (holds_ended before.context.world after place event outcome) old new reported stored result stores is)

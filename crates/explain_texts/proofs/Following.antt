@@ -1,5 +1,5 @@
 -- The rows of a text that are followed, and the check of the text.
-use Rattle.std.proofs.Common.{◌≡◌, ℕ, suc, ◌+◌, ◌==◌, Bool, true, false, cond, List, [], ◌∷◌, ◌++◌, length, take, drop, Option, Some, Result, Ok, refl, sym, ap, ◌∙◌, codes, arith}
+use Rattle.std.proofs.Common.{◌≡◌, ℕ, suc, ◌+◌, ◌==◌, Bool, true, false, cond, List, [], ◌∷◌, ◌++◌, length, take, drop, Option, Some, Result, Ok, refl, sym, ap, ◌∙◌, arith}
 use Rattle.dp_line.specs.declared.event.Event.{Event}
 use Rattle.dp_line.specs.World.{Description, World, start_of}
 use Rattle.dp_line.specs.Steps.{step}
@@ -8,10 +8,12 @@ use Rattle.dp_audit.specs.declared.fault.AuditFault.{AuditFault}
 use Rattle.dp_audit.specs.declared.fault.AuditFault.TheVariants.{BadLine, NotThePolicy}
 use Rattle.dp_audit.specs.Check.{Judged, bad, not_the_policy, right, checked, checked_from_header, checked_lines, is_accepted_header, judged_line, line_of_header, places_of_header, places_of_lines}
 use Rattle.explain_texts.specs.declared.choice.Choice.{Choice}
+use Rattle.explain_texts.specs.declared.hold.Hold.{Hold}
 use Rattle.explain_texts.specs.Holds.{holds_lasting}
 use Rattle.explain_texts.specs.Known.{KnownView, first_known, first_world, known_after}
-use Rattle.explain_texts.specs.Explained.{counts_text, ended_by, ended_by_row, ended_by_rows, event_of_row, known_behind, last_known, last_world, right_entries, reported_event, reported_row, reported_rows, summary_written, verdict_written, world_behind}
-use Rattle.explain_texts.specs.Followed.{Followed, FollowerView, HasTheVerdictOfItsRows, IsExplainedByItsRows, first_follower, followed, followed_lines, followed_summary, followed_text, followed_verdict, following, judged_fault, last_line, right_event, verdict_at, whole_rows}
+use Rattle.explain_texts.specs.Explained.{ended_by, ended_by_row, ended_by_rows, event_of_row, known_behind, last_known, last_world, right_entries, reported_event, reported_row, reported_rows, summary_of, world_behind}
+use Rattle.explain_texts.specs.Followed.{Followed, FollowerView, HasTheVerdictOfItsRows, IsExplainedByItsRows, ending_facts, first_follower, followed, followed_lines, followed_text, followed_verdict, following, judged_fault, last_line, right_event, verdict_at, whole_rows}
+use Rattle.explain_texts.specs.Reported.{Reported, reports_verdict}
 use Rattle.explain_texts.proofs.Rows.{row_is_read}
 use Rattle.explain_texts.proofs.RightRows.{checked_on, checked_stops, fails, right_is_step, step_counts}
 
@@ -20,7 +22,7 @@ use Rattle.explain_texts.proofs.RightRows.{checked_on, checked_stops, fails, rig
 abbrev pub wrong : KnownView → AuditFault → FollowerView
 wrong known fault = record { known = known; fault = Some fault }
 
--- nothing is written, and this is the end
+-- nothing is reported, and this is the end
 abbrev pub nothing_reported : FollowerView → Followed
 nothing_reported follower = record { reported = []; ended = []; last = follower }
 
@@ -40,7 +42,7 @@ by_judged choice known rows judged =
 
 -- ---- the right rows are those that the check accepts
 
--- what is written of the lines that are right, and which of them these are
+-- what is reported of the lines that are right, and which of them these are
 pub record Agrees (choice : Choice) (known : KnownView) (lines : List (List ℕ)) (verdict : Result ℕ AuditFault) (f : Followed) : Type 0 where
   pub many : ℕ
   pub counted : right_entries verdict ≡ known.context.world.count + many
@@ -84,11 +86,11 @@ goes_on choice known row next lines event judged others =
       counted = ap right_entries on ∙ others.counted ∙ ap (λ (n : ℕ). n + others.many) counts ∙ omega arith;
       reported =
           ap (λ (e : Option Event). reported_row choice known e ++ reported_rows choice (known_behind known e) rows) read
-          ∙ ap (λ (text : List ℕ). reported_event choice known.context event ++ text) others.reported
+          ∙ ap (λ (facts : List Reported). reported_event choice known.context event ++ facts) others.reported
           ∙ sym (ap (λ (f : Followed). f.reported) is);
       ended =
           ap (λ (e : Option Event). ended_by_row world e ++ ended_by_rows (world_behind world e) rows) read
-          ∙ ap (λ (text : List ℕ). ended_by world event ++ text) others.ended
+          ∙ ap (λ (holds : List Hold). ended_by world event ++ holds) others.ended
           ∙ sym (ap (λ (f : Followed). f.ended) is);
       known_last =
           ap (λ (e : Option Event). last_known (known_behind known e) rows) read
@@ -143,7 +145,7 @@ agrees choice known (row ∷ next ∷ lines) = by (judged_line known.context.wor
 
 -- ---- a text
 
--- what is written of a text is what is written of the rows that are followed
+-- what is reported of a text is what is reported of the rows that are followed
 pub record IsFollowed (choice : Choice) (line : Description) (lines : List (List ℕ)) (verdict : Result ℕ AuditFault) (f : Followed) : Type 0 where
   pub reported : reported_rows choice (first_known line (places_of_lines line lines)) (take (right_entries verdict) (drop 1 lines)) ≡ f.reported
   pub ended : ended_by_rows (first_world line (places_of_lines line lines)) (take (right_entries verdict) (drop 1 lines)) ≡ f.ended
@@ -189,15 +191,14 @@ unfolding checked
 text_followed choice line text = lines_followed choice line (lines_of text)
 
 -- the explanation, from equal parts
-same_explanation : (choice : Choice) (line : Description) (a b c d verdict : List ℕ) (x y : KnownView) (world : World) → a ≡ b → c ≡ d → x ≡ y → world ≡ y.context.world
-    → (a ++ summary_written choice ((codes "holds\n" ++ (c ++ holds_lasting world line.slaves)) ++ counts_text x)) ++ verdict
-    ≡ (b ++ summary_written choice (followed_summary line d y)) ++ verdict
-same_explanation choice line a b c d verdict x y world reported ended known left = rw (reported, ended, known, left) refl
+same_explanation : (line : Description) (a b : List Reported) (c d : List Hold) (verdict : Result ℕ AuditFault) (x y : KnownView) (world : World) → a ≡ b → c ≡ d → x ≡ y → world ≡ y.context.world
+    → a ++ summary_of (c ++ holds_lasting world line.slaves) x ∷ reports_verdict verdict ∷ [] ≡ b ++ ending_facts line d y verdict
+same_explanation line a b c d verdict x y world reported ended known left = rw (reported, ended, known, left) refl
 
 pub reported_by_rows : IsExplainedByItsRows
 reported_by_rows choice line text =
     let f = text_followed choice line text in
-    same_explanation choice line _ _ _ _ (verdict_written choice (checked line text)) _ _ _ f.reported f.ended f.known_last f.world_last
+    same_explanation line _ _ _ _ (checked line text) _ _ _ f.reported f.ended f.known_last f.world_last
 
 lines_verdict : (choice : Choice) (line : Description) (lines : List (List ℕ)) → checked_from_header line lines ≡ followed_verdict choice line lines
 lines_verdict choice line [] = refl

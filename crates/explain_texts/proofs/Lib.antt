@@ -4,6 +4,8 @@ pub mod Counting
 pub mod AtAddress
 pub mod TenTimes
 pub mod Writing
+pub mod Reporting
+pub mod Holding
 pub mod Places
 pub mod JsonFields
 pub mod Knowing

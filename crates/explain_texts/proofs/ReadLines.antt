@@ -11,7 +11,9 @@ use Rattle.dp_audit.specs.FirstWrong.{HasNoLf}
 use Rattle.dp_audit.specs.declared.fault.AuditFault.TheVariants.{BadLine}
 use Rattle.dp_audit.specs.Check.{checked, is_accepted_header}
 use Rattle.explain_texts.specs.declared.choice.Choice.{Choice}
-use Rattle.explain_texts.specs.Followed.{Followed, FollowerView, after_row, first_follower, followed, followed_lines, followed_text, followed_verdict, holds_of_row, last_line, text_of_row, verdict_at, whole_rows}
+use Rattle.explain_texts.specs.declared.hold.Hold.{Hold}
+use Rattle.explain_texts.specs.Followed.{Followed, FollowerView, after_row, first_follower, followed, followed_lines, followed_text, followed_verdict, facts_of_row, holds_of_row, last_line, verdict_at, whole_rows}
+use Rattle.explain_texts.specs.Reported.{Reported}
 use Rattle.explain_texts.proofs.Following.{verdict_of_rows}
 use Rattle.explain_texts.proofs.RightRows.{fails}
 
@@ -81,7 +83,7 @@ last_is (row ∷ second ∷ rows) last = last_is (second ∷ rows) last
 abbrev pub joined : Followed → Followed → Followed
 joined first second = record { reported = first.reported ++ second.reported; ended = first.ended ++ second.ended; last = second.last }
 
-same_parts : (a b c d : List ℕ) (last : FollowerView) → a ≡ b → c ≡ d → ◌≡◌ {A = Followed} (record { reported = a; ended = c; last = last }) (record { reported = b; ended = d; last = last })
+same_parts : (a b : List Reported) (c d : List Hold) (last : FollowerView) → a ≡ b → c ≡ d → ◌≡◌ {A = Followed} (record { reported = a; ended = c; last = last }) (record { reported = b; ended = d; last = last })
 same_parts a b c d last reported ended = rw (reported, ended) refl
 
 pub followed_more : (choice : Choice) (follower : FollowerView) (rows others : List (List ℕ))
@@ -90,14 +92,14 @@ followed_more choice follower [] others = refl
 followed_more choice follower (row ∷ rows) others =
     let rest = followed choice (after_row follower row) rows in
     let behind = followed choice rest.last others in
-    ap (λ (f : Followed). record { reported = text_of_row choice follower row ++ f.reported; ended = holds_of_row follower row ++ f.ended; last = f.last })
+    ap (λ (f : Followed). record { reported = facts_of_row choice follower row ++ f.reported; ended = holds_of_row follower row ++ f.ended; last = f.last })
     (followed_more choice (after_row follower row) rows others)
-    ∙ same_parts _ _ _ _ behind.last (sym (append_assoc (text_of_row choice follower row) rest.reported behind.reported)) (sym (append_assoc (holds_of_row follower row) rest.ended behind.ended))
+    ∙ same_parts _ _ _ _ behind.last (sym (append_assoc (facts_of_row choice follower row) rest.reported behind.reported)) (sym (append_assoc (holds_of_row follower row) rest.ended behind.ended))
 
 -- one more row
 abbrev pub and_row : Choice → Followed → List ℕ → Followed
 and_row choice before row = record {
-  reported = before.reported ++ text_of_row choice before.last row;
+  reported = before.reported ++ facts_of_row choice before.last row;
   ended = before.ended ++ holds_of_row before.last row;
   last = after_row before.last row;
 }
@@ -107,8 +109,8 @@ followed_row choice follower rows row =
     let before = followed choice follower rows in
     followed_more choice follower rows (row ∷ [])
     ∙ same_parts _ _ _ _ (after_row before.last row)
-    (ap (λ (t : List ℕ). before.reported ++ t) (append-nil (text_of_row choice before.last row)))
-    (ap (λ (t : List ℕ). before.ended ++ t) (append-nil (holds_of_row before.last row)))
+    (ap (λ (facts : List Reported). before.reported ++ facts) (append-nil (facts_of_row choice before.last row)))
+    (ap (λ (holds : List Hold). before.ended ++ holds) (append-nil (holds_of_row before.last row)))
 
 -- ---- a text of whole rows behind a header
 

@@ -1,5 +1,5 @@
 -- The lines of a legal text give the explanation of its entries.
-use Rattle.std.proofs.Common.{◌≡◌, ℕ, ◌+◌, true, false, List, [], ◌∷◌, ◌++◌, map, Option, Some, None, Result, Ok, refl, sym, ap, ◌∙◌, codes}
+use Rattle.std.proofs.Common.{◌≡◌, ℕ, ◌+◌, true, false, List, [], ◌∷◌, ◌++◌, map, Option, Some, None, Result, Ok, refl, sym, ap, ◌∙◌}
 use Rattle.std.specs.List.{AllByRecursion}
 use Rattle.dp_line.specs.declared.event.Event.{Event}
 use Rattle.dp_line.specs.declared.event.Event.TheVariants.{Operator}
@@ -22,10 +22,12 @@ use Rattle.dp_audit.proofs.Parts.{NumbersAreRead, EventsAreRead}
 use Rattle.dp_audit.proofs.Texts.{HasRoom, room_at_header, room_kept, small_place}
 use Rattle.explain_events.specs.EventContexts.{EventContextView}
 use Rattle.explain_texts.specs.declared.choice.Choice.{Choice}
+use Rattle.explain_texts.specs.declared.hold.Hold.{Hold}
 use Rattle.explain_texts.specs.Holds.{holds_ended, holds_lasting}
 use Rattle.explain_texts.specs.Known.{KnownView, first_known, first_world, known_after, known_with, outcome_reported, outcome_with}
-use Rattle.explain_texts.specs.Explained.{chosen_text, counts_text, ended_by, ended_by_row, ended_by_rows, event_of_row, explained_by, known_behind, last_known, last_world, right_rows, reported_event, reported_row, reported_rows, reported_text, summary_written, verdict_written, world_behind}
+use Rattle.explain_texts.specs.Explained.{chosen_entry, ended_by, ended_by_row, ended_by_rows, event_of_row, explained_by, known_behind, last_known, last_world, right_rows, reported_event, reported_row, reported_rows, reported_text, summary_of, world_behind}
 use Rattle.explain_texts.specs.JournalReported.{IsExplainedByItsEntries, ended_by_entries, known_behind_entries, known_behind_entry, reported_entries}
+use Rattle.explain_texts.specs.Reported.{Reported, reports_verdict}
 use Rattle.explain_texts.proofs.Rows.{places_are, row_is_read, rows_are}
 
 -- ---- taking a recorded event has the result that its entry states
@@ -64,7 +66,7 @@ taken_by world entry follows (is_recorded room is one other) = record {
 -- ---- one entry
 
 chosen_same : (choice : Choice) (context : EventContextView) (left after : World) (place next : ℕ) (event : Event) (reported outcome : Outcome) → left ≡ after → place ≡ next → reported ≡ outcome
-    → chosen_text choice context left place event reported ≡ chosen_text choice context after next event outcome
+    → chosen_entry choice context left place event reported ≡ chosen_entry choice context after next event outcome
 chosen_same choice context left after place next event reported outcome a b c = rw (a, b, c) refl
 
 known_same : (known : KnownView) (left after : World) (place next : ℕ) (event : Event) (reported outcome : Outcome) → left ≡ after → place ≡ next → reported ≡ outcome
@@ -76,7 +78,7 @@ ended_same : (world left after : World) (place next : ℕ) (event : Event) (repo
 ended_same world left after place next event reported outcome a b c = rw (a, b, c) refl
 
 event_reported : (choice : Choice) (known : KnownView) (entry : Entry) → IsTaken known.context.world entry
-    → reported_event choice known.context entry.event ≡ chosen_text choice known.context (after_entry known.context.world entry) entry.place entry.event entry.outcome
+    → reported_event choice known.context entry.event ≡ chosen_entry choice known.context (after_entry known.context.world entry) entry.place entry.event entry.outcome
 event_reported choice known entry t = chosen_same choice known.context _ _ _ _ entry.event _ _ t.left t.place t.outcome
 
 event_known : (known : KnownView) (entry : Entry) → IsTaken known.context.world entry → known_after known entry.event ≡ known_behind_entry known entry
@@ -105,9 +107,9 @@ entries_reported ways numbers events choice known (entry ∷ entries) legal limi
     let rows = map entry_text entries in
     let taken = taken_by world entry legal.0 (ways world entry.event) in
     ap (λ (event : Option Event). reported_row choice known event ++ reported_rows choice (known_behind known event) rows) (entry_read numbers events world entry legal.0 limits.0 room)
-    ∙ ap (λ (text : List ℕ). text ++ reported_rows choice (known_after known entry.event) rows) (event_reported choice known entry taken)
-    ∙ ap (λ (k : KnownView). chosen_text choice known.context (after_entry world entry) entry.place entry.event entry.outcome ++ reported_rows choice k rows) (event_known known entry taken)
-    ∙ ap (λ (text : List ℕ). chosen_text choice known.context (after_entry world entry) entry.place entry.event entry.outcome ++ text)
+    ∙ ap (λ (facts : List Reported). facts ++ reported_rows choice (known_after known entry.event) rows) (event_reported choice known entry taken)
+    ∙ ap (λ (k : KnownView). chosen_entry choice known.context (after_entry world entry) entry.place entry.event entry.outcome ++ reported_rows choice k rows) (event_known known entry taken)
+    ∙ ap (λ (facts : List Reported). chosen_entry choice known.context (after_entry world entry) entry.place entry.event entry.outcome ++ facts)
     (entries_reported ways numbers events choice (known_behind_entry known entry) entries legal.1 limits.1 (room_kept world entry legal.0 room))
 
 entries_known : Ways → NumbersAreRead → EventsAreRead → (known : KnownView) (entries : List Entry) → IsLegal known.context.world entries → AreWithinLimits entries → HasRoom known.context.world
@@ -129,9 +131,9 @@ entries_ended ways numbers events world (entry ∷ entries) legal limits room =
     let taken = taken_by world entry legal.0 (ways world entry.event) in
     let ended = holds_ended world (after_entry world entry) entry.place entry.event entry.outcome in
     ap (λ (event : Option Event). ended_by_row world event ++ ended_by_rows (world_behind world event) rows) (entry_read numbers events world entry legal.0 limits.0 room)
-    ∙ ap (λ (text : List ℕ). text ++ ended_by_rows (step world entry.event).world rows) (event_ended world entry taken)
+    ∙ ap (λ (holds : List Hold). holds ++ ended_by_rows (step world entry.event).world rows) (event_ended world entry taken)
     ∙ ap (λ (w : World). ended ++ ended_by_rows w rows) taken.left
-    ∙ ap (λ (text : List ℕ). ended ++ text) (entries_ended ways numbers events (after_entry world entry) entries legal.1 limits.1 (room_kept world entry legal.0 room))
+    ∙ ap (λ (holds : List Hold). ended ++ holds) (entries_ended ways numbers events (after_entry world entry) entries legal.1 limits.1 (room_kept world entry legal.0 room))
 
 entries_left : Ways → NumbersAreRead → EventsAreRead → (world : World) (entries : List Entry) → IsLegal world entries → AreWithinLimits entries → HasRoom world
     → last_world world (map entry_text entries) ≡ after_entries world entries
@@ -145,9 +147,12 @@ entries_left ways numbers events world (entry ∷ entries) legal limits room =
 
 -- ---- the explanation
 
-whole_same : (choice : Choice) (a b c d e x y z v w : List ℕ) → a ≡ x → b ≡ y → c ≡ z → d ≡ v → e ≡ w
-    → (a ++ summary_written choice ((codes "holds\n" ++ (b ++ c)) ++ d)) ++ e ≡ (x ++ summary_written choice ((codes "holds\n" ++ (y ++ z)) ++ v)) ++ w
-whole_same choice a b c d e x y z v w first second third fourth fifth = rw (first, second, third, fourth, fifth) refl
+abbrev legal : ℕ → Result ℕ AuditFault
+legal count = Ok count
+
+whole_same : (a x : List Reported) (b c y z : List Hold) (d v : KnownView) (e w : Result ℕ AuditFault) → a ≡ x → b ≡ y → c ≡ z → d ≡ v → e ≡ w
+    → a ++ summary_of (b ++ c) d ∷ reports_verdict e ∷ [] ≡ x ++ summary_of (y ++ z) v ∷ reports_verdict w ∷ []
+whole_same a x b c y z d v e w first second third fourth fifth = rw (first, second, third, fourth, fifth) refl
 
 pub reported_by_entries : Ways → NumbersAreRead → EventsAreRead → ((line : Description) (text : List ℕ) (count : ℕ) → opening_fault line ≡ None → IsAuditOf line text count → checked line text ≡ Ok count) → IsExplainedByItsEntries
 reported_by_entries ways numbers events accepted line text count choice opens audit =
@@ -157,11 +162,11 @@ reported_by_entries ways numbers events accepted line text count choice opens au
     let entries = audit.entries in
     let room = room_at_header line audit.header opens in
     ap (λ (verdict : Result ℕ AuditFault). explained_by verdict line text choice) (accepted line text count opens audit)
-    ∙ ap (λ (n : ℕ). reported_text line n (right_rows (Ok count) text) choice ++ verdict_written choice (Ok count)) (places_are line text count audit)
-    ∙ ap (λ (lines : List (List ℕ)). reported_text line places lines choice ++ verdict_written choice (Ok count)) (rows_are line text count audit)
-    ∙ whole_same choice _ _ _ _ _ _ _ _ _ _
+    ∙ ap (λ (n : ℕ). reported_text line n (right_rows (Ok count) text) choice (Ok count)) (places_are line text count audit)
+    ∙ ap (λ (lines : List (List ℕ)). reported_text line places lines choice (Ok count)) (rows_are line text count audit)
+    ∙ whole_same _ _ _ _ _ _ _ _ _ _
     (entries_reported ways numbers events choice start entries audit.legal audit.limits room)
     (entries_ended ways numbers events world entries audit.legal audit.limits room)
     (ap (λ (w : World). holds_lasting w line.slaves) (entries_left ways numbers events world entries audit.legal audit.limits room))
-    (ap counts_text (entries_known ways numbers events start entries audit.legal audit.limits room))
-    (ap (λ (n : ℕ). verdict_written choice (Ok n)) (sym audit.counted))
+    (entries_known ways numbers events start entries audit.legal audit.limits room)
+    (ap (λ (n : ℕ). legal n) (sym audit.counted))

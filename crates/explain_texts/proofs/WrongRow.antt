@@ -8,9 +8,11 @@ use Rattle.dp_audit.specs.declared.fault.AuditFault.{AuditFault}
 use Rattle.dp_audit.specs.declared.fault.AuditFault.TheVariants.{BadLine}
 use Rattle.dp_audit.specs.Check.{checked, is_accepted_header}
 use Rattle.explain_texts.specs.declared.choice.Choice.{Choice}
-use Rattle.explain_texts.specs.Explained.{explained, summary_written, verdict_written}
+use Rattle.explain_texts.specs.Explained.{explained}
+use Rattle.explain_texts.specs.declared.hold.Hold.{Hold}
 use Rattle.explain_texts.specs.ExplainedRows.{DecidesAtWrongRow}
-use Rattle.explain_texts.specs.Followed.{Followed, FollowerView, first_follower, followed, followed_lines, followed_summary, followed_verdict, last_line, verdict_at, verdict_by, whole_rows}
+use Rattle.explain_texts.specs.Followed.{Followed, FollowerView, ending_facts, first_follower, followed, followed_lines, followed_verdict, last_line, verdict_at, verdict_by, whole_rows}
+use Rattle.explain_texts.specs.Reported.{Reported}
 use Rattle.explain_texts.proofs.Following.{after_wrong, nothing_reported, reported_by_rows, verdict_of_rows, wrong}
 use Rattle.explain_texts.proofs.ReadLines.{followed_more, has_first, joined, last_is, lines_judged, lines_more, rows_before_last, whole_rows_more}
 use Rattle.explain_texts.proofs.RightRows.{fails}
@@ -31,8 +33,8 @@ stays choice follower rows others fault is =
     ap (λ (f : FollowerView). followed choice f others) last ∙ after_wrong choice before.last.known fault others ∙ sym (ap nothing_reported last) in
     followed_more choice follower rows others
     ∙ ap (joined before) nothing
-    ∙ ap (λ (t : List ℕ). record { reported = t; ended = before.ended ++ []; last = before.last }) (append-nil before.reported)
-    ∙ ap (λ (t : List ℕ). record { reported = before.reported; ended = t; last = before.last }) (append-nil before.ended)
+    ∙ ap (λ (facts : List Reported). record { reported = facts; ended = before.ended ++ []; last = before.last }) (append-nil before.reported)
+    ∙ ap (λ (holds : List Hold). record { reported = before.reported; ended = holds; last = before.last }) (append-nil before.ended)
 
 -- what is the same behind a wrong row
 record AreDecided (choice : Choice) (line : Description) (header : List ℕ) (rows : List (List ℕ)) (next : List ℕ) (others : List (List ℕ)) (fault : AuditFault) : Type 0 where
@@ -110,7 +112,7 @@ decided choice line front behind fault lines e =
 
 -- any choice of entries
 pub any_choice : Choice
-any_choice = record { from = None; to = None; slave = None; master = None; faults = false; refused = false; summary = false; json = false }
+any_choice = record { from = None; to = None; slave = None; master = None; faults = false; refused = false; summary = false }
 
 checked_so : (line : Description) (front behind : List ℕ) (fault : AuditFault) (lines : HaveLines front behind) → checked line (front ++ 10 ∷ []) ≡ fails fault
     → checked line ((front ++ 10 ∷ []) ++ behind) ≡ fails fault
@@ -119,18 +121,17 @@ checked_so line front behind fault lines e =
     ∙ ap (followed_verdict any_choice line) lines.more
     ∙ (decided any_choice line front behind fault lines e).verdict
 
-same_explanation : (choice : Choice) (line : Description) (a b : Followed) (verdict found : Result ℕ AuditFault) → a ≡ b → verdict ≡ found
-    → (a.reported ++ summary_written choice (followed_summary line a.ended a.last.known)) ++ verdict_written choice verdict
-    ≡ (b.reported ++ summary_written choice (followed_summary line b.ended b.last.known)) ++ verdict_written choice found
-same_explanation choice line a b verdict found same is =
-    ap (λ (f : Followed). (f.reported ++ summary_written choice (followed_summary line f.ended f.last.known)) ++ verdict_written choice verdict) same
-    ∙ ap (λ (v : Result ℕ AuditFault). (b.reported ++ summary_written choice (followed_summary line b.ended b.last.known)) ++ verdict_written choice v) is
+same_explanation : (line : Description) (a b : Followed) (verdict found : Result ℕ AuditFault) → a ≡ b → verdict ≡ found
+    → a.reported ++ ending_facts line a.ended a.last.known verdict ≡ b.reported ++ ending_facts line b.ended b.last.known found
+same_explanation line a b verdict found same is =
+    ap (λ (f : Followed). f.reported ++ ending_facts line f.ended f.last.known verdict) same
+    ∙ ap (λ (v : Result ℕ AuditFault). b.reported ++ ending_facts line b.ended b.last.known v) is
 
 explained_so : (line : Description) (front behind : List ℕ) (fault : AuditFault) (lines : HaveLines front behind) → checked line (front ++ 10 ∷ []) ≡ fails fault
     → (choice : Choice) → explained line ((front ++ 10 ∷ []) ++ behind) choice ≡ explained line (front ++ 10 ∷ []) choice
 explained_so line front behind fault lines e choice =
     reported_by_rows choice line ((front ++ 10 ∷ []) ++ behind)
-    ∙ same_explanation choice line _ _ _ _
+    ∙ same_explanation line _ _ _ _
     (ap (followed_lines choice line) lines.more ∙ (decided choice line front behind fault lines e).same ∙ sym (ap (followed_lines choice line) lines.alone))
     (checked_so line front behind fault lines e ∙ sym e)
     ∙ sym (reported_by_rows choice line (front ++ 10 ∷ []))

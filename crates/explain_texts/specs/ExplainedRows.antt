@@ -1,8 +1,6 @@
 -- The check and the explanation of a text that was read row by row (own).
-use Rattle.std.specs.Prelude.{◌≡◌, ℕ, List, ◌++◌, ◌∷◌, [], Option, Result, Ok, Err, IsUtf8}
-use Rattle.std.specs.Io.KnownBytes.{Appends}
+use Rattle.std.specs.Prelude.{◌≡◌, ℕ, List, ◌++◌, ◌∷◌, [], Result, Ok, Err, IsUtf8}
 use Rattle.dp_line.specs.World.{Description}
-use Rattle.dp_text.specs.Writes.{WritesPrefix}
 use Rattle.dp_audit.specs.declared.fault.AuditFault.{AuditFault}
 use Rattle.dp_audit.specs.Check.{checked}
 use Rattle.explain_texts.specs.declared.choice.Choice.{Choice}
@@ -11,6 +9,8 @@ use Rattle.explain_texts.specs.declared.read_fault.ReadFault.TheVariants as faul
 use Rattle.explain_texts.specs.declared.rows_fault.RowsFault.{RowsFault}
 use Rattle.explain_texts.specs.declared.rows_fault.RowsFault.TheVariants as rows
 use Rattle.explain_texts.specs.Explained.{explained, verdict_status}
+use Rattle.explain_texts.specs.Reported.{Reported}
+use Rattle.explain_texts.specs.Reports.{Reports, ReportsPrefix, Takes}
 
 -- ---- what decides
 
@@ -41,10 +41,10 @@ Reads verdict row (Err faults.NotText) = ¬ (IsUtf8 row)
 Reads verdict row (Err faults.OutOfMemory) = Unit {0}
 Reads verdict row (Err faults.CannotRead) = Unit {0}
 
--- the explanation and its exit status, or a prefix if it ended early; `NotText` only if the last row is not UTF-8
-abbrev pub ExplainsRows : Result ℕ AuditFault → List ℕ → List ℕ → Option (List ℕ) → Option (List ℕ) → Result ℕ RowsFault → Type 0
-ExplainsRows verdict row text old new (Ok status) = (status ≡ verdict_status verdict) × Appends old new text × IsReadable verdict row
-ExplainsRows verdict row text old new (Err (rows.Explain fault)) = WritesPrefix old new text
-ExplainsRows verdict row text old new (Err (rows.Read faults.OutOfMemory)) = WritesPrefix old new text
-ExplainsRows verdict row text old new (Err (rows.Read faults.CannotRead)) = WritesPrefix old new text
-ExplainsRows verdict row text old new (Err (rows.Read faults.NotText)) = WritesPrefix old new text × (¬ (IsUtf8 row))
+-- all facts and the exit status, or a first part of the facts if it ended early; `NotText` only if the last row is not UTF-8
+abbrev pub ExplainsRows : {S : Type 0} → Takes S → Result ℕ AuditFault → List ℕ → List Reported → S → S → Result ℕ RowsFault → Type 0
+ExplainsRows takes verdict row facts old new (Ok status) = (status ≡ verdict_status verdict) × Reports takes old new facts × IsReadable verdict row
+ExplainsRows takes verdict row facts old new (Err (rows.Explain fault)) = ReportsPrefix takes old new facts
+ExplainsRows takes verdict row facts old new (Err (rows.Read faults.OutOfMemory)) = ReportsPrefix takes old new facts
+ExplainsRows takes verdict row facts old new (Err (rows.Read faults.CannotRead)) = ReportsPrefix takes old new facts
+ExplainsRows takes verdict row facts old new (Err (rows.Read faults.NotText)) = ReportsPrefix takes old new facts × (¬ (IsUtf8 row))

@@ -1,19 +1,20 @@
--- What is written of the rows of an audit text that are followed one after another, and with which fault that ends (own).
-use Rattle.std.specs.Prelude.{codes, ◌≡◌, ℕ, ◌+◌, ◌==◌, if◌then◌else◌, List, [], ◌∷◌, ◌++◌, length, Option, Some, None, Result, Ok, Err}
-use Rattle.std.specs.Io.KnownBytes.{Appends}
+-- What is reported of the rows of an audit text that are followed one after another, and with which fault that ends (own).
+use Rattle.std.specs.Prelude.{◌≡◌, ℕ, ◌+◌, ◌==◌, if◌then◌else◌, List, [], ◌∷◌, ◌++◌, length, Option, Some, None, Result, Ok, Err}
 use Rattle.dp_line.specs.declared.event.Event.{Event}
 use Rattle.dp_line.specs.World.{Description}
 use Rattle.dp_text.specs.Words.{lines_of}
-use Rattle.dp_text.specs.Writes.{WritesPrefix}
 use Rattle.dp_audit.specs.declared.fault.AuditFault.{AuditFault}
 use Rattle.dp_audit.specs.declared.fault.AuditFault.TheVariants.{BadLine, NotThePolicy}
 use Rattle.dp_audit.specs.Check.{Judged, bad, not_the_policy, right, checked, is_accepted_header, judged_line, places_of_lines}
 use Rattle.explain_texts.specs.declared.choice.Choice.{Choice}
 use Rattle.explain_texts.specs.declared.follow_fault.FollowFault.{FollowFault}
 use Rattle.explain_texts.specs.declared.follow_fault.FollowFault.TheVariants as faults
+use Rattle.explain_texts.specs.declared.hold.Hold.{Hold}
 use Rattle.explain_texts.specs.Holds.{holds_lasting}
 use Rattle.explain_texts.specs.Known.{KnownView, first_known}
-use Rattle.explain_texts.specs.Explained.{reported_row, known_behind, ended_by_row, counts_text, explained, summary_written, verdict_written}
+use Rattle.explain_texts.specs.Explained.{reported_row, known_behind, ended_by_row, explained, summary_of}
+use Rattle.explain_texts.specs.Reported.{Reported, reports_verdict}
+use Rattle.explain_texts.specs.Reports.{Reports, ReportsPrefix, Takes}
 
 -- ---- one row
 
@@ -62,40 +63,40 @@ after_row follower row = record {
   fault = first_wrong follower.fault follower.known.context.world.count (judged_next follower row);
 }
 
--- what is written of a row
-abbrev pub text_of_row : Choice → FollowerView → List ℕ → List ℕ
-text_of_row choice follower row = reported_row choice follower.known (event_taken follower row)
+-- what is reported of a row
+abbrev pub facts_of_row : Choice → FollowerView → List ℕ → List Reported
+facts_of_row choice follower row = reported_row choice follower.known (event_taken follower row)
 
 -- the holds that the event of a row ended
-abbrev pub holds_of_row : FollowerView → List ℕ → List ℕ
+abbrev pub holds_of_row : FollowerView → List ℕ → List Hold
 holds_of_row follower row = ended_by_row follower.known.context.world (event_taken follower row)
 
--- ---- what a call leaves on its writer
+-- ---- what a call leaves of a receiver
 
--- the rows of a right row, or a prefix of them if the call ended early
-abbrev pub LeavesRow : List ℕ → Option (List ℕ) → Option (List ℕ) → Result (Unit {0}) FollowFault → Type 0
-LeavesRow text old new (Ok done) = Appends old new text
-LeavesRow text old new (Err (faults.Wrong fault)) = ⊥
-LeavesRow text old new (Err (faults.Explain fault)) = WritesPrefix old new text
+-- all facts of a right row were taken, or a first part of them if the call ended early
+abbrev pub LeavesRow : {S : Type 0} → Takes S → List Reported → S → S → Result (Unit {0}) FollowFault → Type 0
+LeavesRow takes facts old new (Ok done) = Reports takes old new facts
+LeavesRow takes facts old new (Err (faults.Wrong fault)) = ⊥
+LeavesRow takes facts old new (Err (faults.Explain fault)) = ReportsPrefix takes old new facts
 
--- of a wrong row, and of a row after it, nothing is written: the fault of the first wrong one is returned
-abbrev pub FollowsRow : List ℕ → Option AuditFault → Option (List ℕ) → Option (List ℕ) → Result (Unit {0}) FollowFault → Type 0
-FollowsRow text None old new result = LeavesRow text old new result
-FollowsRow text (Some fault) old new result = (result ≡ Err (faults.Wrong fault)) × (new ≡ old)
+-- of a wrong row, and of a row after it, nothing is reported: the fault of the first wrong one is returned
+abbrev pub FollowsRow : {S : Type 0} → Takes S → List Reported → Option AuditFault → S → S → Result (Unit {0}) FollowFault → Type 0
+FollowsRow takes facts None old new result = LeavesRow takes facts old new result
+FollowsRow takes facts (Some fault) old new result = (result ≡ Err (faults.Wrong fault)) × (new ≡ old)
 
 -- ---- rows
 
--- what is written of rows, which holds they ended, and what a follower is after them
+-- what is reported of rows, which holds they ended, and what a follower is after them
 pub record Followed : Type 0 where
-  pub reported : List ℕ
-  pub ended : List ℕ
+  pub reported : List Reported
+  pub ended : List Hold
   pub last : FollowerView
 
--- rows that are followed one after another, until the first wrong one: nothing is written after that
+-- rows that are followed one after another, until the first wrong one: nothing is reported after that
 abbrev pub followed : Choice → FollowerView → List (List ℕ) → Followed
 followed choice follower [] = record { reported = []; ended = []; last = follower }
 followed choice follower (row ∷ rows) = record {
-  reported = text_of_row choice follower row ++ (followed choice (after_row follower row) rows).reported;
+  reported = facts_of_row choice follower row ++ (followed choice (after_row follower row) rows).reported;
   ended = holds_of_row follower row ++ (followed choice (after_row follower row) rows).ended;
   last = (followed choice (after_row follower row) rows).last;
 }
@@ -124,8 +125,12 @@ abbrev pub followed_text : Choice → Description → List ℕ → Followed
 followed_text choice line text = followed_lines choice line (lines_of text)
 
 -- the holds and the counts of the rows that were right
-abbrev pub followed_summary : Description → List ℕ → KnownView → List ℕ
-followed_summary line ended known = (codes "holds\n" ++ (ended ++ holds_lasting known.context.world line.slaves)) ++ counts_text known
+abbrev pub followed_summary : Description → List Hold → KnownView → Reported
+followed_summary line ended known = summary_of (ended ++ holds_lasting known.context.world line.slaves) known
+
+-- what follows the last entry: the summary, and the verdict
+abbrev pub ending_facts : Description → List Hold → KnownView → Result ℕ AuditFault → List Reported
+ending_facts line ended known verdict = followed_summary line ended known ∷ reports_verdict verdict ∷ []
 
 -- what follows the last LF, of the lines of a text
 abbrev pub last_line : List (List ℕ) → List ℕ
@@ -150,14 +155,13 @@ followed_verdict choice line (header ∷ next ∷ rows) =
     then verdict_at (followed choice (first_follower line (header ∷ next ∷ rows)) (whole_rows (next ∷ rows))).last (last_line (next ∷ rows))
     else Err (BadLine 1)
 
--- the explanation of a text is what is written of its rows until the first wrong one, then the summary of the right ones, then the verdict
+-- the explanation of a text is what is reported of its rows until the first wrong one, then the summary of the right ones, then the verdict
 abbrev pub IsExplainedByItsRows : Type 0
 IsExplainedByItsRows =
     (choice : Choice) (line : Description) (text : List ℕ)
     → explained line text choice
-    ≡ ((followed_text choice line text).reported
-    ++ summary_written choice (followed_summary line (followed_text choice line text).ended (followed_text choice line text).last.known))
-    ++ verdict_written choice (checked line text)
+    ≡ (followed_text choice line text).reported
+    ++ ending_facts line (followed_text choice line text).ended (followed_text choice line text).last.known (checked line text)
 
 -- the verdict on a text is that of its rows
 abbrev pub HasTheVerdictOfItsRows : Type 0

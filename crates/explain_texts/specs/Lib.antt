@@ -4,7 +4,6 @@ pub mod Tallies
 pub mod Holds
 pub mod StationCounts
 pub mod Statistics
-pub mod StatisticsRows
 pub mod Known
 pub mod JsonValues
 pub mod JsonRows
@@ -12,6 +11,9 @@ pub mod Json
 pub mod JsonWriting
 pub mod JsonCounts
 pub mod JsonExamples
+pub mod Reported
+pub mod Reports
+pub mod Written
 pub mod Explained
 pub mod Followed
 pub mod Behind

@@ -14,7 +14,6 @@ use Rattle.explain_texts.specs.declared.statistics.Item.{Item}
 use Rattle.explain_texts.specs.declared.statistics.Item.TheVariants as items
 use Rattle.explain_texts.specs.StationCounts.{first_statistics, item_count, item_number}
 use Rattle.explain_texts.specs.Tallies.{all_ways, way_number}
-use Rattle.explain_texts.specs.StatisticsRows.{all_items, station_rows, statistics_text}
 use Rattle.explain_texts.specs.Known.{KnownView, first_known, known_after, last_statistics}
 
 abbrev pub line : Description
@@ -53,10 +52,6 @@ poll_of_slave = 0x10 ∷ 0x05 ∷ 0x01 ∷ 0x49 ∷ 0x4F ∷ 0x16 ∷ []
 -- master 2 tries to lock
 abbrev intrusion : List ℕ
 intrusion = 0x68 ∷ 0x0C ∷ 0x0C ∷ 0x68 ∷ 0x85 ∷ 0x82 ∷ 0x6D ∷ 0x3D ∷ 0x3E ∷ 0x88 ∷ 0x02 ∷ 0x05 ∷ 0x0B ∷ 0x80 ∷ 0xA1 ∷ 0x01 ∷ 0xAB ∷ 0x16 ∷ []
-
-pub no_rows : statistics_text line (statistics []) ≡ codes "slaves\nmasters\nlive list\n"
-unfolding first_statistics station_rows ascending
-no_rows = refl
 
 -- a diagnosis, a hold from 20 ms on, an exchange and its retry, and a refusal; the hold lasts to 70 ms
 abbrev at_70_ms : List AddressCounts
@@ -99,6 +94,17 @@ polls = refl
 
 -- ---- the items
 
+-- the items of which a station has a row
+abbrev all_items : List Item
+all_items =
+    items.Exchange ∷ items.Diagnosis ∷ items.Retry
+    ∷ items.Refused rules.Halted ∷ items.Refused rules.NoFrame ∷ items.Refused rules.NoMaster ∷ items.Refused rules.ForeignSender
+    ∷ items.Refused rules.BadFunction ∷ items.Refused rules.BadExtension ∷ items.Refused rules.BadBroadcast ∷ items.Refused rules.NoStation
+    ∷ items.Refused rules.NoService ∷ items.Refused rules.NotActive ∷ items.Refused rules.NotHolder ∷ items.Refused rules.NotListed
+    ∷ items.Refused rules.Busy ∷ items.Refused rules.Length ∷ items.Refused rules.NotSelected
+    ∷ items.Released endings.WrongConfiguration ∷ items.Released endings.WrongParameters ∷ items.Released endings.Unlocked
+    ∷ items.Released endings.Halted ∷ items.Released endings.Watchdog ∷ []
+
 -- no two items have one number
 pub numbers_differ : has_twice (map item_number (items.Poll ∷ items.Released endings.Lasts ∷ all_items)) ≡ false
 numbers_differ = refl
@@ -106,7 +112,3 @@ numbers_differ = refl
 -- no two ways have one number
 pub way_numbers_differ : has_twice (map way_number all_ways) ≡ false
 way_numbers_differ = refl
-
--- each rule that refuses has a row, in the order of the rules
-pub refusals_have_rows : take 15 (drop 3 all_items) ≡ map items.Refused (filter is_refusal all_rules)
-refusals_have_rows = refl

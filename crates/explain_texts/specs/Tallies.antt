@@ -1,8 +1,6 @@
 -- How many requests of each master were answered in each way (own). A sender that is no master of the line counts as one of the others.
 use Rattle.std.specs.Prelude.{codes, ℕ, ◌+◌, ◌-◌, ◌^◌, ◌==◌, ◌&&◌, not, min, if◌then◌else◌, Bool, true, false, List, [], ◌∷◌, ◌++◌, map, replicate, slice_index, slice_set, Option, Some, None}
-use Rattle.std.specs.List.{flat_map}
 use Rattle.std.specs.Option.{option_map_or}
-use Rattle.std.specs.Fmt.{decimal}
 use Rattle.dp_responder.specs.declared.rule.Rule.{Rule}
 use Rattle.dp_responder.specs.declared.rule.Rule.TheVariants as rules
 use Rattle.dp_responder.specs.Rules.{rule_code}
@@ -15,7 +13,6 @@ use Rattle.explain_events.specs.declared.way.Answered.TheVariants as ways
 use Rattle.explain_texts.specs.declared.tally.SenderCounts.{SenderCounts}
 use Rattle.explain_events.specs.EventContexts.{EventContextView}
 use Rattle.explain_events.specs.Ways.{answered_as, is_fault_way, some_selected, way_name, way_of_pair}
-use Rattle.explain_events.specs.Words.{at_left, at_right}
 
 -- ---- the counts of a sender
 
@@ -99,45 +96,12 @@ abbrev pub tally_after : List SenderCounts → EventContextView → Event → Ou
 tally_after tally context (Request master octets) outcome = counted_answer context master octets.items outcome tally
 tally_after tally context (Operator op) outcome = tally
 
--- ---- rows
+-- ---- the ways in words, and which of them are faults
 
 abbrev pub way_words : Option Answered → List ℕ
 way_words None = codes "to no slave"
 way_words (Some answered) = way_name answered
 
-abbrev pub count_columns : Option Answered → ℕ → List ℕ
-count_columns way count = at_left 14 (way_words way) ++ at_right 8 (decimal count) ++ codes "\n"
-
-abbrev pub sender_words : Option ℕ → List ℕ
-sender_words None = codes "others"
-sender_words (Some master) = codes "master " ++ decimal master
-
--- the row of a sender and a way; no row if the count is 0
-abbrev pub counted_row : SenderCounts → Option Answered → List ℕ
-counted_row counts way =
-    if count_of counts way == 0 then []
-    else codes "  " ++ at_left 12 (sender_words counts.sender) ++ count_columns way (count_of counts way)
-
--- the rows of a sender
-unfoldable pub sender_rows : SenderCounts → List ℕ
-sender_rows counts = flat_map (counted_row counts) all_ways
-
--- the requests of all senders that were answered in a way
-abbrev pub total : List SenderCounts → Option Answered → ℕ
-total [] way = 0
-total (counts ∷ others) way = added (total others way) (count_of counts way)
-
 -- a way that is a fault of the bus; that a request reached no slave is none
 abbrev pub is_fault : Option Answered → Bool
 is_fault way = option_map_or is_fault_way way false
-
--- the row of a fault that was counted
-abbrev pub fault_row : List SenderCounts → Option Answered → List ℕ
-fault_row tally way =
-    if is_fault way && not (total tally way == 0) then codes "  " ++ count_columns way (total tally way) else []
-
-abbrev pub counted_table : List SenderCounts → List ℕ
-counted_table tally = codes "requests by rule\n" ++ flat_map sender_rows tally
-
-abbrev pub faults_table : List SenderCounts → List ℕ
-faults_table tally = codes "faults\n" ++ flat_map (fault_row tally) all_ways

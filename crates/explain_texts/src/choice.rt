@@ -11,7 +11,7 @@ use dp_line::{Event, Outcome, is_refused};
 use dp_responder::Rule;
 use explain_events::{EventContext, Receiver, SenderAndReceiver, is_fault};
 
-/// A choice of entries, those that pass every field, and the form in which they are written.
+/// A choice of entries: those that pass every field.
 #[derive(Clone, Copy)]
 pub struct Choice {
     /// The first place, from 1; None starts at the first entry of the text.
@@ -28,10 +28,8 @@ pub struct Choice {
     /// Chooses only the faults of the bus: requests that were answered in a way that is a fault, refused events of the
     /// operator, ticks that release a slave, and the halt.
     pub faults: bool,
-    /// Chooses no entry at all: only the summary is written.
+    /// Chooses no entry at all: only the summary is reported.
     pub summary: bool,
-    /// Writes each entry as a line of JSON, and no summary.
-    pub json: bool,
 }
 
 /// Returns whether the choice includes the entry. The context is that before its event.

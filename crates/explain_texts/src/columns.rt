@@ -1,9 +1,7 @@
 //! The columns of the tables.
 
-ghost use Rattle.std.specs.Prelude.{◌≡◌, ◌≤◌, ◌*◌, ◌++◌, Some, length};
+ghost use Rattle.std.specs.Prelude.{◌≡◌, ◌≤◌, ◌*◌, length};
 ghost use Rattle.std.specs.Fmt.{decimal};
-ghost use Rattle.explain_events.specs.Words.{at_left, at_right};
-ghost use Rattle.explain_texts.specs.Holds.{station_column};
 
 use explain_events::{Spaces, digits_of, digits_of_long};
 use std::fmt;
@@ -23,8 +21,6 @@ pub(crate) struct StationColumn<'a> {
 }
 
 impl<'a> fmt::Display for StationColumn<'a> {
-    ghost output = { λ s. Some (station_column s.name.now s.address) };
-
     fn fmt<W: fmt::Write>(&self, f: &mut fmt::Formatter<W>) -> fmt::Result {
         let name = self.name;
         let address = self.address;
@@ -42,8 +38,6 @@ pub(crate) struct WordsColumn<'a> {
 }
 
 impl<'a> fmt::Display for WordsColumn<'a> {
-    ghost output = { λ s. Some (at_left 32 (s.front.now ++ s.word.now)) };
-
     fn fmt<W: fmt::Write>(&self, f: &mut fmt::Formatter<W>) -> fmt::Result {
         let front = self.front;
         let word = self.word;
@@ -58,8 +52,6 @@ impl<'a> fmt::Display for WordsColumn<'a> {
 pub(crate) struct NumberColumn(pub(crate) u64);
 
 impl fmt::Display for NumberColumn {
-    ghost output = { λ s. Some (at_right 8 (decimal s.0)) };
-
     fn fmt<W: fmt::Write>(&self, f: &mut fmt::Formatter<W>) -> fmt::Result {
         let number = self.0;
         let before = Spaces(NUMBER_COLUMNS.saturating_sub(digits_of_long(number)));
@@ -72,8 +64,6 @@ impl fmt::Display for NumberColumn {
 pub(crate) struct TimeColumn(pub(crate) u64);
 
 impl fmt::Display for TimeColumn {
-    ghost output = { λ s. Some (at_right 8 (decimal (10 * s.0))) };
-
     fn fmt<W: fmt::Write>(&self, f: &mut fmt::Formatter<W>) -> fmt::Result {
         let milliseconds = 10 * u128::from(self.0);
         let before = Spaces(NUMBER_COLUMNS.saturating_sub(digits_of_time(self.0)));

@@ -1,9 +1,5 @@
 //! The tables of counts at the end of an explanation.
 
-ghost use Rattle.std.specs.Prelude.{Some};
-ghost use Rattle.dp_line.specs.World.{description_of};
-ghost use Rattle.explain_texts.specs.StatisticsRows.{statistics_text, counts_tables};
-
 use crate::live_list::LiveList;
 use crate::statistics::AddressCounts;
 use crate::statistics_rows::{MastersTable, SlavesTable};
@@ -20,8 +16,6 @@ struct StatisticsText<'a> {
 }
 
 impl<'a> fmt::Display for StatisticsText<'a> {
-    ghost output = { λ s. Some (statistics_text (description_of s.line.now) s.statistics.now) };
-
     fn fmt<W: fmt::Write>(&self, f: &mut fmt::Formatter<W>) -> fmt::Result {
         let statistics = self.statistics;
         let line = self.line;
@@ -47,9 +41,6 @@ pub(crate) struct CountsTables<'a> {
 }
 
 impl<'a> fmt::Display for CountsTables<'a> {
-    ghost output = { λ s. Some (counts_tables (description_of s.line.now) s.tally.now s.statistics.now) };
-
-    #[tactic(auto, unfolding(crate::specs::StatisticsRows::counts_tables))]
     fn fmt<W: fmt::Write>(&self, f: &mut fmt::Formatter<W>) -> fmt::Result {
         let counted = CountedTable(self.tally);
         let statistics = StatisticsText {

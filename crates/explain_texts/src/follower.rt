@@ -4,7 +4,7 @@
 //! it is still written, and nothing that is stored grows with it. An event is taken by two lines, because what is written
 //! of it is about the state before and after it: the row is checked on one line, and the other one follows behind.
 
-ghost use Rattle.std.specs.Prelude.{◌≡◌, ◌≢◌, [], None, Some, Err, IfOk, IfErr, IsOkAnd, MatchResult};
+ghost use Rattle.std.specs.Prelude.{◌≡◌, ◌≢◌, ◌∷◌, [], None, Some, Err, unwrap_or, IfOk, IfErr, IsOkAnd, MatchResult};
 ghost use Rattle.dp_text.specs.Words.{lines_of};
 ghost use Rattle.dp_line.specs.World.{description_of, opening_fault};
 ghost use Rattle.audit_heads.specs.HeadLines.{line_read};
@@ -12,33 +12,32 @@ ghost use Rattle.dp_audit.specs.Check.{places_of_lines};
 ghost use Rattle.explain_events.specs.Releases.{release_of};
 ghost use Rattle.explain_texts.specs.Holds.{holds_lasting};
 ghost use Rattle.explain_texts.specs.Known.{first_world, outcome_with};
-ghost use Rattle.explain_texts.specs.Explained.{counts_text, Leaves};
 ghost use Rattle.explain_texts.specs.Behind.{follower_behind};
-ghost use Rattle.explain_texts.specs.Followed.{after_row, first_follower, holds_of_row, text_of_row, FollowsRow};
+ghost use Rattle.explain_texts.specs.Followed.{after_row, facts_of_row, first_follower, followed_summary, holds_of_row, FollowsRow};
 ghost use Rattle.explain_texts.specs.Following.{first_fault, StoresHolds};
+ghost use Rattle.explain_texts.specs.Reports.{LeavesFacts};
 
 use crate::choice::Choice;
 use crate::ended_holds::EndedHolds;
 use crate::explain_fault::ExplainFault;
 use crate::follow_fault::FollowFault;
 use crate::history::History;
-use crate::holds::{HoldsEnded, HoldsLasting};
-use crate::output::write_rows;
+use crate::hold::Hold;
+use crate::holds::push_lasting;
+use crate::takes_facts::{TakesEntries, TakesFacts};
 use crate::tally::SenderCounts;
 use audit_heads::{HeadFault, read_head};
 use dp_audit::{AuditFault, open_line, take_row};
-use dp_line::{LineSpec, LineState, Outcome, SlaveSpec, Step};
+use dp_line::{LineSpec, LineState, Outcome, Step};
 use dp_text::Text;
-use explain_events::{Release, Taken};
+use explain_events::{ReadEvent, Release, Taken};
 use std::alloc::Global;
-use std::io::Write;
 use std::marker::Model;
 
 /// Follows the rows of an audit text: checks each row, and explains its entry if the row is right. Contracts see what is
 /// known after the right rows so far, and the fault of the first wrong one.
 ///
-/// It takes memory for two lines, for the counts, and for the rows of one entry and its line of JSON, however many rows it
-/// takes.
+/// It takes memory for two lines and for the counts, however many rows it takes.
 #[derive(Drop)]
 pub struct Follower<'a> {
     /// The line before the next entry.
@@ -52,10 +51,6 @@ pub struct Follower<'a> {
     answer: Step,
     /// A buffer for a part of a row, as the policy gives it.
     written: Text,
-    /// A buffer for the rows of one entry.
-    rows: String,
-    /// A buffer for the line of JSON of one entry.
-    line: String,
 }
 
 impl<'a> Model for Follower<'a> {
@@ -98,8 +93,6 @@ impl<'a> Follower<'a> {
             fault: None,
             answer: Step::blank(),
             written: Text::new(),
-            rows: String::new(alloc),
-            line: String::new(alloc),
         })
     }
 
@@ -139,8 +132,6 @@ impl<'a> Follower<'a> {
             fault: None,
             answer: Step::blank(),
             written: Text::new(),
-            rows: String::new(alloc),
-            line: String::new(alloc),
         })
     }
 
@@ -186,36 +177,33 @@ impl<'a> Follower<'a> {
         self.history.senders()
     }
 
-    /// Takes the next row of the text, without its LF. If the row is right and its entry is chosen, writes the rows of the
-    /// entry, or its line of JSON.
+    /// Takes the next row of the text, without its LF. If the row is right and its entry is chosen, reports the entry.
     ///
     /// Returns `Wrong` if the row is badly formed or isn't what the policy gives, with the number of the row; the header is
     /// row 1. Each later call returns the same fault. Returns `Explain` if memory runs out or a write fails. The event is
-    /// taken then, and the next row may follow, but only a prefix of what belongs to this row is written.
-    pub fn take_row<W: Write>(
+    /// taken then, and the next row may follow, but the receiver may have a part of the entry only.
+    pub fn take_row<T: TakesEntries>(
         &mut self,
         row: &[u8],
         choice: &Choice,
-        writer: &mut W,
+        receiver: &mut T,
     ) -> Result<(), FollowFault>
         ensures known { self.new ≡ after_row self.old row.now }
-        ensures reported { FollowsRow (text_of_row choice.now self.old row.now) (after_row self.old row.now).fault
-            (W.contents writer.old) (W.contents writer.new) result }
+        ensures reported { FollowsRow T.takes (facts_of_row choice.now self.old row.now) (after_row self.old row.now).fault receiver.old receiver.new result }
     {
-        self.follow_row(row, choice, &mut EndedHolds::not_stored(), writer)
+        self.follow_row(row, choice, &mut EndedHolds::not_stored(), receiver)
     }
 
     /// Takes the next row, as [`Follower::take_row`] does, and stores the holds that its event ended.
-    pub(crate) fn follow_row<W: Write>(
+    pub(crate) fn follow_row<T: TakesEntries>(
         &mut self,
         row: &[u8],
         choice: &Choice,
         ended: &mut EndedHolds,
-        writer: &mut W,
+        receiver: &mut T,
     ) -> Result<(), FollowFault>
         ensures known { self.new ≡ after_row self.old row.now }
-        ensures reported { FollowsRow (text_of_row choice.now self.old row.now) (after_row self.old row.now).fault
-            (W.contents writer.old) (W.contents writer.new) result }
+        ensures reported { FollowsRow T.takes (facts_of_row choice.now self.old row.now) (after_row self.old row.now).fault receiver.old receiver.new result }
         ensures stored { StoresHolds (holds_of_row self.old row.now) ended.old ended.new result }
     {
         if let Some(fault) = self.fault {
@@ -236,50 +224,49 @@ impl<'a> Follower<'a> {
             after: &self.after,
         };
         let outcome = &self.answer.outcome;
-        let written = self.history.write_entry(
-            &taken,
-            outcome,
-            choice,
-            &mut self.rows,
-            &mut self.line,
-            writer,
-        );
-        let stored = ended.push(&HoldsEnded { taken, outcome });
-        self.history.take_event(&taken, outcome);
+        let read = ReadEvent::new(&event);
+        let reported = self.history.report_entry(&taken, outcome, choice, receiver);
+        let stored = ended.push(&taken, &read, outcome);
+        self.history.take_event(&taken, &read, outcome);
         self.before.take_into(&event, &mut self.answer);
-        first_fault(written, stored)
+        first_fault(reported, stored)
     }
 
     /// Returns an empty list of holds, which are stored.
     pub(crate) fn stored_holds(&self) -> EndedHolds
         ensures { result ≡ Some [] }
     {
-        EndedHolds::stored(*self.rows.allocator())
+        EndedHolds::stored(self.history.allocator())
     }
 
-    /// Writes the holds of these slaves that last.
-    pub(crate) fn write_lasting_holds<W: Write>(
+    /// Reports the summary: the holds that ended and those of all slaves of the line that last, and what is counted. It
+    /// counts the holds that last to the end, so call it once, after the last row. Returns `OutOfMemory`, and then nothing
+    /// is reported, or the fault of the receiver.
+    pub(crate) fn report_summary<T: TakesFacts>(
         &mut self,
-        slaves: &[SlaveSpec],
-        writer: &mut W,
+        line: &LineSpec,
+        ended: &EndedHolds,
+        receiver: &mut T,
     ) -> Result<(), ExplainFault>
-        ensures same { self.new ≡ self.old }
-        ensures reported { Leaves (holds_lasting self.old.known.context.world slaves.now) (W.contents writer.old) (W.contents writer.new) result }
+        ensures { LeavesFacts T.takes (followed_summary (description_of line.now) (unwrap_or ended.now []) self.old.known ∷ []) receiver.old receiver.new result }
     {
-        let holds = HoldsLasting {
-            line: &self.before,
-            slaves,
+        let lasting = match self.lasting_holds(line) {
+            Ok(lasting) => lasting,
+            Err(fault) => return Err(fault),
         };
-        write_rows(&holds, &mut self.rows, writer)
+        self.history
+            .report_summary(&self.before, ended.holds(), lasting.as_slice(), receiver)
     }
 
-    /// Writes how many requests were answered in each way, the statistics, and the faults. It counts the holds that last
-    /// to the end, so call it once, after the last row.
-    pub(crate) fn write_counts<W: Write>(&mut self, writer: &mut W) -> Result<(), ExplainFault>
-        ensures { Leaves (counts_text self.old.known) (W.contents writer.old) (W.contents writer.new) result }
+    /// Returns the holds of all slaves of the line that last. `OutOfMemory` if memory runs out.
+    fn lasting_holds(&self, line: &LineSpec) -> Result<Vec<Hold>, ExplainFault>
+        ensures { IfOk result (λ lasting. lasting.items ≡ holds_lasting self.now.known.context.world (description_of line.now).slaves) }
     {
-        self.history
-            .write_counts(&self.before, &mut self.rows, writer)
+        let mut lasting = Vec::new(self.history.allocator());
+        match push_lasting(&mut lasting, &self.before, line.slaves.as_slice()) {
+            Ok(()) => Ok(lasting),
+            Err(_) => Err(ExplainFault::OutOfMemory),
+        }
     }
 }
 
@@ -306,12 +293,12 @@ fn set_halt(answer: &mut Step)
 
 /// Returns the first fault of two calls.
 fn first_fault(
-    written: Result<(), ExplainFault>,
+    reported: Result<(), ExplainFault>,
     stored: Result<(), ExplainFault>,
 ) -> Result<(), FollowFault>
-    ensures { result ≡ first_fault written stored }
+    ensures { result ≡ first_fault reported stored }
 {
-    match written.and(stored) {
+    match reported.and(stored) {
         Ok(()) => Ok(()),
         Err(fault) => Err(FollowFault::Explain(fault)),
     }

@@ -1,23 +1,22 @@
 //! What is known from the entries so far, besides the state of the line.
 
-ghost use Rattle.std.specs.Prelude.{◌≡◌, ℕ, IfOk, if◌then◌else◌};
+ghost use Rattle.std.specs.Prelude.{◌≡◌, ℕ, ◌++◌, IfOk};
 ghost use Rattle.dp_line.specs.World.{description_of};
-ghost use Rattle.explain_events.specs.ExplainedEntries.{explained_entry_text};
 ghost use Rattle.explain_events.specs.Releases.{release_of};
 ghost use Rattle.explain_texts.specs.Behind.{known_behind_head};
 ghost use Rattle.explain_texts.specs.Known.{first_known, first_world, known_with};
-ghost use Rattle.explain_texts.specs.Explained.{chosen_text, counts_text, Leaves};
+ghost use Rattle.explain_texts.specs.Explained.{chosen_entry, summary_of};
 ghost use Rattle.explain_texts.specs.Following.{known_at};
-ghost use Rattle.explain_texts.specs.Json.{entry_json};
+ghost use Rattle.explain_texts.specs.Reports.{LeavesFacts};
 
 use crate::choice::{Choice, is_chosen};
 use crate::count_event::count_statistics;
 use crate::count_holds::{begin_all_holds, count_all_lasting, moment};
-use crate::counts_tables::CountsTables;
 use crate::explain_fault::ExplainFault;
-use crate::json_entry::write_entry_line;
-use crate::output::write_rows;
+use crate::hold::Hold;
 use crate::statistics::{AddressCounts, first_statistics};
+use crate::summary::Summary;
+use crate::takes_facts::{TakesEntries, TakesFacts};
 use crate::tally::{SenderCounts, count_event, first_tally};
 use dp_audit::time_after;
 use dp_line::{LineSpec, LineState, Outcome};
@@ -26,7 +25,6 @@ use explain_events::{
     note_event, note_releases, release_of,
 };
 use std::alloc::{AllocError, Global};
-use std::io::Write;
 
 /// What is known from the entries so far, besides the state of the line: the notes, the last releases, the time and the
 /// counts.
@@ -78,6 +76,11 @@ impl<'a> History<'a> {
         Ok(history)
     }
 
+    /// Returns the allocator of what is known.
+    pub(crate) fn allocator(&self) -> Global {
+        *self.notes.allocator()
+    }
+
     /// Returns the sum of the ticks, in units of 10 ms; None before the first tick.
     pub(crate) fn time(&self) -> Option<u64>
         ensures { result ≡ self.now.time }
@@ -99,18 +102,16 @@ impl<'a> History<'a> {
         self.tally.as_slice()
     }
 
-    /// Writes the rows of an event, or its line of JSON, if it is chosen; `rows` and `line` are buffers for the texts.
-    pub(crate) fn write_entry<W: Write>(
+    /// Reports the entry of an event, if it is chosen.
+    pub(crate) fn report_entry<T: TakesEntries>(
         &self,
         taken: &Taken<'_>,
         outcome: &Outcome,
         choice: &Choice,
-        rows: &mut String,
-        line: &mut String,
-        writer: &mut W,
+        receiver: &mut T,
     ) -> Result<(), ExplainFault>
-        ensures { Leaves (chosen_text choice.now (known_at self.now taken.now.before.now.world).context taken.now.after.now.world taken.now.place taken.now.event.now outcome.now)
-            (W.contents writer.old) (W.contents writer.new) result }
+        ensures { LeavesFacts T.takes (chosen_entry choice.now (known_at self.now taken.now.before.now.world).context taken.now.after.now.world taken.now.place taken.now.event.now outcome.now)
+            receiver.old receiver.new result }
     {
         let context = EventContext {
             line: self.line,
@@ -129,11 +130,12 @@ impl<'a> History<'a> {
             event: taken.event,
             outcome,
         };
-        write_explained_entry(&explained_entry, choice.json, rows, line, writer)
+        receiver.take_entry(&explained_entry)
     }
 
     /// Counts and notes an event.
-    pub(crate) fn take_event(&mut self, taken: &Taken<'_>, outcome: &Outcome)
+    pub(crate) fn take_event(&mut self, taken: &Taken<'_>, event: &ReadEvent<'_>, outcome: &Outcome)
+        requires { event.now ≡ taken.now.event.now }
         ensures { known_at self.new taken.now.after.now.world
             ≡ known_with (known_at self.old taken.now.before.now.world) taken.now.after.now.world taken.now.place taken.now.event.now outcome.now }
     {
@@ -144,51 +146,34 @@ impl<'a> History<'a> {
             releases: self.releases.as_slice(),
             time: self.time,
         };
-        let event = ReadEvent::new(taken.event);
-        count_event(&mut self.tally, &context, &event, outcome);
-        count_statistics(&mut self.statistics, &context, taken.after, &event, outcome);
-        note_event(&mut self.notes, taken.place, &event, outcome);
-        note_releases(&mut self.releases, taken, &event, outcome);
+        count_event(&mut self.tally, &context, event, outcome);
+        count_statistics(&mut self.statistics, &context, taken.after, event, outcome);
+        note_event(&mut self.notes, taken.place, event, outcome);
+        note_releases(&mut self.releases, taken, event, outcome);
         self.time = time_after(self.time, taken.event);
     }
 
-    /// Writes how many requests were answered in each way, the statistics, and the faults, after the last entry. `line` is
-    /// the line after it, and `rows` is a buffer for the text. It counts the holds that last to the end, so call it once.
-    pub(crate) fn write_counts<W: Write>(
+    /// Reports these holds and what is counted, after the last entry, after which the line is `line`. It counts the holds
+    /// that last to the end, so call it once.
+    pub(crate) fn report_summary<T: TakesFacts>(
         &mut self,
         line: &LineState,
-        rows: &mut String,
-        writer: &mut W,
+        ended: &[Hold],
+        lasting: &[Hold],
+        receiver: &mut T,
     ) -> Result<(), ExplainFault>
-        ensures { Leaves (counts_text (known_at self.old line.now.world)) (W.contents writer.old) (W.contents writer.new) result }
+        ensures { T.takes receiver.old (summary_of (ended.now ++ lasting.now) (known_at self.old line.now.world)) result receiver.new }
     {
         let time = moment(self.time);
         let slaves = self.line.slaves.as_slice();
         count_all_lasting(&mut self.statistics, line, time, slaves);
-        let counts = CountsTables {
+        let summary = Summary {
             line: self.line,
+            ended,
+            lasting,
             tally: self.tally.as_slice(),
             statistics: self.statistics.as_slice(),
         };
-        write_rows(&counts, rows, writer)
-    }
-}
-
-/// Writes the rows of an event, or its line of JSON; `rows` and `line` are buffers for the texts.
-fn write_explained_entry<W: Write>(
-    explained_entry: &ExplainedEntry<'_>,
-    json: bool,
-    rows: &mut String,
-    line: &mut String,
-    writer: &mut W,
-) -> Result<(), ExplainFault>
-    ensures { Leaves (if json then entry_json explained_entry.now.context.now explained_entry.now.after.now.world explained_entry.now.place explained_entry.now.event.now explained_entry.now.outcome.now
-        else explained_entry_text explained_entry.now.context.now explained_entry.now.after.now.world explained_entry.now.place explained_entry.now.event.now explained_entry.now.outcome.now)
-        (W.contents writer.old) (W.contents writer.new) result }
-{
-    if json {
-        write_entry_line(explained_entry, rows, line, writer)
-    } else {
-        write_rows(explained_entry, rows, writer)
+        receiver.take_summary(&summary)
     }
 }

@@ -1,15 +1,17 @@
-//! Checks an audit text row by row and explains it to a person, or as JSON to a program, with holds, counts and
-//! statistics; it opens no files, and the sentences of an event are in explain_events.
+//! Checks an audit text row by row and reports its facts: entries, holds, counts and the verdict; it opens no files, and
+//! the sentences of an event are in explain_events.
 //!
 //! [`TextRows`] reads the rows of a text from any reader. [`explain_rows`] explains a text that is read so, and
 //! [`check_rows`] checks one. A [`Follower`] takes the rows of a text one after another, so it explains a text that is
 //! still being written. It begins at the header of a text or behind the head of a part, and [`explain_entries`]
-//! explains the rows from there on. Explanations go to any writer, and each row is checked before it is explained. For
-//! a program each entry can be a line of JSON (`Choice::json`), which is made of the same rows.
+//! explains the rows from there on. Each row is checked before it is explained.
 //!
-//! An event is taken by two lines, one of which is one event behind the other. They, the counts of 128 addresses, one
-//! row of the text, the rows of one entry and its line of JSON are all that takes memory; [`explain_rows`] and
-//! [`explain_entries`] store one more row for each hold that ended.
+//! An explanation is a list of facts, which go to any receiver ([`TakesFacts`]). [`RowWriter`] writes them as rows,
+//! [`JsonWriter`] as lines of JSON, and [`FactWriter`] in the form that is chosen at run time.
+//!
+//! An event is taken by two lines, one of which is one event behind the other. They, the counts of 128 addresses and one
+//! row of the text are all that takes memory; [`explain_rows`] and [`explain_entries`] store each hold besides, and a
+//! receiver the rows and the line of one fact.
 #![tactic(auto)]
 
 mod checking;
@@ -23,9 +25,11 @@ mod ended_holds;
 mod explain;
 mod explain_fault;
 mod explaining;
+mod fact_writer;
 mod follow_fault;
 mod follower;
 mod history;
+mod hold;
 mod holds;
 mod json_counts;
 mod json_entry;
@@ -33,36 +37,47 @@ mod json_facts;
 mod json_lists;
 mod json_rows;
 mod json_values;
-mod json_verdict;
+mod json_writer;
 pub mod laws;
 mod live_list;
 mod output;
 mod read_fault;
 mod row;
 mod row_buffer;
+mod row_writer;
 mod rows_fault;
 mod slices;
 mod station_rows;
 mod statistics;
 mod statistics_rows;
+mod summary;
+mod summary_rows;
+mod takes_facts;
 mod tally;
 mod tally_rows;
 mod text_rows;
 mod verdict;
+mod verdict_words;
 
 pub use checking::check_rows;
 pub use choice::Choice;
-pub use explain::set_verdict;
 pub use explain_fault::ExplainFault;
 pub use explaining::{explain_entries, explain_rows};
+pub use fact_writer::FactWriter;
 pub use follow_fault::FollowFault;
 pub use follower::Follower;
+pub use hold::Hold;
 pub use json_counts::Ways;
 pub use json_values::{NumberOrNull, Quoted, truth_name};
-pub use json_verdict::set_verdict_by;
+pub use json_writer::JsonWriter;
 pub use read_fault::ReadFault;
 pub use row::event_of_row;
+pub use row_writer::RowWriter;
 pub use rows_fault::RowsFault;
+pub use statistics::AddressCounts;
+pub use summary::Summary;
+pub use takes_facts::{TakesEntries, TakesFacts};
 pub use tally::SenderCounts;
 pub use text_rows::TextRows;
 pub use verdict::readable;
+pub use verdict_words::{set_json_verdict, set_verdict};

@@ -1,19 +1,12 @@
 //! The table of the live list: the addresses that masters polled.
 
-ghost use Rattle.std.specs.Prelude.{◌≡◌, ◌==◌, Some};
-ghost use Rattle.std.specs.List.{flat_map, list_any};
-ghost use Rattle.dp_line.specs.World.{description_of};
-ghost use Rattle.explain_texts.specs.StatisticsRows.{station_words, poll_row, live_list};
-
 use crate::columns::{NumberColumn, StationColumn, WordsColumn};
 use crate::statistics::{AddressCounts, Item};
 use dp_line::{LineSpec, described};
 use std::fmt;
 
 /// Returns what has an address, by the line's description.
-fn station_word(line: &LineSpec, address: u8) -> &'static str
-    ensures { result.now ≡ station_words (description_of line.now) address }
-{
+fn station_word(line: &LineSpec, address: u8) -> &'static str {
     match described(line.slaves.as_slice(), address) {
         Some(_) => "slave",
         None => {
@@ -26,9 +19,7 @@ fn station_word(line: &LineSpec, address: u8) -> &'static str
     }
 }
 
-fn is_master(masters: &[u8], address: u8) -> bool
-    ensures { result ≡ list_any (λ master. master == address) masters.now }
-{
+fn is_master(masters: &[u8], address: u8) -> bool {
     masters.iter().any(|master| *master == address)
 }
 
@@ -40,8 +31,6 @@ struct PollRow<'a> {
 }
 
 impl<'a> fmt::Display for PollRow<'a> {
-    ghost output = { λ s. Some (poll_row (description_of s.line.now) s.counts.now) };
-
     fn fmt<W: fmt::Write>(&self, f: &mut fmt::Formatter<W>) -> fmt::Result {
         let counts = self.counts;
         let count = counts.receiver.count_of(Item::Poll);
@@ -70,8 +59,6 @@ struct PollRows<'a> {
 }
 
 impl<'a> fmt::Display for PollRows<'a> {
-    ghost output = { λ s. Some (flat_map (poll_row (description_of s.line.now)) s.statistics.now) };
-
     fn fmt<W: fmt::Write>(&self, f: &mut fmt::Formatter<W>) -> fmt::Result {
         for counts in self.statistics {
             let row = PollRow {
@@ -92,8 +79,6 @@ pub(crate) struct LiveList<'a> {
 }
 
 impl<'a> fmt::Display for LiveList<'a> {
-    ghost output = { λ s. Some (live_list (description_of s.line.now) s.statistics.now) };
-
     fn fmt<W: fmt::Write>(&self, f: &mut fmt::Formatter<W>) -> fmt::Result {
         let rows = PollRows {
             line: self.line,

@@ -1,12 +1,30 @@
-//! Writes rows on a writer.
+//! Writes texts on a writer.
 
 ghost use Rattle.std.specs.Prelude.{IfSome};
 ghost use Rattle.explain_texts.specs.Explained.{Leaves};
+ghost use Rattle.explain_texts.specs.Written.{LeavesFrom};
 
 use crate::explain_fault::ExplainFault;
-use dp_text::write_whole;
+use dp_text::{Text, write_whole};
 use std::fmt::Display;
 use std::io::Write;
+
+/// Writes a text.
+pub(crate) fn write_text<W: Write>(text: &Text, writer: &mut W) -> Result<(), ExplainFault>
+    ensures { Leaves text.now (W.contents writer.old) (W.contents writer.new) result }
+{
+    write_octets(text.as_bytes(), writer)
+}
+
+/// Writes octets.
+fn write_octets<W: Write>(octets: &[u8], writer: &mut W) -> Result<(), ExplainFault>
+    ensures { Leaves octets.now (W.contents writer.old) (W.contents writer.new) result }
+{
+    match write_whole(writer, octets) {
+        Ok(()) => Ok(()),
+        Err(_) => Err(ExplainFault::WriteFault),
+    }
+}
 
 /// Formats a text into `rows`, and then writes it. Returns `OutOfMemory` if memory runs out, and `WriteFault` if the
 /// write fails.
@@ -22,8 +40,25 @@ pub(crate) fn write_rows<W: Write, D: Display>(
         Ok(()) => {}
         Err(_) => return Err(ExplainFault::OutOfMemory),
     }
-    match write_whole(writer, rows.as_bytes()) {
-        Ok(()) => Ok(()),
-        Err(_) => Err(ExplainFault::WriteFault),
+    write_octets(rows.as_bytes(), writer)
+}
+
+/// Writes `front`, and then a text, which is formatted into `rows` before. The faults are those of [`write_rows`].
+pub(crate) fn write_fronted<W: Write, D: Display>(
+    front: &str,
+    reported: &D,
+    rows: &mut String,
+    writer: &mut W,
+) -> Result<(), ExplainFault>
+    ensures { LeavesFrom front.now (W.contents writer.old) (W.contents writer.new) result }
+{
+    rows.clear();
+    match write!(rows, "{reported}") {
+        Ok(()) => {}
+        Err(_) => return Err(ExplainFault::OutOfMemory),
+    }
+    match write_octets(front.as_bytes(), writer) {
+        Ok(()) => write_octets(rows.as_bytes(), writer),
+        Err(fault) => Err(fault),
     }
 }

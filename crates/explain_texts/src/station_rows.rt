@@ -1,9 +1,5 @@
 //! The rows of a station in the tables of the statistics.
 
-ghost use Rattle.std.specs.Prelude.{◌≡◌, Some};
-ghost use Rattle.std.specs.List.{flat_map};
-ghost use Rattle.explain_texts.specs.StatisticsRows.{item_front, item_word, item_row, held_row, station_rows};
-
 use crate::columns::{NumberColumn, StationColumn, TimeColumn, WordsColumn};
 use crate::statistics::{Item, StationCounts};
 use dp_responder::Rule;
@@ -38,9 +34,7 @@ const ALL_ITEMS: [Item; 23] = [
 ];
 
 /// Returns the front of an item in its column.
-fn item_front(item: Item) -> &'static str
-    ensures { result.now ≡ item_front item }
-{
+fn item_front(item: Item) -> &'static str {
     match item {
         Item::Exchange => "",
         Item::Diagnosis => "",
@@ -52,9 +46,7 @@ fn item_front(item: Item) -> &'static str
 }
 
 /// Returns an item in its column, behind its front.
-fn item_word(item: Item) -> &'static str
-    ensures { result.now ≡ item_word item }
-{
+fn item_word(item: Item) -> &'static str {
     match item {
         Item::Exchange => "exchanges",
         Item::Diagnosis => "diagnoses",
@@ -74,8 +66,6 @@ struct ItemRow<'a> {
 }
 
 impl<'a> fmt::Display for ItemRow<'a> {
-    ghost output = { λ s. Some (item_row s.station.name.now s.station.address s.counts.now s.item) };
-
     fn fmt<W: fmt::Write>(&self, f: &mut fmt::Formatter<W>) -> fmt::Result {
         let count = self.counts.count_of(self.item);
         if count == 0 {
@@ -100,8 +90,6 @@ struct ItemRows<'a> {
 }
 
 impl<'a> fmt::Display for ItemRows<'a> {
-    ghost output = { λ s. Some (flat_map (item_row s.station.name.now s.station.address s.counts.now) s.items.now) };
-
     fn fmt<W: fmt::Write>(&self, f: &mut fmt::Formatter<W>) -> fmt::Result {
         for item in self.items {
             let row = ItemRow {
@@ -123,8 +111,6 @@ struct HeldRow<'a> {
 }
 
 impl<'a> fmt::Display for HeldRow<'a> {
-    ghost output = { λ s. Some (held_row s.station.name.now s.station.address s.units) };
-
     fn fmt<W: fmt::Write>(&self, f: &mut fmt::Formatter<W>) -> fmt::Result {
         if self.units == 0 {
             return Ok(());
@@ -147,9 +133,6 @@ pub(crate) struct StationRows<'a> {
 }
 
 impl<'a> fmt::Display for StationRows<'a> {
-    ghost output = { λ s. Some (station_rows s.station.name.now s.station.address s.counts.now) };
-
-    #[tactic(auto, unfolding(crate::specs::StatisticsRows::station_rows))]
     fn fmt<W: fmt::Write>(&self, f: &mut fmt::Formatter<W>) -> fmt::Result {
         let rows = ItemRows {
             station: self.station,

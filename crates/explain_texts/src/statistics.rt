@@ -56,7 +56,7 @@ pub(crate) enum Count {
 
 /// The counts of an address.
 #[derive(Drop)]
-pub(crate) struct AddressCounts {
+pub struct AddressCounts {
     /// The address, 0 to 127.
     pub(crate) address: u8,
     /// What it received, and how it was held.

@@ -1,9 +1,5 @@
 //! The tables of the statistics of slaves and of masters.
 
-ghost use Rattle.std.specs.Prelude.{Some};
-ghost use Rattle.std.specs.List.{flat_map};
-ghost use Rattle.explain_texts.specs.StatisticsRows.{slave_rows, master_rows, slaves_table, masters_table};
-
 use crate::columns::StationColumn;
 use crate::station_rows::StationRows;
 use crate::statistics::AddressCounts;
@@ -18,8 +14,6 @@ struct SlaveRows<'a> {
 }
 
 impl<'a> fmt::Display for SlaveRows<'a> {
-    ghost output = { λ s. Some (slave_rows s.statistics.now s.slave.now) };
-
     fn fmt<W: fmt::Write>(&self, f: &mut fmt::Formatter<W>) -> fmt::Result {
         let address = self.slave.address;
         let Some(counts) = self.statistics.get(usize::from(address)) else {
@@ -44,8 +38,6 @@ struct MasterRows<'a> {
 }
 
 impl<'a> fmt::Display for MasterRows<'a> {
-    ghost output = { λ s. Some (master_rows s.statistics.now s.master) };
-
     fn fmt<W: fmt::Write>(&self, f: &mut fmt::Formatter<W>) -> fmt::Result {
         let address = self.master;
         let Some(counts) = self.statistics.get(usize::from(address)) else {
@@ -70,8 +62,6 @@ struct AllSlaveRows<'a> {
 }
 
 impl<'a> fmt::Display for AllSlaveRows<'a> {
-    ghost output = { λ s. Some (flat_map (slave_rows s.statistics.now) s.slaves.now) };
-
     fn fmt<W: fmt::Write>(&self, f: &mut fmt::Formatter<W>) -> fmt::Result {
         for slave in self.slaves {
             let rows = SlaveRows {
@@ -92,8 +82,6 @@ struct AllMasterRows<'a> {
 }
 
 impl<'a> fmt::Display for AllMasterRows<'a> {
-    ghost output = { λ s. Some (flat_map (master_rows s.statistics.now) s.masters.now) };
-
     fn fmt<W: fmt::Write>(&self, f: &mut fmt::Formatter<W>) -> fmt::Result {
         for master in self.masters {
             let rows = MasterRows {
@@ -114,8 +102,6 @@ pub(crate) struct SlavesTable<'a> {
 }
 
 impl<'a> fmt::Display for SlavesTable<'a> {
-    ghost output = { λ s. Some (slaves_table s.slaves.now s.statistics.now) };
-
     fn fmt<W: fmt::Write>(&self, f: &mut fmt::Formatter<W>) -> fmt::Result {
         let rows = AllSlaveRows {
             statistics: self.statistics,
@@ -133,8 +119,6 @@ pub(crate) struct MastersTable<'a> {
 }
 
 impl<'a> fmt::Display for MastersTable<'a> {
-    ghost output = { λ s. Some (masters_table s.masters.now s.statistics.now) };
-
     fn fmt<W: fmt::Write>(&self, f: &mut fmt::Formatter<W>) -> fmt::Result {
         let rows = AllMasterRows {
             statistics: self.statistics,

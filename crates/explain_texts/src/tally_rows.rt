@@ -1,8 +1,7 @@
 //! The tables of how many requests were answered in each way.
 
-ghost use Rattle.std.specs.Prelude.{◌≡◌, ◌<◌, Some};
-ghost use Rattle.std.specs.List.{flat_map};
-ghost use Rattle.explain_texts.specs.Tallies.{count_of, way_words, count_columns, sender_words, counted_row, sender_rows, total, is_fault, fault_row, counted_table, faults_table};
+ghost use Rattle.std.specs.Prelude.{◌≡◌};
+ghost use Rattle.explain_texts.specs.Tallies.{is_fault, way_words};
 
 use crate::columns::{NumberColumn, StationColumn};
 use crate::tally::SenderCounts;
@@ -62,8 +61,6 @@ struct CountColumns {
 }
 
 impl fmt::Display for CountColumns {
-    ghost output = { λ s. Some (count_columns s.way s.count) };
-
     fn fmt<W: fmt::Write>(&self, f: &mut fmt::Formatter<W>) -> fmt::Result {
         let name = way_name(self.way);
         let count = NumberColumn(self.count);
@@ -77,10 +74,6 @@ impl fmt::Display for CountColumns {
 struct SenderColumn(Option<u8>);
 
 impl fmt::Display for SenderColumn {
-    ghost use Rattle.explain_events.specs.Words.{at_left};
-
-    ghost output = { λ sender. Some (at_left 12 (sender_words sender.0)) };
-
     fn fmt<W: fmt::Write>(&self, f: &mut fmt::Formatter<W>) -> fmt::Result {
         match self.0 {
             Some(master) => {
@@ -103,8 +96,6 @@ struct CountedRow<'a> {
 }
 
 impl<'a> fmt::Display for CountedRow<'a> {
-    ghost output = { λ s. Some (counted_row s.counts.now s.way) };
-
     fn fmt<W: fmt::Write>(&self, f: &mut fmt::Formatter<W>) -> fmt::Result {
         let count = self.counts.count_of(self.way);
         if count == 0 {
@@ -127,8 +118,6 @@ struct CountedRows<'a> {
 }
 
 impl<'a> fmt::Display for CountedRows<'a> {
-    ghost output = { λ s. Some (flat_map (counted_row s.counts.now) s.ways.now) };
-
     fn fmt<W: fmt::Write>(&self, f: &mut fmt::Formatter<W>) -> fmt::Result {
         for way in self.ways {
             let row = CountedRow {
@@ -146,9 +135,6 @@ impl<'a> fmt::Display for CountedRows<'a> {
 struct SenderRows<'a>(&'a SenderCounts);
 
 impl<'a> fmt::Display for SenderRows<'a> {
-    ghost output = { λ s. Some (sender_rows s.0.now) };
-
-    #[tactic(auto, unfolding(crate::specs::Tallies::sender_rows))]
     fn fmt<W: fmt::Write>(&self, f: &mut fmt::Formatter<W>) -> fmt::Result {
         let rows = CountedRows {
             counts: self.0,
@@ -163,8 +149,6 @@ impl<'a> fmt::Display for SenderRows<'a> {
 struct AllSenderRows<'a>(&'a [SenderCounts]);
 
 impl<'a> fmt::Display for AllSenderRows<'a> {
-    ghost output = { λ s. Some (flat_map sender_rows s.0.now) };
-
     fn fmt<W: fmt::Write>(&self, f: &mut fmt::Formatter<W>) -> fmt::Result {
         for counts in self.0 {
             let rows = SenderRows(counts);
@@ -175,9 +159,7 @@ impl<'a> fmt::Display for AllSenderRows<'a> {
 }
 
 /// Returns how often requests of all senders were answered in a way; stops at the largest number of 64 bits.
-fn total(tally: &[SenderCounts], way: Option<Answered>) -> u64
-    ensures { result ≡ total tally.now way }
-{
+fn total(tally: &[SenderCounts], way: Option<Answered>) -> u64 {
     let [counts, others @ ..] = tally else {
         return 0;
     };
@@ -202,8 +184,6 @@ struct FaultRow<'a> {
 }
 
 impl<'a> fmt::Display for FaultRow<'a> {
-    ghost output = { λ s. Some (fault_row s.tally.now s.way) };
-
     fn fmt<W: fmt::Write>(&self, f: &mut fmt::Formatter<W>) -> fmt::Result {
         let count = total(self.tally, self.way);
         if is_fault(self.way) && count != 0 {
@@ -226,8 +206,6 @@ struct FaultRows<'a> {
 }
 
 impl<'a> fmt::Display for FaultRows<'a> {
-    ghost output = { λ s. Some (flat_map (fault_row s.tally.now) s.ways.now) };
-
     fn fmt<W: fmt::Write>(&self, f: &mut fmt::Formatter<W>) -> fmt::Result {
         for way in self.ways {
             let row = FaultRow {
@@ -245,8 +223,6 @@ impl<'a> fmt::Display for FaultRows<'a> {
 pub(crate) struct CountedTable<'a>(pub(crate) &'a [SenderCounts]);
 
 impl<'a> fmt::Display for CountedTable<'a> {
-    ghost output = { λ s. Some (counted_table s.0.now) };
-
     fn fmt<W: fmt::Write>(&self, f: &mut fmt::Formatter<W>) -> fmt::Result {
         let rows = AllSenderRows(self.0);
         write!(f, "requests by rule\n{rows}")
@@ -258,8 +234,6 @@ impl<'a> fmt::Display for CountedTable<'a> {
 pub(crate) struct FaultsTable<'a>(pub(crate) &'a [SenderCounts]);
 
 impl<'a> fmt::Display for FaultsTable<'a> {
-    ghost output = { λ s. Some (faults_table s.0.now) };
-
     fn fmt<W: fmt::Write>(&self, f: &mut fmt::Formatter<W>) -> fmt::Result {
         let rows = FaultRows {
             tally: self.0,

@@ -12,7 +12,7 @@ use crate::choice::{Form, JudgeChoice};
 use crate::output::{write_bytes, write_text};
 use dp_audit::AuditFault;
 use dp_text::Text;
-use explain_texts::{Choice, ExplainFault, set_verdict, set_verdict_by};
+use explain_texts::{ExplainFault, set_json_verdict, set_verdict};
 use judge_findings::{CountLines, CountRows, Junit, JunitVerdict, LineJudge, Seat};
 use judge_rules::JudgeRule;
 use std::fmt;
@@ -146,18 +146,8 @@ fn write_verdict_line<W: Write>(
 ) -> Result<(), ExplainFault>
     ensures { Leaves (verdict_json verdict) (W.contents writer.old) (W.contents writer.new) result }
 {
-    let choice = Choice {
-        from: None,
-        to: None,
-        slave: None,
-        master: None,
-        refused: false,
-        faults: false,
-        summary: false,
-        json: true,
-    };
     let mut text = Text::new();
-    set_verdict_by(&choice, &mut text, verdict);
+    set_json_verdict(&mut text, verdict);
     write_bytes(text.as_bytes(), writer)
 }
 

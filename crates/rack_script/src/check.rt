@@ -1,11 +1,12 @@
 //! The check of an audit text on a rack.
 
-ghost use Rattle.std.specs.Prelude.{◌≡◌, ℕ, List, [], Result, Err, None, All, IfSome, IsOk, OnOk, find, option_copied};
+ghost use Rattle.std.specs.Prelude.{◌≡◌, ℕ, List, [], Result, Err, None, All, IfErr, IfOk, IfSome, IsOk, OnOk, find, option_copied};
 ghost use Rattle.dp_line.specs.World.{description_of, opening_fault};
 ghost use Rattle.rack_file.specs.RackFile.{rack_in};
 ghost use Rattle.rack_file.specs.Rack.{rack_described};
 ghost use Rattle.dp_audit.specs.declared.fault.AuditFault.{AuditFault as Fault};
 ghost use Rattle.dp_audit.specs.Check.{is_accepted_header};
+ghost use Rattle.explain_texts.specs.Explained.{verdict_status};
 ghost use Rattle.explain_texts.specs.ExplainedRows.{Reads};
 ghost use Rattle.explain_texts.specs.TextRows.{known_text, octets_read};
 ghost use Rattle.rack_script.specs.Checks.{checked_on};
@@ -114,14 +115,27 @@ pub(crate) fn report_text<W: Write>(
     ensures reported { ReportsText text.now verdict (W.contents writer.old) (W.contents writer.new) result }
     ensures memory { verdict ≡ Err AuditFault.OutOfMemory → result ≡ Err RunFault.OutOfMemory }
 {
-    let status = match verdict {
-        Ok(_) => 0,
-        Err(AuditFault::OutOfMemory) => return Err(RunFault::OutOfMemory),
-        Err(AuditFault::BadLine(_)) => 1,
-        Err(AuditFault::NotThePolicy(_)) => 1,
+    let status = match status_of(verdict) {
+        Ok(status) => status,
+        Err(fault) => return Err(fault),
     };
     match write_whole(writer, text) {
         Ok(()) => Ok(status),
         Err(_) => Err(RunFault::WriteFault),
+    }
+}
+
+/// Returns the exit status for a verdict: 0 if it is that a text is legal, else 1. Returns `OutOfMemory` if that is the
+/// verdict.
+pub(crate) fn status_of(verdict: Result<u32, AuditFault>) -> Result<u8, RunFault>
+    ensures ok { IfOk result (λ status. status ≡ verdict_status verdict) }
+    ensures err { IfErr result (λ fault. fault ≡ RunFault.OutOfMemory) }
+    ensures memory { verdict ≡ Err AuditFault.OutOfMemory → result ≡ Err RunFault.OutOfMemory }
+{
+    match verdict {
+        Ok(_) => Ok(0),
+        Err(AuditFault::OutOfMemory) => Err(RunFault::OutOfMemory),
+        Err(AuditFault::BadLine(_)) => Ok(1),
+        Err(AuditFault::NotThePolicy(_)) => Ok(1),
     }
 }

@@ -29,7 +29,7 @@ mod two_lines;
 
 pub use check::{line_named, run_check};
 pub use difference::{Difference, difference_in};
-pub use explain::{report_verdict_by, run_explain};
+pub use explain::{report_verdict_to, run_explain};
 pub use explain_texts::{Choice, TextRows};
 pub use input::split_input;
 pub use parts::run_parts_check;

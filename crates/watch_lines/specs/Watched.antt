@@ -1,7 +1,8 @@
 -- A line whose audit text is followed for the page (own).
-use Rattle.std.specs.Prelude.{codes, ◌≡◌, ℕ, if◌then◌else◌, List, [], ◌++◌, true, false, Option, Some, None, Result, Ok, Err}
+use Rattle.std.specs.Prelude.{codes, ◌≡◌, ℕ, ◌+◌, if◌then◌else◌, List, [], ◌++◌, true, false, Option, Some, None, Result, Ok, Err}
 use Rattle.dp_line.specs.declared.event.Event.{Event}
 use Rattle.dp_line.specs.World.{Description}
+use Rattle.dp_line.specs.Steps.{step}
 use Rattle.dp_text.specs.Words.{lines_of}
 use Rattle.dp_audit.specs.declared.fault.AuditFault.{AuditFault}
 use Rattle.dp_audit.specs.declared.fault.AuditFault.TheVariants as faults
@@ -13,7 +14,9 @@ use Rattle.audit_parts.specs.Parts.{fault_of_head}
 use Rattle.explain_texts.specs.declared.choice.Choice.{Choice}
 use Rattle.explain_texts.specs.JsonValues.{string_json}
 use Rattle.explain_texts.specs.Behind.{follower_behind}
-use Rattle.explain_texts.specs.Followed.{FollowerView, after_row, event_taken, first_follower, text_of_row}
+use Rattle.explain_texts.specs.Followed.{FollowerView, after_row, event_taken, first_follower}
+use Rattle.explain_texts.specs.Json.{entry_json}
+use Rattle.explain_texts.specs.Known.{KnownView, outcome_reported}
 use Rattle.watch_lines.specs.declared.kept_entry.KeptEntry.{KeptEntry}
 use Rattle.watch_lines.specs.declared.watched_line.Header.{Header}
 use Rattle.watch_lines.specs.declared.watched_line.Header.TheVariants as headers
@@ -22,7 +25,7 @@ use Rattle.watch_lines.specs.declared.text_verdict.TextVerdict.TheVariants as te
 use Rattle.watch_lines.specs.Kept.{KeptView, entry_kept}
 use Rattle.watch_lines.specs.Notable.{IsNotable}
 
--- every entry, as a line of JSON
+-- every entry
 abbrev pub every_entry : Choice
 every_entry = record {
   from = None;
@@ -32,7 +35,6 @@ every_entry = record {
   refused = false;
   faults = false;
   summary = false;
-  json = true;
 }
 
 -- a line by the text that is followed: the name of the file that is read, what its header was found to be, what is known from its rows, how
@@ -93,6 +95,15 @@ behind_head watched (Err fault) = record watched { header = headers.Wrong (fault
 abbrev pub note_json : List ℕ → List ℕ → List ℕ
 note_json file note = codes "{\"begins\":" ++ string_json file ++ codes ",\"note\":" ++ string_json note ++ codes "}\n"
 
+-- the line of JSON of the entry of an event, which takes the next place of the line
+abbrev pub line_of_event : KnownView → Option Event → List ℕ
+line_of_event known None = []
+line_of_event known (Some event) =
+    entry_json known.context (step known.context.world event).world (known.context.world.count + 1) event (outcome_reported known.context.world event)
+
+abbrev pub line_of_row : FollowerView → List ℕ → List ℕ
+line_of_row follower row = line_of_event follower.known (event_taken follower row)
+
 -- an entry with this number and this line of JSON is stored
 pub record IsKept (number : ℕ) (text : List ℕ) (old new : KeptView) : Type 0 where
   pub entry : KeptEntry
@@ -116,7 +127,7 @@ KeepsEvent (Some event) number text old new = IsKept number text old new
 
 abbrev pub KeepsRow : WatchedView → List ℕ → ℕ → KeptView → Type 0
 KeepsRow watched row number new =
-    KeepsEvent (event_behind watched row watched.header) number (text_of_row every_entry watched.follower row) watched.kept new
+    KeepsEvent (event_behind watched row watched.header) number (line_of_row watched.follower row) watched.kept new
 
 -- the row is taken under this number: no octet of a row has begun then
 pub record TakesRow (watched : WatchedView) (row : List ℕ) (number : ℕ) (new : WatchedView) : Type 0 where

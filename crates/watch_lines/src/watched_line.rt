@@ -5,9 +5,9 @@ ghost use Rattle.std.specs.Option.{option_copied};
 ghost use Rattle.dp_line.specs.World.{description_of, opening_fault};
 ghost use Rattle.dp_text.specs.Words.{lines_of};
 ghost use Rattle.audit_heads.specs.HeadLines.{line_read};
-ghost use Rattle.explain_texts.specs.Followed.{after_row, event_taken, first_follower, text_of_row};
+ghost use Rattle.explain_texts.specs.Followed.{after_row, event_taken, first_follower};
 ghost use Rattle.watch_lines.specs.Kept.{nothing_kept};
-ghost use Rattle.watch_lines.specs.Watched.{behind_head, every_entry, follower_opened, header_judged, note_json, text_verdict_by, text_verdict_of, text_begun, IsKept, IsNoted, KeepsEvent, KeepsNote, TakesRow};
+ghost use Rattle.watch_lines.specs.Watched.{behind_head, follower_opened, header_judged, line_of_row, note_json, text_verdict_by, text_verdict_of, text_begun, IsKept, IsNoted, KeepsEvent, KeepsNote, TakesRow};
 
 use crate::kept_entries::KeptEntries;
 use crate::kept_entry::{KeptEntry, is_notable};
@@ -17,11 +17,11 @@ use audit_parts::fault_of_head;
 use dp_audit::{AuditFault, is_header_of};
 use dp_line::LineSpec;
 use dp_text::Text;
-use explain_texts::{Choice, FollowFault, Follower, Quoted};
+use explain_texts::{Choice, FollowFault, Follower, JsonWriter, Quoted};
 use std::alloc::{AllocError, Global};
 use std::marker::Model;
 
-/// Every entry, as a line of JSON.
+/// Every entry.
 const EVERY_ENTRY: Choice = Choice {
     from: None,
     to: None,
@@ -30,7 +30,6 @@ const EVERY_ENTRY: Choice = Choice {
     refused: false,
     faults: false,
     summary: false,
-    json: true,
 };
 
 /// What the first row of a text was found to be.
@@ -244,11 +243,11 @@ impl<'a> WatchedLine<'a> {
     /// Takes a row behind the header.
     fn take_entry(&mut self, row: &[u8], number: u64) -> Result<(), AllocError>
         ensures follower { OnOk result (self.new ≡ record self.old { follower = after_row self.old.follower row.now; kept = self.new.kept }) }
-        ensures kept { OnOk result (KeepsEvent (event_taken self.old.follower row.now) number (text_of_row every_entry self.old.follower row.now) self.old.kept self.new.kept) }
+        ensures kept { OnOk result (KeepsEvent (event_taken self.old.follower row.now) number (line_of_row self.old.follower row.now) self.old.kept self.new.kept) }
     {
-        let mut text = Vec::new(self.alloc);
-        match self.follower.take_row(row, &EVERY_ENTRY, &mut text) {
-            Ok(()) => self.keep_entry(text, number),
+        let mut entry = JsonWriter::new(self.alloc, Vec::new(self.alloc));
+        match self.follower.take_row(row, &EVERY_ENTRY, &mut entry) {
+            Ok(()) => self.keep_entry(entry.into_writer(), number),
             Err(FollowFault::Wrong(_)) => Ok(()),
             Err(FollowFault::Explain(_)) => Err(AllocError),
         }

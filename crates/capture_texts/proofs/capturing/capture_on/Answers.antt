@@ -11,11 +11,10 @@ use Rattle.dp_audit.specs.Check.{checked}
 use Rattle.capture_texts.specs.Blocks.{block_octets, capture_octets}
 use Rattle.explain_texts.specs.TextRows.{known_text, octets_read}
 use Rattle.rack_script.specs.Checks.{checked_on, line_named}
-use Rattle.rack_script.specs.Explanations.{Explains}
 use Rattle.rack_file.specs.declared.rack.RackLine.{RackLine}
 use Rattle.rack_file.specs.Rack.{RackDescription, line_described, rack_described}
 use Rattle.capture_texts.specs.Captured.{captured_by_line, captured_on, captured_text, interface_among, interface_named, opening_blocks}
-use Rattle.capture_texts.specs.Captures.{Ends}
+use Rattle.capture_texts.specs.Captures.{Ends, WritesCapture}
 use Rattle.capture_texts.proofs.FirstRow.{DecidesLine, FirstLine, capture_is, decides_if_ok, first_line, is_headed, found_opens, named_by, none_if_ok, only_line, verdict_is}
 use Rattle.capture_texts.proofs.Texts.{ends_so, front_cut, front_unread, then_explains}
 use Rattle.capture_texts.proofs.capturing.capture_on.Goals as goal
@@ -43,7 +42,7 @@ pub returns-in-Err-clause-captured : goal.returns-in-Err-clause-captured
 returns-in-Err-clause-captured g c =
     let rack = rack_described c.args.rack.now in
     let text = octets_read c.args.rows.now.text in
-    subst (λ (t : List ℕ). Explains (checked_on rack text) c.args.rows.now.text.row t (g.W.Write.contents c.args.writer.now) (g.W.Write.contents c.write_opening.new.writer) (Err c.run_fault.result))
+    subst (λ (t : List ℕ). WritesCapture (checked_on rack text) c.args.rows.now.text.row t (g.W.Write.contents c.args.writer.now) (g.W.Write.contents c.write_opening.new.writer) (Err c.run_fault.result))
     (sym (octets_on rack text))
     (front_cut (checked_on rack text) c.args.rows.now.text.row (g.W.Write.contents c.args.writer.now) (g.W.Write.contents c.write_opening.new.writer) (capture_octets (opening_blocks rack.lines)) _ c.in-Err.cut c.run_fault.result c.run_fault.ensures
     (subst (λ (ls : List RackLine). WritesPrefix (g.W.Write.contents c.args.writer.now) (g.W.Write.contents c.write_opening.new.writer) (capture_octets (opening_blocks (map line_described ls)))) (search rules) c.in-Err.ensures))
@@ -53,7 +52,7 @@ returns-in-Err-complete_row-clause-captured g c =
     let rack = rack_described c.args.rack.now in
     let new = c.complete_row.new.self.text in
     let text = octets_read new in
-    subst (λ (t : List ℕ). Explains (checked_on rack text) new.row t (g.W.Write.contents c.args.writer.now) (g.W.Write.contents c.write_opening.new.writer) (Err c.of_read.result))
+    subst (λ (t : List ℕ). WritesCapture (checked_on rack text) new.row t (g.W.Write.contents c.args.writer.now) (g.W.Write.contents c.write_opening.new.writer) (Err c.of_read.result))
     (sym (octets_on rack text))
     (front_unread (checked_on rack text) new.row (g.W.Write.contents c.args.writer.now) (g.W.Write.contents c.write_opening.new.writer) (capture_octets (opening_blocks rack.lines)) _ c.in-Err-complete_row.fault c.of_read.result c.of_read.ensures
     c.in-Err-complete_row.ensures.named

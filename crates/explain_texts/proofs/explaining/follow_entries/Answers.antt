@@ -1,5 +1,5 @@
 use Rattle.std.proofs.Common.{List, ℕ, sym, subst, ◌∙◌}
-use Rattle.explain_texts.specs.Followed.{text_of_row}
+use Rattle.explain_texts.specs.Followed.{facts_of_row}
 use Rattle.explain_texts.specs.TextRows.{octets_read}
 use Rattle.explain_texts.proofs.CheckedRows.{falls}
 use Rattle.explain_texts.proofs.FollowedRows.{AreFollowed, counts, entries_cut, entries_ended, entries_unread, entries_wrong, none_followed, row_followed}
@@ -11,7 +11,7 @@ pub loop-rows-init : goal.loop-rows-init
 loop-rows-init g c =
     let text = c.args.rows.now.text in
     record {
-      right = none_followed c.args.choice.now c.args.follower.now (octets_read text) c.args.ended.now (g.W.Write.contents c.args.writer.now) c.requires.right;
+      right = none_followed g.T.TakesEntries.takes c.args.choice.now c.args.follower.now (octets_read text) c.args.ended.now c.args.receiver.now c.requires.right;
       between = c.requires.between;
       since = nothing_since (g.R.Read.remaining c.args.rows.now.reader) text;
     }
@@ -20,8 +20,8 @@ pub returns-in-Ok-false-clause-followed : goal.returns-in-Ok-false-clause-follow
 returns-in-Ok-false-clause-followed g c =
     let l = c.loop-rows in
     let after = c.read_row.new.self.text in
-    entries_ended c.args.choice.now c.args.follower.now c.args.rows.now.text after (octets_read l.rows.text) after.row c.row.result.now c.count-count.result c.verdict_at_end.result l.follower
-    c.args.ended.now l.ended (g.W.Write.contents c.args.writer.now) (g.W.Write.contents l.writer) l.invariant.right c.read_row.ensures.reads.no_lf
+    entries_ended g.T.TakesEntries.takes c.args.choice.now c.args.follower.now c.args.rows.now.text after (octets_read l.rows.text) after.row c.row.result.now c.count-count.result c.verdict_at_end.result l.follower
+    c.args.ended.now l.ended c.args.receiver.now l.receiver l.invariant.right c.read_row.ensures.reads.no_lf
     c.count-count.ensures c.row.ensures.row c.verdict_at_end.ensures
     (part_next l.rows.text after _ _ l.invariant.between c.read_row.ensures.reads (sym c.in-Ok-false.ensures.whole ∙ c.in-Ok-false.field-0-test))
 
@@ -38,8 +38,8 @@ pub returns-in-Err-clause-followed : goal.returns-in-Err-clause-followed
 returns-in-Err-clause-followed g c =
     let l = c.loop-rows in
     let after = c.read_row.new.self.text in
-    entries_unread c.args.choice.now c.args.follower.now c.args.rows.now.text after (octets_read l.rows.text) after.row after.whole l.follower
-    c.args.ended.now l.ended (g.W.Write.contents c.args.writer.now) (g.W.Write.contents l.writer) c.in-Err.fault c.in-Err.ensures.named l.invariant.right c.read_row.ensures.reads.no_lf
+    entries_unread g.T.TakesEntries.takes c.args.choice.now c.args.follower.now c.args.rows.now.text after (octets_read l.rows.text) after.row after.whole l.follower
+    c.args.ended.now l.ended c.args.receiver.now l.receiver c.in-Err.fault c.in-Err.ensures.named l.invariant.right c.read_row.ensures.reads.no_lf
     (next_row l.rows.text after _ _ l.invariant.between c.read_row.ensures.reads)
 
 pub returns-in-Err-clause-kept : goal.returns-in-Err-clause-kept
@@ -49,7 +49,7 @@ pub loop-rows-smaller : goal.loop-rows-smaller
 loop-rows-smaller g c =
     let l = c.loop-rows in
     falls c.count-count.result l.follower.known.context.world.count c.follow_row.new.self.known.context.world.count c.count-count.ensures c.count-count.type_inv
-    (counts (text_of_row c.args.choice.now l.follower c.row-in-loop-rows.result.now) c.row-in-loop-rows.result.now l.follower c.follow_row.new.self (g.W.Write.contents l.writer) (g.W.Write.contents c.follow_row.new.writer) c.in-Ok.field-0
+    (counts g.T.TakesEntries.takes (facts_of_row c.args.choice.now l.follower c.row-in-loop-rows.result.now) c.row-in-loop-rows.result.now l.follower c.follow_row.new.self l.receiver c.follow_row.new.receiver c.in-Ok.field-0
     c.follow_row.ensures.known c.in-Ok.ensures.reported)
 
 pub loop-rows-preserved : goal.loop-rows-preserved
@@ -58,15 +58,15 @@ loop-rows-preserved g c =
     let after = c.read_row.new.self.text in
     let whole = sym c.in-Ok-true.ensures.whole ∙ c.in-Ok-true.field-0-test in
     let new = c.follow_row.new.self in
-    let newer = g.W.Write.contents c.follow_row.new.writer in
+    let newer = c.follow_row.new.receiver in
     let more = c.follow_row.new.ended in
-    let first = g.W.Write.contents c.args.writer.now in
+    let first = c.args.receiver.now in
     let before = octets_read c.args.rows.now.text in
     let shown = c.row-in-loop-rows.ensures.row in
     record {
       right =
-          subst (λ (t : List ℕ). AreFollowed c.args.choice.now c.args.follower.now before t new c.args.ended.now more first newer) (sym (whole_next l.rows.text after _ _ l.invariant.between c.read_row.ensures.reads whole))
-          (row_followed c.args.choice.now c.args.follower.now before (octets_read l.rows.text) after.row l.follower new c.args.ended.now l.ended more first (g.W.Write.contents l.writer) newer c.in-Ok.field-0
+          subst (λ (t : List ℕ). AreFollowed g.T.TakesEntries.takes c.args.choice.now c.args.follower.now before t new c.args.ended.now more first newer) (sym (whole_next l.rows.text after _ _ l.invariant.between c.read_row.ensures.reads whole))
+          (row_followed g.T.TakesEntries.takes c.args.choice.now c.args.follower.now before (octets_read l.rows.text) after.row l.follower new c.args.ended.now l.ended more first l.receiver newer c.in-Ok.field-0
           l.invariant.right c.read_row.ensures.reads.no_lf (rw shown at c.follow_row.ensures.known) (rw shown at c.in-Ok.ensures.reported) (rw shown at c.in-Ok.ensures.stored));
       between = between_rows after whole;
       since = row_since _ c.args.rows.now.text _ l.rows.text _ after l.invariant.since c.read_row.ensures.reads;
@@ -77,8 +77,8 @@ returns-in-Err-Wrong-clause-followed g c =
     let l = c.loop-rows in
     let after = c.read_row.new.self.text in
     let shown = c.row-in-loop-rows.ensures.row in
-    entries_wrong c.args.choice.now c.args.follower.now c.args.rows.now.text after (octets_read l.rows.text) after.row l.follower c.follow_row.new.self c.args.ended.now l.ended c.follow_row.new.ended
-    (g.W.Write.contents c.args.writer.now) (g.W.Write.contents l.writer) (g.W.Write.contents c.follow_row.new.writer) c.in-Err-Wrong.fault l.invariant.right c.read_row.ensures.reads.no_lf
+    entries_wrong g.T.TakesEntries.takes c.args.choice.now c.args.follower.now c.args.rows.now.text after (octets_read l.rows.text) after.row l.follower c.follow_row.new.self c.args.ended.now l.ended c.follow_row.new.ended
+    c.args.receiver.now l.receiver c.follow_row.new.receiver c.in-Err-Wrong.fault l.invariant.right c.read_row.ensures.reads.no_lf
     (whole_next l.rows.text after _ _ l.invariant.between c.read_row.ensures.reads (sym c.in-Ok-true.ensures.whole ∙ c.in-Ok-true.field-0-test))
     (rw shown at c.follow_row.ensures.known) (rw (c.in-Err-Wrong.field-0-is, shown) at c.in-Err-Wrong.ensures.reported) (rw c.in-Err-Wrong.field-0-is at c.in-Err-Wrong.ensures.stored)
 
@@ -89,8 +89,8 @@ pub returns-in-Err-Explain-clause-followed : goal.returns-in-Err-Explain-clause-
 returns-in-Err-Explain-clause-followed g c =
     let l = c.loop-rows in
     let after = c.read_row.new.self.text in
-    entries_cut c.args.choice.now c.args.follower.now c.args.rows.now.text after (octets_read l.rows.text) after.row l.follower c.follow_row.new.self c.args.ended.now l.ended c.follow_row.new.ended
-    (g.W.Write.contents c.args.writer.now) (g.W.Write.contents l.writer) (g.W.Write.contents c.follow_row.new.writer) c.in-Err-Explain.fault l.invariant.right c.read_row.ensures.reads.no_lf
+    entries_cut g.T.TakesEntries.takes c.args.choice.now c.args.follower.now c.args.rows.now.text after (octets_read l.rows.text) after.row l.follower c.follow_row.new.self c.args.ended.now l.ended c.follow_row.new.ended
+    c.args.receiver.now l.receiver c.follow_row.new.receiver c.in-Err-Explain.fault l.invariant.right c.read_row.ensures.reads.no_lf
     (whole_next l.rows.text after _ _ l.invariant.between c.read_row.ensures.reads (sym c.in-Ok-true.ensures.whole ∙ c.in-Ok-true.field-0-test))
     (rw (c.in-Err-Explain.field-0-is, c.row-in-loop-rows.ensures.row) at c.in-Err-Explain.ensures.reported)
 

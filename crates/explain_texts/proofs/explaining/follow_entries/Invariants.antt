@@ -7,7 +7,7 @@ use Rattle.explain_texts.proofs.explaining.follow_entries.Given as goal
 
 abbrev pub invariant-loop-rows : goal.invariant-loop-rows
 invariant-loop-rows g l = record {
-  right : AreFollowed l.choice l.fn.follower (octets_read l.fn.rows.text) (octets_read l.rows.text) l.follower l.fn.ended l.ended (g.W.Write.contents l.fn.writer) (g.W.Write.contents l.writer);
+  right : AreFollowed g.T.TakesEntries.takes l.choice l.fn.follower (octets_read l.fn.rows.text) (octets_read l.rows.text) l.follower l.fn.ended l.ended l.fn.receiver l.receiver;
   between : is_between_rows l.rows.text ≡ true;
   since : ReadSince (g.R.Read.remaining l.fn.rows.reader) l.fn.rows.text (g.R.Read.remaining l.rows.reader) l.rows.text;
 }

@@ -23,10 +23,10 @@ returns-in-Ok-write_packets-clause-taken g c =
     let entry : IsEntry self.follower c.args.row.now c.in-Ok.event c.take_row-2.new.self c.take_row.new.state.world c.take_row.new.answer =
     entry_is self.follower c.args.row.now c.in-Ok.event c.take_row-2.new.self self.state.world c.take_row.new.state.world c.take_row.new.answer c.requires.faultless c.requires.same c.in-Ok.ensures c.take_row-2.ensures.known in
     let rows =
-    rows_are self.follower c.args.row.now c.in-Ok.event c.every_entry.result c.clear.new.self.items c.take_row-2.new.writer.items c.in-Ok-take_row.field-0 c.requires.faultless entry.judged_so entry.faultless c.every_entry.ensures
+    rows_are (λ rows. rows.writer.items) self.follower c.args.row.now c.in-Ok.event c.every_entry.result _ c.take_row-2.new.receiver c.in-Ok-take_row.field-0 c.requires.faultless entry.judged_so entry.faultless c.every_entry.ensures
     c.clear.ensures.items c.in-Ok-take_row.ensures.reported in
     let packets =
-    packets_are self.interface c.microseconds-time.result (c.from-place.result + 1) self.follower.known.context c.in-Ok.event c.take_row.new.answer.outcome c.take_row-2.new.writer.items
+    packets_are self.interface c.microseconds-time.result (c.from-place.result + 1) self.follower.known.context c.in-Ok.event c.take_row.new.answer.outcome c.take_row-2.new.receiver.writer.items
     (ap (λ (n : ℕ). n + 1) (c.from-place.ensures ∙ c.count.ensures)) (c.microseconds-time.ensures ∙ ap (λ (t : Option ℕ). microseconds t (c.from-place.result + 1)) c.time.ensures) entry.outcome_is rows in
     let follower = ap (λ (s : EntryCapture). s.follower) c.write_packets.ensures.same in
     let state = ap (λ (s : EntryCapture). s.state.world) c.write_packets.ensures.same in
@@ -42,10 +42,10 @@ returns-in-Err-write_packets-clause-taken g c =
     let entry : IsEntry self.follower c.args.row.now c.in-Ok.event c.take_row-2.new.self c.take_row.new.state.world c.take_row.new.answer =
     entry_is self.follower c.args.row.now c.in-Ok.event c.take_row-2.new.self self.state.world c.take_row.new.state.world c.take_row.new.answer c.requires.faultless c.requires.same c.in-Ok.ensures c.take_row-2.ensures.known in
     let rows =
-    rows_are self.follower c.args.row.now c.in-Ok.event c.every_entry.result c.clear.new.self.items c.take_row-2.new.writer.items c.in-Ok-take_row.field-0 c.requires.faultless entry.judged_so entry.faultless c.every_entry.ensures
+    rows_are (λ rows. rows.writer.items) self.follower c.args.row.now c.in-Ok.event c.every_entry.result _ c.take_row-2.new.receiver c.in-Ok-take_row.field-0 c.requires.faultless entry.judged_so entry.faultless c.every_entry.ensures
     c.clear.ensures.items c.in-Ok-take_row.ensures.reported in
     let packets =
-    packets_are self.interface c.microseconds-time.result (c.from-place.result + 1) self.follower.known.context c.in-Ok.event c.take_row.new.answer.outcome c.take_row-2.new.writer.items
+    packets_are self.interface c.microseconds-time.result (c.from-place.result + 1) self.follower.known.context c.in-Ok.event c.take_row.new.answer.outcome c.take_row-2.new.receiver.writer.items
     (ap (λ (n : ℕ). n + 1) (c.from-place.ensures ∙ c.count.ensures)) (c.microseconds-time.ensures ∙ ap (λ (t : Option ℕ). microseconds t (c.from-place.result + 1)) c.time.ensures) entry.outcome_is rows in
     takes_right self.interface (judged_line self.follower.known.context.world c.args.row.now) self.follower.known after.follower after.state.world (g.W.Write.contents c.args.writer.now) (g.W.Write.contents c.write_packets.new.writer)
     (Err (Cut c.in-Err-write_packets.cut)) c.in-Ok.event entry.judged_so

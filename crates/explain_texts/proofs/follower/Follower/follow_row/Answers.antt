@@ -18,9 +18,9 @@ returns-clause-reported g c =
     let entry : IsEntry c.args.self.now c.args.row.now c.in-Ok.event (known_at s.history s.before.world) c.take_row.new.state.world (c.from.result + 1) c.set_halt.new.answer.outcome =
     entry_is c.args.self.now c.args.row.now c.in-Ok.event s.history s.before.world s.after.world c.take_row.new.state.world s.fault c.take_row.new.answer c.set_halt.new.answer (c.from.result + 1)
     c.self.view_is c.in_default.is c.self.invariant c.in-Ok.ensures c.set_halt.ensures (ap (λ n. n + 1) (c.from.ensures ∙ c.count.ensures)) in
-    reported_is c.args.choice.now c.args.self.now c.args.row.now c.in-Ok.event (known_at s.history s.before.world) c.take_row.new.state.world (c.from.result + 1) c.set_halt.new.answer.outcome
-    (g.W.Write.contents c.args.writer.now) (g.W.Write.contents c.write_entry-written.new.writer) c.write_entry-written.result c.push-stored.result c.first_fault.result
-    entry c.write_entry-written.ensures c.first_fault.ensures
+    reported_is g.T.TakesEntries.takes c.args.choice.now c.args.self.now c.args.row.now c.in-Ok.event (known_at s.history s.before.world) c.take_row.new.state.world (c.from.result + 1) c.set_halt.new.answer.outcome
+    c.args.receiver.now c.report_entry-reported.new.receiver c.report_entry-reported.result c.push-stored.result c.first_fault.result
+    entry c.report_entry-reported.ensures c.first_fault.ensures
 
 pub returns-clause-stored : goal.returns-clause-stored
 returns-clause-stored g c =
@@ -29,5 +29,5 @@ returns-clause-stored g c =
     entry_is c.args.self.now c.args.row.now c.in-Ok.event s.history s.before.world s.after.world c.take_row.new.state.world s.fault c.take_row.new.answer c.set_halt.new.answer (c.from.result + 1)
     c.self.view_is c.in_default.is c.self.invariant c.in-Ok.ensures c.set_halt.ensures (ap (λ n. n + 1) (c.from.ensures ∙ c.count.ensures)) in
     stored_is c.args.self.now c.args.row.now c.in-Ok.event (known_at s.history s.before.world) c.take_row.new.state.world (c.from.result + 1) c.set_halt.new.answer.outcome
-    c.args.ended.now c.push-stored.new.self c.write_entry-written.result c.push-stored.result c.first_fault.result
+    c.args.ended.now c.push-stored.new.self c.report_entry-reported.result c.push-stored.result c.first_fault.result
     entry c.push-stored.ensures c.first_fault.ensures
