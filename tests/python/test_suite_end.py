@@ -53,7 +53,7 @@ def test_suite_that_is_ended(suite, number, step):
 
 
 def test_no_scenario_begins_in_the_place_of_one_that_is_ended(suite, monkeypatch):
-    """A scenario may end, and its place be taken, before any other one is told to end."""
+    """A scenario may end, and its place be taken, before any other one is stopped."""
     begun, one_by_one, stop = [], threading.Lock(), Patience.stop
 
     class WaitingRun(Run):

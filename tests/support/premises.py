@@ -49,7 +49,7 @@ def waited(pid="self"):
 
 def pressure(kind):
     """Returns for how many seconds any thread of the machine waited for a processor ("cpu"), for memory ("memory") or for a
-    disk ("io"); None if the system doesn't tell."""
+    disk ("io"); None if the system gives none."""
     try:
         rows = Path(f"/proc/pressure/{kind}").read_text(encoding="ascii")
     except OSError:
@@ -58,7 +58,7 @@ def pressure(kind):
 
 
 def stalled():
-    """Returns for how many seconds any thread of the machine waited for memory or a disk; 0 if the system doesn't tell."""
+    """Returns for how many seconds any thread of the machine waited for memory or a disk; 0 if the system gives none."""
     return (pressure("memory") or 0.0) + (pressure("io") or 0.0)
 
 
@@ -90,7 +90,7 @@ def measured(*pids, has_ending=False):
 
     Only threads count that are there at its end: those that are started for it have to stay until then. With `has_ending`
     there is a process that ends in this time. Nobody knows afterwards for how long its threads were held up. So what counts is
-    the time in which any thread of the machine was, or the whole time if the system doesn't tell.
+    the time in which any thread of the machine was, or the whole time if the system gives none.
     """
     found = Measured(["self", *pids], has_ending)
     try:
