@@ -41,8 +41,9 @@ TEXTS = {
         "1 to 4294967295", "--slave <A>", "0 to 255", "--master <M>", "0 to 255", "--faults", "--refused", "--summary",
         "--json", "--follow", "\nExamples:\n  rackd "],
     "judge": [
-        "Usage: rackd judge RACK AUDIT.. [--master M] [--rules NAME,..] [--retries N] [--json | --junit]", "--master <M>",
-        "0 to 255", "--rules <NAME,..>", "--retries <N>", "0 to 15 [default: 3]", "--json", "--junit",
+        "Usage: rackd judge RACK AUDIT.. [--master M] [--rules NAME,..] [--without NAME,..] [--retries N]", "[--json | --junit]",
+        "--master <M>", "0 to 255", "--rules <NAME,..>", "--without <NAME,..>", "--retries <N>", "0 to 15 [default: 3]",
+        "--json", "--junit",
         "\nRules (docs/FORMATS.md", "\nExamples:\n  rackd "],
     "capture": [
         "Usage: rackd capture RACK AUDIT.. > FILE.pcapng", "<RACK>", "<AUDIT>...", "share/fdl.lua", "\nExamples:\n  rackd "],

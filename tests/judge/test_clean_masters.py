@@ -54,7 +54,8 @@ CLEAN = {
         *bring_up(), Request(5, 56), Request(5, 57), get_cfg(), Request(5, 54, b"\x01"), Request(5, 54, b"\x01", fc=0x44),
         Request(5, 55, b"\x07\x80\xa1\x00")],
     "clears the outputs and operates": [
-        *bring_up(), exchange(), control(0x02), exchange(b"\0\0"), control(0), exchange(), control(0x02, group=2), exchange()],
+        *bring_up(group=1), exchange(), control(0x02), exchange(b"\0\0"), control(0), exchange(), control(0x02, group=1),
+        exchange()],
     "sends outputs that look like access points": [*bring_up(), exchange(b"\x3d\x3e"), exchange(b"\x3c\x3e")],
     # The reply to the first request is lost on the way: the master sends the same again.
     "sends its first request again": [diag(fc=FIRST), *bring_up(), exchange()],
