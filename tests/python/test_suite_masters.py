@@ -61,7 +61,8 @@ QUICK = {
     "IgnoresCfgFault": ("configuration-refused", [broken(5, "exchange-before-ready")]),
     "OtherGroup": ("sync-and-freeze", [r"place \d+ all slaves group-not-set \(\d+ times\): .+"]),
     "BothBits": ("sync-and-freeze", [r"place \d+ all slaves control-both \(\d+ times\): .+"]),
-    "OutputsInClear": ("fail-safe", [r"outputs 1234 to slave 5 in Clear, at place \d+"]),
+    "OutputsInClear": ("fail-safe", [r"outputs 1234 to slave 5 in Clear, at place \d+",
+                                     r"place \d+ slave 5 outputs-in-clear \(\d+ times\): .+"]),
     "NoClear": ("fail-safe", ["no Clear_Data to slave 5"]),
     "FirstConfiguration": ("several-configurations", ["slave 5 is configured as 2111, not as 2010"]),
     "ChangesFcbOfARetry": ("reply-lost", [not_again("lost")]),
@@ -72,9 +73,10 @@ QUICK = {
     "TakesAnyReply": ("late-reply", [r"outputs (?:aa55 at place \d+, slave 6 has 0000 or 1234|"
                                      r"1234 at place \d+, slave 5 has 0000 or aa55)"]),
 }
-# Masters that fail no other scenario.
+# Masters that fail no other scenario. One that changes the FCB of a retry also fails where a slave is off the bus at first: its
+# retry of a request with FCV 0 is answered, and the next one has FCV 0 again.
 ONLY_ONE = ["TakesBusyForDone", "TakesWhatIsHeld", "IgnoresPrmFault", "IgnoresCfgFault", "BothBits", "NoClear",
-            "ChangesFcbOfARetry", "AcceptsAnyCheckSequence", "HasOneAddress", "TakesAnyReply"]
+            "AcceptsAnyCheckSequence", "HasOneAddress", "TakesAnyReply"]
 # Masters that never do what must be seen.
 LONG = {
     "FcbStands": ("bring-up", [no_exchanges(5, "DataExch", "master 1", "0000"), broken(5, "fcb-repeated")]),
