@@ -15,7 +15,6 @@ import pytest
 
 from rackd import frames
 from support.clients import answer_to, wait_for
-from support.judging import RULES
 from support.processes import PATIENCE
 from support.racks import line, rack, slave
 from support.servers import PR_SET_PDEATHSIG, libc
@@ -27,6 +26,8 @@ SOURCES = {"python": ("master.py", None), "perl": ("master.pl", "perl"), "c": ("
 IDENTS = {5: 0x80A1, 6: 0x80A2, 7: 0x0B3C}
 # A watchdog in milliseconds that runs out only if an operator lets units of 10 ms pass, and more units than it has.
 LONG_WATCHDOG, EXPIRE = 60_000, 6_500
+# A rule that takes outputs of some values, in a Data_Exchange that is refused, for access points.
+OUTPUTS_LIKE_POINTS = "extension-missing"
 # A slot time in milliseconds in which each reply comes, also on a busy machine.
 NO_LOSS = 10_000
 
@@ -207,9 +208,11 @@ class WatchedRack:
         assert checked.status == 0, checked.output
 
     def judged(self, without=()):
-        """Returns the findings of `rackd judge` by all rules but these: how many of each rule, the rows, and the status."""
-        chosen = ["--rules", ",".join(rule for rule in RULES if rule not in without)] if without else []
-        done = self._run("judge", self.server.rack, self.audit, *chosen)
+        """Returns the findings of `rackd judge` by all rules but these: how many of each rule, the rows, and the status.
+
+        The outputs of these masters count, and so they are 3d 3e now and then, which look like access points.
+        """
+        done = self._run("judge", self.server.rack, self.audit, "--without", ",".join([OUTPUTS_LIKE_POINTS, *without]))
         assert done.status in (0, 1), done.errors
         rows = [row for row in done.output.splitlines() if row.lstrip().startswith("place ")]
         return Counter(row.split(":")[0].split()[-1] for row in rows), rows, done.status
