@@ -1,3 +1,4 @@
+-- detail
 -- The names of the files of audit texts (own).
 use Rattle.std.specs.Prelude.{codes, ℕ, ◌+◌, ◌-◌, ◌==◌, ◌&&◌, Bool, nat_le, if◌then◌else◌, List, ◌++◌, Option, Some, None}
 use Rattle.std.specs.Borrow.{Bor}

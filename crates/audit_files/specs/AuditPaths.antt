@@ -1,3 +1,4 @@
+-- detail
 -- The paths of audit texts (own).
 use Rattle.std.specs.Prelude.{◌≡◌, codes, ℕ, List, [], ◌++◌, Option, Some, None, Contains, if◌then◌else◌, nat_lt}
 use Rattle.std.specs.Borrow.{Bor}

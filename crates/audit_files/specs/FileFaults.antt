@@ -1,3 +1,4 @@
+-- detail
 -- Why an audit text cannot be begun, and why a file lacks an entry (own).
 use Rattle.std.specs.Prelude.{◌≡◌, codes, ℕ, Bool, true, false, List, ◌++◌, Option, Some, None}
 use Rattle.std.specs.Borrow.{Bor}

@@ -1,3 +1,4 @@
+-- helper
 pub mod AuditPaths
 pub mod AuditNames
 pub mod Parts

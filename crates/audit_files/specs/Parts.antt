@@ -1,3 +1,4 @@
+-- detail
 -- The part of an audit text that is being written (own).
 use Rattle.std.specs.Prelude.{◌≡◌, [], ℕ, ◌+◌, ◌-◌, ◌*◌, ◌^◌, ◌==◌, ◌&&◌, Bool, false, if◌then◌else◌, nat_le, nat_lt, min, List, length, slice_get, Option, Some, None}
 use Rattle.serve_options.specs.declared.options.PartOptions.{PartOptions}

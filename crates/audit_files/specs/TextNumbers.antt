@@ -1,3 +1,4 @@
+-- detail
 -- The number of a new audit text: above that of each text of its line (own).
 use Rattle.std.specs.Prelude.{◌≡◌, ℕ, ◌+◌, ◌<◌, ◌≤◌, List, All, Contains, Option, Some, None}
 use Rattle.audit_files.specs.declared.audit_name.AuditName.{AuditName}

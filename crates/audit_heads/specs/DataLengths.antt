@@ -1,3 +1,4 @@
+-- detail
 -- The lengths of the data of a slave (own).
 use Rattle.std.specs.Prelude.{◌==◌, ◌&&◌, Bool, length}
 use Rattle.dp_slave.specs.SlaveRecord.{SlaveRecord, input_length, output_length}

@@ -1,3 +1,4 @@
+-- detail
 -- The words of rows: how a value is written as one word, and which value a word is (own).
 use Rattle.std.specs.Prelude.{codes, ℕ, ◌==◌, Bool, true, false, not, if◌then◌else◌, List, [], ◌∷◌, Option, Some, None, option_map}
 use Rattle.std.specs.Fmt.{decimal}

@@ -1,3 +1,4 @@
+-- promise
 -- The head of a part of an endless audit text: the world of the line at a place, as rows (own).
 use Rattle.std.specs.Prelude.{codes, ℕ, ◌==◌, if◌then◌else◌, List, [], ◌∷◌, length, Option, None, option_map, Result, Ok, Err}
 use Rattle.std.specs.Option.{option_and_then}

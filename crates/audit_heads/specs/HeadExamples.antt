@@ -1,3 +1,4 @@
+-- helper
 -- A head, written and read.
 use Rattle.std.specs.Prelude.{◌≡◌, ℕ, List, [], ◌∷◌, ◌++◌, codes, Some, None, Err, true, false, refl}
 use Rattle.dp_sap.specs.declared.state.State.TheVariants.{DataExch}

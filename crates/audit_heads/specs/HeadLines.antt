@@ -1,3 +1,4 @@
+-- detail
 -- A head from which a line goes on (own).
 use Rattle.std.specs.Prelude.{ℕ, List, Option, Some, None, Result, Ok, Err}
 use Rattle.dp_line.specs.World.{Description}

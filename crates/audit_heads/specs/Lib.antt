@@ -1,3 +1,4 @@
+-- helper
 pub mod FieldWords
 pub mod Rows
 pub mod DataLengths

@@ -1,3 +1,4 @@
+-- detail
 -- The heads that have texts: those whose numbers and octets are within the limits of their types (own).
 use Rattle.std.specs.Prelude.{◌≡◌, ℕ, ◌<◌, true, List, map, IfSome}
 use Rattle.std.specs.List.{AllByRecursion}

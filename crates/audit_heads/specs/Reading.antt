@@ -1,3 +1,4 @@
+-- helper
 -- What a call that reads rows returns and leaves. No public clause cites this module.
 use Rattle.std.specs.Prelude.{◌≡◌, codes, ℕ, List, ◌++◌, Result, Ok, Err}
 use Rattle.std.specs.List.{filter_map, range_with_len}

@@ -1,3 +1,4 @@
+-- detail
 -- Rows of words, one after another: written, and read from a text (own).
 use Rattle.std.specs.Prelude.{codes, ℕ, ◌+◌, ◌==◌, if◌then◌else◌, List, [], ◌∷◌, ◌++◌, Option, Some, None, option_map, Result, Ok, Err}
 use Rattle.std.specs.List.{flat_map, join_with_byte}

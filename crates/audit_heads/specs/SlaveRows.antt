@@ -1,3 +1,4 @@
+-- detail
 -- The rows of one slave: its words and what they say (own).
 use Rattle.std.specs.Prelude.{codes, ℕ, Bool, if◌then◌else◌, List, [], ◌∷◌, map, Option, Some, None, option_map, Result, Ok, Err}
 use Rattle.std.specs.Option.{option_and_then}

@@ -1,3 +1,4 @@
+-- detail
 -- The text of the entries among the rows of an endless text (own).
 use Rattle.std.specs.Prelude.{codes, ℕ, ◌==◌, if◌then◌else◌, List, [], ◌∷◌, ◌++◌, length, Option, Some, None, Result, Ok, Err}
 use Rattle.dp_text.specs.Words.{lines_of}

@@ -1,3 +1,4 @@
+-- helper
 -- What a filter of entries still gives (own).
 use Rattle.std.specs.Prelude.{codes, ◌≡◌, ℕ, List, [], ◌++◌, drop, Option, Some, None, option_map, ◌⊎◌, ⊤}
 use Rattle.dp_audit.specs.AuditText.{line_text}

@@ -1,3 +1,4 @@
+-- helper
 -- A trail that caught up (own).
 use Rattle.std.specs.Prelude.{ℕ, List}
 use Rattle.dp_shared.specs.Passes.{PassIn}

@@ -1,3 +1,4 @@
+-- detail
 -- The numbers of faults (own).
 use Rattle.std.specs.Prelude.{ℕ}
 use Rattle.audit_trail.specs.declared.fault.TrailFault.{TrailFault}

@@ -1,3 +1,4 @@
+-- detail
 -- The names of trails, and what the evidence of one shows (own).
 use Rattle.std.specs.Prelude.{◌≡◌, ℕ, ◌≤◌, List, length, Option, Contains}
 use Rattle.atomic_table.specs.Seated.{TableId}

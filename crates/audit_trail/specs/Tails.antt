@@ -1,3 +1,4 @@
+-- helper
 -- A tail after a call (own).
 use Rattle.std.specs.Prelude.{◌≡◌}
 use Rattle.std.specs.declared.io.traits.Write.{Ghosts}

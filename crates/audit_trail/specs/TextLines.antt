@@ -1,3 +1,4 @@
+-- detail
 -- The text line of an entry, in the text that a trail wrote (own).
 use Rattle.std.specs.Prelude.{◌≡◌, ℕ, ◌-◌, List, ◌++◌, Some, slice_get}
 use Rattle.dp_audit.specs.declared.entry.Entry.{Entry}

@@ -1,3 +1,4 @@
+-- helper
 -- What a trail saw, worked out.
 use Rattle.std.specs.Prelude.{◌≡◌, ℕ, List, [], ◌∷◌, ◌++◌, Option, Some, None, false}
 use Rattle.std.proofs.Common.{refl, arith}

@@ -1,3 +1,4 @@
+-- helper
 -- Examples of what becomes of telegrams.
 use Rattle.std.specs.Prelude.{◌≡◌, codes, ℕ, true, false, List, [], ◌∷◌, Some, None, refl}
 use Rattle.cable_faults.specs.declared.cable.Cable.{Cable}

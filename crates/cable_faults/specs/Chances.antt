@@ -1,3 +1,4 @@
+-- detail
 -- Chances, and the random words that decide by them (own).
 use Rattle.std.specs.Prelude.{ℕ, ◌*◌, ◌^◌, Bool, nat_lt}
 use Rattle.rand_pcg.specs.Lcg.{Lcg, increment_of, started}

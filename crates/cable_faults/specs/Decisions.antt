@@ -1,3 +1,4 @@
+-- promise
 -- What becomes of each telegram: a function of the options, the lines of text, the random words and the telegrams before it (own).
 use Rattle.std.specs.Prelude.{ℕ, ◌+◌, ◌-◌, ◌==◌, ◌&&◌, nat_le, Bool, true, false, if◌then◌else◌, List, position, remove, slice_get, slice_set, Option, Some, None}
 use Rattle.std.specs.List.{list_any}

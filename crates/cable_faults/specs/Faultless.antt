@@ -1,3 +1,4 @@
+-- promise
 -- A cable without faults (own).
 use Rattle.std.specs.Prelude.{◌≡◌, false, []}
 use Rattle.cable_faults.specs.declared.cable.Cable.{Cable}

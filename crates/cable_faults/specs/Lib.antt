@@ -1,3 +1,4 @@
+-- helper
 pub mod Whole
 pub mod Chances
 pub mod Treatments

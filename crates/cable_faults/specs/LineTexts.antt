@@ -1,3 +1,4 @@
+-- detail
 -- Lines of standard input as texts (own).
 use Rattle.std.specs.Prelude.{codes, ℕ, nat_le, if◌then◌else◌, List, [], ◌∷◌, ◌++◌, Option, Some, None, option_map}
 use Rattle.std.specs.Fmt.{decimal}

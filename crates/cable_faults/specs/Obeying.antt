@@ -1,3 +1,4 @@
+-- detail
 -- What a line of standard input does (own).
 use Rattle.std.specs.Prelude.{ℕ, ◌==◌, nat_lt, if◌then◌else◌, List, [], ◌∷◌, ◌++◌, length, position, remove, Option, Some, None}
 use Rattle.cable_faults.specs.declared.cable.Cable.{Cable}

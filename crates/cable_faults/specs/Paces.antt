@@ -1,3 +1,4 @@
+-- detail
 -- When telegrams of one direction go out: moments are microseconds (own).
 use Rattle.std.specs.Prelude.{ℕ, ◌+◌, ◌-◌, ◌*◌, ◌^◌, ◌≤◌, min, max, List, [], ◌∷◌}
 use Rattle.cable_faults.specs.declared.pace.Pace.{Pace}

@@ -1,3 +1,4 @@
+-- detail
 -- The pieces of a stream on the cable (own).
 use Rattle.std.specs.Prelude.{◌≡◌, ℕ, List, [], ◌∷◌, ◌++◌, take, Option, Some, None, option_map}
 use Rattle.dp_telegram.specs.declared.cutter.Cut.{Cut}

@@ -1,3 +1,4 @@
+-- detail
 -- The rows that the cable writes (own).
 use Rattle.std.specs.Prelude.{codes, ℕ, List, [], ◌++◌, Option, Some, None}
 use Rattle.std.specs.Fmt.{decimal}

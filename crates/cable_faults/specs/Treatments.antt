@@ -1,3 +1,4 @@
+-- detail
 -- What becomes of a telegram on the cable (own).
 use Rattle.std.specs.Prelude.{ℕ, Bool, true, false, ◌+◌, ◌-◌, ◌%◌, ◌==◌, if◌then◌else◌, List, [], length, slice_index, slice_set, take}
 use Rattle.dp_telegram.specs.FrameText.{head_length, is_checked, is_start}

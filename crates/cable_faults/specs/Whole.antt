@@ -1,3 +1,4 @@
+-- detail
 -- A whole telegram that has no fault.
 use Rattle.std.specs.Prelude.{◌≡◌, ℕ, ◌≤◌, true, List, length}
 use Rattle.dp_telegram.specs.FrameText.{delimiter, end_is_right, frame_length, head_is_right, head_length, is_start}

@@ -1,3 +1,4 @@
+-- helper
 -- Worked examples: blocks to the octet.
 use Rattle.std.specs.Prelude.{codes, ◌≡◌, refl, [], ◌∷◌}
 use Rattle.capture_texts.specs.declared.packet.Direction.TheVariants.{Outbound}

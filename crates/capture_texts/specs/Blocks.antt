@@ -1,3 +1,4 @@
+-- detail
 -- The blocks of a capture file and their octets (pcapng, "PCAP Next Generation Capture File Format", little-endian)
 use Rattle.std.specs.Prelude.{ℕ, ◌+◌, ◌-◌, ◌/◌, ◌%◌, ◌^◌, List, [], ◌∷◌, ◌++◌, length, replicate, take}
 use Rattle.std.specs.Int.{w16, w32, to_le_bytes}

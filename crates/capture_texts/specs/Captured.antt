@@ -1,3 +1,4 @@
+-- promise
 -- The capture of an audit text (own).
 use Rattle.std.specs.Prelude.{codes, ℕ, ◌+◌, ◌-◌, ◌*◌, ◌^◌, min, false, List, [], ◌∷◌, ◌++◌, map, if◌then◌else◌, Option, Some, None, unwrap_or}
 use Rattle.std.specs.Fmt.{decimal}

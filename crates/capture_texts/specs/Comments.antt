@@ -1,3 +1,4 @@
+-- detail
 -- The comments of packets (own).
 use Rattle.std.specs.Prelude.{codes, ℕ, if◌then◌else◌, List, [], ◌∷◌, ◌++◌, drop}
 use Rattle.std.specs.Fmt.{decimal}

@@ -1,3 +1,4 @@
+-- helper
 pub mod Comments
 pub mod Captured
 pub mod Captures

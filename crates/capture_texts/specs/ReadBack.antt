@@ -1,3 +1,4 @@
+-- detail
 -- Reading a capture back (own): a reader cuts it into blocks by the lengths in it, and takes the telegrams of the packets.
 use Rattle.std.specs.Prelude.{ℕ, zero, suc, ◌-◌, ◌==◌, ◌||◌, ◌≤◌, nat_lt, not, if◌then◌else◌, List, [], ◌∷◌, length, take, drop, Option, Some, None, option_and_then}
 use Rattle.std.specs.Int.{w32, from_le_bytes}

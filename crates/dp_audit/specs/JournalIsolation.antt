@@ -1,3 +1,4 @@
+-- promise
 -- What a master sees in a journal of a slave that it holds (own).
 use Rattle.std.specs.Prelude.{ℕ, if◌then◌else◌, List, [], ◌∷◌, ◌++◌}
 use Rattle.dp_line.specs.World.{World}

@@ -1,3 +1,4 @@
+-- helper
 -- Answers and entries of a journal with three places, worked out.
 use Rattle.std.specs.Prelude.{◌≡◌, true, [], ◌∷◌, Some, None, refl}
 use Rattle.dp_line.specs.declared.event.Event.TheVariants.{Operator}

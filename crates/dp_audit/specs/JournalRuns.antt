@@ -1,3 +1,4 @@
+-- promise
 -- Journals as runs of a line (own).
 use Rattle.std.specs.Prelude.{ℕ, ◌+◌, nat_le, if◌then◌else◌, List, [], ◌∷◌, ◌++◌, length, map, Option, Some, None}
 use Rattle.arrayvec.specs.ArrayVec.{ArrayVec}

@@ -1,3 +1,4 @@
+-- promise
 -- The time that passes on a line (own).
 use Rattle.std.specs.Prelude.{ℕ, ◌+◌, ◌-◌, ◌^◌, min, List, [], ◌∷◌, Option, Some, unwrap_or}
 use Rattle.dp_line.specs.declared.event.Event.{Event}

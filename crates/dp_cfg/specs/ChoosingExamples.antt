@@ -1,3 +1,4 @@
+-- helper
 -- Example choices: the number of the first configuration with the octets.
 use Rattle.std.specs.Prelude.{◌≡◌, [], ◌∷◌, Some, None, refl}
 use Rattle.dp_cfg.specs.Choosing.{chosen}

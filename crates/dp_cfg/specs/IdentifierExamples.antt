@@ -1,3 +1,4 @@
+-- helper
 -- Example configurations: the inputs and outputs of the octets, or their fault.
 use Rattle.std.specs.Prelude.{◌≡◌, ℕ, List, [], ◌∷◌, Some, Err, refl}
 use Rattle.dp_cfg.specs.Identifiers.{identifier}

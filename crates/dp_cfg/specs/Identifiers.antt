@@ -1,3 +1,4 @@
+-- promise
 -- What configuration octets mean: identifiers one after another, each with its inputs and outputs in octets.
 use Rattle.std.specs.Prelude.{◌≡◌, ℕ, ◌+◌, ◌*◌, ◌/◌, ◌%◌, ◌==◌, if◌then◌else◌, List, [], ◌∷◌, length, sum_by}
 use Rattle.std.specs.List.{flat_map, AllByRecursion}

@@ -1,3 +1,4 @@
+-- helper
 pub mod Identifiers
 pub mod IdentifierExamples
 pub mod Choosing

@@ -1,3 +1,4 @@
+-- helper
 -- Definitions for private functions and for the type's invariant. No public clause cites this module.
 use Rattle.std.specs.Prelude.{◌≡◌, ℕ, List, Ok}
 use Rattle.dp_cfg.specs.Identifiers.{Identifier, input_sum, output_sum}

@@ -1,3 +1,4 @@
+-- detail
 -- Configuration octets read from left to right: the relation of `Identifiers` in a form that computes.
 use Rattle.std.specs.Prelude.{ℕ, zero, suc, ◌==◌, nat_lt, ◌||◌, if◌then◌else◌, List, [], ◌∷◌, length, take, drop, Option, Some, None, unwrap_or, option_and_then, Result, Ok, Err}
 use Rattle.std.specs.Option.{option_map}

@@ -1,3 +1,4 @@
+-- promise
 -- The diagnosis data that a slave stores.
 use Rattle.std.specs.Prelude.{ℕ, Bool, false, true, ◌||◌, List, []}
 use Rattle.dp_diag.specs.declared.diag.Diag.{Diag}

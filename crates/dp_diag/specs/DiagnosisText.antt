@@ -1,3 +1,4 @@
+-- promise
 -- The octets of a diagnosis: each bit by its condition, in the order of the standard's table.
 use Rattle.std.specs.Prelude.{ℕ, ◌+◌, ◌*◌, ◌/◌, ◌%◌, ◌<◌, Bool, true, false, not, if◌then◌else◌, List, [], ◌∷◌, ◌++◌, unwrap_or, IfSome}
 use Rattle.dp_sap.specs.States.{is_in_data_exch, is_in_wait_prm}

@@ -1,3 +1,4 @@
+-- helper
 -- Diagnoses of a slave with ident number 80A1.
 use Rattle.std.specs.Prelude.{◌≡◌, [], ◌∷◌, true, false, Some, None, refl}
 use Rattle.dp_sap.specs.declared.state.State.TheVariants.{WaitPrm, WaitCfg, DataExch}

@@ -1,3 +1,4 @@
+-- helper
 -- What a diagnosis reports, with the stored diagnosis data lent.
 use Rattle.dp_diag.specs.declared.facts.DiagFacts.{DiagFacts}
 use Rattle.dp_diag.specs.declared.facts.DiagFactsLent.{DiagFactsLent}

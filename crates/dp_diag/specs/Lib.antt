@@ -1,3 +1,4 @@
+-- helper
 pub mod Diagnosis
 pub mod DiagnosisText
 pub mod DiagnosisTextExamples

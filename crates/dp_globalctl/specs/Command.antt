@@ -1,3 +1,4 @@
+-- promise
 -- The contents of a Global_Control (IEC 61158-6-3, Global_Control request).
 use Rattle.std.specs.Prelude.{ℕ, ◌==◌, ◌||◌, not, Bool, List, bit_and, slice_index}
 use Rattle.dp_globalctl.specs.declared.command.Command.{Command}

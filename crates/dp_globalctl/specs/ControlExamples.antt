@@ -1,3 +1,4 @@
+-- helper
 -- Commands, and the slaves that they select.
 use Rattle.std.specs.Prelude.{◌≡◌, true, false, [], ◌∷◌, refl}
 use Rattle.dp_globalctl.specs.Command.{command_of, selects}

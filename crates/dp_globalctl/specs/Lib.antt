@@ -1,2 +1,3 @@
+-- helper
 pub mod Command
 pub mod ControlExamples

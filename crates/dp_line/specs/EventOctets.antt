@@ -1,3 +1,4 @@
+-- helper
 -- The octets of events.
 use Rattle.std.specs.Prelude.{◌<◌, All}
 use Rattle.dp_line.specs.declared.event.Event.{Event}

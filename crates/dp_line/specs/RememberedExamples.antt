@@ -1,3 +1,4 @@
+-- helper
 -- What slave 5, with two octets of outputs and two of inputs, can remember as its reply to master 1.
 use Rattle.std.specs.Prelude.{◌≡◌, [], ◌∷◌, true, false, refl}
 use Rattle.dp_slave.specs.SlaveExamples.{slave_5}

@@ -1,3 +1,4 @@
+-- detail
 -- What a slave can remember as its reply to a master (own). It only remembers replies to SRDs, so the FDL status is none of them.
 use Rattle.std.specs.Prelude.{ℕ, ◌==◌, nat_le, Bool, true, false, not, ◌&&◌, ◌||◌, if◌then◌else◌, List, length, map, Option, Some, None}
 use Rattle.std.specs.List.{list_all}

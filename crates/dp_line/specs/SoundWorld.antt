@@ -1,3 +1,4 @@
+-- detail
 -- The worlds from which a line goes on (own).
 use Rattle.std.specs.Prelude.{ℕ, ◌==◌, nat_le, nat_lt, Bool, true, not, ◌&&◌, ◌||◌, if◌then◌else◌, List, [], ◌∷◌, find, Option, Some, None, is_none}
 use Rattle.std.specs.List.{list_any}

@@ -1,3 +1,4 @@
+-- detail
 -- Chains of linked records.
 use Rattle.std.specs.Prelude.{◌≡◌, ℕ, List, [], ◌∷◌, Option, Some, None, slice_get}
 use Rattle.std.specs.List.{AllByRecursion}

@@ -1,3 +1,4 @@
+-- helper
 pub mod Positions
 pub mod Chain
 pub mod Threaded

@@ -1,3 +1,4 @@
+-- helper
 -- Changes of links and ends, as private calls promise them. No public clause cites this module.
 use Rattle.std.specs.Prelude.{ℕ, zero, suc, List, [], ◌∷◌, Option, Some, None, slice_set}
 use Rattle.dp_owners.specs.declared.links.Links.{Links}

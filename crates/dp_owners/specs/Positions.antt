@@ -1,3 +1,4 @@
+-- promise
 -- Lists of positions.
 use Rattle.std.specs.Prelude.{◌≡◌, ◌≢◌, ℕ, ◌==◌, not, List, [], ◌∷◌, ◌++◌, filter, Option, Some}
 use Rattle.std.specs.List.{AllByRecursion}

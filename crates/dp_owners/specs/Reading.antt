@@ -1,3 +1,4 @@
+-- helper
 -- Lists read from heads and links, and the number of their records.
 use Rattle.std.specs.Prelude.{ℕ, zero, suc, ◌+◌, List, [], ◌∷◌, length, Option, Some, None, slice_get, slice_index_or}
 use Rattle.std.specs.Option.{option_and_then}

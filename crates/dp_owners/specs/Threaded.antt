@@ -1,3 +1,4 @@
+-- helper
 -- The lists of the masters, threaded through records.
 use Rattle.std.specs.Prelude.{◌≡◌, ℕ, ◌<◌, ◌==◌, if◌then◌else◌, List, [], ◌∷◌, ◌++◌, length, Some, None, slice_get, slice_index_or}
 use Rattle.std.specs.List.{AllByRecursion}

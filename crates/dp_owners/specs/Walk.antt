@@ -1,3 +1,4 @@
+-- helper
 -- A walk along a list.
 use Rattle.std.specs.Prelude.{◌≡◌, ℕ, ◌+◌, ◌≤◌, List, length, None}
 use Rattle.dp_owners.specs.declared.cursor.Cursor.{Cursor}

@@ -1,3 +1,4 @@
+-- helper
 -- What a parameter telegram means, with user parameters that are lent.
 use Rattle.std.specs.Prelude.{ℕ, List, []}
 use Rattle.dp_prm.specs.declared.prm.Prm.{Prm}

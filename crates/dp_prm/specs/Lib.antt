@@ -1,3 +1,4 @@
+-- helper
 pub mod Lent
 pub mod Meaning
 pub mod MeaningExamples

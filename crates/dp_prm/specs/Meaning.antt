@@ -1,3 +1,4 @@
+-- promise
 -- What a parameter telegram means: its octets and bits by name, and the cases in their order.
 use Rattle.std.specs.Prelude.{ℕ, ◌+◌, ◌*◌, ◌/◌, ◌%◌, ◌^◌, Bool, false, not, ◌&&◌, ◌||◌, ◌==◌, nat_lt, if◌then◌else◌, List, [], ◌∷◌, length, drop, find, slice_index, Option, Some, None}
 use Rattle.std.specs.List.{list_any}

@@ -1,3 +1,4 @@
+-- helper
 -- Parameter telegrams to a slave with ident number 80A1.
 use Rattle.std.specs.Prelude.{◌≡◌, true, false, [], ◌∷◌, replicate, Some, None, refl}
 use Rattle.dp_prm.specs.declared.limits.Limits.{Limits}

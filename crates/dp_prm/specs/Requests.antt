@@ -1,3 +1,4 @@
+-- detail
 -- The kinds of requests, and what makes a request acceptable, as conditions without an order of cases.
 use Rattle.std.specs.Prelude.{◌≡◌, ℕ, ◌<◌, ◌≤◌, ◌⊎◌, true, false, List, length}
 use Rattle.dp_prm.specs.declared.limits.Limits.{Limits}

@@ -1,3 +1,4 @@
+-- promise
 -- The verdict of a slave on a request, from the repeat to the length (own order).
 use Rattle.std.specs.Prelude.{ℕ, Bool, true, false, not, ◌&&◌, ◌||◌, ◌==◌, nat_le, if◌then◌else◌, List, [], ◌∷◌, length, Option, is_none}
 use Rattle.std.specs.Option.{option_map_or}

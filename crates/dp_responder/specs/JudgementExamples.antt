@@ -1,3 +1,4 @@
+-- helper
 -- A slave with two octets of outputs that master 1 holds and exchanges data with, and what it remembers of masters 1 and 2.
 use Rattle.std.specs.Prelude.{◌≡◌, ℕ, List, [], ◌∷◌, true, false, Option, Some, None, refl}
 use Rattle.dp_telegram.specs.declared.access.Parts.{Parts}

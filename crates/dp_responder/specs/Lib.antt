@@ -1,3 +1,4 @@
+-- helper
 pub mod Rules
 pub mod Memory
 pub mod Judgement

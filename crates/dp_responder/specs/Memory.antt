@@ -1,3 +1,4 @@
+-- promise
 -- What a slave remembers of each master (own, but for the alternation of FCB: IEC 61158-4-3, frame count bit).
 use Rattle.std.specs.Prelude.{ℕ, Bool, true, false, not, ◌&&◌, ◌||◌, ◌==◌, if◌then◌else◌, List, [], ◌∷◌, map, find, Option, Some, None, option_and_then}
 use Rattle.dp_telegram.specs.FunctionCode.{function_of, asks_srd, frame_count_bit, frame_count_is_valid}

@@ -1,3 +1,4 @@
+-- promise
 -- The rules: their numbers and names, and the rule that the rows of a verdict give (own).
 use Rattle.std.specs.Prelude.{ℕ, codes, Bool, true, false, ◌==◌, if◌then◌else◌, List, [], ◌∷◌, Option, Some, None}
 use Rattle.dp_responder.specs.declared.rule.Rule.{Rule}

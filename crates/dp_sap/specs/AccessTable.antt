@@ -1,3 +1,4 @@
+-- promise
 -- The access table of a slave, the points that it opens in a state, and the busy marks of its rows.
 use Rattle.std.specs.Prelude.{ℕ, Bool, true, false, ◌&&◌, ◌||◌, ◌==◌, nat_eq, is_some, if◌then◌else◌, List, [], ◌∷◌, find, Option, Some, None}
 use Rattle.std.specs.List.{list_any}

@@ -1,3 +1,4 @@
+-- helper
 -- Examples of rows of the access table.
 use Rattle.std.specs.Prelude.{◌≡◌, ℕ, Bool, true, false, [], ◌∷◌, Option, Some, None, refl}
 use Rattle.dp_sap.specs.declared.lists.Lists.{Lists}

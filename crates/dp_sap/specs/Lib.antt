@@ -1,3 +1,4 @@
+-- helper
 pub mod AccessTable
 pub mod AccessTableExamples
 pub mod SapFault

@@ -1,3 +1,4 @@
+-- detail
 -- The names of states and faults in texts (own).
 use Rattle.std.specs.Prelude.{codes, ℕ, List}
 use Rattle.dp_sap.specs.declared.state.State.{State}

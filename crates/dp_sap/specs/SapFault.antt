@@ -1,3 +1,4 @@
+-- detail
 -- The numbers of the faults.
 use Rattle.std.specs.Prelude.{ℕ}
 use Rattle.dp_sap.specs.declared.fault.SapFault.{SapFault}

@@ -1,3 +1,4 @@
+-- promise
 -- Conditions on the state of a slave.
 use Rattle.std.specs.Prelude.{Bool, true, false}
 use Rattle.dp_sap.specs.declared.state.State.{State}

@@ -1,3 +1,4 @@
+-- detail
 -- The numbers and names of the ends of sessions, and the numbers of the faults of pools (own).
 use Rattle.std.specs.Prelude.{codes, ℕ, List}
 use Rattle.dp_sessions.specs.declared.session_end.SessionEnd.{SessionEnd}

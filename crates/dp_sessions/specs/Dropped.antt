@@ -1,3 +1,4 @@
+-- detail
 -- What a session has dropped of its stream (own).
 use Rattle.std.specs.Prelude.{ℕ, ◌+◌, ◌-◌, ◌^◌, min, Bool, true, false, ◌||◌, List, ◌++◌, length, take, Option, Some, None}
 use Rattle.dp_telegram.specs.declared.fault.FrameFault.{FrameFault}

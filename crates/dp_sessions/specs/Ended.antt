@@ -1,3 +1,4 @@
+-- detail
 -- A session that has ended, with the pass that served it (own).
 use Rattle.std.specs.Prelude.{◌≡◌, ℕ, List, Some, None}
 use Rattle.atomic_table.specs.Seated.{TableId}

@@ -1,3 +1,4 @@
+-- helper
 -- A session that a worker of a pool kept, and where it was served (own).
 use Rattle.std.specs.Prelude.{◌≡◌, List}
 use Rattle.dp_shared.specs.Claims.{Seated}

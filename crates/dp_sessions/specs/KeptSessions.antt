@@ -1,3 +1,4 @@
+-- detail
 -- What the workers of a pool leave of the sessions that they served (own).
 use Rattle.std.specs.Prelude.{◌≡◌, ℕ, ◌-◌, ◌^◌, List, [], length, take, min, Option, Some, None, vec_capacity}
 use Rattle.std.specs.List.{All, filter_map}

@@ -1,3 +1,4 @@
+-- helper
 pub mod Codes
 pub mod Pools
 pub mod SessionProgress

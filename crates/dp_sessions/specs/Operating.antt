@@ -1,3 +1,4 @@
+-- detail
 -- The progress of an operator's session through its stream (own).
 use Rattle.std.specs.Prelude.{◌≡◌, ℕ, List, ◌++◌, Option, take}
 use Rattle.std.specs.List.{concat}

@@ -1,3 +1,4 @@
+-- promise
 -- What a session of an operator reads, does and writes (own).
 use Rattle.std.specs.Prelude.{codes, ◌≡◌, ◌⊎◌, ℕ, ◌+◌, ◌≤◌, if◌then◌else◌, true, false, not, ◌==◌, List, [], ◌∷◌, ◌++◌, map, length, Option, Some, None, is_some, IfNone, IfSome, Result, Ok, Err}
 use Rattle.std.specs.List.{AllByRecursion, concat, list_all}

@@ -1,3 +1,4 @@
+-- detail
 -- The seats of a worker at the ports of its pool (own).
 use Rattle.std.specs.Prelude.{◌≡◌, List, None}
 use Rattle.std.specs.List.{AllZip}

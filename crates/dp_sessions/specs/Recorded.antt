@@ -1,3 +1,4 @@
+-- detail
 -- What the gate of a session has recorded of the events whose answers are written (own). `recorded` says which places are recorded.
 use Rattle.std.specs.Prelude.{◌≡◌, ◌⊎◌, ℕ, List, [], ◌++◌, map, Option, IfSome, ⊤}
 use Rattle.std.specs.List.{AllByRecursion, concat}
@@ -23,7 +24,7 @@ AreRecorded recorded receipts = AllByRecursion (λ receipt. IfSome receipt.place
 
 -- ---- a session of a master
 
--- Of the receipts that a pass gained, the first are recorded, and what is written is these texts, or a first part of them: `front`, and then the
+-- Of the receipts that a pass gained, the first are recorded, and what is written is these texts, or a prefix of them: `front`, and then the
 -- replies in these receipts. So no octet of a reply is written unless its entry is recorded. If the session did not end with a write fault, all
 -- receipts are recorded.
 pub record WritesRecorded (recorded : ℕ → Type 0) (front : List ℕ) (before after : List Receipt) (old new : Option (List ℕ)) (end : SessionEnd) : Type 0 where
@@ -46,7 +47,7 @@ EndsRecorded recorded table masters turns streams before after end =
 
 -- ---- a session of an operator
 
--- What is written is the answers to the first lines of the stream, or a first part of these answers. The receipts that these lines gained are
+-- What is written is the answers to the first lines of the stream, or a prefix of these answers. The receipts that these lines gained are
 -- recorded; the other lines gained `later`.
 pub record AnswersRecorded (driven : List DrivenSlave) (recorded : ℕ → Type 0) (stream : List ℕ) (before after : PassView) (old new : Option (List ℕ)) : Type 0 where
   pub lines : List (List ℕ)

@@ -1,3 +1,4 @@
+-- detail
 -- The receipts that a session's pass gains while its gate records their places (own).
 use Rattle.std.specs.Prelude.{◌≡◌, ◌⊎◌, ℕ, List, ◌++◌, map, Option}
 use Rattle.std.specs.List.{concat}
@@ -28,7 +29,7 @@ pub record RepliesRecorded (recorded : ℕ → Type 0) (before after : List Rece
   pub each : AreRecorded recorded receipts
   pub written : Appends old new (concat (map reply_in receipts))
 
--- the first receipts that a pass gained are recorded, and a first part of their replies is written
+-- the first receipts that a pass gained are recorded, and a prefix of their replies is written
 pub record StopsRecorded (recorded : ℕ → Type 0) (before after : List Receipt) (old new : Option (List ℕ)) : Type 0 where
   pub first : List Receipt
   pub later : List Receipt

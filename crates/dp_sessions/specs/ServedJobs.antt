@@ -1,3 +1,4 @@
+-- detail
 -- A job that a worker of a pool served at its port (own).
 use Rattle.std.specs.Prelude.{◌≡◌, ℕ, List, Some, slice_get, slice_set}
 use Rattle.atomic_table.specs.Seated.{TableId}

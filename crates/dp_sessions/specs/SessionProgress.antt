@@ -1,3 +1,4 @@
+-- detail
 -- The progress of a session through the stream of its master (own).
 use Rattle.std.specs.Prelude.{◌≡◌, ℕ, List, ◌++◌, map, Option}
 use Rattle.std.specs.List.{concat}

@@ -1,3 +1,4 @@
+-- promise
 -- What a session of a master reads, exchanges and writes (own).
 use Rattle.std.specs.Prelude.{◌≡◌, ◌⊎◌, ℕ, ◌+◌, ◌≤◌, Bool, true, false, ◌&&◌, List, [], ◌∷◌, ◌++◌, map, length, Option, None, IfNone, IfSome, ⊤}
 use Rattle.std.specs.List.{concat}

@@ -1,3 +1,4 @@
+-- promise
 -- The result of a session by a pass, in terms of the entries of the line's journal (own).
 use Rattle.std.specs.Prelude.{◌≡◌, ◌⊎◌, ℕ, ◌+◌, ◌≤◌, Bool, false, List, [], ◌∷◌, ◌++◌, map, drop, length, Option}
 use Rattle.std.specs.List.{concat}

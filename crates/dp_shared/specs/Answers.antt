@@ -1,3 +1,4 @@
+-- helper
 -- The receipt of a borrowed event and its answer. No public clause cites this module.
 use Rattle.dp_audit.specs.declared.entry.Receipt.{Receipt}
 use Rattle.dp_audit.specs.Journal.{receipt_of}

@@ -1,3 +1,4 @@
+-- promise
 -- Why an event of a pass gets no place (own).
 use Rattle.std.specs.Prelude.{◌≡◌, false, Some}
 use Rattle.dp_line.specs.declared.event.Event.{Event}

@@ -1,3 +1,4 @@
+-- promise
 -- What the seat that closes a line has (own).
 use Rattle.std.specs.Prelude.{◌≡◌, ℕ, List, map, Some}
 use Rattle.std.specs.List.{AllByRecursion}

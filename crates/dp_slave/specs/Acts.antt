@@ -1,3 +1,4 @@
+-- promise
 -- What can happen to one slave (own).
 -- An act is data, and Fields has one equation by cases on the act for each field. The record after an act is built only of these equations, so
 -- no service can change a field that the table of the rules does not name. The acts of setting min TSDR and of reading the diagnosis carry their

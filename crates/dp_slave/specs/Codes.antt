@@ -1,3 +1,4 @@
+-- detail
 -- The numbers of faults (own).
 use Rattle.std.specs.Prelude.{ℕ}
 use Rattle.dp_slave.specs.declared.fault.InputFault.{InputFault}

@@ -1,3 +1,4 @@
+-- promise
 -- The parts of a Global_Control, each on its own (IEC 61158-6-3, Global_Control request).
 use Rattle.std.specs.Prelude.{true, false, ◌||◌, if◌then◌else◌}
 use Rattle.dp_slave.specs.SlaveRecord.{SlaveRecord, output_length, zeros}

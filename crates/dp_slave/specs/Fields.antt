@@ -1,3 +1,4 @@
+-- promise
 -- What an act leaves of each field of a slave: one equation for each field, by cases on the act. The last case is for all other acts: the field
 -- stays, but a released slave gets what released slaves have, and a retriggered watchdog its full time.
 use Rattle.std.specs.Prelude.{ℕ, ◌-◌, ◌==◌, ◌&&◌, ◌||◌, not, Bool, true, false, if◌then◌else◌, List, Option, Some, None, is_some, option_map}

@@ -1,3 +1,4 @@
+-- detail
 -- A slave as data, from which a slave goes on (own).
 use Rattle.std.specs.Prelude.{ℕ, ◌==◌, ◌&&◌, Bool, if◌then◌else◌, List, length, Option, Some, None}
 use Rattle.dp_owners.specs.Chain.{no_links}

@@ -1,3 +1,4 @@
+-- helper
 pub mod SlaveRecord
 pub mod Reshaping
 pub mod ProcessData

@@ -1,3 +1,4 @@
+-- promise
 -- The process data of a slave.
 use Rattle.std.specs.Prelude.{ℕ, Bool, List, Option}
 use Rattle.dp_sap.specs.declared.state.State.{State}

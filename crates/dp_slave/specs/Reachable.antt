@@ -1,3 +1,4 @@
+-- detail
 -- A slave to which acts can have led, as a test (own). It looks at fields that a sound slave leaves open.
 use Rattle.std.specs.Prelude.{ℕ, zero, suc, ◌/◌, ◌%◌, ◌==◌, nat_eq, nat_le, Bool, true, false, not, ◌&&◌, ◌||◌, List, [], ◌∷◌, length, Option, Some, is_some}
 use Rattle.std.specs.List.{list_any}

@@ -1,3 +1,4 @@
+-- helper
 -- Watchdog times, and slaves to which acts can have led or not.
 use Rattle.std.specs.Prelude.{◌≡◌, true, false, Some, refl}
 use Rattle.dp_slave.specs.Fields.{acted}

@@ -1,3 +1,4 @@
+-- helper
 -- What another shape changes of a slave. No public clause cites this module.
 use Rattle.std.specs.Prelude.{ℕ, false}
 use Rattle.dp_slave.specs.SlaveRecord.{SlaveRecord, cut_or_filled, inputs_of, outputs_of, zeros}

@@ -1,3 +1,4 @@
+-- promise
 -- What a request that passed all rows of the verdict does to a slave, and what it answers (IEC 61158-6-3, services of a slave).
 use Rattle.std.specs.Prelude.{ℕ, ◌==◌, Bool, false, if◌then◌else◌, List, [], length, slice_index, Option, Some, None}
 use Rattle.dp_telegram.specs.FunctionCode.{is_set}

@@ -1,3 +1,4 @@
+-- helper
 -- Slave 5 of a line with masters 1 and 2, or with only master 1: ident number 80A1, two octets of outputs and two of inputs, with Sync and Freeze.
 use Rattle.std.specs.Prelude.{◌≡◌, ℕ, List, [], ◌∷◌, true, false, Option, Some, None, refl}
 use Rattle.dp_telegram.specs.declared.access.Parts.{Parts}

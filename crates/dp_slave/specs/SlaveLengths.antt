@@ -1,3 +1,4 @@
+-- helper
 -- How many octets a slave's data have. No public clause cites this module.
 use Rattle.std.specs.Prelude.{◌≡◌, ℕ, List, length}
 use Rattle.dp_slave.specs.declared.description.SlaveSpec.{SlaveSpec}

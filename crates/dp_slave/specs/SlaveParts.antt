@@ -1,3 +1,4 @@
+-- detail
 -- A slave in the line's lists: its record, and its links, which the policy doesn't mention (own).
 use Rattle.dp_owners.specs.declared.links.Links.{Links}
 use Rattle.dp_slave.specs.SlaveRecord.{SlaveRecord}

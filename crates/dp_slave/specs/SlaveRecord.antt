@@ -1,3 +1,4 @@
+-- promise
 -- What a DP slave is at one moment (IEC 61158-6-3, slave state machine).
 use Rattle.std.specs.Prelude.{◌≡◌, ℕ, ◌==◌, Bool, false, if◌then◌else◌, ◌-◌, ◌++◌, List, [], length, map, replicate, slice_get, take, unwrap_or, Option, None, is_ok, is_some}
 use Rattle.std.specs.Option.{option_map_or, option_and_then}

@@ -1,3 +1,4 @@
+-- detail
 -- A slave that is sound, as a test (own).
 use Rattle.std.specs.Prelude.{ℕ, ◌==◌, nat_eq, nat_lt, Bool, not, ◌&&◌, ◌||◌, if◌then◌else◌, List, length, Some, None, is_some, is_none}
 use Rattle.std.specs.List.{list_all}

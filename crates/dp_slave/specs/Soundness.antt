@@ -1,3 +1,4 @@
+-- helper
 -- Acts on a slave one after another. The verdict on its request, or the line, lets each of them through.
 use Rattle.std.specs.Prelude.{◌≡◌, ◌==◌, ◌<◌, ◌≤◌, ◌&&◌, nat_lt, if◌then◌else◌, not, Bool, true, false, List, [], ◌∷◌, length, Some, None, is_some, is_none}
 use Rattle.dp_sap.specs.States.{is_in_data_exch, is_in_wait_prm}

@@ -1,3 +1,4 @@
+-- detail
 -- A slave as it is shown (own).
 use Rattle.dp_slave.specs.declared.view.SlaveView.{SlaveView}
 use Rattle.dp_slave.specs.SlaveRecord.{SlaveRecord, shown_inputs}

@@ -1,3 +1,4 @@
+-- promise
 -- The service access points that a telegram names (IEC 61158-4-3, address extension).
 use Rattle.std.specs.Prelude.{◌≡◌, ℕ, ◌+◌, ◌%◌, Bool, true, false, nat_lt, nat_le, if◌then◌else◌, List, [], ◌∷◌, ◌++◌, Option, Some, None, is_some, IfSome, option_and_then, option_to_list}
 use Rattle.dp_telegram.specs.declared.access.Parts.{Parts}

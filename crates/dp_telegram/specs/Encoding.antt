@@ -1,3 +1,4 @@
+-- helper
 -- The head of a text, as it is written. No public clause cites this module.
 use Rattle.std.specs.Prelude.{ℕ, ◌+◌, ◌==◌, if◌then◌else◌, List, [], ◌∷◌}
 use Rattle.dp_telegram.specs.FrameText.{sd1, sd2}

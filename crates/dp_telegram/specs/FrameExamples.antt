@@ -1,3 +1,4 @@
+-- helper
 -- Example texts, and the frames or faults that they are read as.
 use Rattle.std.specs.Prelude.{◌≡◌, [], ◌∷◌, true, false, None, Some, Ok, Err, refl}
 use Rattle.dp_telegram.specs.declared.fault.FrameFault.TheVariants.{NoStart, BadHead, BadEnd, Short, Long}

@@ -1,3 +1,4 @@
+-- promise
 -- The text of a frame, and the fault of octets that are not the text of a frame.
 use Rattle.std.specs.Prelude.{◌≡◌, ◌≢◌, ℕ, ◌+◌, ◌-◌, ◌%◌, ◌≤◌, ◌⊎◌, Bool, not, ◌&&◌, ◌||◌, ◌==◌, nat_lt, nat_le, if◌then◌else◌, List, [], ◌∷◌, ◌++◌, length, sum, drop, slice_index, slice_range, Option, Some, None, is_none, Result, Ok, Err}
 use Rattle.std.specs.List.{list_any}

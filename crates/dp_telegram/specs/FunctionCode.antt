@@ -1,3 +1,4 @@
+-- promise
 -- The function code of a telegram (IEC 61158-4-3, function code).
 use Rattle.std.specs.Prelude.{ℕ, ◌/◌, ◌%◌, ◌^◌, ◌==◌, Bool, true, false, if◌then◌else◌, List, [], ◌∷◌}
 use Rattle.dp_telegram.specs.declared.function_code.Function.{Function}

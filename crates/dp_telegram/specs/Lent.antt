@@ -1,3 +1,4 @@
+-- helper
 -- Frames whose data unit is lent.
 use Rattle.dp_telegram.specs.declared.frame.Frame.{Frame}
 use Rattle.dp_telegram.specs.declared.frame.Frame.TheVariants as frames

@@ -1,3 +1,4 @@
+-- helper
 pub mod FrameText
 pub mod Access
 pub mod FunctionCode

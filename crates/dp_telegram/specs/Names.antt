@@ -1,3 +1,4 @@
+-- detail
 -- The names of faults in texts (own).
 use Rattle.std.specs.Prelude.{codes, ℕ, List}
 use Rattle.dp_telegram.specs.declared.fault.FrameFault.{FrameFault}

@@ -1,3 +1,4 @@
+-- promise
 -- The telegram of a reply with data.
 use Rattle.std.specs.Prelude.{◌++◌, option_to_list}
 use Rattle.dp_telegram.specs.declared.frame.Telegram.{Telegram}

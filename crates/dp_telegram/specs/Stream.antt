@@ -1,3 +1,4 @@
+-- promise
 -- The pieces of a stream of octets.
 use Rattle.std.specs.Prelude.{◌≡◌, ◌≢◌, ◌⊎◌, ℕ, zero, suc, ◌≤◌, true, false, List, [], ◌∷◌, ◌++◌, length, take, drop, Option, Some, None, option_map}
 use Rattle.dp_telegram.specs.declared.fault.FrameFault.{FrameFault}

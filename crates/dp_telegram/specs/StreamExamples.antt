@@ -1,3 +1,4 @@
+-- helper
 -- Example streams, and the pieces that they are cut into.
 use Rattle.std.specs.Prelude.{◌≡◌, [], ◌∷◌, None, refl}
 use Rattle.dp_telegram.specs.declared.fault.FrameFault.TheVariants.{NoStart, BadHead, BadEnd}

@@ -1,3 +1,4 @@
+-- detail
 -- The end of a telegram whose end is wrong.
 use Rattle.std.specs.Prelude.{ℕ, List, slice_index, Option, Some, None, ◌-◌}
 use Rattle.dp_telegram.specs.declared.fault.FrameFault.{FrameFault}

@@ -1,3 +1,4 @@
+-- detail
 -- The numbers of faults, and their names in texts (own).
 use Rattle.std.specs.Prelude.{codes, ℕ, List}
 use Rattle.dp_text.specs.declared.op_line.TextFault.{TextFault}

@@ -1,3 +1,4 @@
+-- detail
 -- Reading the texts of events (own).
 use Rattle.std.specs.Prelude.{codes, ℕ, ◌≤◌, ◌<◌, nat_le, Bool, true, false, if◌then◌else◌, List, [], ◌∷◌, length, Option, Some, None, IfSome, option_map, option_and_then}
 use Rattle.std.specs.List.{list_any}

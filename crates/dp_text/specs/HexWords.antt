@@ -1,3 +1,4 @@
+-- detail
 -- Octets in words of hex digits (own).
 use Rattle.std.specs.Prelude.{ℕ, ◌+◌, ◌*◌, ◌%◌, ◌==◌, if◌then◌else◌, Bool, List, [], ◌∷◌, ◌++◌, length, is_some, Option, Some, None, option_map, option_and_then, unwrap_or}
 use Rattle.std.specs.Result.{result_ok}

@@ -1,3 +1,4 @@
+-- helper
 pub mod Numbers
 pub mod Words
 pub mod Texts

@@ -1,3 +1,4 @@
+-- detail
 -- Plain decimal numbers (own).
 use Rattle.std.specs.Prelude.{ℕ, Bool, not, ◌&&◌, ◌||◌, ◌==◌, nat_le, if◌then◌else◌, List, length, slice_index, Option, Some, None}
 use Rattle.std.specs.Str.{all_ascii_digits}

@@ -1,3 +1,4 @@
+-- helper
 -- Lines of an operator, read.
 use Rattle.std.specs.Prelude.{◌≡◌, [], ◌∷◌, codes, Some, None, true, false, refl}
 use Rattle.dp_line.specs.declared.event.Op.TheVariants as ops

@@ -1,3 +1,4 @@
+-- detail
 -- The lines of an operator (own).
 use Rattle.std.specs.Prelude.{◌≡◌, codes, ℕ, ◌==◌, ◌<◌, if◌then◌else◌, List, [], ◌∷◌, ◌++◌, map, Option, Some, None, option_map}
 use Rattle.std.specs.Char.{to_ascii_lowercase}

@@ -1,3 +1,4 @@
+-- detail
 -- What the octets of an operator's line ask for (own).
 use Rattle.std.specs.Prelude.{codes, ℕ, nat_lt, if◌then◌else◌, Bool, true, false, List, length, Option, None, ok_or, Result, Err}
 use Rattle.std.specs.Str.{is_utf8}

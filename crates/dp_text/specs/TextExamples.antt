@@ -1,3 +1,4 @@
+-- helper
 -- Texts, written and read.
 use Rattle.std.specs.Prelude.{◌≡◌, ⊤, true, false, [], ◌∷◌, codes, Some, None, refl}
 use Rattle.std.specs.Fmt.{digits}

@@ -1,3 +1,4 @@
+-- detail
 -- The lines of a text and the words of a line (own).
 use Rattle.std.specs.Prelude.{ℕ, Bool, ◌==◌, nat_eq, List, [], Option, Some, None}
 use Rattle.std.specs.Borrow.{Bor}

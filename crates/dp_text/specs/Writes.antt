@@ -1,3 +1,4 @@
+-- detail
 -- What a writer has after a call that writes to it (own).
 use Rattle.std.specs.Prelude.{◌≡◌, ℕ, List, ◌++◌, Option}
 use Rattle.std.specs.Io.KnownBytes.{Appends}

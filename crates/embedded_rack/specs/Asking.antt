@@ -1,3 +1,4 @@
+-- detail
 -- What a line of the operator asks for, apart from the event that it makes (own).
 use Rattle.std.specs.Prelude.{◌≡◌, Option, option_map}
 use Rattle.dp_line.specs.declared.event.Event.{Event}

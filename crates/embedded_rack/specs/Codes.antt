@@ -1,3 +1,4 @@
+-- detail
 -- The numbers of faults of calls (own). The numbers 1 to 5 are those of the faults of a rack file.
 use Rattle.std.specs.Prelude.{ℕ}
 use Rattle.embedded_rack.specs.declared.call_fault.CallFault.{CallFault}

@@ -1,3 +1,4 @@
+-- detail
 -- One step of the devices of a line (own).
 use Rattle.std.specs.Prelude.{ℕ, ◌+◌, if◌then◌else◌, List, [], ◌∷◌, Option, Some, None, option_map, is_some}
 use Rattle.dp_slave.specs.declared.view.SlaveView.{SlaveView}

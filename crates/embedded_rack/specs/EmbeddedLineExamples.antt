@@ -1,3 +1,4 @@
+-- helper
 -- Examples of what a master sends to the line with masters 1 and 2 and slave 5, and of what is written.
 use Rattle.std.specs.Prelude.{◌≡◌, ⊤, ℕ, List, [], ◌∷◌, codes, Some, None, option_map, refl}
 use Rattle.std.specs.Fmt.{digits}

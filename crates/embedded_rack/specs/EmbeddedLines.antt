@@ -1,3 +1,4 @@
+-- detail
 -- A line that a script runs on, and the octets that its masters send (own).
 use Rattle.std.specs.Prelude.{ℕ, ◌==◌, List, [], ◌∷◌, ◌++◌, map, slice_get, slice_set, Option, option_map, option_and_then, position}
 use Rattle.dp_telegram.specs.declared.cutter.Cut.{Cut}

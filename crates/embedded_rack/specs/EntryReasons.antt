@@ -1,3 +1,4 @@
+-- detail
 -- The reason of an entry of a line in process: its facts and its sentence, as an explanation of the journal has them (own).
 use Rattle.std.specs.Prelude.{codes, ℕ, zero, suc, ◌+◌, ◌-◌, nat_lt, if◌then◌else◌, Bool, List, [], ◌∷◌, length, drop, map, take, Option, Some, None, option_and_then, option_map, unwrap_or, true, false, Result, Ok, Err, ◌≡◌}
 use Rattle.dp_telegram.specs.FrameText.{frame_of}

@@ -1,3 +1,4 @@
+-- helper
 pub mod DeviceSteps
 pub mod EmbeddedLines
 pub mod EmbeddedLineExamples

@@ -1,3 +1,4 @@
+-- detail
 -- What a call leaves of a line of a rack in process, and its answer (own).
 use Rattle.std.specs.Prelude.{ℕ, ◌-◌, ◌==◌, if◌then◌else◌, List, ◌++◌, length, min, take, slice_get, slice_set, position, Option, Some, None, option_map, Result, Ok, Err}
 use Rattle.dp_telegram.specs.declared.cutter.Cut.{Cut}

@@ -1,3 +1,4 @@
+-- detail
 -- A rack in process: its lines, the answer to the last event and the last text; and what each call leaves and returns (own).
 use Rattle.std.specs.Prelude.{ℕ, ◌==◌, if◌then◌else◌, Bool, List, [], length, map, slice_get, slice_set, position, Option, Some, None, Result, Ok, Err, ◌≡◌}
 use Rattle.dp_line.specs.declared.event.Outcome.TheVariants as outcomes

@@ -1,3 +1,4 @@
+-- detail
 -- The reason of an entry of a rack in process (own).
 use Rattle.std.specs.Prelude.{◌≡◌, ℕ, ◌==◌, List, slice_get, position, Option, Some, None, Result, Err}
 use Rattle.dp_line.specs.World.{Description}

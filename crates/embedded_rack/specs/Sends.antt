@@ -1,3 +1,4 @@
+-- detail
 -- What a command to a line leaves on its writer, and how it ends (own).
 use Rattle.std.specs.Prelude.{◌≡◌, ℕ, List, Option, Some, None, Result, Ok, Err}
 use Rattle.std.specs.Io.KnownBytes.{Appends, Keeps}

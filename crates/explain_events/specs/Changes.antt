@@ -1,3 +1,4 @@
+-- detail
 -- The changes of slaves that an event caused: state and holder, if they differ from before (own).
 use Rattle.std.specs.Prelude.{codes, ℕ, ◌==◌, ◌&&◌, if◌then◌else◌, Bool, true, false, List, [], ◌∷◌, ◌++◌, Option, Some, None}
 use Rattle.std.specs.List.{flat_map}

@@ -1,3 +1,4 @@
+-- detail
 -- The result of a service that was done, in one sentence (own).
 use Rattle.std.specs.Prelude.{codes, ℕ, ◌==◌, if◌then◌else◌, Bool, true, false, List, [], ◌++◌, Option, Some, None}
 use Rattle.std.specs.Fmt.{decimal}

@@ -1,3 +1,4 @@
+-- detail
 -- What a slave did by a request: the facts, by the point of the request (own).
 use Rattle.std.specs.Prelude.{ℕ, ◌==◌, ◌&&◌, nat_lt, not, if◌then◌else◌, Bool, true, false, List, length, Option, Some, None}
 use Rattle.std.specs.Option.{option_map_or}

@@ -1,3 +1,4 @@
+-- detail
 -- How a hold ended (own).
 use Rattle.std.specs.Prelude.{codes, ℕ, ◌&&◌, not, if◌then◌else◌, List, Option, Some, None}
 use Rattle.dp_telegram.specs.declared.frame.Telegram.{Telegram}

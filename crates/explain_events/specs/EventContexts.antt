@@ -1,3 +1,4 @@
+-- detail
 -- The data that an explanation of an event reads: the line's description, the line before the event, the notes, the last releases, and the time (own).
 use Rattle.std.specs.Prelude.{ℕ, List, Option}
 use Rattle.dp_telegram.specs.declared.frame.Telegram.{Telegram}

@@ -1,3 +1,4 @@
+-- detail
 -- All rows of an entry (own).
 use Rattle.std.specs.Prelude.{ℕ, List, [], ◌++◌}
 use Rattle.dp_line.specs.declared.event.Event.{Event}

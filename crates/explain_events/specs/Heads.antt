@@ -1,3 +1,4 @@
+-- detail
 -- The first row of an entry: its place, the sender and the receiver, the kind of the event, and the time before it (own).
 use Rattle.std.specs.Prelude.{codes, ℕ, ◌==◌, if◌then◌else◌, Bool, true, false, List, [], ◌++◌, Option, Some, None}
 use Rattle.std.specs.Fmt.{decimal}

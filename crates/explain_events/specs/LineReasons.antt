@@ -1,3 +1,4 @@
+-- detail
 -- The facts of a request to which nobody replies, by a rule that concerns the line (own).
 use Rattle.std.specs.Prelude.{ℕ, ◌==◌, if◌then◌else◌, List, Option, Some, None}
 use Rattle.std.specs.List.{list_any}

@@ -1,3 +1,4 @@
+-- detail
 -- The requests whose replies the slaves remember: the entry and the octets of each (own).
 use Rattle.std.specs.Prelude.{ℕ, ◌==◌, ◌&&◌, if◌then◌else◌, Bool, true, false, List, [], ◌∷◌, map, find, Option, Some, None}
 use Rattle.std.specs.List.{flat_map}

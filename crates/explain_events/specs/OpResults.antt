@@ -1,3 +1,4 @@
+-- detail
 -- The facts of the result of an event of the operator (own).
 use Rattle.std.specs.Prelude.{ℕ, if◌then◌else◌, Option, Some, None}
 use Rattle.std.specs.Option.{option_and_then}

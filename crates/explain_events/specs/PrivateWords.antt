@@ -1,3 +1,4 @@
+-- helper
 -- Words of private functions. No public contract cites this module.
 use Rattle.std.specs.Prelude.{codes, ℕ, List, [], ◌∷◌, ◌++◌}
 

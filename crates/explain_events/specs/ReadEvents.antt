@@ -1,3 +1,4 @@
+-- detail
 -- The octets that an event sends (own).
 use Rattle.std.specs.Prelude.{ℕ, List, []}
 use Rattle.dp_line.specs.declared.event.Event.{Event}

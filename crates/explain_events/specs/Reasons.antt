@@ -1,3 +1,4 @@
+-- detail
 -- The facts of the answer of a slave, by its rule (own).
 use Rattle.std.specs.Prelude.{ℕ, ◌==◌, if◌then◌else◌, Bool, List, length, slice_index, Option, Some, None}
 use Rattle.std.specs.Option.{option_and_then, option_map_or}

@@ -1,3 +1,4 @@
+-- detail
 -- The reasons why a slave refuses a request: one sentence for each rule, about the slave's own state (own).
 use Rattle.std.specs.Prelude.{codes, ℕ, Bool, List, [], ◌∷◌, ◌++◌, Option, Some, None}
 use Rattle.std.specs.Fmt.{decimal}

@@ -1,3 +1,4 @@
+-- detail
 -- The releases that an event caused (own).
 use Rattle.std.specs.Prelude.{ℕ, if◌then◌else◌, List, [], ◌∷◌, slice_set, Option, Some, None}
 use Rattle.dp_slave.specs.declared.view.SlaveView.{SlaveView}

@@ -1,3 +1,4 @@
+-- detail
 -- The last release of each slave: the entry that ended its last hold, and how (own).
 use Rattle.std.specs.Prelude.{ℕ, List, replicate, slice_get, Option, None}
 use Rattle.std.specs.Option.{option_and_then}

@@ -1,3 +1,4 @@
+-- detail
 -- A request that has reached a slave, and the data that a sentence is made of (own).
 use Rattle.std.specs.Prelude.{ℕ, List, Option}
 use Rattle.dp_telegram.specs.declared.frame.Telegram.{Telegram}

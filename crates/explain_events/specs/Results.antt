@@ -1,3 +1,4 @@
+-- detail
 -- The result of an event, in its result rows (own).
 use Rattle.std.specs.Prelude.{codes, ℕ, Bool, true, false, if◌then◌else◌, List, [], ◌∷◌, ◌++◌, Option, Some, None}
 use Rattle.std.specs.Option.{option_and_then}

@@ -1,3 +1,4 @@
+-- helper
 -- Examples of facts and of sentences.
 use Rattle.std.specs.Prelude.{◌≡◌, ⊤, ℕ, List, [], ◌∷◌, Option, true, false, codes, Some, None, refl}
 use Rattle.std.specs.Fmt.{digits}

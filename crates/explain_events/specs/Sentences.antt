@@ -1,3 +1,4 @@
+-- detail
 -- The reason why a request was answered as it was: one sentence for each rule (own).
 use Rattle.std.specs.Prelude.{codes, ℕ, Bool, true, false, List, [], ◌++◌, Option, Some, None}
 use Rattle.std.specs.Fmt.{decimal}

@@ -1,3 +1,4 @@
+-- detail
 -- What is wrong with a Set_Prm or a Chk_Cfg, and what a Global_Control does, with their words (own).
 use Rattle.std.specs.Prelude.{codes, ℕ, ◌==◌, ◌&&◌, ◌||◌, nat_lt, not, if◌then◌else◌, Bool, true, false, List, [], ◌∷◌, ◌++◌, length, Option, Some, None, is_none}
 use Rattle.std.specs.List.{flat_map}

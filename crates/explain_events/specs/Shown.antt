@@ -1,3 +1,4 @@
+-- detail
 -- A slave that is read where it lies, as it is shown (own).
 use Rattle.std.specs.Prelude.{ℕ, Option, option_map}
 use Rattle.dp_slave.specs.declared.view.SlaveView.{SlaveView}

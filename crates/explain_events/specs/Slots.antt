@@ -1,3 +1,4 @@
+-- detail
 -- Two configurations, compared slot by slot (own). A slot is the place of an identifier in a configuration, from 1.
 use Rattle.std.specs.Prelude.{codes, ℕ, ◌+◌, if◌then◌else◌, Bool, List, [], ◌∷◌, ◌++◌, is_some, unwrap_or}
 use Rattle.std.specs.Fmt.{decimal}

@@ -1,3 +1,4 @@
+-- detail
 -- The changes that an event caused, as facts: state and holder of a slave, if one of them differs from before (own).
 use Rattle.std.specs.Prelude.{ℕ, ◌&&◌, if◌then◌else◌, List, Option, Some, None}
 use Rattle.std.specs.List.{filter_map}

@@ -1,3 +1,4 @@
+-- detail
 -- What surprises in a request that was done, although nothing refused it (own).
 use Rattle.std.specs.Prelude.{ℕ, Bool, true, false, List, Option, Some, None}
 use Rattle.dp_telegram.specs.declared.frame.Telegram.{Telegram}

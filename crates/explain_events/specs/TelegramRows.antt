@@ -1,3 +1,4 @@
+-- detail
 -- The octets of a telegram, as rows (own).
 use Rattle.std.specs.Prelude.{codes, ℕ, List, [], ◌∷◌, ◌++◌, Option, Some, None}
 use Rattle.dp_telegram.specs.declared.frame.Frame.{Frame}

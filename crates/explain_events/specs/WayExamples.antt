@@ -1,3 +1,4 @@
+-- helper
 -- Examples of notes, of ways in which requests were answered, and of faults.
 use Rattle.std.specs.Prelude.{◌≡◌, ℕ, List, [], ◌∷◌, true, false, codes, Some, None, refl}
 use Rattle.dp_sap.specs.declared.state.State.TheVariants.{DataExch}

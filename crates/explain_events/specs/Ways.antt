@@ -1,3 +1,4 @@
+-- detail
 -- The way in which a request was answered: its rule, or what is known beyond the rule. And the ways and events that are faults of the bus (own).
 use Rattle.std.specs.Prelude.{codes, ℕ, ◌==◌, ◌&&◌, ◌||◌, not, if◌then◌else◌, Bool, true, false, List, find, length, Option, Some, None}
 use Rattle.std.specs.List.{list_any}

@@ -1,3 +1,4 @@
+-- detail
 -- The parts that the rows of an explanation are made of (own).
 use Rattle.std.specs.Prelude.{codes, ℕ, ◌-◌, ◌*◌, ◌/◌, ◌%◌, ◌==◌, if◌then◌else◌, List, [], ◌∷◌, ◌++◌, length, replicate, Option, Some, None}
 use Rattle.std.specs.List.{flat_map}

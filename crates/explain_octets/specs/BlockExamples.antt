@@ -1,3 +1,4 @@
+-- helper
 -- Examples of blocks of an extended diagnosis, and of their texts.
 use Rattle.std.specs.Prelude.{◌≡◌, codes, [], ◌∷◌, Some, None, refl}
 use Rattle.std.specs.Fmt.{digits}

@@ -1,3 +1,4 @@
+-- detail
 -- The blocks of an extended diagnosis, in words (IEC 61158-6-3, Ext_Diag_Data).
 use Rattle.std.specs.Prelude.{codes, ℕ, zero, suc, ◌*◌, ◌/◌, ◌%◌, ◌==◌, nat_lt, Bool, if◌then◌else◌, List, [], ◌∷◌, ◌++◌, filter, length, take, drop, slice_index, Option, Some, None, option_and_then}
 use Rattle.std.specs.Fmt.{decimal}

@@ -1,3 +1,4 @@
+-- detail
 -- Global_Control in words (IEC 61158-6-3, Global_Control request).
 use Rattle.std.specs.Prelude.{codes, ℕ, Bool, List, [], ◌∷◌, ◌++◌}
 use Rattle.dp_globalctl.specs.declared.command.Command.{Command}

@@ -1,3 +1,4 @@
+-- detail
 -- Configuration identifiers in words (IEC 61158-6-3, configuration identifiers).
 use Rattle.std.specs.Prelude.{codes, ℕ, zero, suc, ◌+◌, ◌==◌, if◌then◌else◌, List, [], ◌∷◌, ◌++◌, length, map, Option, Some, None}
 use Rattle.std.specs.Fmt.{decimal}

@@ -1,3 +1,4 @@
+-- detail
 -- The data of a request in words, as one row with its label (IEC 61158-6-3, service access points).
 use Rattle.std.specs.Prelude.{codes, ℕ, ◌==◌, ◌&&◌, if◌then◌else◌, List, [], ◌∷◌, ◌++◌, length, Option, Some, None, option_and_then}
 use Rattle.dp_telegram.specs.declared.access.Parts.{Parts}

@@ -1,3 +1,4 @@
+-- helper
 -- Examples of octets, and of the text of their data.
 use Rattle.std.specs.Prelude.{◌≡◌, codes, [], ◌∷◌, Some, None, refl}
 use Rattle.std.specs.Fmt.{digits}

@@ -1,3 +1,4 @@
+-- detail
 -- Diagnoses in words (IEC 61158-6-3, Slave_Diag response).
 use Rattle.std.specs.Prelude.{codes, ℕ, ◌==◌, nat_lt, Bool, if◌then◌else◌, List, [], ◌∷◌, ◌++◌, drop, length, slice_index}
 use Rattle.std.specs.Fmt.{decimal}

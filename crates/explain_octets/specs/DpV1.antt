@@ -1,3 +1,4 @@
+-- detail
 -- User parameters in the form of DP-V1, in words (IEC 61158-6-3, DPV1_Status_1 to DPV1_Status_3).
 use Rattle.std.specs.Prelude.{codes, ℕ, ◌%◌, ◌==◌, ◌&&◌, ◌||◌, not, Bool, if◌then◌else◌, List, [], ◌∷◌, ◌++◌}
 use Rattle.std.specs.Fmt.{decimal}

@@ -1,3 +1,4 @@
+-- detail
 -- Octets that are no frame, in words (IEC 61158-4-3, frame formats).
 use Rattle.std.specs.Prelude.{codes, ℕ, ◌==◌, not, if◌then◌else◌, List, ◌++◌, slice_index}
 use Rattle.std.specs.Fmt.{decimal}

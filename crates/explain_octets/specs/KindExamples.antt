@@ -1,3 +1,4 @@
+-- helper
 -- Examples of octets, and of the texts of their kind.
 use Rattle.std.specs.Prelude.{◌≡◌, codes, [], ◌∷◌, Some, refl}
 use Rattle.std.specs.Fmt.{digits}

@@ -1,3 +1,4 @@
+-- detail
 -- The kind of octets, in words: the frame, the function, and the access point (IEC 61158-4-3, frame formats and function code).
 use Rattle.std.specs.Prelude.{codes, ℕ, ◌%◌, ◌==◌, Bool, true, false, if◌then◌else◌, List, [], ◌++◌, Option, Some, None, Result, Ok, Err}
 use Rattle.std.specs.Fmt.{decimal}

@@ -1,3 +1,4 @@
+-- helper
 pub mod Words
 pub mod Points
 pub mod Faults

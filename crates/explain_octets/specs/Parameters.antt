@@ -1,3 +1,4 @@
+-- detail
 -- Set_Prm in words (IEC 61158-6-3, Set_Prm request).
 use Rattle.std.specs.Prelude.{codes, ℕ, ◌*◌, ◌==◌, Bool, true, not, if◌then◌else◌, List, [], ◌∷◌, ◌++◌, length, slice_index, Option, Some, None}
 use Rattle.std.specs.Fmt.{decimal}

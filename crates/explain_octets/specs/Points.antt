@@ -1,3 +1,4 @@
+-- detail
 -- Service access points in words (IEC 61158-6-3, service access points).
 use Rattle.std.specs.Prelude.{codes, ℕ, List, [], ◌∷◌, ◌++◌, Option, Some, None}
 use Rattle.std.specs.Fmt.{decimal}

@@ -1,3 +1,4 @@
+-- helper
 -- Words of private functions. No public contract cites this module.
 use Rattle.std.specs.Prelude.{codes, ℕ, ◌-◌, ◌*◌, nat_lt, Bool, if◌then◌else◌, List, [], ◌∷◌, ◌++◌, drop, filter, length, map, take, Option, Some, None, unwrap_or}
 use Rattle.std.specs.Fmt.{decimal}

@@ -1,3 +1,4 @@
+-- detail
 -- A reply in words, as one row with its label (IEC 61158-4-3, response telegrams).
 use Rattle.std.specs.Prelude.{codes, ℕ, ◌==◌, not, Bool, false, if◌then◌else◌, List, [], ◌∷◌, ◌++◌, Option, Some, None, option_and_then, unwrap_or}
 use Rattle.dp_telegram.specs.declared.access.Parts.{Parts}

@@ -1,3 +1,4 @@
+-- helper
 -- Examples of requests and replies, and of the texts of the replies.
 use Rattle.std.specs.Prelude.{◌≡◌, codes, true, false, [], ◌∷◌, Some, None, refl}
 use Rattle.std.specs.Fmt.{digits}

@@ -1,3 +1,4 @@
+-- detail
 -- The parts that the texts of octets and bits are made of (own).
 use Rattle.std.specs.Prelude.{codes, ℕ, ◌/◌, ◌%◌, ◌==◌, ◌||◌, Bool, true, false, if◌then◌else◌, List, [], ◌∷◌, ◌++◌, filter, map, Option, Some, None}
 use Rattle.std.specs.Fmt.{digit_glyph}

@@ -1,3 +1,4 @@
+-- detail
 -- What is known behind the head of a part of an audit text (own).
 use Rattle.std.specs.Prelude.{ℕ, List, [], ◌∷◌, Option, Some, None}
 use Rattle.dp_slave.specs.declared.description.SlaveSpec.{SlaveSpec}

@@ -1,3 +1,4 @@
+-- helper
 -- Examples of what is counted behind a head, on the line of the examples of statistics.
 use Rattle.std.specs.Prelude.{◌≡◌, List, [], ◌∷◌, refl}
 use Rattle.dp_line.specs.declared.event.Event.{Event}

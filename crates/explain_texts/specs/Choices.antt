@@ -1,3 +1,4 @@
+-- detail
 -- The choice of the entries that are explained (own).
 use Rattle.std.specs.Prelude.{ℕ, ◌==◌, ◌&&◌, ◌||◌, not, nat_le, Bool, true, false, Option, Some, None}
 use Rattle.std.specs.List.{list_any}

@@ -1,3 +1,4 @@
+-- detail
 -- The explanation of rows of entries, from a follower on that has taken what came before them (own).
 use Rattle.std.specs.Prelude.{◌≡◌, ℕ, ◌==◌, ◌||◌, Bool, List, ◌++◌, length, Result}
 use Rattle.dp_line.specs.World.{Description}

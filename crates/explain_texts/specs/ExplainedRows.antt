@@ -1,3 +1,4 @@
+-- detail
 -- The check and the explanation of a text that was read row by row (own).
 use Rattle.std.specs.Prelude.{◌≡◌, ℕ, List, ◌++◌, ◌∷◌, [], Result, Ok, Err, IsUtf8}
 use Rattle.dp_line.specs.World.{Description}

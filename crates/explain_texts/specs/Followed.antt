@@ -1,3 +1,4 @@
+-- detail
 -- What is reported of the rows of an audit text that are followed one after another, and with which fault that ends (own).
 use Rattle.std.specs.Prelude.{◌≡◌, ℕ, ◌+◌, ◌==◌, if◌then◌else◌, List, [], ◌∷◌, ◌++◌, length, Option, Some, None, Result, Ok, Err}
 use Rattle.dp_line.specs.declared.event.Event.{Event}

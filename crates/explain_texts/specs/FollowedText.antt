@@ -1,3 +1,4 @@
+-- helper
 -- What is left by rows that were read and followed (own). No public clause cites this module.
 use Rattle.std.specs.Prelude.{◌≡◌, ℕ, List, ◌++◌, Option, Result, Ok, Err}
 use Rattle.dp_line.specs.World.{Description}

@@ -1,3 +1,4 @@
+-- helper
 -- The state of a follower, and the holds that it stores (own). No public clause cites this module.
 use Rattle.std.specs.Prelude.{◌≡◌, List, ◌++◌, Option, option_map, Result, Ok, Err}
 use Rattle.dp_line.specs.World.{World, description_of}

@@ -1,3 +1,4 @@
+-- detail
 -- The holds of slaves: by which master, from which entry to which, and how each ended (own).
 use Rattle.std.specs.Prelude.{ℕ, if◌then◌else◌, List, [], ◌∷◌, ◌++◌, Option, Some, None}
 use Rattle.std.specs.List.{flat_map}

@@ -1,3 +1,4 @@
+-- promise
 -- The explanation of a legal journal, defined only by its entries: no text is read, and no event is replayed (own).
 use Rattle.std.specs.Prelude.{◌≡◌, ℕ, List, [], ◌∷◌, ◌++◌, length, None, Ok}
 use Rattle.dp_line.specs.World.{Description, World, opening_fault}

@@ -1,3 +1,4 @@
+-- detail
 -- An entry and a verdict, each as a line of JSON. It is made of the rows of the entry, so both always agree (own).
 use Rattle.std.specs.Prelude.{codes, ℕ, List, [], ◌∷◌, ◌++◌, map, Option, Some, None, Result, Ok, Err}
 use Rattle.std.specs.List.{zip}

@@ -1,3 +1,4 @@
+-- detail
 -- How many requests of a sender were answered in each way, as JSON (own).
 use Rattle.std.specs.Prelude.{codes, ℕ, ◌==◌, not, Bool, List, ◌++◌, map, filter, Option}
 use Rattle.std.specs.Fmt.{decimal}

@@ -1,3 +1,4 @@
+-- helper
 -- Examples of lines of JSON, and of their values.
 use Rattle.std.specs.Prelude.{codes, ◌≡◌, ℕ, List, [], ◌∷◌, ◌++◌, None, Some, Ok, Err, refl}
 use Rattle.std.specs.Fmt.{digits}

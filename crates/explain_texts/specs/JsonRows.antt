@@ -1,3 +1,4 @@
+-- detail
 -- The parts of the rows of a explained_entry (own).
 use Rattle.std.specs.Prelude.{codes, ℕ, ◌+◌, ◌-◌, ◌==◌, max, if◌then◌else◌, Bool, List, [], ◌∷◌, length, take, drop, map, filter, Option, Some, None}
 use Rattle.std.specs.List.{before_first, after_first}

@@ -1,3 +1,4 @@
+-- detail
 -- The values of JSON: numbers, strings, and arrays (RFC 8259; own).
 use Rattle.std.specs.Prelude.{codes, ℕ, ◌==◌, ◌&&◌, not, nat_le, if◌then◌else◌, Bool, true, false, List, [], ◌∷◌, ◌++◌, map, Option, Some, None}
 use Rattle.std.specs.List.{flat_map, slice_split}

@@ -1,3 +1,4 @@
+-- helper
 -- Words of private functions (own). No public clause cites this module.
 use Rattle.std.specs.Prelude.{ℕ, List, [], Option, Some, None}
 use Rattle.std.specs.Borrow.{Bor}

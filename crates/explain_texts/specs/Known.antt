@@ -1,3 +1,4 @@
+-- detail
 -- What is known before an event: the context, the tally and the statistics (own).
 use Rattle.std.specs.Prelude.{ℕ, ◌+◌, List, map, Option, Some, None}
 use Rattle.arrayvec.specs.ArrayVec.{ArrayVec}

@@ -1,3 +1,4 @@
+-- helper
 pub mod Names
 pub mod Choices
 pub mod Tallies

@@ -1,3 +1,4 @@
+-- detail
 -- The names of the faults of an explanation (own).
 use Rattle.std.specs.Prelude.{codes, ℕ, List}
 use Rattle.explain_texts.specs.declared.explain_fault.ExplainFault.{ExplainFault}

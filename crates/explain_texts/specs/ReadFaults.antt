@@ -1,3 +1,4 @@
+-- detail
 -- The fault of a read, by the kind of its error (own).
 use Rattle.std.specs.declared.io.ErrorKind.{ErrorKind}
 use Rattle.std.specs.declared.io.ErrorKind.TheVariants as kinds

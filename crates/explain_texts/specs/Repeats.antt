@@ -1,3 +1,4 @@
+-- detail
 -- The request that a repeat repeats, found among the entries before it (own).
 use Rattle.std.specs.Prelude.{◌≡◌, ℕ, ◌==◌, ◌&&◌, Bool, true, false, List, ◌∷◌, ◌++◌, Some}
 use Rattle.std.specs.List.{AllByRecursion}

@@ -1,3 +1,4 @@
+-- promise
 -- What an explanation reports of a text, one fact after another (own).
 use Rattle.std.specs.Prelude.{ℕ, List, ◌++◌, Result}
 use Rattle.dp_line.specs.declared.event.Event.{Event}

@@ -1,3 +1,4 @@
+-- detail
 -- What facts leave of a receiver that takes them one after another (own).
 use Rattle.std.specs.Prelude.{◌≡◌, List, [], ◌∷◌, ◌++◌, Result, Ok, Err}
 use Rattle.explain_texts.specs.declared.explain_fault.ExplainFault.{ExplainFault}

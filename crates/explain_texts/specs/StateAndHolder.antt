@@ -1,3 +1,4 @@
+-- detail
 -- The state and the holder of the slave at an address (own).
 use Rattle.std.specs.Prelude.{ℕ, Option, option_map}
 use Rattle.dp_sap.specs.declared.state.State.{State}

@@ -1,3 +1,4 @@
+-- detail
 -- What is counted of the stations of a line, by address (own).
 use Rattle.std.specs.Prelude.{ℕ, zero, suc, List, [], ◌∷◌, map, replicate, slice_index, slice_set}
 use Rattle.std.specs.List.{range_with_len}

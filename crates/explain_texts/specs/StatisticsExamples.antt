@@ -1,3 +1,4 @@
+-- helper
 -- Examples of the statistics of a line with masters 1 and 2 and slave 5, after requests and ticks.
 use Rattle.std.specs.Prelude.{codes, ◌≡◌, ℕ, false, List, [], ◌∷◌, map, take, drop, filter, slice_get, refl}
 use Rattle.std.specs.Option.{option_map_or}

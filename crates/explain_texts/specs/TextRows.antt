@@ -1,3 +1,4 @@
+-- detail
 -- The rows of a text that a reader gives, one after another (own).
 use Rattle.std.specs.Prelude.{◌≡◌, ℕ, Bool, false, if◌then◌else◌, List, [], ◌∷◌, ◌++◌, Option, Some, IfSome}
 use Rattle.std.specs.Io.BufRead.{drop_through, take_through}

@@ -1,3 +1,4 @@
+-- detail
 -- What a fact leaves on a writer, as rows and as a line of JSON (own).
 use Rattle.std.specs.Prelude.{codes, ◌≡◌, ℕ, List, ◌++◌, Bool, true, false, Option, Result}
 use Rattle.explain_events.specs.ExplainedEntries.{explained_entry_text}

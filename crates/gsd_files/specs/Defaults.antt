@@ -1,3 +1,4 @@
+-- detail
 -- The defaults of user parameters, which stand in the blocks `ExtUserPrmData` (GSD specification, revision 3; own in detail).
 use Rattle.std.specs.Prelude.{codes, ℕ, ◌&&◌, ◌||◌, false, nat_le, if◌then◌else◌, List, [], ◌∷◌, ◌++◌, Option, Some, None}
 use Rattle.gsd_files.specs.Rows.{trimmed, body_of, key_of, argument_of, rest_of, value_of}

@@ -1,3 +1,4 @@
+-- detail
 -- The GSD file of a slave (GSD specification, revision 3; the defaults are own).
 use Rattle.std.specs.Prelude.{codes, ℕ, ◌+◌, ◌-◌, ◌/◌, ◌%◌, ◌==◌, if◌then◌else◌, Bool, true, false, nat_lt, max, List, [], ◌∷◌, ◌++◌, length, Result, Ok, Err}
 use Rattle.std.specs.Fmt.{decimal, digit_glyph}

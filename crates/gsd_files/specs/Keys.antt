@@ -1,3 +1,4 @@
+-- detail
 -- The keys of a GSD file, in any case (GSD specification, revision 3).
 use Rattle.std.specs.Prelude.{codes, ℕ, ◌+◌, ◌==◌, Bool, true, false, ◌&&◌, ◌||◌, nat_le, nat_lt, length, if◌then◌else◌, List, [], ◌∷◌, Option, Some, None}
 use Rattle.gsd_files.specs.Values.{number_of}

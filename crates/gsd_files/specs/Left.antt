@@ -1,3 +1,4 @@
+-- helper
 -- Definitions for private functions. No public clause cites this module.
 use Rattle.std.specs.Prelude.{◌≡◌, ℕ, ◌+◌, ◌≤◌, List, [], ◌++◌, take, length, Option, Some, None}
 use Rattle.std.specs.Borrow.{Bor}

@@ -1,3 +1,4 @@
+-- helper
 pub mod Steps
 pub mod Rows
 pub mod Values

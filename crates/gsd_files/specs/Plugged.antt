@@ -1,3 +1,4 @@
+-- detail
 -- The slave that plugged modules of a GSD file make (own).
 use Rattle.std.specs.Prelude.{ℕ, ◌+◌, ◌==◌, Bool, true, false, ◌&&◌, ◌||◌, nat_le, nat_lt, if◌then◌else◌, List, [], ◌∷◌, ◌++◌, length, Option, Some, None, unwrap_or, Result, Ok, Err}
 use Rattle.dp_cfg.specs.Reading.{reading_of, input_octets, output_octets}

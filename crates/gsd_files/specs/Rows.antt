@@ -1,3 +1,4 @@
+-- detail
 -- What a line of a GSD file consists of: its code, its key and its value (GSD specification, revision 3; own in detail).
 use Rattle.std.specs.Prelude.{ℕ, ◌+◌, ◌-◌, ◌==◌, Bool, false, not, ◌&&◌, ◌||◌, nat_lt, if◌then◌else◌, List, [], ◌∷◌, length, take, drop, Option, Some, None, Result, Ok, Err}
 use Rattle.gsd_files.specs.declared.cause.Cause.{Cause}

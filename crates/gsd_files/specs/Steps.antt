@@ -1,3 +1,4 @@
+-- detail
 -- Steps that may fail, one after another (own).
 use Rattle.std.specs.Prelude.{Result, Ok, Err}
 

@@ -1,3 +1,4 @@
+-- detail
 -- Octets of user parameters and their defaults (GSD specification, revision 3; own in detail).
 use Rattle.std.specs.Prelude.{ℕ, ◌+◌, ◌-◌, ◌*◌, ◌/◌, ◌%◌, ◌^◌, ◌==◌, ◌&&◌, nat_le, nat_lt, if◌then◌else◌, List, [], ◌∷◌, ◌++◌, length, take, drop, replicate, get_or, Option, Some, None, Result, Ok, Err}
 use Rattle.gsd_files.specs.declared.cause.Cause.{Cause}

@@ -1,3 +1,4 @@
+-- detail
 -- The rows of a GSD file that is written: how long they are, and how a value over several of them is read (own).
 use Rattle.std.specs.Prelude.{ℕ, ◌+◌, ◌==◌, Bool, true, false, ◌&&◌, nat_lt, if◌then◌else◌, List, [], ◌∷◌, Result, Ok}
 use Rattle.gsd_files.specs.Steps.{◌>>=◌}

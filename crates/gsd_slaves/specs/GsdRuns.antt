@@ -1,3 +1,4 @@
+-- detail
 -- What `rackd gsd` writes (own).
 use Rattle.std.specs.Prelude.{◌≡◌, codes, ℕ, ◌==◌, ◌⊎◌, List, find, Option, Some, None, unwrap_or, Result, Ok, Err}
 use Rattle.std.specs.Io.KnownBytes.{Appends}

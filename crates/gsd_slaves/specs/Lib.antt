@@ -1,3 +1,4 @@
+-- helper
 pub mod Names
 pub mod GsdRuns
 pub mod ModuleLists

@@ -1,3 +1,4 @@
+-- detail
 -- The names of vendors and models: printable characters of ISO 8859-1 without `"`, at most 32 (own).
 use Rattle.std.specs.Prelude.{ℕ, ◌+◌, ◌-◌, ◌*◌, ◌==◌, ◌&&◌, ◌||◌, nat_lt, if◌then◌else◌, List, [], ◌∷◌, ◌++◌, length, Option, Some, None, Result, Ok, Err}
 use Rattle.gsd_files.specs.Steps.{◌>>=◌}

@@ -1,3 +1,4 @@
+-- detail
 -- What `rackd slave` writes (own).
 use Rattle.std.specs.Prelude.{◌≡◌, codes, ℕ, Bool, nat_eq, nat_le, nat_lt, is_some, List, [], ◌∷◌, ◌++◌, length, Option, Some, None, Result, Ok, Err, if◌then◌else◌, string_bytes}
 use Rattle.std.specs.Fmt.{decimal}

@@ -1,3 +1,4 @@
+-- detail
 -- A slave as a table of a rack file (own).
 use Rattle.std.specs.Prelude.{codes, ℕ, ◌/◌, ◌%◌, Bool, true, false, List, [], ◌∷◌, ◌++◌, length}
 use Rattle.std.specs.Fmt.{decimal}

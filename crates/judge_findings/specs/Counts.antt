@@ -1,3 +1,4 @@
+-- detail
 -- How often a master broke each rule, and where first (own).
 use Rattle.std.specs.Prelude.{ℕ, ◌+◌, ◌-◌, ◌^◌, ◌==◌, min, not, ◌&&◌, if◌then◌else◌, Bool, true, false, List, [], ◌∷◌, replicate, slice_index_or, slice_set}
 use Rattle.judge_rules.specs.declared.entry.Entry.{Entry}

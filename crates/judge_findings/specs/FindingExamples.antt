@@ -1,3 +1,4 @@
+-- helper
 -- Examples of findings as rows and as lines of JSON. Each holds by computation.
 use Rattle.std.specs.Prelude.{◌≡◌, codes, ℕ, Bool, true, false, [], ◌∷◌, Some, refl}
 use Rattle.std.specs.Fmt.{digits}

@@ -1,3 +1,4 @@
+-- detail
 -- The findings of an entry, as rows and as lines of JSON (own).
 use Rattle.std.specs.Prelude.{codes, ℕ, ◌==◌, if◌then◌else◌, Bool, true, false, List, [], ◌++◌, Option, Some, None}
 use Rattle.std.specs.List.{flat_map}

@@ -1,3 +1,4 @@
+-- helper
 pub mod Findings
 pub mod Counts
 pub mod Summary

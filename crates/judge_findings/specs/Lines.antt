@@ -1,3 +1,4 @@
+-- detail
 -- The judges of the masters of a line: each takes the entries of its master.
 use Rattle.std.specs.Prelude.{ℕ, ◌+◌, ◌-◌, ◌^◌, ◌==◌, min, if◌then◌else◌, Bool, List, [], ◌∷◌, ◌++◌, map}
 use Rattle.dp_line.specs.declared.event.Event.{Event}

@@ -1,3 +1,4 @@
+-- detail
 -- How often each master broke each rule, as rows, as lines of JSON, and as JUnit XML (own).
 use Rattle.std.specs.Prelude.{codes, ℕ, ◌==◌, if◌then◌else◌, List, [], ◌++◌}
 use Rattle.std.specs.List.{flat_map}

@@ -1,3 +1,4 @@
+-- detail
 -- The telegram that an SRD is compared with: the last SRD of the master to the same station (IEC 61158-4-3, frame count bit).
 use Rattle.std.specs.Prelude.{ℕ, List, Option, Some, None}
 use Rattle.judge_rules.specs.declared.entry.Entry.{Entry}

@@ -1,3 +1,4 @@
+-- promise
 -- The order of the bring-up (IEC 61158-6-3, bring-up of a slave): Slave_Diag, Set_Prm, Chk_Cfg, Slave_Diag until the station is ready, and then
 -- Data_Exchange; after RS, or if a diagnosis shows another master, the bring-up starts again with Slave_Diag.
 use Rattle.std.specs.Prelude.{◌&&◌, not, is_some, Bool, true, false, Option, Some, None}

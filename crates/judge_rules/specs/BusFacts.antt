@@ -1,3 +1,4 @@
+-- promise
 -- What the entries of a master left, whatever the station (own): how often the last telegram was sent again, how many of the last entries were stray
 -- octets, when a Global_Control last went to all stations, whether it left the outputs cleared, and whether a Set_Prm asked for Freeze and Sync.
 use Rattle.std.specs.Prelude.{◌+◌, ◌==◌, ◌&&◌, ◌||◌, not, min, nat_le, is_some, if◌then◌else◌, Bool, true, false, List, fold, Option, Some, None}

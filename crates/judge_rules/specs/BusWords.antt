@@ -1,3 +1,4 @@
+-- helper
 -- Words for the laws of what depends on all entries of a master, whatever the station: a window of a hundred entries, retries in a row (IEC
 -- 61158-4-3, function code of a request, and retry), Clear_Data, and what a Set_Prm asks for (IEC 61158-6-3, Global_Control and Set_Prm request).
 use Rattle.std.specs.Prelude.{◌==◌, ◌&&◌, ◌||◌, not, Bool, true, false, List, [], ◌∷◌, ℕ, Option, Some, None}

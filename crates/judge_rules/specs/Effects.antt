@@ -1,3 +1,4 @@
+-- helper
 -- Words for the laws of the rules that depend on what lies before: what a request and its reply show of the station, and whether one of a list of
 -- entries is of a kind (IEC 61158-6-3, bring-up of a slave).
 use Rattle.std.specs.Prelude.{ℕ, ◌==◌, ◌&&◌, ◌||◌, not, is_some, if◌then◌else◌, Bool, true, false, List, Option, Some, None}

@@ -1,3 +1,4 @@
+-- promise
 -- What the rules read of an entry: which service a request asks one station for, and whether there was a reply.
 use Rattle.std.specs.Prelude.{◌==◌, ◌&&◌, ◌||◌, not, is_some, if◌then◌else◌, Bool, true, false, Option, Some, None}
 use Rattle.dp_telegram.specs.Access.{global_address}

@@ -1,3 +1,4 @@
+-- promise
 -- The rules of Data_Exchange and of retries (IEC 61158-6-3, Data_Exchange; IEC 61158-4-3, retry), and of what is no request.
 use Rattle.std.specs.Prelude.{ℕ, ◌-◌, ◌==◌, ◌&&◌, not, max, nat_le, Bool, false, Option, Some, None}
 use Rattle.judge_rules.specs.declared.bus.Bus.{Bus}

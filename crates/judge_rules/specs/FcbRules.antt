@@ -1,3 +1,4 @@
+-- promise
 -- The rules of the frame count bit (IEC 61158-4-3, frame count bit): the first SRD to a station has FCV 0, and each new one after it has FCV 1 and
 -- the other FCB; the same telegram with the same FCB is a retry, which a master sends only if no answer came.
 use Rattle.std.specs.Prelude.{◌==◌, ◌&&◌, ◌||◌, not, Bool, true, false, Option, Some, None}

@@ -1,3 +1,4 @@
+-- detail
 -- What contracts see of the judge of a master: how many retries are allowed, and the entries of the master so far, in their order.
 use Rattle.std.specs.Prelude.{ℕ, List, map}
 use Rattle.std.specs.List.{range_with_len}

@@ -1,3 +1,4 @@
+-- helper
 -- Words for the laws of all rules: which rules judge a telegram on its own, which by the services that a station was asked for, and which by the
 -- requests to the station.
 use Rattle.std.specs.Prelude.{Bool, true, false}

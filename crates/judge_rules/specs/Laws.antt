@@ -1,3 +1,4 @@
+-- helper
 -- Words for the laws of the frame count bit: an SRD to a station, and what a new SRD has in common with an earlier one (IEC 61158-4-3, frame count
 -- bit).
 use Rattle.std.specs.Prelude.{ℕ, ◌==◌, ◌&&◌, ◌||◌, not, Bool, false, List}

@@ -1,3 +1,4 @@
+-- helper
 pub mod Entries
 pub mod Stages
 pub mod Stations

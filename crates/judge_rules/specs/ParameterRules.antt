@@ -1,3 +1,4 @@
+-- promise
 -- The rules of Set_Prm and of Global_Control (IEC 61158-6-3, Set_Prm request and Global_Control request).
 use Rattle.std.specs.Prelude.{◌==◌, ◌&&◌, ◌||◌, not, nat_lt, is_some, Bool, true, false, Option, Some, None}
 use Rattle.judge_rules.specs.declared.bus.Bus.{Bus}

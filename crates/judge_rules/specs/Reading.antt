@@ -1,3 +1,4 @@
+-- detail
 -- The entry of a master that an event of a line and its outcome are: what the rules read of them.
 use Rattle.std.specs.Prelude.{ℕ, ◌*◌, ◌%◌, ◌==◌, ◌&&◌, ◌||◌, not, nat_le, nat_lt, if◌then◌else◌, Bool, true, false, List, length, slice_index, Option, Some, None}
 use Rattle.std.specs.List.{list_all}

@@ -1,3 +1,4 @@
+-- helper
 -- Examples of the entry that octets of master 1 are. Each holds by computation.
 use Rattle.std.specs.Prelude.{◌≡◌, ℕ, List, [], ◌∷◌, None, Some, refl}
 use Rattle.dp_responder.specs.declared.rule.Rule.TheVariants as outcome_rules

@@ -1,3 +1,4 @@
+-- helper
 -- Examples of masters, and the rules that their last entry breaks. Each holds by computation.
 use Rattle.std.specs.Prelude.{◌≡◌, ℕ, Bool, true, false, List, [], ◌∷◌, ◌++◌, None, Some, refl}
 use Rattle.dp_telegram.specs.declared.function_code.Function.TheVariants.{SdnHigh, SrdHigh}

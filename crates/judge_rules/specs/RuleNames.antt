@@ -1,3 +1,4 @@
+-- detail
 -- The table of the rules: their numbers and names, how bad it is to break one, the part and the subject of the standard, and what they say.
 use Rattle.std.specs.Prelude.{ℕ, codes, List}
 use Rattle.judge_rules.specs.declared.rule.JudgeRule.{JudgeRule}

@@ -1,3 +1,4 @@
+-- promise
 -- Which entries break which rule: each rule is a definition over the entries of a master so far and its next one.
 use Rattle.std.specs.Prelude.{ℕ, Bool, false, List, filter}
 use Rattle.judge_rules.specs.declared.bus.Bus.{Bus}

@@ -1,3 +1,4 @@
+-- promise
 -- How far a master has brought up a station (IEC 61158-6-3, bring-up of a slave): what a request and its reply leave of the stage (own in detail).
 use Rattle.std.specs.Prelude.{◌&&◌, if◌then◌else◌, Bool, true, false, Option, Some, None}
 use Rattle.judge_rules.specs.declared.entry.Answer.{Answer}

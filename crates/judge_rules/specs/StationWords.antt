@@ -1,3 +1,4 @@
+-- helper
 -- Words for the laws of Data_Exchange and of the watchdog: what an earlier request to a station was (IEC 61158-6-3, Data_Exchange and Set_Prm
 -- request).
 use Rattle.std.specs.Prelude.{ℕ, ◌&&◌, ◌||◌, Bool, true, false, List}

@@ -1,3 +1,4 @@
+-- promise
 -- What the requests of a master to one station left (own): the last SRD, the stage of the bring-up, and three facts of Data_Exchange and of the
 -- watchdog.
 use Rattle.std.specs.Prelude.{ℕ, ◌+◌, ◌==◌, ◌&&◌, ◌||◌, nat_lt, is_some, if◌then◌else◌, Bool, false, List, fold, Option, Some, None}

@@ -1,3 +1,4 @@
+-- promise
 -- The rules of a telegram on its own (IEC 61158-4-3, function code of a request; IEC 61158-6-3, service access points).
 use Rattle.std.specs.Prelude.{◌==◌, ◌&&◌, ◌||◌, not, Bool, true, false, Option, Some, None, ℕ}
 use Rattle.dp_telegram.specs.Access.{global_address}

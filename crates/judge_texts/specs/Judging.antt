@@ -1,3 +1,4 @@
+-- detail
 -- Judging the masters of an audit text: what is written of it, and the exit status (own).
 use Rattle.std.specs.Prelude.{codes, ℕ, ◌+◌, if◌then◌else◌, Bool, true, false, List, [], ◌∷◌, ◌++◌, find, fold, Option, Some, None, option_map, Result, Err}
 use Rattle.std.specs.List.{flat_map, list_any}

@@ -1,3 +1,4 @@
+-- helper
 -- Worked examples of what is judged, and of the exit status.
 use Rattle.std.specs.Prelude.{codes, ◌≡◌, true, false, [], ◌∷◌, ◌++◌, Some, None, Ok, Err, refl}
 use Rattle.std.specs.Fmt.{decimal}

@@ -1,3 +1,4 @@
+-- helper
 -- What follows the first wrong row of an audit text (own).
 use Rattle.std.specs.Prelude.{◌≡◌, ℕ, List, [], ◌∷◌, ◌++◌, Err}
 use Rattle.dp_line.specs.World.{Description}

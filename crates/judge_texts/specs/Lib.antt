@@ -1,3 +1,4 @@
+-- helper
 pub mod Judging
 pub mod Runs
 pub mod RowsJudged

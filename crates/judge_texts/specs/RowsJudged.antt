@@ -1,3 +1,4 @@
+-- helper
 -- What is left by the rows of a text that were read and judged (own). No public clause cites this module.
 use Rattle.std.specs.Prelude.{◌≡◌, ℕ, List, Option, IfSome, Result, Ok, Err, IsUtf8}
 use Rattle.std.specs.Io.KnownBytes.{Appends}

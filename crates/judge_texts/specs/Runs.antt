@@ -1,3 +1,4 @@
+-- detail
 -- What a judgement of an audit text on a rack leaves on its writer, and how it ends (own).
 use Rattle.std.specs.Prelude.{◌≡◌, ℕ, List, Option, IfSome, Result, Ok, Err, IsUtf8}
 use Rattle.std.specs.Io.KnownBytes.{Appends}

@@ -1,3 +1,4 @@
+-- helper
 -- Examples of lines that are answered.
 use Rattle.std.specs.Prelude.{◌≡◌, codes, true, false, [], Some, option_map, Err, refl}
 use Rattle.dp_text.specs.OperatorLines.{asked_in}

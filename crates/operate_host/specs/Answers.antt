@@ -1,3 +1,4 @@
+-- detail
 -- Which lines of an operator are answered (own).
 use Rattle.std.specs.Prelude.{ℕ, Bool, true, false, List, Result, Ok, Err}
 use Rattle.dp_text.specs.declared.op_line.OpLine.{OpLine}

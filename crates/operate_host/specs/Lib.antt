@@ -1,2 +1,3 @@
+-- helper
 pub mod Answers
 pub mod AnswerExamples

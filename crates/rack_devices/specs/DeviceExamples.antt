@@ -1,3 +1,4 @@
+-- helper
 -- Examples of the next inputs that devices set.
 use Rattle.std.specs.Prelude.{◌≡◌, [], ◌∷◌, refl}
 use Rattle.dp_slave.specs.declared.description.Device.TheVariants.{Still, Counter, Mirror}

@@ -1,3 +1,4 @@
+-- detail
 -- The next inputs that a device sets (own).
 use Rattle.std.specs.Prelude.{ℕ, zero, suc, ◌+◌, ◌/◌, ◌%◌, ◌^◌, ◌<◌, Bool, true, false, List, [], ◌∷◌, ◌++◌, length, slice_index}
 use Rattle.std.specs.Int.Digits.{number_from_digits}

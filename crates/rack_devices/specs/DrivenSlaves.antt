@@ -1,3 +1,4 @@
+-- detail
 -- The slaves that devices drive (own).
 use Rattle.std.specs.Prelude.{ℕ, if◌then◌else◌, List, Option, Some, None, option_and_then}
 use Rattle.std.specs.List.{filter_map, range_with_len}

@@ -1,3 +1,4 @@
+-- helper
 pub mod Devices
 pub mod DeviceExamples
 pub mod DrivenSlaves

@@ -1,3 +1,4 @@
+-- detail
 -- The text that is shown for a refused rack text (own).
 use Rattle.std.specs.Prelude.{◌≡◌, ℕ, ◌+◌, ◌==◌, ◌≤◌, codes, List, ◌++◌, length, take, count_by, Option, Some, None, Result, Ok, Err, IsSomeAnd}
 use Rattle.std.specs.Fmt.{decimal}

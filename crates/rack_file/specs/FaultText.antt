@@ -1,3 +1,4 @@
+-- detail
 -- The text that is written for a rack that is not accepted (own).
 use Rattle.std.specs.Prelude.{codes, ℕ, List, ◌++◌}
 use Rattle.std.specs.Fmt.{decimal}

@@ -1,3 +1,4 @@
+-- helper
 -- The result of a function that reads and that may run out of memory (own).
 use Rattle.std.specs.Prelude.{◌≡◌, Option, Some, None, Result, Ok, Err}
 use Rattle.rack_file.specs.declared.fault.RackFault.{RackFault}

@@ -1,3 +1,4 @@
+-- detail
 -- A key of a rack file that isn't accepted (own).
 use Rattle.std.specs.Prelude.{ℕ, ◌≤◌, List}
 use Rattle.rack_file.specs.declared.misread.Place.{Place}

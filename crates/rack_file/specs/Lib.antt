@@ -1,3 +1,4 @@
+-- helper
 pub mod Codes
 pub mod Names
 pub mod FaultText

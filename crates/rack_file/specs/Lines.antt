@@ -1,3 +1,4 @@
+-- detail
 -- The lines that a rack file describes, whether or not they can be opened and have numbers of their own (own).
 use Rattle.std.specs.Prelude.{ℕ, List, Option, Some, None, Result, Ok, Err}
 use Rattle.toml.specs.Data.{Members}

@@ -1,3 +1,4 @@
+-- detail
 -- The texts that are shown for a document that describes no rack (own).
 use Rattle.std.specs.Prelude.{codes, ℕ, List, [], ◌∷◌, ◌++◌, ◌/◌, ◌%◌, ◌==◌, ◌&&◌, Bool, false, not, nat_le, if◌then◌else◌}
 use Rattle.std.specs.Fmt.{decimal, digit_glyph}

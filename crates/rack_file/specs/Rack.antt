@@ -1,3 +1,4 @@
+-- promise
 -- The description of a rack.
 use Rattle.std.specs.Prelude.{ℕ, List, map, Option}
 use Rattle.dp_line.specs.World.{Description, description_of}

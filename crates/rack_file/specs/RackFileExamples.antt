@@ -1,3 +1,4 @@
+-- helper
 -- Examples: one line with masters 1 and 2 and slave 5, ident number 80A1, as a document; and the texts for documents that describe no rack.
 use Rattle.std.specs.Prelude.{◌≡◌, ⊤, ℕ, zero, suc, pos, negsuc, List, [], ◌∷◌, ◌++◌, codes, true, false, None, Some, Ok, Err, refl, option_map}
 use Rattle.std.specs.Fmt.{digits}

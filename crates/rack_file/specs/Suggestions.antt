@@ -1,3 +1,4 @@
+-- detail
 -- The key that an unknown key may stand for (own).
 use Rattle.std.specs.Prelude.{codes, ℕ, nat_le, nat_lt, if◌then◌else◌, List, [], ◌∷◌, ◌++◌, length, Option, Some, None}
 use Rattle.std.specs.Str.{chars}

@@ -1,3 +1,4 @@
+-- detail
 -- Reading the keys of a TOML table, up to the first fault: a value gives its cause, a key of a table gives its cause and its place (own).
 use Rattle.std.specs.Prelude.{ℕ, ◌+◌, pos, negsuc, ℤ, Bool, ◌&&◌, nat_le, if◌then◌else◌, List, [], ◌∷◌, length, Result, Ok, Err, is_some}
 use Rattle.std.specs.List.{list_any}

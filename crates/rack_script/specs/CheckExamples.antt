@@ -1,3 +1,4 @@
+-- helper
 -- Examples of audit texts on a rack of one line, and of their verdicts.
 use Rattle.std.specs.Prelude.{◌≡◌, ⊤, ℕ, [], ◌∷◌, codes, Some, None, Ok, Err, refl}
 use Rattle.std.specs.Fmt.{digits}

@@ -1,3 +1,4 @@
+-- detail
 -- The verdict on an audit text on a rack (own).
 use Rattle.std.specs.Prelude.{ℕ, List, [], ◌∷◌, find, Option, Some, None, Result, Err}
 use Rattle.rack_file.specs.Rack.{LineDescription, RackDescription}

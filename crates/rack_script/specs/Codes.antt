@@ -1,3 +1,4 @@
+-- detail
 -- The numbers of faults (own).
 use Rattle.std.specs.Prelude.{ℕ}
 use Rattle.rack_script.specs.declared.run_fault.RunFault.{RunFault}

@@ -1,3 +1,4 @@
+-- helper
 -- The command that a `Command` of the program stands for.
 use Rattle.std.specs.Prelude.{Option, Some}
 use Rattle.rack_script.specs.Commands.{Command, choose_line, sending_of, write_journal, operation_of}

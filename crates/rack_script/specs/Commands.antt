@@ -1,3 +1,4 @@
+-- detail
 -- The commands of a script (own).
 use Rattle.std.specs.Prelude.{codes, ℕ, if◌then◌else◌, List, [], ◌∷◌, Option, Some, None, option_map, option_and_then}
 use Rattle.dp_text.specs.Numbers.{octet_number}

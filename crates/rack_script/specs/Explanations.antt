@@ -1,3 +1,4 @@
+-- detail
 -- The explanation of an audit text on a rack (own).
 use Rattle.std.specs.Prelude.{◌≡◌, ℕ, List, [], ◌∷◌, Option, Some, None, Result, Ok, Err, IsUtf8}
 use Rattle.rack_file.specs.Rack.{LineDescription, RackDescription}

@@ -1,3 +1,4 @@
+-- detail
 -- How standard input is split into a rack text and a script (own).
 use Rattle.std.specs.Prelude.{codes, ℕ, Bool, ◌==◌, nat_eq, if◌then◌else◌, List, [], ◌∷◌, ◌++◌}
 use Rattle.std.specs.List.{list_any, slice_split, before_first, after_first, join_with_byte}

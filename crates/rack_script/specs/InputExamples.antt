@@ -1,3 +1,4 @@
+-- helper
 -- Examples of inputs, and of how they are split.
 use Rattle.std.specs.Prelude.{◌≡◌, codes, refl}
 use Rattle.rack_script.specs.Input.{parts_of}

@@ -1,3 +1,4 @@
+-- helper
 pub mod Codes
 pub mod Commands
 pub mod CommandView

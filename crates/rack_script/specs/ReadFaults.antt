@@ -1,3 +1,4 @@
+-- detail
 -- The faults of a run, for those of what it reads and explains (own).
 use Rattle.explain_texts.specs.declared.explain_fault.ExplainFault.TheVariants as explains
 use Rattle.explain_texts.specs.declared.read_fault.ReadFault.{ReadFault}

@@ -1,3 +1,4 @@
+-- detail
 -- What a run leaves on its writer, and how it ends (own).
 use Rattle.std.specs.Prelude.{◌≡◌, ℕ, List, Option, Some, None, Result, Ok, Err, IsUtf8}
 use Rattle.std.specs.Io.KnownBytes.{Appends, Keeps}

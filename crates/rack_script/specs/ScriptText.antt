@@ -1,3 +1,4 @@
+-- detail
 -- The text that a script writes: the answers of its lines, joined (own).
 use Rattle.std.specs.Prelude.{ℕ, ◌+◌, ◌==◌, List, [], ◌∷◌, ◌++◌, map, slice_get, slice_set, Option, Some, None, option_map, option_and_then, position}
 use Rattle.rack_file.specs.Rack.{RackDescription}

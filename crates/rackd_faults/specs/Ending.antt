@@ -1,3 +1,4 @@
+-- detail
 -- How the program ends: its status, and the first row on standard error (own).
 use Rattle.std.specs.Prelude.{codes, ℕ, List, ◌++◌, Option, Some, None}
 use Rattle.std.specs.Fmt.{decimal}

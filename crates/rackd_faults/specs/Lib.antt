@@ -1,1 +1,2 @@
+-- helper
 pub mod Ending

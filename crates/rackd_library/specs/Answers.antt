@@ -1,3 +1,4 @@
+-- detail
 -- What C receives for a call (own).
 use Rattle.std.specs.Prelude.{ℕ, Bool, nat_lt, if◌then◌else◌, List, [], ◌++◌, length, drop, Option, Some, None, unwrap_or, Result, Ok, Err}
 use Rattle.dp_telegram.specs.FrameText.{fault_code}

@@ -1,3 +1,4 @@
+-- detail
 -- The facts of a reason that has none beside its number (own).
 use Rattle.std.specs.Prelude.{ℕ, Bool, true, false, Option, unwrap_or}
 use Rattle.rackd_library.specs.declared.facts.Facts.{Facts}

@@ -1,3 +1,4 @@
+-- detail
 -- The facts of a service that a slave did, for C (own).
 use Rattle.std.specs.Prelude.{ℕ, ◌+◌, ◌*◌, Bool, Option, Some}
 use Rattle.explain_events.specs.declared.done.CfgDone.{CfgDone}

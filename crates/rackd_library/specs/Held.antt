@@ -1,3 +1,4 @@
+-- helper
 -- What a handle owns.
 use Rattle.std.specs.Prelude.{Option, Some, None}
 use base.Fml.{Fml, ftrue}

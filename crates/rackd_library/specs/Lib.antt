@@ -1,3 +1,4 @@
+-- helper
 pub mod Held
 pub mod Answers
 pub mod Names

@@ -1,3 +1,4 @@
+-- detail
 -- Names for C (own).
 use Rattle.std.specs.Prelude.{ℕ, List, [], codes, Option, Some, None}
 use Rattle.dp_responder.specs.declared.rule.Rule.{Rule}

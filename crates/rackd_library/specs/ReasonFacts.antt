@@ -1,3 +1,4 @@
+-- detail
 -- The facts of a reason for C: its number, and numbers for its addresses, places and lengths (own). include/rackd.h has their names.
 use Rattle.std.specs.Prelude.{ℕ, Option, Some, None}
 use Rattle.dp_sap.specs.declared.state.State.{State}

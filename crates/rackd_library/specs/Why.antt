@@ -1,3 +1,4 @@
+-- detail
 -- What C receives of the reason of an entry (own).
 use Rattle.std.specs.Prelude.{◌≡◌, ℕ, List, length, Result, Ok, Err}
 use Rattle.embedded_rack.specs.declared.entry_reason.EntryReason.{EntryReason}

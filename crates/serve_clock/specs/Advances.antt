@@ -1,3 +1,4 @@
+-- detail
 -- What a clock does with its pass (own).
 use Rattle.std.specs.Prelude.{◌≡◌, ◌<◌, ◌+◌, ◌==◌, ℕ, false, if◌then◌else◌, IfNone, List, [], ◌∷◌, ◌++◌, length, map, take, Option, Some, None}
 use Rattle.dp_line.specs.declared.event.Event.{Event}

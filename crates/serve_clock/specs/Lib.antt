@@ -1,3 +1,4 @@
+-- helper
 pub mod Advances
 pub mod Moments
 pub mod TimeExamples

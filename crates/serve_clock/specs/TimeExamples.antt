@@ -1,3 +1,4 @@
+-- helper
 -- Examples of moments.
 use Rattle.std.specs.Prelude.{◌≡◌, ℕ, true, false, List, [], ◌∷◌, Some, None, map, refl}
 use Rattle.dp_line.specs.declared.event.Event.TheVariants.{Operator}

@@ -1,2 +1,3 @@
+-- helper
 pub mod MissingPorts
 pub mod ServeFaults

@@ -1,3 +1,4 @@
+-- detail
 -- The port that a line of a rack lacks, so that the line cannot be served (own).
 use Rattle.std.specs.Prelude.{codes, ℕ, ◌+◌, Bool, ◌&&◌, List, [], ◌∷◌, ◌++◌, Option, Some, None, is_some}
 use Rattle.std.specs.Fmt.{decimal}

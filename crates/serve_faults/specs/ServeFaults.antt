@@ -1,3 +1,4 @@
+-- detail
 -- Why a rack is not served: how other faults are converted, and the text (own).
 use Rattle.std.specs.Prelude.{codes, ℕ, List, ◌++◌}
 use Rattle.std.specs.Fmt.{decimal}

@@ -1,3 +1,4 @@
+-- promise
 -- The audit texts of lines that are closed (own).
 use Rattle.std.specs.Prelude.{◌≡◌, ℕ, List, ◌++◌, Option, Result, Ok, Err}
 use Rattle.std.specs.List.{AllZip, flat_map}

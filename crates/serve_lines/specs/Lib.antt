@@ -1,3 +1,4 @@
+-- helper
 pub mod ServedLines
 pub mod Listening
 pub mod OpenedLines

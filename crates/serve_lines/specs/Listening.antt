@@ -1,3 +1,4 @@
+-- detail
 -- The ports of lines, and why one of them is not listened at (own).
 use Rattle.std.specs.Prelude.{ℕ, List, [], ◌∷◌, Contains}
 use Rattle.std.specs.List.{flat_map}

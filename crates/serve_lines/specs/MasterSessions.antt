@@ -1,3 +1,4 @@
+-- promise
 -- The sessions of masters that the workers of a rack served, and the journals of the lines at which they were served (own).
 use Rattle.std.specs.Prelude.{◌≡◌, ℕ, ◌-◌, ◌^◌, List, [], All, length, map, min, take, sum_by, slice_get, Option, Some, None}
 use Rattle.std.specs.List.{filter_map, flat_map}

@@ -1,3 +1,4 @@
+-- detail
 -- What is opened for lines (own).
 use Rattle.std.specs.Prelude.{◌≡◌, List, [], ◌∷◌, ◌++◌}
 use Rattle.std.specs.List.{AllZip}

@@ -1,3 +1,4 @@
+-- detail
 -- The lines of a rack that can be served, and their order (own).
 use Rattle.std.specs.Prelude.{◌≡◌, ℕ, Bool, true, false, List, [], ◌∷◌, map, Option, Some, None, option_and_then, option_map, Result, Ok, Err, Vec, IsPermutation}
 use Rattle.std.specs.List.Sorted.{IsNonDecreasingBy}

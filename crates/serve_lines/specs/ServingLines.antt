@@ -1,3 +1,4 @@
+-- detail
 -- What lines have while they are served (own).
 use Rattle.std.specs.Prelude.{◌≤◌, List, Vec, All, length}
 use Rattle.std.specs.declared.alloc.Global.{Global}

@@ -1,2 +1,3 @@
+-- helper
 pub mod Serving
 pub mod ServeOutput

@@ -1,3 +1,4 @@
+-- promise
 -- A rack that is served (own).
 use Rattle.std.specs.Prelude.{◌≡◌, ◌⊎◌, ℕ, ℤ, Bool, true, false, List, length, map, Option, Some, None, Result, Ok, Err, Contains, IsPermutation}
 use Rattle.std.specs.Borrow.{Bor}

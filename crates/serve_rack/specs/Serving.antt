@@ -1,3 +1,4 @@
+-- promise
 -- What the lines of a rack have while it is served, and what serving leaves (own).
 use Rattle.std.specs.Prelude.{◌≡◌, ℕ, ◌-◌, ◌^◌, List, [], length, Option, Some, None}
 use Rattle.serve_lines.specs.MasterSessions.{HasServed, MasterPlace}

@@ -1,2 +1,3 @@
+-- helper
 pub mod Recordings
 pub mod Ready

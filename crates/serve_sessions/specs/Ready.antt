@@ -1,3 +1,4 @@
+-- detail
 -- What a rack reports once all its ports are listened at (own).
 use Rattle.std.specs.Prelude.{codes, ℕ, List}
 use Rattle.serve_faults.specs.declared.serve_fault.OutputFault.{OutputFault}

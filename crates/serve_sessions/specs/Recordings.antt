@@ -1,3 +1,4 @@
+-- promise
 -- The audit texts of recorders (own).
 use Rattle.std.specs.Prelude.{◌≡◌, ℕ, List, map, Option, Contains}
 use Rattle.std.specs.List.{AllZip}

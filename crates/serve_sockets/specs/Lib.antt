@@ -1,3 +1,4 @@
+-- helper
 pub mod Ports
 pub mod PortExamples
 pub mod Screening

@@ -1,3 +1,4 @@
+-- helper
 -- Examples of a text that names ports.
 use Rattle.std.specs.Prelude.{◌≡◌, codes, List, [], ◌∷◌, Some, None, refl}
 use Rattle.std.specs.Fmt.{digits}

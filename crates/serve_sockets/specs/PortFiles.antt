@@ -1,3 +1,4 @@
+-- detail
 -- Files that name ports, which a new one may replace, and the paths beside them (own).
 use Rattle.std.specs.Prelude.{codes, ℕ, Bool, true, false, ◌&&◌, ◌||◌, ◌==◌, if◌then◌else◌, List, [], ◌∷◌, ◌++◌, is_some}
 use Rattle.std.specs.Fmt.{decimal}

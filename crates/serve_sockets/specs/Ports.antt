@@ -1,3 +1,4 @@
+-- detail
 -- The text that names the ports of a rack that is served, and how it is read (own).
 use Rattle.std.specs.Prelude.{codes, ℕ, ◌<◌, ◌&&◌, if◌then◌else◌, List, [], ◌∷◌, ◌++◌, Option, Some, None, option_and_then, option_map}
 use Rattle.std.specs.Fmt.{decimal}

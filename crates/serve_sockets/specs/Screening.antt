@@ -1,3 +1,4 @@
+-- helper
 -- What a screened reader will give (own).
 use Rattle.std.specs.Prelude.{ℕ, List, ◌++◌, drop, Option, option_map}
 

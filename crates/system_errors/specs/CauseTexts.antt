@@ -1,3 +1,4 @@
+-- detail
 -- The second row on standard error: why the program cannot open, read or write a file, or use a port (own).
 use Rattle.std.specs.Prelude.{codes, ℕ, List, ◌++◌}
 use Rattle.std.specs.Fmt.{decimal}

@@ -1,2 +1,3 @@
+-- helper
 pub mod CauseTexts
 pub mod SystemErrors

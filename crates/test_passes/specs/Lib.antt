@@ -1,2 +1,3 @@
+-- helper
 pub mod Threads
 pub mod Pools

@@ -1,3 +1,4 @@
+-- helper
 -- A pool of workers at one port, and the journal of its closed line (own).
 use Rattle.std.specs.Prelude.{◌≡◌, ℕ, ◌-◌, ◌^◌, List, [], ◌∷◌, All, min, sum_by}
 use Rattle.dp_line.specs.declared.description.LineSpec.{LineSpec}

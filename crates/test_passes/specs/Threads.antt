@@ -1,3 +1,4 @@
+-- helper
 -- Sessions of masters in threads of their own, and the journal of their closed line (own).
 use Rattle.std.specs.Prelude.{◌≡◌, ◌⊎◌, ℕ, ◌+◌, List, [], ◌∷◌, map, length, sum_by, Option, Some, None}
 use Rattle.std.specs.Io.KnownBytes.{Keeps}

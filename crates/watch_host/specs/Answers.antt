@@ -1,3 +1,4 @@
+-- detail
 -- What the page is sent (own).
 use Rattle.std.specs.Prelude.{◌≡◌, ℕ, List, Option}
 use Rattle.watch_lines.specs.Watched.{WatchedView}

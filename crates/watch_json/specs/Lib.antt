@@ -1,3 +1,4 @@
+-- helper
 pub mod Values
 pub mod Slaves
 pub mod Lines

@@ -1,3 +1,4 @@
+-- detail
 -- A line as JSON (own).
 use Rattle.std.specs.Prelude.{codes, ℕ, ◌==◌, nat_lt, Bool, List, [], ◌∷◌, ◌++◌, map, filter, length, Option, Some, None, if◌then◌else◌}
 use Rattle.std.specs.Fmt.{decimal}

@@ -1,3 +1,4 @@
+-- detail
 -- The lines of a rack as JSON (own).
 use Rattle.std.specs.Prelude.{codes, ℕ, ◌==◌, ◌&&◌, not, List, ◌++◌, map, if◌then◌else◌}
 use Rattle.std.specs.Fmt.{decimal}

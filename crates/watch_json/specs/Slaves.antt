@@ -1,3 +1,4 @@
+-- detail
 -- A slave as JSON (own).
 use Rattle.std.specs.Prelude.{codes, ℕ, List, [], ◌∷◌, ◌++◌, map, filter, Option, Some, None, option_map}
 use Rattle.std.specs.Option.{option_and_then}

@@ -1,3 +1,4 @@
+-- detail
 -- The values of the JSON of a rack besides those of an entry (own).
 use Rattle.std.specs.Prelude.{codes, ℕ, List, ◌++◌, map, Option, Some, None}
 use Rattle.std.specs.List.{flat_map}

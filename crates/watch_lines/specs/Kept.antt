@@ -1,3 +1,4 @@
+-- detail
 -- The entries of a line that are stored for the page (own).
 use Rattle.std.specs.Prelude.{ℕ, ◌-◌, List, [], ◌∷◌, ◌++◌, length, take, drop, filter}
 use Rattle.watch_lines.specs.declared.kept_entry.KeptEntry.{KeptEntry}

@@ -1,3 +1,4 @@
+-- helper
 pub mod Kept
 pub mod Notable
 pub mod Watched

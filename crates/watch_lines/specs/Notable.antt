@@ -1,3 +1,4 @@
+-- detail
 -- Which entries stay longer than others (own).
 use Rattle.std.specs.Prelude.{codes, ◌≡◌, ℕ, ◌||◌, Bool, List, Option, is_some}
 use Rattle.memchr.specs.Find.{FindsNeedle}

@@ -1,3 +1,4 @@
+-- detail
 -- The lines of a rack that are followed for the page (own).
 use Rattle.std.specs.Prelude.{◌≡◌, ℕ, ◌+◌, ◌-◌, ◌^◌, min, List, Option, Some, None, slice_get, slice_set}
 use Rattle.watch_lines.specs.Watched.{WatchedView}

@@ -1,3 +1,4 @@
+-- detail
 -- A line whose audit text is followed for the page (own).
 use Rattle.std.specs.Prelude.{codes, ◌≡◌, ℕ, ◌+◌, if◌then◌else◌, List, [], ◌++◌, true, false, Option, Some, None, Result, Ok, Err}
 use Rattle.dp_line.specs.declared.event.Event.{Event}

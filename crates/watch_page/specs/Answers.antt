@@ -1,3 +1,4 @@
+-- detail
 -- The answer to a request (own; statuses and fields are those of RFC 9110).
 use Rattle.std.specs.Prelude.{◌≡◌, ℕ, List, [], ◌∷◌, codes, Option}
 use Rattle.http.specs.Request.{head_of}

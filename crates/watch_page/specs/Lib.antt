@@ -1,3 +1,4 @@
+-- helper
 pub mod Targets
 pub mod TargetExamples
 pub mod Answers

@@ -1,3 +1,4 @@
+-- detail
 -- What the query of a request for the state asks for (own): run=R&after=N.
 use Rattle.std.specs.Prelude.{ℕ, not, ◌&&◌, ◌==◌, ◌^◌, nat_eq, nat_lt, if◌then◌else◌, List, length, bytes_eq, codes, Option, Some, None, unwrap_or}
 use Rattle.std.specs.List.{after_first, before_first}

@@ -1,3 +1,4 @@
+-- helper
 -- Queries, and what they ask for in run 7.
 use Rattle.std.specs.Prelude.{◌≡◌, codes, Some, None, refl}
 use Rattle.watch_page.specs.Queries.{entries_after}

@@ -1,3 +1,4 @@
+-- helper
 -- Hosts, what a target names, methods and paths.
 use Rattle.std.specs.Prelude.{◌≡◌, ℕ, true, false, List, [], ◌∷◌, codes, Some, None, refl}
 use Rattle.watch_page.specs.declared.target.Target.TheVariants.{Page, State, Unknown}

@@ -1,3 +1,4 @@
+-- detail
 -- What a request asks for (own; Host and the forms of a target are those of RFC 9112, section 3.2).
 use Rattle.std.specs.Prelude.{ℕ, Bool, true, false, not, ◌||◌, ◌&&◌, List, [], ◌∷◌, codes, bytes_eq, map, Option, Some, None, if◌then◌else◌}
 use Rattle.http.specs.Request.{head_of}
