@@ -32,7 +32,7 @@ pub fn a_session_has_its_entries()
 }
 
 /// In an operator's session by a pass, each event of its lines left the next entry under the number of the pass, or was
-/// refused, and each look was answered from a first part of the entries. `fits` is for the journal of a closed line, which
+/// refused, and each look was answered from a prefix of the entries. `fits` is for the journal of a closed line, which
 /// fits each of its passes. `rule` is for any time, by the invariant of the line's lock.
 pub fn an_operator_has_its_entries()
     ensures fits { (content : Content) (driven : List DrivenSlave) (turns : ℕ) (streams : Streams) (before after : PassView) (end : SessionEnd)

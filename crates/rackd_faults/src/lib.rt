@@ -1,5 +1,5 @@
-//! Why the program could not do its work, its exit status, and what it reports of that on standard error (own); it carries out no
-//! command.
+//! The faults for which the program cannot do its work, each with its exit status and what it reports on standard error
+//! (own); it carries out no command.
 #![tactic(auto)]
 
 mod ending;

@@ -1,5 +1,5 @@
-//! Why a rack is not served, or no longer served, and the port that a line lacks for that (own); it serves nothing itself, which
-//! serve_rack does.
+//! The faults for which a rack cannot be served or stops being served, with the port that a line lacks (own); it serves
+//! nothing itself, which serve_rack does.
 #![tactic(auto)]
 
 mod missing_port;

@@ -1,4 +1,4 @@
-//! Has what tests share: descriptions of lines ([`line_specs`]), a port with seats ([`place`]) and rows of a transcript
+//! Provides what tests share: descriptions of lines ([`line_specs`]), a port with seats ([`place`]) and rows of a transcript
 //! ([`rows`]); it has no tests.
 #![tactic(auto)]
 

@@ -1,5 +1,5 @@
-//! Has clients of sessions and passes that use only public contracts, and tests calls of `dp_shared` and `dp_sessions`
-//! that the program doesn't make; it has only tests and opens no sockets.
+//! Clients of sessions and passes that rely on public contracts only, and tests of calls of `dp_shared` and
+//! `dp_sessions` that the program doesn't make; it has only tests and opens no sockets.
 //!
 //! The clients are in [`threads`], [`pools`], [`tied`], [`returned_pass`], [`hand_backs`] and [`lent`]. Their contracts say what was
 //! read and written, and what is in the journal, if they succeed. So each is run with values once or twice, to show that it
