@@ -141,12 +141,24 @@ def paragraphs_of(details: str) -> List[str]:
     return rows
 
 
+# What holds of all words, and stands in no help.
+FOR_ALL_WORDS = """\
+## For all commands
+
+Options come before or after the arguments. An option is given at most once, unless its name in the tables ends in
+`...`. An option whose value may be missing, `[<..>]` in the tables, comes after the arguments, since it would take the
+next one for its value.
+
+Files are named by their paths, which have to be UTF-8. A path `-` is a file of that name, not standard input. A longer
+path that begins with `-` comes after the word `--`."""
+
+
 def reference_of(version: str, program: Help, words: Dict[str, Help]) -> str:
     """Returns the chapter of the reference about the command line: the program, and a section for each word."""
     rows = ["# The command line", "",
             "This chapter is for users of `rackd`: it has each word of the program with its arguments and options, made by",
             f"`dist/manual.py` from what `rackd --help` of version {version} prints.", "", *code_of("\n".join(program.usage)),
-            *table_of("Options", program.options), *paragraphs_of(program.details)]
+            *table_of("Options", program.options), *paragraphs_of(program.details), FOR_ALL_WORDS, ""]
     for name, found in words.items():
         rows += [f"## {name}", "", f"{found.about}.", "", *code_of("\n".join(found.usage))]
         for title, items in found.sections.items():

@@ -160,7 +160,7 @@ void rackd_close(rackd_rack *rack);
 uint32_t rackd_cause(const uint8_t *text, size_t octets, uint8_t *cause, size_t room, size_t *count);
 
 /* Takes one whole telegram of a master. Sets `count` to the number of octets of the reply, 0 for silence; `rule` to the
- * number of the rule that decided (docs/POLICY.md), 0 for a Global_Control to all; `place` to that of the entry in the
+ * number of the rule that decided (docs/reference/policy.md), 0 for a Global_Control to all; `place` to that of the entry in the
  * journal, 0 if the line is halted. `room` is 255 at least, else RACKD_SHORT_ROOM, and nothing is taken. */
 uint32_t rackd_request(rackd_rack *rack, uint8_t line, uint8_t master, const uint8_t *telegram, size_t octets,
                        uint8_t *reply, size_t room, size_t *count, uint8_t *rule, uint32_t *place);

@@ -33,10 +33,10 @@ class Change:
 
 @dataclass(frozen=True)
 class Entry:
-    """An entry of a journal, with the keys of `rackd explain --json` (docs/FORMATS.md, "Explained").
+    """An entry of a journal, with the keys of `rackd explain --json` (docs/reference/explain.md).
 
     `time` is the sum of the ticks before it in units of 10 ms; `sender` is `master` or `operator`; `to` is `slave`,
-    `station`, `all slaves`, `line` or `nobody`. `rule` is the rule of docs/POLICY.md that decided, as `NotHolder`.
+    `station`, `all slaves`, `line` or `nobody`. `rule` is the rule of docs/reference/policy.md that decided, as `NotHolder`.
     """
 
     place: int
@@ -75,7 +75,7 @@ def entry_of(keys: Dict[str, Any]) -> Entry:
 
 @dataclass(frozen=True)
 class Finding:
-    """What a master did that the standard rules out, with the keys of `rackd judge --json` (docs/FORMATS.md, "Judged").
+    """What a master did that the standard rules out, with the keys of `rackd judge --json` (docs/reference/judge.md).
 
     `severity` is `error` or `warning`. `slave` is 127 for all slaves, and None for octets that are no request. `before`
     has the octets of the request before, for the rule `fcb-repeated` only.

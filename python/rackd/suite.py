@@ -212,7 +212,7 @@ class Bus:
         self.request(slave, SLAVE_DIAG, "Done", first=first)
 
     def request(self, slave: int, point: Optional[int], rule: str, count: int = 1, first: Optional[int] = None) -> None:
-        """Waits for requests to an access point, decided by a rule of docs/POLICY.md, from a place or from now on."""
+        """Waits for requests to an access point, decided by a rule of docs/reference/policy.md, from a place or from now on."""
         first = self.place() if first is None else first
         self.wait(f"{count} {SERVICES.get(point, f'of point {point}')} to slave {slave} with rule {rule}",
                   lambda: sum(request.point == point and request.rules.get(slave) == rule

@@ -13,7 +13,7 @@ from .rack import Line
 
 @dataclass(frozen=True)
 class Request:
-    """A request in a journal (docs/FORMATS.md, "Audit text"): its place, its master, and how it was answered."""
+    """A request in a journal (docs/reference/audit-texts.md): its place, its master, and how it was answered."""
 
     place: int
     master: int
@@ -57,7 +57,7 @@ class Request:
 
     @functools.cached_property
     def rules(self) -> Dict[int, str]:
-        """The rule of docs/POLICY.md that decided, by slave: of a Global_Control to all for each slave it reached."""
+        """The rule of docs/reference/policy.md that decided, by slave: of a Global_Control to all for each slave it reached."""
         kind, *words = self.outcome.split(" ")
         if kind == "spread":
             return {int(address): rule for address, rule in (word.split(":") for word in words)}

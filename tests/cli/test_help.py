@@ -133,9 +133,9 @@ def test_help_of_the_program_fits_a_terminal_of_24_rows_and_80_columns(helps):
 
 
 def test_help_of_judge_lists_the_rules(helps, top):
-    """The rules are those of the table of docs/FORMATS.md, in its order."""
+    """The rules are those of the table of docs/reference/judge.md, in its order."""
     text = helps["judge"].output.split("\nRules (")[1].split("\n\n")[0].split("\n", 1)[1]
-    table = (top / "docs/FORMATS.md").read_text(encoding="utf-8").split("| Rule | Severity |")[1].split("\n\n")[0]
+    table = (top / "docs/reference/judge.md").read_text(encoding="utf-8").split("| Rule | Severity |")[1].split("\n\n")[0]
     assert re.findall(r"[a-z][a-z-]+", text) == re.findall(r"^\| `([a-z-]+)` \|", table, re.MULTILINE)
 
 

@@ -1,4 +1,5 @@
 """README.md, the other documents at the top, and those of docs/: paths, names, places and commands in them are there."""
+import re
 from pathlib import Path
 
 import pytest
@@ -16,7 +17,14 @@ each_document = pytest.mark.parametrize("name", DOCUMENTS)
 
 
 def test_there_are_documents():
-    assert {"README.md", "CONTRIBUTING.md", "CHANGELOG.md", "docs/internals/architecture.md", "docs/POLICY.md"} <= set(DOCUMENTS)
+    assert {"README.md", "CONTRIBUTING.md", "CHANGELOG.md", "docs/internals/architecture.md", "docs/reference/policy.md"} <= set(DOCUMENTS)
+
+
+def test_list_of_documents_has_each_one_once():
+    """docs/README.md links to each document of docs/ once, and to README.md and CONTRIBUTING.md."""
+    linked = re.findall(r"\]\(([^)#]+\.md)\)", read("docs/README.md"))
+    chapters = [str(Path(name).relative_to("docs")) for name in DOCUMENTS if name.startswith("docs/") and name != "docs/README.md"]
+    assert sorted(linked) == sorted([*chapters, "../README.md", "../CONTRIBUTING.md"])
 
 
 @each_document

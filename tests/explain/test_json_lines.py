@@ -1,4 +1,4 @@
-"""Lines of JSON: `rackd explain --json` writes lines that Python's own reader of JSON reads, with the keys of docs/FORMATS.md."""
+"""Lines of JSON: `rackd explain --json` writes lines that Python's own reader of JSON reads, with the keys of docs/reference/explain.md."""
 import json
 
 import pytest

@@ -7,7 +7,7 @@ from rackd.master import SDN
 
 from support.judging import (FCB_0, FCB_1, FIRST, ROWS, RULES, WARNINGS, Request, bring_up, by, cfg, control, diag, exchange, get_cfg,
                              prm, status)
-from support.rule_table import FORMATS, LIST, SOURCE, TABLE, list_of, rows_of_source, table_of
+from support.rule_table import CHAPTER, LIST, SOURCE, TABLE, list_of, rows_of_source, table_of
 
 # A clean master class 1: slave 5 is in data exchange behind it, at place 5. Each row of BROKEN changes this one thing.
 CLEAN = [*bring_up(), exchange()]
@@ -146,10 +146,10 @@ def test_each_rule_has_a_case():
     assert [broken.rule for broken in BROKEN] == RULES
 
 
-def test_table_of_formats_is_that_of_the_source():
+def test_table_of_the_chapter_is_that_of_the_source():
     """`python3 tests/support/rule_table.py` writes the table."""
     made = table_of(rows_of_source(SOURCE.read_text(encoding="utf-8")))
-    assert TABLE.findall(FORMATS.read_text(encoding="utf-8")) == [made]
+    assert TABLE.findall(CHAPTER.read_text(encoding="utf-8")) == [made]
 
 
 def test_help_lists_the_rules(run):
@@ -158,7 +158,7 @@ def test_help_lists_the_rules(run):
 
 @each_rule
 def test_words_of_a_rule(text_of, broken):
-    """A finding in JSON has the severity, the source and the text of docs/FORMATS.md."""
+    """A finding in JSON has the severity, the source and the text of docs/reference/judge.md."""
     row = next(row for row in ROWS if row.name == broken.rule)
     found = [keys for keys in text_of(*broken.script).rows_of_json() if "place" in keys]
     assert {(keys["rule"], keys["severity"], keys["standard"], keys["text"]) for keys in found} == {tuple(row)}

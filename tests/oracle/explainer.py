@@ -1,8 +1,8 @@
 #!/usr/bin/env python3
 """Explains audit texts of rackd. It is independent of the code of the product.
 
-The expected texts of tests/explain come from here. The program simulates the line again from docs/POLICY.md and
-docs/FORMATS.md: it reads a rack file and an audit text, takes each event of the text, compares facts and outcome with
+The expected texts of tests/explain come from here. The program simulates the line again from docs/reference/policy.md and
+docs/reference/explain.md: it reads a rack file and an audit text, takes each event of the text, compares facts and outcome with
 the text, and prints what `rackd explain` has to print. It needs Python 3.11, for tomllib, and the standard library only.
 
 usage: explainer.py RACK AUDIT.. [--from N] [--to N] [--slave A] [--master M] [--refused] [--faults]
@@ -803,7 +803,7 @@ class Noted:
 
 
 class Slave:
-    """A slave and what its services do, as docs/POLICY.md says. A service returns the sentence of its result."""
+    """A slave and what its services do, as docs/reference/policy.md says. A service returns the sentence of its result."""
 
     def __init__(self, spec: SlaveSpec):
         self.spec = spec
@@ -1329,7 +1329,7 @@ class Hold:
 
 
 class Line:
-    """A line that takes events; docs/POLICY.md has its rules."""
+    """A line that takes events; docs/reference/policy.md has its rules."""
 
     def __init__(self, spec: LineSpec, capacity: int):
         self.spec = spec

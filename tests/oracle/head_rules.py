@@ -1,6 +1,6 @@
 """A model of what a head of an audit text can say, independent of the code of the product.
 
-It reads a head row by row, as docs/FORMATS.md describes heads, and has a test for each rule of docs/POLICY.md, "What always
+It reads a head row by row, as docs/reference/audit-texts.md describes heads, and has a test for each rule of docs/reference/policy.md, "What always
 holds". `verdict_on` is the verdict on a text that is one head of a line.
 """
 from dataclasses import dataclass
@@ -226,7 +226,7 @@ def read_head(line: LineSpec, text: str) -> Head:
     return head
 
 
-# ---- The rules of a slave: each function returns whether a slave keeps a rule of docs/POLICY.md, or a part of it.
+# ---- The rules of a slave: each function returns whether a slave keeps a rule of docs/reference/policy.md, or a part of it.
 
 
 def is_held_outside_wait_prm(line: LineSpec, head: Head, slave: HeadSlave) -> bool:

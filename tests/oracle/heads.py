@@ -1,7 +1,7 @@
 """A model of the heads of parts, and what comes behind each head. It is independent of the code of the product.
 
 An audit text is taken as that of an endless line. explainer.py simulates the line, and this module writes the head of it
-behind each entry, as docs/FORMATS.md describes heads, and says what has to be said of that head and what follows it.
+behind each entry, as docs/reference/audit-texts.md describes heads, and says what has to be said of that head and what follows it.
 """
 import os
 import pickle

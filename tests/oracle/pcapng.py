@@ -1,5 +1,5 @@
 """Reads captures in the format pcapng. It is written from the format's text ("PCAP Next Generation Capture File Format",
-IETF draft), and from what docs/FORMATS.md says of the captures of `rackd capture`: any other block or option is refused.
+IETF draft), and from what docs/reference/captures.md says of the captures of `rackd capture`: any other block or option is refused.
 """
 import re
 import struct
@@ -125,7 +125,7 @@ def read_packet(body: bytes, interfaces: List[str]) -> Packet:
 
 
 def read_capture(octets: bytes) -> Capture:
-    """Returns what a capture has. Raises WrongCapture if it is none of the form that FORMATS describes."""
+    """Returns what a capture has. Raises WrongCapture if it is none of the form that this chapter describes."""
     blocks = list(blocks_of(octets))
     require(bool(blocks) and blocks[0][0] == SECTION, 'the first block is no section header')
     capture = Capture(read_section(blocks[0][1]), [], [])

@@ -1,4 +1,4 @@
-"""Frames. The telegrams are those of docs/guide and README.md, or worked out from docs/POLICY.md, "Frames"."""
+"""Frames. The telegrams are those of docs/guide and README.md, or worked out from docs/reference/policy.md, "Frames"."""
 import pytest
 
 from rackd import BadEnd, BadHead, Frame, Long, NoStart, Short, frames

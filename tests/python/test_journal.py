@@ -1,4 +1,4 @@
-"""The journal. Rules are those of docs/POLICY.md, and sentences those of docs/FORMATS.md, "Explained"."""
+"""The journal. Rules are those of docs/reference/policy.md, and sentences those of docs/reference/explain.md."""
 import re
 
 import pytest

@@ -1,4 +1,4 @@
-"""`Journal.judge` and the findings that it returns. Rules and texts are those of docs/FORMATS.md, "Judged"."""
+"""`Journal.judge` and the findings that it returns. Rules and texts are those of docs/reference/judge.md."""
 import pytest
 
 from rackd import Finding, Journal, RackFault, frames

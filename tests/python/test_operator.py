@@ -1,4 +1,4 @@
-"""The operator, at a rack. What is expected is that of docs/reference/scripts.md and docs/POLICY.md."""
+"""The operator, at a rack. What is expected is that of docs/reference/scripts.md and docs/reference/policy.md."""
 import socket
 
 import pytest

@@ -5,7 +5,7 @@ from typing import NamedTuple, Optional
 from rackd import frames
 from rackd.master import CHK_CFG, GET_CFG, GLOBAL_CONTROL, MASTER, SDN, SET_PRM, SLAVE_DIAG, STATUS
 
-from support.rule_table import FORMATS, rows_of_formats
+from support.rule_table import CHAPTER, rows_of_chapter
 
 RACK = """
 [[line]]
@@ -23,8 +23,8 @@ address = 6
 ident = 0x0B3C
 cfg = "20"
 """
-# All rules of docs/FORMATS.md, in their order, and those that are warnings.
-ROWS = rows_of_formats(FORMATS.read_text(encoding="utf-8"))
+# All rules of docs/reference/judge.md, in their order, and those that are warnings.
+ROWS = rows_of_chapter(CHAPTER.read_text(encoding="utf-8"))
 RULES = [row.name for row in ROWS]
 WARNINGS = {row.name for row in ROWS if row.severity == "warning"}
 IDENTS = {5: b"\x80\xa1", 6: b"\x0b\x3c"}

@@ -1,4 +1,4 @@
-"""What the sentence of an entry has, by the facts of its reason: written from the tables of docs/POLICY.md, not by the library."""
+"""What the sentence of an entry has, by the facts of its reason: written from the tables of docs/reference/policy.md, not by the library."""
 
 STATES = ("Wait_Prm", "Wait_Cfg", "Data_Exch")
 POINTS = {None: "Data_Exchange", 55: "DSAP 55", 56: "RD_Inp", 57: "RD_Outp", 58: "Global_Control", 59: "Get_Cfg",

@@ -1,4 +1,4 @@
-"""The table of the rules of `rackd judge` in docs/FORMATS.md, and their list in its help, made of the rows in
+"""The table of the rules of `rackd judge` in docs/reference/judge.md, and their list in its help, made of the rows in
 crates/judge_rules/src/rule_rows.rt.
 
 As a program it writes both: `python3 tests/support/rule_table.py`.
@@ -9,7 +9,7 @@ import textwrap
 from typing import List, NamedTuple
 
 TOP = pathlib.Path(__file__).resolve().parents[2]
-FORMATS = TOP / "docs" / "FORMATS.md"
+CHAPTER = TOP / "docs" / "reference" / "judge.md"
 SOURCE = TOP / "crates" / "judge_rules" / "src" / "rule_rows.rt"
 HELP = TOP / "crates" / "rackd_cli" / "src" / "judge.rt"
 HEAD = ["| Rule | Severity | IEC 61158- | Reported for |", "|---|---|---|---|"]
@@ -26,8 +26,8 @@ class Row(NamedTuple):
     text: str
 
 
-def rows_of_formats(document: str) -> List[Row]:
-    """Returns the rows of the table in docs/FORMATS.md."""
+def rows_of_chapter(document: str) -> List[Row]:
+    """Returns the rows of the table in docs/reference/judge.md."""
     rows = TABLE.search(document).group().splitlines()[len(HEAD):]
     cells = [[cell.strip() for cell in row.strip("|").split("|")] for row in rows]
     return [Row(name.strip("`"), severity, f"IEC 61158-{subject}", text) for name, severity, subject, text in cells]
@@ -42,7 +42,7 @@ def rows_of_source(source: str) -> List[Row]:
 
 
 def table_of(rows: List[Row]) -> str:
-    """Returns the table of docs/FORMATS.md with these rows."""
+    """Returns the table of docs/reference/judge.md with these rows."""
     lines = [f"| `{row.name}` | {row.severity} | {row.subject[len('IEC 61158-'):]} | {row.text} |" for row in rows]
     return "\n".join([*HEAD, *lines, ""])
 
@@ -54,9 +54,9 @@ def list_of(rows: List[Row]) -> str:
 
 
 def write() -> None:
-    """Writes the table into docs/FORMATS.md, and the list into the help."""
+    """Writes the table into docs/reference/judge.md, and the list into the help."""
     rows = rows_of_source(SOURCE.read_text(encoding="utf-8"))
-    for path, place, made in (FORMATS, TABLE, table_of(rows)), (HELP, LIST, list_of(rows)):
+    for path, place, made in (CHAPTER, TABLE, table_of(rows)), (HELP, LIST, list_of(rows)):
         text = path.read_text(encoding="utf-8")
         path.write_text(place.sub(lambda _, made=made: made, text), encoding="utf-8")
 
