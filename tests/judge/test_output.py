@@ -11,7 +11,7 @@ ROWS = """\
 place 6 master 1 slave 5 fcb-repeated: the FCB of the request before to this slave, with another telegram
   68 05 05 68 05 01 7d 56 78 51 16
   before 68 05 05 68 05 01 7d 12 34 c9 16
-place 7 master 1 slave 5 unknown-point: a point that DP-V0 has not
+place 7 master 1 slave 5 unknown-point: a point that DP-V0 does not have
   68 06 06 68 85 81 5d 33 3e 01 d5 16
 findings
   master 1 fcb-repeated error 1, first at place 6
@@ -22,7 +22,7 @@ legal 7
 REPEATED = {"rule": "fcb-repeated", "severity": "error", "standard": "IEC 61158-4-3, frame count bit",
             "text": "the FCB of the request before to this slave, with another telegram"}
 UNKNOWN = {"rule": "unknown-point", "severity": "warning", "standard": "IEC 61158-6-3, service access points",
-           "text": "a point that DP-V0 has not"}
+           "text": "a point that DP-V0 does not have"}
 
 
 @pytest.fixture

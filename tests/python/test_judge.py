@@ -7,7 +7,7 @@ from rackd.master import MASTER
 from support.telegrams import FIRST, chk_cfg, data_exchange, global_control, set_prm, slave_diag
 
 FCB_0, FCB_1 = 0x5D, 0x7D
-# A point that DP-V0 has not.
+# A point that DP-V0 does not have.
 UNKNOWN = 51
 # Master 1 brings slave 5 up and exchanges data. Its sixth and its seventh telegram each break a rule.
 TWO_FAULTS = [
@@ -21,7 +21,7 @@ REPEATED = Finding(
     before=bytes.fromhex("6805056805017d1234c916"))
 NO_POINT = Finding(
     place=7, master=1, slave=5, rule="unknown-point", severity="warning", standard="IEC 61158-6-3, service access points",
-    text="a point that DP-V0 has not", octets=bytes.fromhex("6806066885815d333e01d516"), before=None)
+    text="a point that DP-V0 does not have", octets=bytes.fromhex("6806066885815d333e01d516"), before=None)
 
 
 @pytest.fixture

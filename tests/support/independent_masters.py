@@ -26,8 +26,6 @@ SOURCES = {"python": ("master.py", None), "perl": ("master.pl", "perl"), "c": ("
 IDENTS = {5: 0x80A1, 6: 0x80A2, 7: 0x0B3C}
 # A watchdog in milliseconds that runs out only if an operator lets units of 10 ms pass, and more units than it has.
 LONG_WATCHDOG, EXPIRE = 60_000, 6_500
-# A rule that takes outputs of some values, in a Data_Exchange that is refused, for access points.
-OUTPUTS_LIKE_POINTS = "extension-missing"
 # A slot time in milliseconds in which each reply comes, also on a busy machine.
 NO_LOSS = 10_000
 
@@ -212,7 +210,8 @@ class WatchedRack:
 
         The outputs of these masters count, and so they are 3d 3e now and then, which look like access points.
         """
-        done = self._run("judge", self.server.rack, self.audit, "--without", ",".join([OUTPUTS_LIKE_POINTS, *without]))
+        left_out = ("--without", ",".join(without)) if without else ()
+        done = self._run("judge", self.server.rack, self.audit, *left_out)
         assert done.status in (0, 1), done.errors
         rows = [row for row in done.output.splitlines() if row.lstrip().startswith("place ")]
         return Counter(row.split(":")[0].split()[-1] for row in rows), rows, done.status

@@ -1,17 +1,30 @@
 -- promise
 -- The rules of Data_Exchange and of retries (IEC 61158-6-3, Data_Exchange; IEC 61158-4-3, retry), and of what is no request.
-use Rattle.std.specs.Prelude.{ℕ, ◌-◌, ◌==◌, ◌&&◌, not, max, nat_le, Bool, false, Option, Some, None}
+use Rattle.std.specs.Prelude.{ℕ, ◌-◌, ◌==◌, ◌&&◌, ◌||◌, not, max, nat_le, Bool, true, false, Option, Some, None}
 use Rattle.judge_rules.specs.declared.bus.Bus.{Bus}
 use Rattle.judge_rules.specs.declared.entry.Request.{Request}
+use Rattle.judge_rules.specs.declared.stage.Stage.{Stage}
+use Rattle.judge_rules.specs.declared.stage.Stage.TheVariants as stages
 use Rattle.judge_rules.specs.declared.station.Last.{Last}
 use Rattle.judge_rules.specs.declared.station.Station.{Station}
-use Rattle.judge_rules.specs.Entries.{is_srd, is_ue, exchange_asked}
+use Rattle.judge_rules.specs.Entries.{is_srd, is_ue, is_rs, exchange_asked}
 use Rattle.judge_rules.specs.Stages.{is_parametrized}
 use Rattle.judge_rules.specs.BusFacts.{is_retry}
 
 -- length-repeated: Data_Exchange of a length that the slave refuses by UE, not for the first time since the last Set_Prm that was acknowledged
 abbrev pub length_repeated : Station → Request → Bool
 length_repeated station request = exchange_asked request && is_ue request.answer && station.wrong_length
+
+-- extension-missing: Data_Exchange whose data begin with two access points, and that is refused: by UE, since its length is not that of the outputs, or by
+-- RS before the station was ready. Outputs may look like access points, and a station that exchanges data refuses right ones by RS if it was lost.
+abbrev pub may_exchange : Stage → Bool
+may_exchange stages.Ready = true
+may_exchange stages.Exchanging = true
+may_exchange other = false
+
+abbrev pub extension_missing : Station → Request → Bool
+extension_missing station request =
+    exchange_asked request && request.payload.has_points && (is_ue request.answer || is_rs request.answer && not (may_exchange station.stage))
 
 -- diag-not-read: the fourth Data_Exchange after a DH, with no Slave_Diag since that was answered with a diagnosis or RR; of one DH it is reported once
 abbrev pub is_third : Option ℕ → Bool

@@ -8,7 +8,6 @@ use Rattle.judge_rules.specs.declared.rule.JudgeRule.TheVariants as rules
 -- a rule of the request alone, and of its answer
 abbrev pub is_of_the_telegram : JudgeRule → Bool
 is_of_the_telegram rules.FcbNotAllowed = true
-is_of_the_telegram rules.ExtensionMissing = true
 is_of_the_telegram rules.PrmShort = true
 is_of_the_telegram rules.PrmReserved = true
 is_of_the_telegram rules.LockAndUnlock = true

@@ -182,6 +182,28 @@ pub wrong_length_after_set_prm :
     ≡ []
 wrong_length_after_set_prm = refl
 
+-- outputs that look like access points, and a Slave_Diag without bit 7 of DA and SA, which are the same octets; Chk_Cfg without it has other ones
+abbrev pub points_payload : ℕ → Payload
+points_payload count = record { count = count; is_zero = false; has_points = true }
+
+abbrev pub exchange_of_points : Bool → ℕ → Answer → Entry
+exchange_of_points fcb count answer =
+    entries.Request (record { address = 5; function = SrdHigh; fcb = fcb; fcv = true; service = services.DataExchange; ssap = None; payload = points_payload count; octets = record { items = 4 ∷ [] }; time = 0; answer = answer })
+
+pub outputs_like_points : broken_rules 3 brought_up (exchange_of_points true 2 answers.Done) ≡ []
+outputs_like_points = refl
+
+pub outputs_like_points_to_a_lost_slave :
+    broken_rules 3 (brought_up ++ exchange_of_points true 2 answers.Done ∷ []) (exchange_of_points false 2 answers.Rs) ≡ []
+outputs_like_points_to_a_lost_slave = refl
+
+pub slave_diag_without_bit_7 :
+    broken_rules 3 diagnosed (exchange_of_points false 2 answers.Rs) ≡ rules.ExchangeBeforeReady ∷ rules.ExtensionMissing ∷ []
+slave_diag_without_bit_7 = refl
+
+pub chk_cfg_without_bit_7 : broken_rules 3 brought_up (exchange_of_points true 4 answers.Ue) ≡ rules.ExtensionMissing ∷ []
+chk_cfg_without_bit_7 = refl
+
 -- points: those that DP-V0 has are known, also without a slave that has them
 pub master_to_master : broken_rules 3 diagnosed (srd false 6 services.MasterToMaster answers.Rs) ≡ []
 master_to_master = refl

@@ -50,7 +50,7 @@ rule_row rules.ControlNotAsked = record { number = 28; name = codes "control-not
 rule_row rules.ControlWithSrd = record { number = 29; name = codes "control-with-srd"; severity = severities.Error; source = sources.GlobalControl; text = codes "Global_Control by SRD, and it has no reply" }
 rule_row rules.SdnNeedsReply = record { number = 30; name = codes "sdn-needs-reply"; severity = severities.Error; source = sources.FunctionCode; text = codes "SDN, which has no reply, to a service that has one" }
 rule_row rules.BroadcastNeedsReply = record { number = 31; name = codes "broadcast-needs-reply"; severity = severities.Error; source = sources.FunctionCode; text = codes "a function with a reply, to all stations" }
-rule_row rules.UnknownPoint = record { number = 32; name = codes "unknown-point"; severity = severities.Warning; source = sources.AccessPoints; text = codes "a point that DP-V0 has not" }
+rule_row rules.UnknownPoint = record { number = 32; name = codes "unknown-point"; severity = severities.Warning; source = sources.AccessPoints; text = codes "a point that DP-V0 does not have" }
 rule_row rules.SourcePoint = record { number = 33; name = codes "source-point"; severity = severities.Error; source = sources.AccessPoints; text = codes "the access point of the master is not 62" }
 rule_row rules.OctetsNotAllowed = record { number = 34; name = codes "octets-not-allowed"; severity = severities.Error; source = sources.AccessPoints; text = codes "data in a request that has none: Slave_Diag, Get_Cfg, RD_Inp or RD_Outp" }
 rule_row rules.NoRequest = record { number = 35; name = codes "no-request"; severity = severities.Warning; source = sources.FunctionCode; text = codes "the fourth of a hundred entries that is no request of this master" }

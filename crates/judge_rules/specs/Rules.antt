@@ -13,9 +13,9 @@ use Rattle.judge_rules.specs.BusFacts.{bus_of}
 use Rattle.judge_rules.specs.Stations.{station_of}
 use Rattle.judge_rules.specs.FcbRules.{fcb_first, fcb_not_allowed, fcb_not_alternated, fcb_repeated, fcv_not_set}
 use Rattle.judge_rules.specs.BringUpRules.{cfg_before_prm, exchange_after_rs, exchange_before_ready, exchange_of_other, exchange_without_diag, prm_before_diag, prm_without_lock}
-use Rattle.judge_rules.specs.ExchangeRules.{diag_not_read, is_stray_often, length_repeated, outputs_in_clear, retry_limit, watchdog_short}
+use Rattle.judge_rules.specs.ExchangeRules.{diag_not_read, extension_missing, is_stray_often, length_repeated, outputs_in_clear, retry_limit, watchdog_short}
 use Rattle.judge_rules.specs.ParameterRules.{control_both, control_length, control_not_asked, control_reserved, group_not_set, lock_and_unlock, min_tsdr_low, prm_of_other, prm_reserved, prm_short, watchdog_zero}
-use Rattle.judge_rules.specs.TelegramRules.{broadcast_needs_reply, control_with_srd, extension_missing, octets_not_allowed, sdn_needs_reply, source_point, unknown_point}
+use Rattle.judge_rules.specs.TelegramRules.{broadcast_needs_reply, control_with_srd, octets_not_allowed, sdn_needs_reply, source_point, unknown_point}
 
 -- a request breaks a rule, by what the entries before it left; limit is the number of retries that are allowed
 abbrev pub broken_by : ℕ → Bus → Station → Request → JudgeRule → Bool
@@ -34,7 +34,7 @@ broken_by limit bus station request rules.ExchangeAfterRs = exchange_after_rs st
 broken_by limit bus station request rules.ExchangeOfOther = exchange_of_other station request
 broken_by limit bus station request rules.LengthRepeated = length_repeated station request
 broken_by limit bus station request rules.DiagNotRead = diag_not_read station request
-broken_by limit bus station request rules.ExtensionMissing = extension_missing request
+broken_by limit bus station request rules.ExtensionMissing = extension_missing station request
 broken_by limit bus station request rules.OutputsInClear = outputs_in_clear bus request
 broken_by limit bus station request rules.PrmOfOther = prm_of_other station request
 broken_by limit bus station request rules.PrmShort = prm_short request

@@ -8,7 +8,7 @@ use Rattle.dp_telegram.specs.FunctionCode.{asks_sdn}
 use Rattle.judge_rules.specs.declared.entry.Request.{Request}
 use Rattle.judge_rules.specs.declared.entry.Service.{Service}
 use Rattle.judge_rules.specs.declared.entry.Service.TheVariants as services
-use Rattle.judge_rules.specs.Entries.{exchange_asked, is_srd, is_ue, is_rs}
+use Rattle.judge_rules.specs.Entries.{is_srd}
 
 -- every service of DP-V0 but Global_Control has a reply; of those between masters some have none
 abbrev pub has_reply : Service → Bool
@@ -31,7 +31,7 @@ is_answered_function other = true
 abbrev pub broadcast_needs_reply : Request → Bool
 broadcast_needs_reply request = request.address == global_address && is_answered_function request.function
 
--- unknown-point: an SRD or an SDN to a point that DP-V0 has not
+-- unknown-point: an SRD or an SDN to a point that DP-V0 does not have
 abbrev pub is_unknown : Service → Bool
 is_unknown services.Unknown = true
 is_unknown other = false
@@ -72,7 +72,3 @@ is_global_control other = false
 
 abbrev pub control_with_srd : Request → Bool
 control_with_srd request = is_srd request && not (request.address == global_address) && is_global_control request.service
-
--- extension-missing: Data_Exchange that is refused by UE or RS, and whose data begin with two access points
-abbrev pub extension_missing : Request → Bool
-extension_missing request = exchange_asked request && request.payload.has_points && (is_ue request.answer || is_rs request.answer)

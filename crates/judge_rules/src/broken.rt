@@ -10,7 +10,8 @@ use crate::bring_up_rules::{
 use crate::bus::Bus;
 use crate::entry::Request;
 use crate::exchange_rules::{
-    diag_not_read, is_stray_often, length_repeated, outputs_in_clear, retry_limit, watchdog_short,
+    diag_not_read, extension_missing, is_stray_often, length_repeated, outputs_in_clear,
+    retry_limit, watchdog_short,
 };
 use crate::fcb_rules::{fcb_first, fcb_not_allowed, fcb_not_alternated, fcb_repeated, fcv_not_set};
 use crate::parameter_rules::{
@@ -20,8 +21,8 @@ use crate::parameter_rules::{
 use crate::rule::JudgeRule;
 use crate::station::Station;
 use crate::telegram_rules::{
-    broadcast_needs_reply, control_with_srd, extension_missing, octets_not_allowed,
-    sdn_needs_reply, source_point, unknown_point,
+    broadcast_needs_reply, control_with_srd, octets_not_allowed, sdn_needs_reply, source_point,
+    unknown_point,
 };
 
 /// Returns whether a request breaks the rule, by what the entries before it left.
@@ -50,7 +51,7 @@ pub(crate) fn broken_by(
         JudgeRule::ExchangeOfOther => exchange_of_other(station, request),
         JudgeRule::LengthRepeated => length_repeated(station, request),
         JudgeRule::DiagNotRead => diag_not_read(station, request),
-        JudgeRule::ExtensionMissing => extension_missing(request),
+        JudgeRule::ExtensionMissing => extension_missing(station, request),
         JudgeRule::OutputsInClear => outputs_in_clear(bus, request),
         JudgeRule::PrmOfOther => prm_of_other(station, request),
         JudgeRule::PrmShort => prm_short(request),

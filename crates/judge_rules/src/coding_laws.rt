@@ -11,6 +11,8 @@ ghost use Rattle.judge_rules.specs.declared.entry.Service.TheVariants as service
 ghost use Rattle.judge_rules.specs.declared.rule.JudgeRule.TheVariants as rules;
 ghost use Rattle.judge_rules.specs.Entries.{control_asked, exchange_asked, is_rs, is_served, is_srd, is_ue, prm_asked};
 ghost use Rattle.judge_rules.specs.Reading.{payload_of, has_points, parameters_in};
+ghost use Rattle.judge_rules.specs.Stations.{station_of};
+ghost use Rattle.judge_rules.specs.ExchangeRules.{may_exchange};
 ghost use Rattle.judge_rules.specs.TelegramRules.{has_no_data, is_asked_by_62, is_global_control, is_point_62};
 ghost use Rattle.judge_rules.specs.Rules.{breaks};
 
@@ -94,13 +96,14 @@ pub fn a_request_without_data_has_none()
 {}
 
 /// `extension-missing`: a Data_Exchange with these octets is reported exactly if they begin with a point from 55 to 62 and
-/// the point 62, and it was refused by UE or RS. No other request is reported.
+/// the point 62, and it was refused by UE, or by RS while the station was not ready for it. No other request is reported.
 pub fn a_telegram_without_its_extension_is_a_data_exchange()
     ensures exchange { (limit : ℕ) (past : List Entry) (request : Request) (octets : List ℕ)
         → exchange_asked request ≡ true
         → request.payload ≡ payload_of octets
         → breaks limit past (entries.Request request) rules.ExtensionMissing
-        ≡ (has_points octets && (is_ue request.answer || is_rs request.answer)) }
+        ≡ (has_points octets
+        && (is_ue request.answer || is_rs request.answer && not (may_exchange (station_of request.address past).stage))) }
     ensures other { (limit : ℕ) (past : List Entry) (request : Request)
         → exchange_asked request ≡ false
         → breaks limit past (entries.Request request) rules.ExtensionMissing ≡ false }

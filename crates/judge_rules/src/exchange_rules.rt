@@ -1,7 +1,7 @@
 //! The rules of Data_Exchange (IEC 61158-6-3, Data_Exchange), of the watchdog, and of retries.
 
 ghost use Rattle.std.specs.Prelude.{◌≡◌};
-ghost use Rattle.judge_rules.specs.ExchangeRules.{diag_not_read, is_gap, is_past, is_stray_often, length_repeated, outputs_in_clear, retry_limit, watchdog_short};
+ghost use Rattle.judge_rules.specs.ExchangeRules.{diag_not_read, extension_missing, is_gap, is_past, is_stray_often, length_repeated, outputs_in_clear, retry_limit, watchdog_short};
 
 use crate::bus::Bus;
 use crate::entry::Request;
@@ -18,6 +18,16 @@ pub(crate) fn length_repeated(station: &Station, request: &Request) -> bool
     ensures { result ≡ length_repeated station.now request.now }
 {
     request.asks_exchange() && request.answer.is_ue() && station.wrong_length
+}
+
+/// Returns whether a Data_Exchange whose data begin with the points of a slave and of a master is refused: by UE, or by RS
+/// before the station was ready. A station that exchanges data refuses right outputs by RS if it was lost.
+pub(crate) fn extension_missing(station: &Station, request: &Request) -> bool
+    ensures { result ≡ extension_missing station.now request.now }
+{
+    request.asks_exchange()
+        && request.payload.has_points
+        && (request.answer.is_ue() || (request.answer.is_rs() && !station.stage.may_exchange()))
 }
 
 /// Returns whether a Data_Exchange has outputs that are not all 0, after Clear_Data to all slaves.

@@ -286,7 +286,7 @@ impl JudgeRule {
                 name: "unknown-point",
                 severity: Severity::Warning,
                 source: Source::AccessPoints,
-                text: "a point that DP-V0 has not",
+                text: "a point that DP-V0 does not have",
             },
             JudgeRule::SourcePoint => RuleRow {
                 name: "source-point",

@@ -1,6 +1,7 @@
 //! How far a master has brought up a station, as its requests and their replies show.
 
 ghost use Rattle.std.specs.Prelude.{◌≡◌};
+ghost use Rattle.judge_rules.specs.ExchangeRules.{may_exchange};
 ghost use Rattle.judge_rules.specs.Stages.{stage_after, after_diag, after_chk_cfg, after_exchange, after_prm, is_parametrized, refused, shown_by, shown_ready, shown_unready};
 
 use crate::entry::{Answer, Asked, Diagnosis, Parameters, Request};
@@ -40,6 +41,23 @@ impl Stage {
             Stage::Parametrized => true,
             Stage::Configured => true,
             Stage::NotReady => true,
+            Stage::Ready => true,
+            Stage::Exchanging => true,
+            Stage::Lost => false,
+        }
+    }
+
+    /// Returns whether the last diagnosis said that the station is ready, or Data_Exchange was answered with data.
+    pub(crate) fn may_exchange(self) -> bool
+        ensures { result ≡ may_exchange self }
+    {
+        match self {
+            Stage::Unseen => false,
+            Stage::Idle => false,
+            Stage::Taken => false,
+            Stage::Parametrized => false,
+            Stage::Configured => false,
+            Stage::NotReady => false,
             Stage::Ready => true,
             Stage::Exchanging => true,
             Stage::Lost => false,

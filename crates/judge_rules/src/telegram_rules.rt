@@ -1,7 +1,7 @@
 //! The rules of a telegram on its own: its function, its point, and its destination.
 
 ghost use Rattle.std.specs.Prelude.{◌≡◌};
-ghost use Rattle.judge_rules.specs.TelegramRules.{broadcast_needs_reply, control_with_srd, extension_missing, has_no_data, has_reply, is_answered_function, is_asked_by_62, is_global_control, is_point_62, is_unknown, octets_not_allowed, sdn_needs_reply, source_point, unknown_point};
+ghost use Rattle.judge_rules.specs.TelegramRules.{broadcast_needs_reply, control_with_srd, has_no_data, has_reply, is_answered_function, is_asked_by_62, is_global_control, is_point_62, is_unknown, octets_not_allowed, sdn_needs_reply, source_point, unknown_point};
 
 use crate::entry::{Request, Service};
 use crate::services::MASTER_POINT;
@@ -21,7 +21,7 @@ pub(crate) fn broadcast_needs_reply(request: &Request) -> bool
     request.address == GLOBAL_ADDRESS && is_answered_function(request.function)
 }
 
-/// Returns whether an SRD or an SDN names a point that DP-V0 has not.
+/// Returns whether an SRD or an SDN names a point that DP-V0 does not have.
 pub(crate) fn unknown_point(request: &Request) -> bool
     ensures { result ≡ unknown_point request.now }
 {
@@ -59,15 +59,6 @@ pub(crate) fn control_with_srd(request: &Request) -> bool
     ensures { result ≡ control_with_srd request.now }
 {
     request.is_srd() && request.address != GLOBAL_ADDRESS && is_global_control(request.service)
-}
-
-/// Returns whether a Data_Exchange is refused whose data begin with the points of a slave and of a master.
-pub(crate) fn extension_missing(request: &Request) -> bool
-    ensures { result ≡ extension_missing request.now }
-{
-    request.asks_exchange()
-        && request.payload.has_points
-        && (request.answer.is_ue() || request.answer.is_rs())
 }
 
 /// Returns whether a master asks for the service from its point 62.

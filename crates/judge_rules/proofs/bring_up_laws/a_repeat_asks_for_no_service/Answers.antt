@@ -16,7 +16,7 @@ use Rattle.judge_rules.specs.declared.station.Station.{Station}
 use Rattle.judge_rules.specs.BringUpRules.{is_before_ready, is_configured, is_lost, is_taken, is_unseen, is_without_lock}
 use Rattle.judge_rules.specs.BusFacts.{bus_of}
 use Rattle.judge_rules.specs.Entries.{chk_cfg_asked, diagnosis_in, exchange_asked, is_chk_cfg, is_data_exchange, is_done, is_repeat_answer, is_rr, is_rs, is_served, is_slave_diag, is_srd, is_ue, parameters_of, prm_asked}
-use Rattle.judge_rules.specs.ExchangeRules.{is_third}
+use Rattle.judge_rules.specs.ExchangeRules.{is_third, may_exchange}
 use Rattle.judge_rules.specs.LawWords.{is_of_a_service}
 use Rattle.judge_rules.specs.ParameterRules.{has_lock_and_unlock, has_low_min_tsdr, has_reserved, has_short, sets_watchdog_zero}
 use Rattle.judge_rules.specs.Rules.{broken_by}
@@ -42,7 +42,7 @@ judged limit bus station r rules.ExchangeOfOther is of = ap (λ (b : Bool). b &&
 judged limit bus station r rules.LengthRepeated is of = ap (λ (b : Bool). b && is_data_exchange r.service && is_ue r.answer && station.wrong_length) is
 judged limit bus station r rules.DiagNotRead is of = ap (λ (b : Bool). b && is_data_exchange r.service && is_third station.unread) is
 judged limit bus station r rules.PrmOfOther is of = ap (λ (b : Bool). is_some (if b then parameters_of r.service else None) && is_taken station.stage) is
-judged limit bus station r rules.ExtensionMissing is of = ap (λ (b : Bool). b && is_data_exchange r.service && r.payload.has_points && (is_ue r.answer || is_rs r.answer)) is
+judged limit bus station r rules.ExtensionMissing is of = ap (λ (b : Bool). b && is_data_exchange r.service && r.payload.has_points && (is_ue r.answer || is_rs r.answer && not (may_exchange station.stage))) is
 judged limit bus station r rules.PrmShort is of = ap (λ (b : Bool). has_short (if b then parameters_of r.service else None)) is
 judged limit bus station r rules.PrmReserved is of = ap (λ (b : Bool). has_reserved (if b then parameters_of r.service else None)) is
 judged limit bus station r rules.LockAndUnlock is of = ap (λ (b : Bool). has_lock_and_unlock (if b then parameters_of r.service else None)) is
@@ -121,7 +121,7 @@ same limit bus other s t r rules.ExchangeOfOther agree of = ap (λ (stage : Stag
 same limit bus other s t r rules.LengthRepeated agree of = ap (λ (wrong : Bool). exchange_asked r && is_ue r.answer && wrong) agree.wrong_length
 same limit bus other s t r rules.DiagNotRead agree of = ap (λ (unread : Option ℕ). exchange_asked r && is_third unread) agree.unread
 same limit bus other s t r rules.PrmOfOther agree of = ap (λ (stage : Stage). is_some (prm_asked r) && is_taken stage) agree.stage
-same limit bus other s t r rules.ExtensionMissing agree of = refl
+same limit bus other s t r rules.ExtensionMissing agree of = ap (λ (stage : Stage). exchange_asked r && r.payload.has_points && (is_ue r.answer || is_rs r.answer && not (may_exchange stage))) agree.stage
 same limit bus other s t r rules.PrmShort agree of = refl
 same limit bus other s t r rules.PrmReserved agree of = refl
 same limit bus other s t r rules.LockAndUnlock agree of = refl

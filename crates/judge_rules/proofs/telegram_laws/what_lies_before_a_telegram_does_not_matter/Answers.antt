@@ -13,7 +13,6 @@ use Rattle.judge_rules.proofs.telegram_laws.what_lies_before_a_telegram_does_not
 alone : (limit other : ℕ) (bus before : Bus) (station earlier : Station) (request : Request) (rule : JudgeRule) → is_of_the_telegram rule ≡ true
     → broken_by limit bus station request rule ≡ broken_by other before earlier request rule
 alone limit other bus before station earlier request rules.FcbNotAllowed is = refl
-alone limit other bus before station earlier request rules.ExtensionMissing is = refl
 alone limit other bus before station earlier request rules.PrmShort is = refl
 alone limit other bus before station earlier request rules.PrmReserved is = refl
 alone limit other bus before station earlier request rules.LockAndUnlock is = refl
