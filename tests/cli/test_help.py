@@ -44,7 +44,7 @@ TEXTS = {
         "Usage: rackd judge RACK AUDIT.. [--master M] [--rules NAME,..] [--without NAME,..] [--retries N]", "[--json | --junit]",
         "--master <M>", "0 to 255", "--rules <NAME,..>", "--without <NAME,..>", "--retries <N>", "0 to 15 [default: 3]",
         "--json", "--junit",
-        "\nRules (docs/FORMATS.md", "\nExamples:\n  rackd "],
+        "\nRules (docs/reference/judge.md", "\nExamples:\n  rackd "],
     "capture": [
         "Usage: rackd capture RACK AUDIT.. > FILE.pcapng", "<RACK>", "<AUDIT>...", "share/fdl.lua", "\nExamples:\n  rackd "],
     "gsd": [

@@ -13,7 +13,7 @@ CHAPTER = TOP / "docs" / "reference" / "judge.md"
 SOURCE = TOP / "crates" / "judge_rules" / "src" / "rule_rows.rt"
 HELP = TOP / "crates" / "rackd_cli" / "src" / "judge.rt"
 HEAD = ["| Rule | Severity | IEC 61158- | Reported for |", "|---|---|---|---|"]
-LIST = re.compile(r"(?<=Rules \(docs/FORMATS\.md says what each one means\):\n)(?:  .*\n)+")
+LIST = re.compile(r"(?<=Rules \(docs/reference/judge\.md says what each one reports\):\n)(?:  .*\n)+")
 TABLE = re.compile(re.escape(HEAD[0]) + r"\n(?:\|.*\n)+")
 
 

@@ -29,7 +29,7 @@ rackd gsd RACK LINE ADDRESS [--vendor T] [--model T]
        rackd gsd --help",
     details: "\
 Standard output gets the file: GSD revision 3 in ISO 8859-1, with a module for each configuration of
-the slave. docs/FORMATS.md lists what stands for the facts that a rack file does not have.
+the slave. docs/reference/gsd-files.md has the values of what a rack file does not say.
 
 Examples:
   rackd gsd examples/serve/rack.toml 1 5 > slave.gsd
@@ -45,11 +45,11 @@ rackd slave GSD [--module NAME..]
        rackd slave --help",
     details: "\
 Standard output gets a [[line.slave]] for a rack file, with what a rack simulates, and a comment for
-each part of the GSD file that is left out. Modules are plugged in the order of their names. A slave
-that is not modular needs none.
+each part of the GSD file that is left out. Modules are plugged in the order in which they are
+named. A slave that is not modular needs no --module.
 
-With --list standard output gets a row for each module of the file, with its configuration octets in
-hex, its name, and 'preset' if it is plugged from the start.
+With --list standard output gets a row for each module of the file: its name, its configuration
+octets in hex, and 'preset' if it is plugged from the start. Slots follow, if the file has some.
 
 Examples:
   rackd slave slave.gsd --list

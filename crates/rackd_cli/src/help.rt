@@ -22,7 +22,7 @@ pub(crate) const PROGRAM: Help = Help {
     about: "\
 rackd simulates PROFIBUS DP slaves: try a master without hardware.
 Begin with 'rackd serve examples/serve/rack.toml --tick 100', connect a master,
-and see by 'explain' and 'judge' what it did.",
+and let 'explain' and 'judge' show what it did.",
     usage: "\
 rackd COMMAND ..
        rackd < INPUT",
@@ -153,7 +153,7 @@ rackd serve RACK [--sessions N] [--until-input-ends] [--ports FILE]
              [--step MS] [--log [WHAT]]
        rackd serve --help",
     details: "\
-The rack file gives each line two ports: 'listen' for masters and 'operator' for its operator.
+The rack file gives each line two ports: 'listen' for masters and 'operator' for its operators.
 When rackd listens at all ports, it prints 'ready'. Port 0 lets the system choose; with --ports,
 FILE names the ports of each line before 'ready' is printed: 'line 1 listen 7101 operator 7201'.
 
@@ -166,9 +166,9 @@ An operator sends the commands of a script other than 'm', 'line' and 'journal' 
 Without --tick, time passes only by the operator's 'tick'. With it, each line gets 'tick N' by the
 clock, where N is the number of units of 10 ms that have passed: before each request of a master, so
 that watchdogs are right to the unit when it is taken, and at least every MS milliseconds. No tick
-has more than twice MS. If rackd itself was delayed, the rest is discarded: it releases no slave,
-and a warning says how much it was. With --step, the devices of the rack update the inputs of their
-slaves every MS milliseconds, as by 'step'.
+has more than twice MS. If rackd itself was delayed for longer, the rest is discarded: it releases
+no slave, and a warning says how much it was. With --step, the devices of the rack update the inputs
+of their slaves every MS milliseconds, as by 'step'.
 
 With --sessions, rackd prints the audit text of each line, in the order of line numbers, when all
 connections have ended. With --until-input-ends, it does the same when standard input ends, for
@@ -176,7 +176,7 @@ example because the program that started it has ended: it accepts no connection 
 session ends within 200 ms. Without these two, it does not end on its own, and reads no input.
 
 With --audit, an event is in the file before its answer is sent. N is the number of the line, and
-K the first number that is free. 'check' reads such a file as it is. Of the output of --sessions,
+K is above all numbers in use. 'check' reads such a file as it is. Of the output of --sessions,
 give it the text of one line, from the header 'rack-audit ..' on.
 
 With --endless, memory has only the newest entries of each line: at least half as many as its
@@ -206,7 +206,7 @@ rackd watch RACK FOLDER [--port N]
        rackd watch --help",
     details: "\
 FOLDER is that of 'serve --audit'. The audit texts in it are followed while they are written, so the
-page shows what happens; of a rack that is served no more, it shows the newest texts.
+page shows what happens. If the rack has ended, the page shows its newest texts.
 
 Standard output gets the address of the page, which only programs of this machine reach. rackd
 changes no file, and ends by a signal.

@@ -39,13 +39,13 @@ rackd judge RACK AUDIT.. [--master M] [--rules NAME,..] [--without NAME,..] [--r
     details: "\
 For each entry that breaks a rule, standard output gets a row with its place, its stations, the name
 of the rule and what it says, and a row with the octets of the telegram; for fcb-repeated another
-one with those of the telegram before. How often each master broke each rule follows, and then the
+one with those of the telegram before. Then follow how often each master broke each rule, and the
 result of 'check'. The text is judged to its first wrong line.
 
 The exit status is 1 if the text is not legal, or if a rule whose severity is error was broken, and
 else 0.
 
-Rules (docs/FORMATS.md says what each one means):
+Rules (docs/reference/judge.md says what each one reports):
   fcb-repeated, fcb-not-alternated, fcb-first, fcv-not-set, fcb-not-allowed, retry-limit,
   prm-before-diag, prm-without-lock, cfg-before-prm, exchange-before-ready, exchange-without-diag,
   exchange-after-rs, exchange-of-other, length-repeated, diag-not-read, extension-missing,
