@@ -12,8 +12,8 @@
  *   own. A rack may move from one thread to another between two calls, if a lock, the start or the end of a thread, or an
  *   atomic orders the two.
  *
- * What can be checked is: a call with a closed rack returns RACKD_CLOSED and sets nothing, rackd_open of an open rack returns
- * RACKD_IS_OPEN, and rackd_close of a closed one does nothing. The functions at the end of this header check that. A program
+ * The functions at the end of this header also check whether the rack is open: a call with a closed rack returns RACKD_CLOSED
+ * and sets nothing, rackd_open of an open rack returns RACKD_IS_OPEN, and rackd_close of a closed one does nothing. A program
  * that calls the functions of the library without this header checks it itself.
  */
 #ifndef RACKD_H
