@@ -85,7 +85,8 @@ def test_requests_are_those_of_the_master(suite):
     suite.scenario("one", EXCHANGES + "    bus.master().timeout = 60\n    bus.master().slave_diag(5)\n    first = bus.place()\n"
                    "    bus.exchanges(5, 3)\n"
                    "    assert {one.master for one in bus.requests()} == {1}\n"
-                   "    assert bus.requests(5) == bus.requests() and not bus.requests(6)\n"
+                   "    every = bus.requests()\n"
+                   "    assert bus.requests(5)[:len(every)] == every and not bus.requests(6)\n"
                    "    assert bus.requests()[0].place == 1 and bus.requests(first=first)[0].place == first\n")
     assert suite.own(*suite.master(MASTER + GOES_ON)) == (0, PASSED, "")
 
