@@ -1,7 +1,7 @@
 //! Decides what a faulty cable between masters and a line does to each telegram, by options, commands and random words;
 //! it reads no clock, opens no sockets and starts no threads.
 //!
-//! Telegrams, moments and rows of text are values. Nothing here waits or allocates memory.
+//! Telegrams, moments and rows of text are passed as values, so nothing here waits or allocates memory.
 #![tactic(auto)]
 
 mod cable;

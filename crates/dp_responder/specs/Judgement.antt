@@ -44,8 +44,8 @@ refusal_function rules.Busy = no_resource
 refusal_function rules.Length = user_error
 refusal_function other = not_activated
 
--- the rows by which a request is refused, by their places in the table of the verdict (docs/POLICY.md): the point is the one that it names, None if
--- that is off, and listed is true if the slave's lists let the sender use it
+-- the rows by which a request is refused, by their places in the table of the verdict (docs/reference/policy.md): the point is the one that it names,
+-- None if that is off, and listed is true if the slave's lists let the sender use it
 abbrev pub refusal_rows : Option Point → Bool → ℕ → ℕ → List ℕ → List (Bool × Rule)
 refusal_rows point listed sender fc payload =
     -- 14: the point is off

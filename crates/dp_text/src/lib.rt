@@ -1,4 +1,4 @@
-//! The texts of numbers, octets, events and answers that several crates read and write; it has no whole texts of a file,
+//! The texts of numbers, octets, events and answers that several crates read and write; it has no text of a whole file,
 //! and takes no memory.
 //!
 //! Nothing in this crate allocates memory: words are borrowed from their line, and a [`Text`] has room for the

@@ -1,4 +1,4 @@
-//! A list that only contracts read and that takes no memory: what a program no longer stores; it has no list of a program.
+//! A list that only contracts read, of what a program no longer stores; it takes no memory, and no program can read it.
 #![tactic(auto)]
 
 ghost use Rattle.std.specs.Prelude.{◌≡◌, List, [], ◌∷◌, ◌++◌};

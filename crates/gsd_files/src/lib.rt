@@ -1,7 +1,7 @@
 //! Writes the text of a GSD file, the description of a device that PROFIBUS configuration tools read, and reads what
 //! such a text says; it knows no rack files and opens no files.
 //!
-//! Texts and descriptions are values.
+//! A GSD file is a text in memory here, and what it says is a value ([`Gsd`]).
 #![tactic(auto)]
 
 mod cause;

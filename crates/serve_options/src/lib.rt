@@ -1,4 +1,4 @@
-//! Says how a rack is served, by the options of `serve`, and has the forms of the commands of operators and scripts; it
+//! Describes how a rack is served, by the options of `serve`, and the form of each command of operators and scripts; it
 //! reads no command line and carries out no command.
 #![tactic(auto)]
 

@@ -1,5 +1,5 @@
-//! Has clients of slaves, lines and what these are made of, which conclude from public contracts only, and tests of
-//! what no program shows of them; it starts no threads and opens no sockets.
+//! Clients of slaves, of lines and of their parts that rely on public contracts only, and tests of what no program can
+//! show of these; it starts no threads and opens no sockets.
 //!
 //! What lines answer is tested by the program, in `tests/line` and `tests/cli`. Here is what only a proof can show: that
 //! the public contracts say enough.
